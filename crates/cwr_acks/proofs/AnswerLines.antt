@@ -1,5 +1,6 @@
 -- The lines of an acknowledgement are its opening, its messages and its closing, and those of a transaction go by its header.
-use Rattle.std.proofs.Common.{◌≡◌, ℕ, ◌+◌, Bool, true, cond, List, [], ◌∷◌, ◌++◌, length, take, Option, Some, refl, sym, ap, ap₂, ◌∙◌, arith, append_assoc}
+use Rattle.std.proofs.Common.{◌≡◌, ℕ, ◌+◌, Bool, true, cond, List, [], ◌∷◌, ◌++◌, length, take, Option, Some, refl, sym, ap, ap₂}
+use Rattle.std.proofs.Common.{◌∙◌, arith, append_assoc}
 use Rattle.std.specs.Prelude.{◌||◌, codes, slice_get}
 use Rattle.std.specs.List.{list_any}
 use Rattle.std.proofs.Math.Seq.{take-append_seam}
@@ -19,8 +20,10 @@ use Rattle.cwr_acks.proofs.NamedParts.{numbered_alike, or_false}
 use Rattle.cwr_acks.proofs.PrintedAcks.{ack_shown, messages_from}
 
 -- a message more
-any_snoc : (front : List RecordValue) (r : RecordValue) → list_any is_message (front ++ r ∷ []) ≡ (list_any is_message front || is_message r)
-any_snoc front r = list_any-append is_message front (r ∷ []) ∙ ap (λ (b : Bool). list_any is_message front || b) (or_false (is_message r))
+any_snoc : (front : List RecordValue) (r : RecordValue)
+    → list_any is_message (front ++ r ∷ []) ≡ (list_any is_message front || is_message r)
+any_snoc front r =
+    list_any-append is_message front (r ∷ []) ∙ ap (λ (b : Bool). list_any is_message front || b) (or_false (is_message r))
 
 -- the messages of a list, each told whether one came before
 messages_after : (front rest : List RecordValue)
@@ -34,16 +37,21 @@ messages_after front (r ∷ rest) =
     let number : length front + 1 ≡ length next = omega (arith, length-append front (r ∷ [])) in
     let same : all ≡ next ++ rest = sym (append_assoc front (r ∷ []) rest) in
     let more : numbered (part all) (length front + 1) rest ≡ messages_from (list_any is_message front || is_message r) rest
-    = ap₂ (λ (l : List RecordValue) (n : ℕ). numbered (part l) n rest) same number ∙ messages_after next rest ∙ ap (λ (b : Bool). messages_from b rest)
+    = ap₂ (λ (l : List RecordValue) (n : ℕ). numbered (part l) n rest) same number ∙ messages_after next rest
+    ∙ ap (λ (b : Bool). messages_from b rest)
     (any_snoc front r) in
-    ap₂ (λ (l m : List ℕ). l ++ m) (ap (λ (l : List RecordValue). message_in forms.Json (list_any is_message l) r) (take-append_seam front (r ∷ rest))) more
+    ap₂ (λ (l m : List ℕ). l ++ m)
+    (ap (λ (l : List RecordValue). message_in forms.Json (list_any is_message l) r) (take-append_seam front (r ∷ rest))) more
 
 pub answer_is : (form : Form) (notes : Notes) (a : RecordValue) (t : List RecordValue)
     → (opening_in form notes a (worst_level t) ++ messages_in form t) ++ closing_in form notes a ≡ answer_in form notes a t
-answer_is forms.Words notes a t = ap (λ (l : List ℕ). (ack_line a (worst_level t) ++ l) ++ note_lines notes a) (numbered_alike message_text 0 t)
-answer_is forms.Json notes a t = ap (λ (l : List ℕ). (ack_opening notes a (worst_level t) ++ l) ++ codes "]}\n") (messages_after [] t) ∙ ack_shown notes a t
+answer_is forms.Words notes a t =
+    ap (λ (l : List ℕ). (ack_line a (worst_level t) ++ l) ++ note_lines notes a) (numbered_alike message_text 0 t)
+answer_is forms.Json notes a t =
+    ap (λ (l : List ℕ). (ack_opening notes a (worst_level t) ++ l) ++ codes "]}\n") (messages_after [] t) ∙ ack_shown notes a t
 
-pub lines_of_answer : (form : Form) (table : Option Table) (t : List RecordValue) (head : RecordValue) → Some head ≡ slice_get t 0 → is_ack head ≡ true
+pub lines_of_answer : (form : Form) (table : Option Table) (t : List RecordValue) (head : RecordValue) → Some head ≡ slice_get t 0
+    → is_ack head ≡ true
     → answer_in form (notes_in table head) head t ≡ transaction_at form table t
 lines_of_answer form table [] head e h = absurd (cc e)
 lines_of_answer form table (x ∷ rest) head e h =

@@ -7,7 +7,8 @@ ghost use Rattle.cwr_lines.specs.Format.Records.{IsRecord};
 ghost use Rattle.cwr_json.specs.declared.encodings.Encoding.TheVariants.{Latin1};
 ghost use Rattle.cwr_json.specs.Steps.FormTexts.{NoLow, spelled_byte, spelled_bytes};
 ghost use Rattle.cwr_acks.specs.Format.Acknowledgements.{is_ack, is_message};
-ghost use Rattle.cwr_acks.specs.Steps.DataTexts.{ack_opening, cell_at, cell_member, cell_member_if, comma_if, count_member, counts_data_text, level_member, mark_part, message_part, notes_members, original_members, shown_cell, status_members, unanswered_data_text};
+ghost use Rattle.cwr_acks.specs.Steps.DataTexts.{ack_opening, cell_at, cell_member, cell_member_if, comma_if, count_member, counts_data_text, level_member};
+ghost use Rattle.cwr_acks.specs.Steps.DataTexts.{mark_part, message_part, notes_members, original_members, shown_cell, status_members, unanswered_data_text};
 
 use crate::counts::{Answers, STATUSES};
 use crate::facts::{
@@ -90,7 +91,8 @@ fn push_member(text: &mut Text, key: &[u8], shown: &RecordRef<'_>, j: u8)
 fn push_member_if(text: &mut Text, key: &[u8], shown: &RecordRef<'_>, j: u8)
     requires room { length text.old.items + LONGEST_MEMBER ≤ LONGEST }
     requires short { length key.now ≤ 30 }
-    ensures value { text.new.items ≡ text.old.items ++ cell_member_if key.now (cell_at shown.now j) }
+    ensures value { text.new.items
+        ≡ text.old.items ++ cell_member_if key.now (cell_at shown.now j) }
     ensures len { length text.new.items ≤ length text.old.items + LONGEST_MEMBER }
     ensures fits { IsRecord shown.now }
 {
@@ -176,7 +178,8 @@ fn push_comma_if(text: &mut Text, later: bool)
 /// Appends how many acknowledgements have a status, after others or as the first.
 fn push_count_data(text: &mut Text, later: bool, status: TransactionStatus, count: u32)
     requires { length text.old.items + 30 ≤ LONGEST }
-    ensures value { text.new.items ≡ text.old.items ++ count_member later (status_code status) count }
+    ensures value { text.new.items
+        ≡ text.old.items ++ count_member later (status_code status) count }
     ensures len { length text.new.items ≤ length text.old.items + 30 }
 {
     push_comma_if(text, later);

@@ -41,7 +41,8 @@ fn put_opening<W: Target>(
 ) -> Result<(), SinkFault>
     requires unfailed { has_failed sink.old ≡ false }
     requires ack { is_ack head.now ≡ true }
-    ensures puts { Puts W.contents W.failures (opening_in form notes head.now (worst_level transaction.now)) result sink.old sink.new }
+    ensures puts { Puts W.contents W.failures
+        (opening_in form notes head.now (worst_level transaction.now)) result sink.old sink.new }
     ensures fault { IfErr result (λ f. f.written ≡ written_of sink.new) }
 {
     text.set_opening(form, notes, head, worst_level(transaction));
@@ -57,7 +58,8 @@ fn put_message<W: Target>(
     sink: &mut Sink<W>,
 ) -> Result<(), SinkFault>
     requires { has_failed sink.old ≡ false }
-    ensures puts { Puts W.contents W.failures (message_in form later shown.now) result sink.old sink.new }
+    ensures puts { Puts W.contents W.failures (message_in form later shown.now) result sink.old
+        sink.new }
     ensures fault { IfErr result (λ f. f.written ≡ written_of sink.new) }
 {
     if !is_message(shown) {
@@ -75,7 +77,8 @@ fn put_messages<W: Target>(
     sink: &mut Sink<W>,
 ) -> Result<(), SinkFault>
     requires { has_failed sink.old ≡ false }
-    ensures puts { Puts W.contents W.failures (messages_in form transaction.now) result sink.old sink.new }
+    ensures puts { Puts W.contents W.failures (messages_in form transaction.now) result sink.old
+        sink.new }
     ensures fault { IfErr result (λ f. f.written ≡ written_of sink.new) }
 {
     let count = transaction.len();
@@ -100,7 +103,8 @@ fn put_marked<W: Target>(
     requires unfailed { has_failed sink.old ≡ false }
     requires ack { is_ack head.now ≡ true }
     requires short { length word.now ≤ 20 }
-    ensures puts { Puts W.contents W.failures (marked_line word.now head.now) result sink.old sink.new }
+    ensures puts { Puts W.contents W.failures (marked_line word.now head.now) result sink.old
+        sink.new }
     ensures fault { IfErr result (λ f. f.written ≡ written_of sink.new) }
 {
     text.set_marked(word, head);
@@ -118,7 +122,8 @@ fn put_marked_if<W: Target>(
     requires unfailed { has_failed sink.old ≡ false }
     requires ack { is_ack head.now ≡ true }
     requires short { length word.now ≤ 20 }
-    ensures puts { Puts W.contents W.failures (marked_if told word.now head.now) result sink.old sink.new }
+    ensures puts { Puts W.contents W.failures (marked_if told word.now head.now) result sink.old
+        sink.new }
     ensures fault { IfErr result (λ f. f.written ≡ written_of sink.new) }
 {
     if !told {
@@ -169,7 +174,8 @@ fn put_closing<W: Target>(
 ) -> Result<(), SinkFault>
     requires unfailed { has_failed sink.old ≡ false }
     requires ack { is_ack head.now ≡ true }
-    ensures puts { Puts W.contents W.failures (closing_in form notes head.now) result sink.old sink.new }
+    ensures puts { Puts W.contents W.failures (closing_in form notes head.now) result sink.old
+        sink.new }
     ensures fault { IfErr result (λ f. f.written ≡ written_of sink.new) }
 {
     match form {
@@ -189,7 +195,9 @@ fn put_begun<W: Target>(
 ) -> Result<(), SinkFault>
     requires unfailed { has_failed sink.old ≡ false }
     requires ack { is_ack head.now ≡ true }
-    ensures puts { Puts W.contents W.failures (opening_in form notes head.now (worst_level transaction.now) ++ messages_in form transaction.now) result sink.old sink.new }
+    ensures puts { Puts W.contents W.failures (opening_in form notes head.now
+        (worst_level transaction.now) ++ messages_in form
+        transaction.now) result sink.old sink.new }
     ensures fault { IfErr result (λ f. f.written ≡ written_of sink.new) }
 {
     put_opening(form, notes, head, transaction, text, sink)?;
@@ -207,7 +215,8 @@ fn put_answer<W: Target>(
 ) -> Result<(), SinkFault>
     requires unfailed { has_failed sink.old ≡ false }
     requires ack { is_ack head.now ≡ true }
-    ensures puts { Puts W.contents W.failures (answer_in form notes head.now transaction.now) result sink.old sink.new }
+    ensures puts { Puts W.contents W.failures (answer_in form notes head.now transaction.now) result
+        sink.old sink.new }
     ensures fault { IfErr result (λ f. f.written ≡ written_of sink.new) }
 {
     put_begun(form, notes, head, transaction, text, sink)?;
@@ -223,7 +232,8 @@ fn put_transaction<W: Target>(
     sink: &mut Sink<W>,
 ) -> Result<(), SinkFault>
     requires { has_failed sink.old ≡ false }
-    ensures puts { Puts W.contents W.failures (transaction_at form (rows_if sent.now) transaction.now) result sink.old sink.new }
+    ensures puts { Puts W.contents W.failures
+        (transaction_at form (rows_if sent.now) transaction.now) result sink.old sink.new }
     ensures fault { IfErr result (λ f. f.written ≡ written_of sink.new) }
 {
     let Some(head) = transaction.record(0) else {
@@ -262,7 +272,9 @@ fn put_end<W: Target>(
 ) -> Result<(), SinkFault>
     requires unfailed { has_failed sink.old ≡ false }
     requires ten { length answers.now.by_status ≡ 10 }
-    ensures puts { Puts W.contents W.failures (table_lines_if form (rows_if sent.now) ++ counts_in form answers.now) result sink.old sink.new }
+    ensures puts { Puts W.contents W.failures
+        (table_lines_if form (rows_if sent.now) ++ counts_in form answers.now) result sink.old
+        sink.new }
     ensures fault { IfErr result (λ f. f.written ≡ written_of sink.new) }
 {
     put_unanswered_if(form, sent, text, sink)?;
@@ -280,7 +292,8 @@ pub(crate) fn put_item<W: Target>(
 ) -> Result<(), ToolFault>
     requires unfailed { has_failed sink.old ≡ false }
     requires ten { length answers.now.by_status ≡ 10 }
-    ensures { PutsLines W.contents W.failures false (lines_at form (rows_if sent.now) answers.now item.now) result sink.old sink.new }
+    ensures { PutsLines W.contents W.failures false
+        (lines_at form (rows_if sent.now) answers.now item.now) result sink.old sink.new }
 {
     let put = match item {
         Item::Transaction(transaction) => put_transaction(form, sent, transaction, text, sink),

@@ -2,7 +2,8 @@
 
 ghost use Rattle.std.specs.Prelude.{◌≡◌, ◌+◌, ◌≤◌, [], ◌++◌, decimal, length, true};
 ghost use Rattle.cwr_acks.specs.Format.Acknowledgements.{is_ack, is_message};
-ghost use Rattle.cwr_acks.specs.Format.AckTexts.{ack_line, cell_part, level_part, marked_line, message_line, number_part, original_text, status_part, status_text, unanswered_text, words_of};
+ghost use Rattle.cwr_acks.specs.Format.AckTexts.{ack_line, cell_part, level_part, marked_line, message_line, number_part, original_text, status_part};
+ghost use Rattle.cwr_acks.specs.Format.AckTexts.{status_text, unanswered_text, words_of};
 ghost use Rattle.cwr_acks.specs.Steps.AckSteps.{counts_text};
 ghost use Rattle.cwr_fields.specs.Format.MessageCodes.{status_code};
 
@@ -49,7 +50,8 @@ pub(crate) fn push_number(text: &mut Text, number: u64)
 fn push_cell_part(text: &mut Text, word: &[u8], cell: &[u8])
     requires { length text.old.items + length word.now + length cell.now ≤ LONGEST }
     ensures value { text.new.items ≡ text.old.items ++ cell_part word.now cell.now }
-    ensures len { length text.new.items ≤ length text.old.items + length word.now + length cell.now }
+    ensures len { length text.new.items
+        ≤ length text.old.items + length word.now + length cell.now }
 {
     if is_spaces(cell) {
         return;

@@ -106,7 +106,8 @@ fn mark_by(sent: &mut Sent, transaction: &Transaction)
 
 /// Marks what an item answers.
 pub(crate) fn mark_with(sent: &mut Option<Sent>, item: &Item)
-    ensures { rows_if sent.new ≡ option_map (λ table. marked_with table item.now) (rows_if sent.old) }
+    ensures { rows_if sent.new
+        ≡ option_map (λ table. marked_with table item.now) (rows_if sent.old) }
 {
     if let (Some(sent), Item::Transaction(transaction)) = (sent, item) {
         mark_by(sent, transaction);

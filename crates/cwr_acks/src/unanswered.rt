@@ -23,7 +23,8 @@ fn put_entry<W: Target>(
     sink: &mut Sink<W>,
 ) -> Result<(), SinkFault>
     requires { has_failed sink.old ≡ false }
-    ensures puts { Puts W.contents W.failures (entry_line form group sequence entry.now) result sink.old sink.new }
+    ensures puts { Puts W.contents W.failures (entry_line form group sequence entry.now) result
+        sink.old sink.new }
     ensures fault { IfErr result (λ f. f.written ≡ written_of sink.new) }
 {
     if !wants_answer(&entry.facts) || entry.answered {
@@ -42,7 +43,8 @@ fn put_row<W: Target>(
     sink: &mut Sink<W>,
 ) -> Result<(), SinkFault>
     requires { has_failed sink.old ≡ false }
-    ensures puts { Puts W.contents W.failures (row_lines form group row.now) result sink.old sink.new }
+    ensures puts { Puts W.contents W.failures (row_lines form group row.now) result sink.old
+        sink.new }
     ensures fault { IfErr result (λ f. f.written ≡ written_of sink.new) }
 {
     let mut sequence: usize = 0;
@@ -61,7 +63,8 @@ fn put_rows<W: Target>(
     sink: &mut Sink<W>,
 ) -> Result<(), SinkFault>
     requires { has_failed sink.old ≡ false }
-    ensures puts { Puts W.contents W.failures (table_lines form (rows sent.now)) result sink.old sink.new }
+    ensures puts { Puts W.contents W.failures (table_lines form (rows sent.now)) result sink.old
+        sink.new }
     ensures fault { IfErr result (λ f. f.written ≡ written_of sink.new) }
 {
     for group in 0..sent.groups() {
@@ -78,7 +81,8 @@ pub(crate) fn put_unanswered_if<W: Target>(
     sink: &mut Sink<W>,
 ) -> Result<(), SinkFault>
     requires { has_failed sink.old ≡ false }
-    ensures puts { Puts W.contents W.failures (table_lines_if form (rows_if sent.now)) result sink.old sink.new }
+    ensures puts { Puts W.contents W.failures (table_lines_if form (rows_if sent.now)) result
+        sink.old sink.new }
     ensures fault { IfErr result (λ f. f.written ≡ written_of sink.new) }
 {
     match sent {

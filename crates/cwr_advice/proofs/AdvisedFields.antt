@@ -62,7 +62,8 @@ or_last false true c d h = refl
 or_last false false c d h = h
 
 -- what two kinds have, a record has that is of one of them
-pub of_either : (P : Kind → Type 0) (one two : Kind) (r : RecordValue) → (is_a one r || is_a two r) ≡ true → P one → P two → P r.kind
+pub of_either : (P : Kind → Type 0) (one two : Kind) (r : RecordValue) → (is_a one r || is_a two r) ≡ true → P one → P two
+    → P r.kind
 of_either P one two r h p q = elim (either (is_a one r) (is_a two r) h) [
   | inl e ↦ subst P (sym (kind_of one r e)) p
   | inr e ↦ subst P (sym (kind_of two r e)) q
@@ -75,7 +76,8 @@ shares_of_publisher r h = of_either (λ k. HasSharesFrom k 13) kinds.Spu kinds.O
 
 pub shares_of_other : (r : RecordValue) → is_owner r ≡ true → is_publisher r ≡ false → HasSharesFrom r.kind 12
 shares_of_other r h e =
-    of_either (λ k. HasSharesFrom k 12) kinds.Swr kinds.Owr r (or_assoc (is_a kinds.Spu r) (is_a kinds.Opu r) (is_a kinds.Swr r) (is_a kinds.Owr r) h e) shares_of_swr shares_of_owr
+    of_either (λ k. HasSharesFrom k 12) kinds.Swr kinds.Owr r
+    (or_assoc (is_a kinds.Spu r) (is_a kinds.Opu r) (is_a kinds.Swr r) (is_a kinds.Owr r) h e) shares_of_swr shares_of_owr
 
 pub publisher_owns : (r : RecordValue) → is_publisher r ≡ true → is_owner r ≡ true
 publisher_owns r h = or_first (is_a kinds.Spu r) (is_a kinds.Opu r) (is_a kinds.Swr r) (is_a kinds.Owr r) h
@@ -86,24 +88,35 @@ writer_owns r h = or_last (is_a kinds.Spu r) (is_a kinds.Opu r) (is_a kinds.Swr 
 -- ---- fields
 
 pub type_of_publisher : (r : RecordValue) → is_publisher r ≡ true → IsField "publisher type" r.kind 8 2
-type_of_publisher r h = of_either (λ k. IsField "publisher type" k 8 2) kinds.Spu kinds.Opu r h (record { carried = refl; place = refl; width = refl }) (record { carried = refl; place = refl; width = refl })
+type_of_publisher r h =
+    of_either (λ k. IsField "publisher type" k 8 2) kinds.Spu kinds.Opu r h
+    (record { carried = refl; place = refl; width = refl }) (record { carried = refl; place = refl; width = refl })
 
 pub sequence_of_publisher : (r : RecordValue) → is_publisher r ≡ true → IsField "publisher sequence" r.kind 4 2
-sequence_of_publisher r h = of_either (λ k. IsField "publisher sequence" k 4 2) kinds.Spu kinds.Opu r h (record { carried = refl; place = refl; width = refl }) (record { carried = refl; place = refl; width = refl })
+sequence_of_publisher r h =
+    of_either (λ k. IsField "publisher sequence" k 4 2) kinds.Spu kinds.Opu r h
+    (record { carried = refl; place = refl; width = refl }) (record { carried = refl; place = refl; width = refl })
 
 pub composite_of_header : (r : RecordValue) → is_header r ≡ true → IsField "composite type" r.kind 14 3
-composite_of_header r h = of_either (λ k. IsField "composite type" k 14 3) kinds.Nwr kinds.Rev r h (record { carried = refl; place = refl; width = refl }) (record { carried = refl; place = refl; width = refl })
+composite_of_header r h =
+    of_either (λ k. IsField "composite type" k 14 3) kinds.Nwr kinds.Rev r h
+    (record { carried = refl; place = refl; width = refl }) (record { carried = refl; place = refl; width = refl })
 
 pub version_of_header : (r : RecordValue) → is_header r ≡ true → IsField "version type" r.kind 15 3
-version_of_header r h = of_either (λ k. IsField "version type" k 15 3) kinds.Nwr kinds.Rev r h (record { carried = refl; place = refl; width = refl }) (record { carried = refl; place = refl; width = refl })
+version_of_header r h =
+    of_either (λ k. IsField "version type" k 15 3) kinds.Nwr kinds.Rev r h (record { carried = refl; place = refl; width = refl })
+    (record { carried = refl; place = refl; width = refl })
 
 -- ---- cells by their names
 
-pub blank_composite : (r : RecordValue) (cell : List ℕ) → cell ≡ cell_of_field r 14 → is_header r ≡ true → IsRecord r → is_spaces cell ≡ is_blank "composite type" r
+pub blank_composite : (r : RecordValue) (cell : List ℕ) → cell ≡ cell_of_field r 14 → is_header r ≡ true → IsRecord r
+    → is_spaces cell ≡ is_blank "composite type" r
 blank_composite r cell e h fits = ap is_spaces (e ∙ named_cell "composite type" r.kind 14 3 r (composite_of_header r h) refl fits)
 
-pub named_version : (r : RecordValue) (cell : List ℕ) → cell ≡ cell_of_field r 15 → is_header r ≡ true → IsRecord r → cell ≡ cell_named "version type" r
+pub named_version : (r : RecordValue) (cell : List ℕ) → cell ≡ cell_of_field r 15 → is_header r ≡ true → IsRecord r
+    → cell ≡ cell_named "version type" r
 named_version r cell e h fits = e ∙ named_cell "version type" r.kind 15 3 r (version_of_header r h) refl fits
 
-pub named_sequence : (r : RecordValue) (cell : List ℕ) → cell ≡ cell_of_field r 4 → is_publisher r ≡ true → IsRecord r → cell ≡ cell_named "publisher sequence" r
+pub named_sequence : (r : RecordValue) (cell : List ℕ) → cell ≡ cell_of_field r 4 → is_publisher r ≡ true → IsRecord r
+    → cell ≡ cell_named "publisher sequence" r
 named_sequence r cell e h fits = e ∙ named_cell "publisher sequence" r.kind 4 2 r (sequence_of_publisher r h) refl fits

@@ -3,7 +3,8 @@ use Rattle.std.proofs.Common.{◌≡◌, ℕ, zero, suc, ◌≤◌, ◌<◌, Boo
 use Rattle.std.specs.Prelude.{Result, Ok, Err, MatchBool, MatchResult, nat_lt, slice_index}
 use Rattle.std.specs.Result.{is_ok}
 use Rattle.std.specs.Str.{IsAscii, IsNotAscii, IsUtf8, is_utf8}
-use Rattle.std.proofs.lemmas.Bool.{and_from, and_left, and_parts, and_right, false_from_ne_true, le-ltb, lt-ltb, ltb-true, not-false}
+use Rattle.std.proofs.lemmas.Bool.{and_from, and_left, and_parts, and_right, false_from_ne_true, le-ltb, lt-ltb, ltb-true}
+use Rattle.std.proofs.lemmas.Bool.{not-false}
 use Rattle.std.proofs.lemmas.Str.{IsUtf8-from_ascii, IsUtf8-from_is_utf8, is_utf8-from_IsUtf8}
 use Rattle.cwr_advice.specs.declared.characters.Characters.{Characters}
 use Rattle.cwr_advice.specs.declared.characters.Characters.TheVariants.{Unsaid, Utf8, Other}
@@ -40,12 +41,14 @@ is_some_utf8 : (bs : List ℕ) → IsUtf8 bs → true ≡ is_utf8 bs
 is_some_utf8 bs h = sym (is_utf8-from_IsUtf8 bs h)
 
 -- and so does what reads them as UTF-8
-pub utf8_is : {T E : Type 0} → (r : Result T E) (bs : List ℕ) (P : T → Type 0) (Q : E → Type 0) → MatchResult r (λ s. P s × IsUtf8 bs) (λ e. (IsUtf8 bs → ⊥) × Q e) → is_ok r ≡ is_utf8 bs
+pub utf8_is : {T E : Type 0} → (r : Result T E) (bs : List ℕ) (P : T → Type 0) (Q : E → Type 0)
+    → MatchResult r (λ s. P s × IsUtf8 bs) (λ e. (IsUtf8 bs → ⊥) × Q e) → is_ok r ≡ is_utf8 bs
 utf8_is (Ok s) bs P Q h = is_some_utf8 bs h.1
 utf8_is (Err e) bs P Q h = is_no_utf8 bs h.0
 
 -- a text of ASCII goes with whatever is said
 pub never_unlike : (said : Characters) (cell : List ℕ) → not (is_ascii cell) ≡ false → is_unlike said cell ≡ false
 never_unlike Unsaid cell e = and_left (not (is_ascii cell)) (is_utf8 cell) e
-never_unlike Utf8 cell e = ap not (is_utf8-from_IsUtf8 cell (IsUtf8-from_ascii cell (ascii_bytes cell (not-false (is_ascii cell) e))))
+never_unlike Utf8 cell e =
+    ap not (is_utf8-from_IsUtf8 cell (IsUtf8-from_ascii cell (ascii_bytes cell (not-false (is_ascii cell) e))))
 never_unlike Other cell e = refl

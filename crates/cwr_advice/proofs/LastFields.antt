@@ -13,8 +13,10 @@ use Rattle.cwr_advice.specs.Format.Shifts.{begins_with_letter, ends_with_letter}
 none_behind : (r : RecordValue) (j : ℕ) → length (layout r.kind) ≤ j → cell_at r (j + 1) ≡ []
 none_behind r j end =
     let next : j + 1 ≡ suc j = omega arith in
-    let none : carried_at r.kind (suc j) ≡ None = ap (option_and_then (λ (f : FieldLayout). if f.derived then None else Some f)) (slice_get_past (layout r.kind) j end) in
-    ap (cell_at r) next ∙ ap (λ (o : Option FieldLayout). unwrap_or (option_and_then (λ (_ : FieldLayout). slice_get r.cells (carried_before r.kind (suc j))) o) []) none
+    let none : carried_at r.kind (suc j) ≡ None =
+    ap (option_and_then (λ (f : FieldLayout). if f.derived then None else Some f)) (slice_get_past (layout r.kind) j end) in
+    ap (cell_at r) next ∙ ap (λ (o : Option FieldLayout). unwrap_or
+    (option_and_then (λ (_ : FieldLayout). slice_get r.cells (carried_before r.kind (suc j))) o) []) none
 
 -- so the last one goes on nowhere
 pub last_ends : (r : RecordValue) (j : ℕ) → length (layout r.kind) ≤ j → is_shifted r j ≡ false

@@ -14,7 +14,8 @@ some_if true x y z = refl
 some_if false x y z = refl
 
 -- it is something where the record owns shares
-pub owns_something : (r : RecordValue) (s : Owned) → AreOwnedBy r s → nat_lt 0 (s.performing + s.mechanical + s.synchronization) ≡ owns_shares r
+pub owns_something : (r : RecordValue) (s : Owned) → AreOwnedBy r s
+    → nat_lt 0 (s.performing + s.mechanical + s.synchronization) ≡ owns_shares r
 owns_something r s h =
     ap (nat_lt 0) (ap₂ (λ (a b : ℕ). a + b) (ap₂ (λ (a b : ℕ). a + b) h.performing h.mechanical) h.synchronization)
     ∙ some_if (is_owner r) (share_of "pr share" r) (share_of "mr share" r) (share_of "sr share" r)
@@ -25,10 +26,13 @@ if_writer true false n h = absurd (let no : false ≡ true = h refl in cc no)
 if_writer false o n h = refl
 
 -- what a writer owns
-pub owned_if_writer : (r : RecordValue) (s : Owned) (w : Bool) (n : ℕ) → AreOwnedBy r s → w ≡ is_writer r → n ≡ cond w s.performing 0 → n ≡ cond (is_writer r) (share_of "pr share" r) 0
+pub owned_if_writer : (r : RecordValue) (s : Owned) (w : Bool) (n : ℕ) → AreOwnedBy r s → w ≡ is_writer r
+    → n ≡ cond w s.performing 0 → n ≡ cond (is_writer r) (share_of "pr share" r) 0
 owned_if_writer r s w n h e same =
-    same ∙ ap₂ (λ (b : Bool) (m : ℕ). cond b m 0) e h.performing ∙ if_writer (is_writer r) (is_owner r) (share_of "pr share" r) (writer_owns r)
+    same ∙ ap₂ (λ (b : Bool) (m : ℕ). cond b m 0) e h.performing
+    ∙ if_writer (is_writer r) (is_owner r) (share_of "pr share" r) (writer_owns r)
 
 -- a publisher whom the submitter controls owns shares
-pub publisher_owns_some : (r : RecordValue) (s : Owned) (a b : Bool) → AreOwnedBy r s → a ≡ is_a kinds.Spu r → b ≡ nat_lt 0 (s.performing + s.mechanical + s.synchronization) → (a && b) ≡ is_owning_publisher r
+pub publisher_owns_some : (r : RecordValue) (s : Owned) (a b : Bool) → AreOwnedBy r s → a ≡ is_a kinds.Spu r
+    → b ≡ nat_lt 0 (s.performing + s.mechanical + s.synchronization) → (a && b) ≡ is_owning_publisher r
 publisher_owns_some r s a b h e f = ap₂ (λ (x y : Bool). x && y) e (f ∙ owns_something r s h)

@@ -41,16 +41,20 @@ collection_of_swt = record {
   synchronization = record { carried = refl; place = refl; width = refl };
 }
 
-pub code_of_publisher : (r : RecordValue) (cell : List ℕ) → cell ≡ cell_of_field r 10 → is_a kinds.Spt r ≡ true → IsRecord r → cell ≡ cell_named "tis code" r
+pub code_of_publisher : (r : RecordValue) (cell : List ℕ) → cell ≡ cell_of_field r 10 → is_a kinds.Spt r ≡ true → IsRecord r
+    → cell ≡ cell_named "tis code" r
 code_of_publisher r cell e h fits = e ∙ named_cell "tis code" kinds.Spt 10 4 r code_of_spt (kind_of kinds.Spt r h) fits
 
-pub code_of_writer : (r : RecordValue) (cell : List ℕ) → cell ≡ cell_of_field r 9 → is_territory r ≡ true → is_a kinds.Spt r ≡ false → IsRecord r → cell ≡ cell_named "tis code" r
+pub code_of_writer : (r : RecordValue) (cell : List ℕ) → cell ≡ cell_of_field r 9 → is_territory r ≡ true
+    → is_a kinds.Spt r ≡ false → IsRecord r → cell ≡ cell_named "tis code" r
 code_of_writer r cell e h other fits = e ∙ named_cell "tis code" kinds.Swt 9 4 r code_of_swt (of_writer r h other) fits
 
-pub sign_of_publisher : (r : RecordValue) (cell : List ℕ) → cell ≡ cell_of_field r 9 → is_a kinds.Spt r ≡ true → IsRecord r → cell ≡ cell_named "inclusion exclusion" r
+pub sign_of_publisher : (r : RecordValue) (cell : List ℕ) → cell ≡ cell_of_field r 9 → is_a kinds.Spt r ≡ true → IsRecord r
+    → cell ≡ cell_named "inclusion exclusion" r
 sign_of_publisher r cell e h fits = e ∙ named_cell "inclusion exclusion" kinds.Spt 9 1 r sign_of_spt (kind_of kinds.Spt r h) fits
 
-pub sign_of_writer : (r : RecordValue) (cell : List ℕ) → cell ≡ cell_of_field r 8 → is_territory r ≡ true → is_a kinds.Spt r ≡ false → IsRecord r → cell ≡ cell_named "inclusion exclusion" r
+pub sign_of_writer : (r : RecordValue) (cell : List ℕ) → cell ≡ cell_of_field r 8 → is_territory r ≡ true
+    → is_a kinds.Spt r ≡ false → IsRecord r → cell ≡ cell_named "inclusion exclusion" r
 sign_of_writer r cell e h other fits = e ∙ named_cell "inclusion exclusion" kinds.Swt 8 1 r sign_of_swt (of_writer r h other) fits
 
 pub collection_of_publisher : (r : RecordValue) → is_a kinds.Spt r ≡ true → HasCollectionFrom r.kind 6

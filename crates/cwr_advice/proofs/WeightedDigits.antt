@@ -11,7 +11,8 @@ use Rattle.cwr_advice.specs.Format.Numbers.{weighted, weighted_pairs}
 abbrev pub first_pairs : ℕ → List ℕ → List ℕ → ℕ
 first_pairs n weights digits = weighted_pairs (take n (zip weights digits))
 
-pub pairs_more : (n m : ℕ) (weights digits : List ℕ) (w d : ℕ) → m ≡ n + 1 → n < length weights → n < length digits → w ≡ get_or weights n 0 → d ≡ get_or digits n 0
+pub pairs_more : (n m : ℕ) (weights digits : List ℕ) (w d : ℕ) → m ≡ n + 1 → n < length weights → n < length digits
+    → w ≡ get_or weights n 0 → d ≡ get_or digits n 0
     → first_pairs m weights digits ≡ first_pairs n weights digits + w * (d - 48)
 pairs_more n m weights digits w d next few inside e f =
     let there : n < length (zip weights digits) = omega (arith, few, inside, length-zip weights digits) in
@@ -20,8 +21,12 @@ pairs_more n m weights digits w d next few inside e f =
     ∙ ap (λ (p : ℕ × ℕ). first_pairs n weights digits + p.0 * (p.1 - 48)) (get_or-zip weights digits n (0, 0) few inside)
     ∙ ap₂ (λ (a b : ℕ). first_pairs n weights digits + a * (b - 48)) (sym e) (sym f)
 
-pub pairs_whole : (n : ℕ) (weights digits : List ℕ) → n ≡ min (length weights) (length digits) → first_pairs n weights digits ≡ weighted weights digits
+pub pairs_whole : (n : ℕ) (weights digits : List ℕ) → n ≡ min (length weights) (length digits)
+    → first_pairs n weights digits ≡ weighted weights digits
 pairs_whole n weights digits e = ap weighted_pairs (take_all n (zip weights digits) (omega (arith, e, length-zip weights digits)))
 
 pub pair_at_most : (w d : ℕ) → w < 256 → d < 256 → w * d ≤ 65025
-pair_at_most w d p q = let weight : w ≤ 255 = omega (arith, p) in let digit : d ≤ 255 = omega (arith, q) in let within : w * d ≤ 255 * 255 = mul-le-mul weight digit in omega (arith, within)
+pair_at_most w d p q =
+    let weight : w ≤ 255 =
+    omega (arith, p) in let digit : d ≤ 255 = omega (arith, q) in let within : w * d ≤ 255 * 255 =
+    mul-le-mul weight digit in omega (arith, within)

@@ -55,7 +55,8 @@ impl Facts {
     #[inline(always)]
     pub(crate) fn with(self, shown: &RecordRef<'_>, owned: &Owned) -> Facts
         requires { AreOwnedBy shown.now owned.now }
-        ensures { (rs : List RecordValue) → AreFacts rs self → AreFacts (rs ++ shown.now ∷ []) result }
+        ensures { (rs : List RecordValue) → AreFacts rs self
+            → AreFacts (rs ++ shown.now ∷ []) result }
     {
         let by_writer = owned.performing_if(is_writer(shown));
         let publisher = is_of(shown, Kind::Spu);

@@ -3,7 +3,8 @@
 ghost use Rattle.std.specs.Prelude.{◌≡◌, ◌+◌, ◌<◌, ◌^◌, List, take};
 ghost use Rattle.std.specs.List.{list_any};
 ghost use Rattle.cwr_lines.specs.Format.Records.{RecordValue};
-ghost use Rattle.cwr_advice.specs.Format.Rules.{begins_with_agent, breaks, breaks_alone, collects_nowhere, has_composite_type, has_no_composite_type, in_chain, is_agent, is_header, is_stray_component, is_version, lacks_components, lacks_original, names_agent};
+ghost use Rattle.cwr_advice.specs.Format.Rules.{begins_with_agent, breaks, breaks_alone, collects_nowhere, has_composite_type, has_no_composite_type, in_chain};
+ghost use Rattle.cwr_advice.specs.Format.Rules.{is_agent, is_header, is_stray_component, is_version, lacks_components, lacks_original, names_agent};
 ghost use Rattle.cwr_advice.specs.Steps.Facts.{AreFacts};
 
 use crate::characters::is_unlike;
@@ -115,7 +116,8 @@ pub(crate) fn has_composite_type(header: &RecordRef<'_>) -> bool
 
 /// Whether the header of a work has a composite type, and the work no component.
 fn lacks_components(facts: &Facts, shown: &RecordRef<'_>) -> bool
-    ensures { (t : List RecordValue) → AreFacts t facts.now → result ≡ lacks_components t shown.now }
+    ensures { (t : List RecordValue) → AreFacts t facts.now
+        → result ≡ lacks_components t shown.now }
 {
     has_composite_type(shown) && !facts.has_component
 }

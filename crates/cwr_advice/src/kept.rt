@@ -4,7 +4,8 @@ ghost use Rattle.std.specs.Prelude.{◌≡◌, ◌≤◌, ℕ, ◌++◌, ◌∷�
 ghost use Rattle.cwr_lines.specs.Format.Records.{RecordValue};
 ghost use Rattle.cwr_advice.specs.declared.said.Said.{Said};
 ghost use Rattle.cwr_advice.specs.Format.Rules.{advice_of, begins_with_agent};
-ghost use Rattle.cwr_advice.specs.Steps.Kept.{AreAllCollected, AreCollectedAnywhere, AreKept, AreSinceParty, is_among, IsBegun, IsCalm, may_break_alone, may_break_some, stands_again, StandsFor};
+ghost use Rattle.cwr_advice.specs.Steps.Kept.{AreAllCollected, AreCollectedAnywhere, AreKept, AreSinceParty, is_among, IsBegun, IsCalm, may_break_alone};
+ghost use Rattle.cwr_advice.specs.Steps.Kept.{may_break_some, stands_again, StandsFor};
 
 use crate::asking::asked_of;
 use crate::characters::is_ascii;
@@ -67,7 +68,8 @@ impl Owned {
     /// With what one more record collects, in whatever territory.
     #[inline(always)]
     fn with_any_collected(self, shown: &RecordRef<'_>) -> Owned
-        ensures { (rs : List RecordValue) → AreAllCollected rs self → AreAllCollected (rs ++ shown.now ∷ []) result }
+        ensures { (rs : List RecordValue) → AreAllCollected rs self
+            → AreAllCollected (rs ++ shown.now ∷ []) result }
     {
         let more = collected_anywhere(shown);
         Owned {
@@ -178,7 +180,8 @@ fn chain_with(chain: Option<Chain>, shown: &RecordRef<'_>) -> Option<Chain>
 /// Whether the record may be an administrator or a sub-publisher before whom nobody of the chain stands.
 #[inline(always)]
 fn may_begin_chain(chain: &Option<Chain>, shown: &RecordRef<'_>) -> bool
-    ensures { (rs : List RecordValue) → IsBegun rs chain.now → IsFalse result → begins_with_agent (rs ++ shown.now ∷ []) (length rs) shown.now ≡ false }
+    ensures { (rs : List RecordValue) → IsBegun rs chain.now → IsFalse result
+        → begins_with_agent (rs ++ shown.now ∷ []) (length rs) shown.now ≡ false }
 {
     if !is_agent(shown) {
         return false;
@@ -192,7 +195,8 @@ fn may_begin_chain(chain: &Option<Chain>, shown: &RecordRef<'_>) -> bool
 /// Whether the record is a territory that stands before it already.
 #[inline(always)]
 fn stands_again(territories: &[Code], shown: &RecordRef<'_>) -> bool
-    ensures { (rs : List RecordValue) → AreSinceParty rs territories.now → result ≡ stands_again rs shown.now }
+    ensures { (rs : List RecordValue) → AreSinceParty rs territories.now
+        → result ≡ stands_again rs shown.now }
 {
     if !is_territory(shown) {
         return false;
@@ -204,7 +208,8 @@ fn stands_again(territories: &[Code], shown: &RecordRef<'_>) -> bool
 /// Keeps the number of a territory, and says whether it does. Those before a publisher or a writer are forgotten.
 #[inline(always)]
 fn keep_territory(territories: &mut ArrayVec<Code, MOST_TERRITORIES>, shown: &RecordRef<'_>) -> bool
-    ensures { (rs : List RecordValue) → AreSinceParty rs territories.old.items → IsTrue result → AreSinceParty (rs ++ shown.now ∷ []) territories.new.items }
+    ensures { (rs : List RecordValue) → AreSinceParty rs territories.old.items → IsTrue result
+        → AreSinceParty (rs ++ shown.now ∷ []) territories.new.items }
 {
     if is_owner(shown) {
         territories.clear();
@@ -240,7 +245,8 @@ impl AdviceSums {
 
     /// Whether the record may break a rule that speaks of it and of those before it.
     fn may_break(&self, shown: &RecordRef<'_>) -> bool
-        ensures { (rs : List RecordValue) → AreKept self.now rs → IsFalse result → IsCalm (rs ++ shown.now ∷ []) (length rs) shown.now }
+        ensures { (rs : List RecordValue) → AreKept self.now rs → IsFalse result
+            → IsCalm (rs ++ shown.now ∷ []) (length rs) shown.now }
     {
         if may_break_some(shown) {
             return true;
@@ -253,7 +259,8 @@ impl AdviceSums {
 
     /// Adds one record more of a work, and says whether it does: a no says nothing.
     fn add_to_work(&mut self, shown: &RecordRef<'_>) -> bool
-        ensures kept { (rs : List RecordValue) → AreKept self.old rs → IsTrue result → AreKept self.new (rs ++ shown.now ∷ []) }
+        ensures kept { (rs : List RecordValue) → AreKept self.old rs → IsTrue result
+            → AreKept self.new (rs ++ shown.now ∷ []) }
         ensures same { self.new.is_acknowledgement ≡ self.old.is_acknowledgement }
     {
         if self.may_break(shown) {
@@ -279,7 +286,8 @@ impl AdviceSums {
 
     /// Whether there surely is no advice on the work, where these were all its records. A no says nothing.
     fn is_work_clean(&self) -> bool
-        ensures { (rs : List RecordValue) → AreKept self.now rs → IsTrue result → (said : Said) → advice_of said rs ≡ [] }
+        ensures { (rs : List RecordValue) → AreKept self.now rs → IsTrue result → (said : Said)
+            → advice_of said rs ≡ [] }
     {
         let facts = &self.facts;
         let headers = &self.headers;
@@ -321,7 +329,8 @@ impl AdviceSums {
 
     /// Adds one record more of the transaction, and says whether it does: a no says nothing.
     pub fn add(&mut self, shown: &RecordRef<'_>) -> bool
-        ensures { (rs : List RecordValue) → StandsFor self.old rs → IsTrue result → StandsFor self.new (rs ++ shown.now ∷ []) }
+        ensures { (rs : List RecordValue) → StandsFor self.old rs → IsTrue result
+            → StandsFor self.new (rs ++ shown.now ∷ []) }
     {
         if self.is_acknowledgement {
             return true;
@@ -331,7 +340,8 @@ impl AdviceSums {
 
     /// Whether there surely is no advice on the transaction, where these were all its records. A no says nothing.
     pub fn is_clean(&self) -> bool
-        ensures { (rs : List RecordValue) → StandsFor self.now rs → IsTrue result → (said : Said) → advice_of said rs ≡ [] }
+        ensures { (rs : List RecordValue) → StandsFor self.now rs → IsTrue result → (said : Said)
+            → advice_of said rs ≡ [] }
     {
         if self.is_acknowledgement {
             return true;

@@ -34,7 +34,8 @@ impl Headers {
     /// With one more record.
     #[inline(always)]
     pub(crate) fn with(self, shown: &RecordRef<'_>) -> Headers
-        ensures { (rs : List RecordValue) → AreHeaders rs self → AreHeaders (rs ++ shown.now ∷ []) result }
+        ensures { (rs : List RecordValue) → AreHeaders rs self
+            → AreHeaders (rs ++ shown.now ∷ []) result }
     {
         let composite = has_composite_type(shown);
         let plain = has_no_composite_type(shown);

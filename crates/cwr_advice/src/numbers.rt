@@ -3,7 +3,8 @@
 ghost use Rattle.std.specs.Prelude.{◌≡◌, ◌+◌, ◌*◌, ◌≤◌, ◌<◌, ◌-◌, ◌&&◌, ◌||◌, ◌==◌, ◌%◌, ◌^◌, length, drop, take};
 ghost use Rattle.std.specs.List.{list_all};
 ghost use Rattle.cwr_fields.specs.Format.Bytes.{are_digits, is_digit};
-ghost use Rattle.cwr_advice.specs.Format.Numbers.{base_weights, checks, ean_weights, has_base_form, is_ean, is_ean_of, is_ipi_base, is_ipi_name, is_isrc, is_language, is_letter, is_society, is_territory_number, is_zero, name_weights, weighted};
+ghost use Rattle.cwr_advice.specs.Format.Numbers.{base_weights, checks, ean_weights, has_base_form, is_ean, is_ean_of, is_ipi_base, is_ipi_name, is_isrc};
+ghost use Rattle.cwr_advice.specs.Format.Numbers.{is_language, is_letter, is_society, is_territory_number, is_zero, name_weights, weighted};
 
 use cwr_fields::trimmed;
 use cwr_levels::number_of;

@@ -81,7 +81,8 @@ impl Owned {
     #[inline(always)]
     pub(crate) fn is_something(&self) -> bool
         requires { AreSmall self.now }
-        ensures { result ≡ nat_lt 0 (self.now.performing + self.now.mechanical + self.now.synchronization) }
+        ensures { result
+            ≡ nat_lt 0 (self.now.performing + self.now.mechanical + self.now.synchronization) }
     {
         self.performing + self.mechanical + self.synchronization > 0
     }

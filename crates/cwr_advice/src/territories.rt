@@ -18,7 +18,8 @@ use cwr_values::Transaction;
 impl Owned {
     /// With what one more record collects in the territory of that number.
     fn with_collected(self, code: &[u8], shown: &RecordRef<'_>) -> Owned
-        ensures { (rs : List RecordValue) → AreCollectedIn code.now rs self → AreCollectedIn code.now (rs ++ shown.now ∷ []) result }
+        ensures { (rs : List RecordValue) → AreCollectedIn code.now rs self
+            → AreCollectedIn code.now (rs ++ shown.now ∷ []) result }
     {
         let more = collected_by(code, shown);
         Owned {
@@ -30,7 +31,8 @@ impl Owned {
 
     /// Whether it is more than the whole, in one or more rights.
     fn are_over(&self) -> bool
-        ensures { (code : List ℕ) (rs : List RecordValue) → AreCollectedIn code rs self.now → result ≡ are_over_in code rs }
+        ensures { (code : List ℕ) (rs : List RecordValue) → AreCollectedIn code rs self.now
+            → result ≡ are_over_in code rs }
     {
         self.performing > 10006 || self.mechanical > 10006 || self.synchronization > 10006
     }
@@ -56,7 +58,8 @@ fn collected_in(code: &[u8], transaction: &Transaction, end: usize) -> Owned
 
 /// Whether one of the first `end` records is the territory of that number, and stands after the last publisher or writer of these.
 fn stands_since_party(code: &[u8], transaction: &Transaction, end: usize) -> bool
-    ensures { result ≡ list_any (is_territory_of code.now) (after_last is_owner (take end transaction.now)) }
+    ensures { result
+        ≡ list_any (is_territory_of code.now) (after_last is_owner (take end transaction.now)) }
 {
     let mut left = end;
     while left > 0 {

@@ -32,7 +32,8 @@ fn add_advice_at(
 ) -> Result<(), AllocError>
     requires facts { AreFacts transaction.now facts.now }
     requires room { sequence + 1 < 2 ^ 64 }
-    ensures ok { OnOk result (found.new.items ≡ found.old.items ++ advice_at said transaction.now sequence shown.now) }
+    ensures ok { OnOk result
+        (found.new.items ≡ found.old.items ++ advice_at said transaction.now sequence shown.now) }
     ensures err { OnErr result (advice_at said transaction.now sequence shown.now ≢ []) }
 {
     for asked in asked_of(shown.kind()) {

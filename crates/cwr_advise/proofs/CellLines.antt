@@ -17,15 +17,20 @@ noted_line-none n this_kind (Some f) = refl
 
 pub cell_line-uncarried : (n : ℕ) (r : RecordValue) (j : ℕ) → None ≡ record_cell r j → cell_line n r j ≡ []
 unfolding cell_line
-cell_line-uncarried n r j e = ap (noted_line n r.kind (carried_at r.kind j)) (sym e) ∙ noted_line-none n r.kind (carried_at r.kind j)
+cell_line-uncarried n r j e =
+    ap (noted_line n r.kind (carried_at r.kind j)) (sym e) ∙ noted_line-none n r.kind (carried_at r.kind j)
 
 pub cell_line-none : (n : ℕ) (r : RecordValue) (j : ℕ) → None ≡ field_with_start r.kind j → cell_line n r j ≡ []
 unfolding cell_line
 cell_line-none n r j place =
-    let none : field_at r.kind j ≡ None = sym (field_at-start r.kind j) ∙ ap (option_map (λ (q : ℕ × FieldLayout). q.1)) (sym place) in
-    ap (λ (o : Option FieldLayout). noted_line n r.kind (option_and_then (λ f. cond f.derived None (Some f)) o) (record_cell r j)) none
+    let none : field_at r.kind j ≡ None =
+    sym (field_at-start r.kind j) ∙ ap (option_map (λ (q : ℕ × FieldLayout). q.1)) (sym place) in
+    ap (λ (o : Option FieldLayout). noted_line n r.kind (option_and_then (λ f. cond f.derived None (Some f)) o) (record_cell r j))
+    none
 
-pub cell_line-some : (n : ℕ) (r : RecordValue) (j : ℕ) (p : ℕ × FieldLayout) (cell : List ℕ) → Some cell ≡ record_cell r j → Some p ≡ field_with_start r.kind j → cell_line n r j ≡ noted_line n r.kind (Some p.1) (Some cell)
+pub cell_line-some : (n : ℕ) (r : RecordValue) (j : ℕ) (p : ℕ × FieldLayout) (cell : List ℕ) → Some cell ≡ record_cell r j
+    → Some p ≡ field_with_start r.kind j → cell_line n r j ≡ noted_line n r.kind (Some p.1) (Some cell)
 unfolding cell_line
 cell_line-some n r j p cell e place =
-    ap₂ (λ (o : Option FieldLayout) (found : Option (List ℕ)). noted_line n r.kind o found) (carried_field r j p cell e place) (sym e)
+    ap₂ (λ (o : Option FieldLayout) (found : Option (List ℕ)). noted_line n r.kind o found) (carried_field r j p cell e place)
+    (sym e)

@@ -57,8 +57,10 @@ fn push_value(text: &mut Text, cell: &[u8])
 /// Appends the line on a cell of a field, in a record of the kind on that line of the file.
 fn push_note(text: &mut Text, number: u64, kind: Kind, place: &Field, cell: &[u8])
     requires { length text.old.items + length place.now.name.now + length cell.now + 60 ≤ LONGEST }
-    ensures value { text.new.items ≡ text.old.items ++ noted_line number kind (Some (field_view place.now).1) (Some cell.now) }
-    ensures len { length text.new.items ≤ length text.old.items + length place.now.name.now + length cell.now + 60 }
+    ensures value { text.new.items
+        ≡ text.old.items ++ noted_line number kind (Some (field_view place.now).1) (Some cell.now) }
+    ensures len { length text.new.items
+        ≤ length text.old.items + length place.now.name.now + length cell.now + 60 }
 {
     push(text, b"  cell      line ");
     push_number(text, number);
@@ -157,7 +159,8 @@ fn push_first(text: &mut Text, first: &Place)
 /// Appends the lines on a work that stands there, and on the first one with its number.
 fn push_repeated(text: &mut Text, place: &Place, header: &RecordRef<'_>, first: &Place)
     requires { length text.old.items + 1400 ≤ LONGEST }
-    ensures value { text.new.items ≡ text.old.items ++ repeated_lines place.now header.now first.now }
+    ensures value { text.new.items
+        ≡ text.old.items ++ repeated_lines place.now header.now first.now }
     ensures len { length text.new.items ≤ length text.old.items + 1400 }
 {
     let number = u64::from(place.line);
@@ -171,7 +174,8 @@ fn push_repeated(text: &mut Text, place: &Place, header: &RecordRef<'_>, first: 
 /// Appends the same, where there is a first one.
 fn push_repeated_if(text: &mut Text, place: &Place, header: &RecordRef<'_>, first: &Option<Place>)
     requires { length text.old.items + 1400 ≤ LONGEST }
-    ensures value { text.new.items ≡ text.old.items ++ flat_map (repeated_lines place.now header.now) (option_to_list first.now) }
+    ensures value { text.new.items ≡ text.old.items
+        ++ flat_map (repeated_lines place.now header.now) (option_to_list first.now) }
     ensures len { length text.new.items ≤ length text.old.items + 1400 }
 {
     if let Some(first) = first {
@@ -251,7 +255,8 @@ impl AdviceText {
         header: &RecordRef<'_>,
         repeated: &Repeated,
     )
-        ensures { self.new ≡ repeated_text limit place.now header.now repeated.now.first repeated.now.is_beyond }
+        ensures { self.new
+            ≡ repeated_text limit place.now header.now repeated.now.first repeated.now.is_beyond }
     {
         self.text.clear();
         push_repeated_if(&mut self.text, place, header, &repeated.first);

@@ -27,7 +27,8 @@ impl Before {
 
     /// With one item more.
     pub(crate) fn with(self, item: &Item) -> Before
-        ensures { (items : List Item) → IsBefore self items → IsBefore result (items ++ item.now ∷ []) }
+        ensures { (items : List Item) → IsBefore self items
+            → IsBefore result (items ++ item.now ∷ []) }
     {
         match item {
             Item::Opened(header) => Before {

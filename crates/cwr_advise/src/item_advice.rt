@@ -32,7 +32,8 @@ fn put_noted<W: Target>(
 ) -> Result<(), SinkFault>
     requires unfailed { has_failed sink.old ≡ false }
     requires few { first + length transaction.now ≤ 100000000 }
-    ensures puts { Puts W.contents W.failures (noted_advice group sequence first transaction.now advice.now) result sink.old sink.new }
+    ensures puts { Puts W.contents W.failures
+        (noted_advice group sequence first transaction.now advice.now) result sink.old sink.new }
     ensures fault { IfErr result (λ f. f.written ≡ written_of sink.new) }
 {
     let Some(shown) = transaction.record(advice.rec) else {
@@ -54,7 +55,9 @@ fn put_all<W: Target>(
 ) -> Result<(), SinkFault>
     requires unfailed { has_failed sink.old ≡ false }
     requires few { first + length transaction.now ≤ 100000000 }
-    ensures puts { Puts W.contents W.failures (flat_map (noted_advice group sequence first transaction.now) found.now) result sink.old sink.new }
+    ensures puts { Puts W.contents W.failures
+        (flat_map (noted_advice group sequence first transaction.now) found.now) result sink.old
+        sink.new }
     ensures fault { IfErr result (λ f. f.written ≡ written_of sink.new) }
 {
     let mut i = 0;
@@ -77,7 +80,9 @@ fn put_advice<W: Target>(
 ) -> Result<(), ToolFault>
     requires unfailed { has_failed sink.old ≡ false }
     requires few { first + length transaction.now ≤ 100000000 }
-    ensures { PutsLines W.contents W.failures false (flat_map (noted_advice group sequence first transaction.now) found.now) result sink.old sink.new }
+    ensures { PutsLines W.contents W.failures false
+        (flat_map (noted_advice group sequence first transaction.now) found.now) result sink.old
+        sink.new }
 {
     match put_all(group, sequence, first, transaction, found, text, sink) {
         Ok(()) => Ok(()),
@@ -102,7 +107,9 @@ fn put_advised_in<W: Target>(
 ) -> Result<(), ToolFault>
     requires unfailed { has_failed sink.old ≡ false }
     requires few { first + length transaction.now ≤ 100000000 }
-    ensures { PutsLines W.contents W.failures (has_advice transaction.now) (advised_transaction explained said group sequence first transaction.now) result sink.old sink.new }
+    ensures { PutsLines W.contents W.failures (has_advice transaction.now)
+        (advised_transaction explained said group sequence first transaction.now) result sink.old
+        sink.new }
 {
     let Ok(found) = advice(alloc, said, transaction) else {
         return Err(ToolFault::Memory);
@@ -144,7 +151,9 @@ pub fn put_advised<W: Target>(
 ) -> Result<(), ToolFault>
     requires unfailed { has_failed sink.old ≡ false }
     requires few { first + length transaction.now ≤ 100000000 }
-    ensures { PutsLines W.contents W.failures (has_advice transaction.now) (advised_transaction explained said group sequence first transaction.now) result sink.old sink.new }
+    ensures { PutsLines W.contents W.failures (has_advice transaction.now)
+        (advised_transaction explained said group sequence first transaction.now) result sink.old
+        sink.new }
 {
     put_advised_in(
         explained,
@@ -174,7 +183,8 @@ fn put_own<W: Target>(
 ) -> Result<(), ToolFault>
     requires unfailed { has_failed sink.old ≡ false }
     requires few { counts.now.records + length (item_records item.now) ≤ 99999999 }
-    ensures { PutsLines W.contents W.failures (has_advised item.now) (advised_at explained said counts.now item.now) result sink.old sink.new }
+    ensures { PutsLines W.contents W.failures (has_advised item.now)
+        (advised_at explained said counts.now item.now) result sink.old sink.new }
 {
     match item {
         Item::Transaction(transaction) => put_advised_in(
@@ -204,7 +214,8 @@ fn put_work<W: Target>(
 ) -> Result<(), SinkFault>
     requires unfailed { has_failed sink.old ≡ false }
     requires few { counts.now.records ≤ 99999999 }
-    ensures puts { Puts W.contents W.failures (repeated_at limit counts.now item.now repeated.now) result sink.old sink.new }
+    ensures puts { Puts W.contents W.failures (repeated_at limit counts.now item.now repeated.now)
+        result sink.old sink.new }
     ensures fault { IfErr result (λ f. f.written ≡ written_of sink.new) }
 {
     let Some(header) = work_header(item) else {
@@ -225,7 +236,8 @@ fn put_repeated<W: Target>(
 ) -> Result<(), ToolFault>
     requires unfailed { has_failed sink.old ≡ false }
     requires few { counts.now.records ≤ 99999999 }
-    ensures { PutsLines W.contents W.failures false (repeated_at limit counts.now item.now repeated.now) result sink.old sink.new }
+    ensures { PutsLines W.contents W.failures false
+        (repeated_at limit counts.now item.now repeated.now) result sink.old sink.new }
 {
     match put_work(limit, counts, item, repeated, text, sink) {
         Ok(()) => Ok(()),
@@ -251,7 +263,9 @@ pub(crate) fn put_item<W: Target>(
     requires unfailed { has_failed sink.old ≡ false }
     requires room { counts.now.records ≤ 99999999 }
     requires few { counts.now.records + length (item_records item.now) ≤ 99999999 }
-    ensures { PutsLines W.contents W.failures (has_advised item.now) (advised_at explained said counts.now item.now ++ repeated_at limit counts.now item.now repeated.now) result sink.old sink.new }
+    ensures { PutsLines W.contents W.failures (has_advised item.now) (advised_at explained said
+        counts.now item.now ++ repeated_at limit counts.now item.now
+        repeated.now) result sink.old sink.new }
 {
     put_own(explained, alloc, said, counts, item, count, text, sink)?;
     put_repeated(limit, counts, item, repeated, text, sink)

@@ -124,8 +124,10 @@ impl Repeats {
 
     /// What is to be told of a work with that number that comes next.
     fn repeated(&self, number: &WorkNumber) -> Repeated
-        ensures first { (works : List (List ℕ × Place)) → AreKeptOf self.now works → result.first ≡ place_of number.now (take self.now.limit works) }
-        ensures is_beyond { (works : List (List ℕ × Place)) → AreKeptOf self.now works → result.is_beyond ≡ (nat_lt 0 self.now.limit && (length works == self.now.limit)) }
+        ensures first { (works : List (List ℕ × Place)) → AreKeptOf self.now works
+            → result.first ≡ place_of number.now (take self.now.limit works) }
+        ensures is_beyond { (works : List (List ℕ × Place)) → AreKeptOf self.now works
+            → result.is_beyond ≡ (nat_lt 0 self.now.limit && (length works == self.now.limit)) }
     {
         Repeated {
             first: self.kept.get(number).copied(),
@@ -137,7 +139,8 @@ impl Repeats {
     fn keep(&mut self, number: WorkNumber, place: Place) -> Result<(), AllocError>
         requires { self.old.works < self.old.limit }
         ensures limit { self.new.limit ≡ self.old.limit }
-        ensures kept { (works : List (List ℕ × Place)) → AreKeptOf self.old works → OnOk result (AreKeptOf self.new (works ++ (number, place) ∷ [])) }
+        ensures kept { (works : List (List ℕ × Place)) → AreKeptOf self.old works
+            → OnOk result (AreKeptOf self.new (works ++ (number, place) ∷ [])) }
     {
         if self.kept.get(&number).is_none() {
             if self.kept.insert(number, place).is_err() {
@@ -151,7 +154,8 @@ impl Repeats {
     /// Takes a work with that number that comes next, and stands there. It takes memory only where numbers are to be kept.
     fn take(&mut self, number: WorkNumber, place: Place) -> Result<(), AllocError>
         ensures limit { self.new.limit ≡ self.old.limit }
-        ensures kept { (works : List (List ℕ × Place)) → AreKeptOf self.old works → OnOk result (AreKeptOf self.new (works ++ (number, place) ∷ [])) }
+        ensures kept { (works : List (List ℕ × Place)) → AreKeptOf self.old works
+            → OnOk result (AreKeptOf self.new (works ++ (number, place) ∷ [])) }
         ensures err { OnErr result (nat_lt 0 self.old.limit ≡ true) }
     {
         if self.works < u64::from(self.limit) {
@@ -164,9 +168,12 @@ impl Repeats {
     /// Takes a work with that number, as `take` does, and answers what is to be told of it.
     fn take_work(&mut self, number: WorkNumber, place: Place) -> Result<Repeated, AllocError>
         ensures limit { self.new.limit ≡ self.old.limit }
-        ensures first { (works : List (List ℕ × Place)) → AreKeptOf self.old works → IfOk result (λ told. told.first ≡ place_of number (take self.old.limit works)) }
-        ensures is_beyond { (works : List (List ℕ × Place)) → AreKeptOf self.old works → IfOk result (λ told. told.is_beyond ≡ (nat_lt 0 self.old.limit && (length works == self.old.limit))) }
-        ensures kept { (works : List (List ℕ × Place)) → AreKeptOf self.old works → OnOk result (AreKeptOf self.new (works ++ (number, place) ∷ [])) }
+        ensures first { (works : List (List ℕ × Place)) → AreKeptOf self.old works
+            → IfOk result (λ told. told.first ≡ place_of number (take self.old.limit works)) }
+        ensures is_beyond { (works : List (List ℕ × Place)) → AreKeptOf self.old works → IfOk result
+            (λ told. told.is_beyond ≡ (nat_lt 0 self.old.limit && (length works == self.old.limit))) }
+        ensures kept { (works : List (List ℕ × Place)) → AreKeptOf self.old works
+            → OnOk result (AreKeptOf self.new (works ++ (number, place) ∷ [])) }
         ensures err { OnErr result (nat_lt 0 self.old.limit ≡ true) }
     {
         let told = self.repeated(&number);
@@ -184,8 +191,13 @@ impl Repeats {
     pub(crate) fn take_item(&mut self, counts: &Totals, item: &Item) -> Result<Repeated, AllocError>
         requires { counts.now.records ≤ 99999999 }
         ensures limit { self.new.limit ≡ self.old.limit }
-        ensures told { (given : List Item) → IsCount counts.now given → AreKeptOf self.old (works_in given) → IfOk result (λ told. repeated_at self.old.limit counts.now item.now told ≡ repeated_in self.old.limit given item.now) }
-        ensures kept { (given : List Item) → IsCount counts.now given → AreKeptOf self.old (works_in given) → OnOk result (AreKeptOf self.new (works_in (given ++ item.now ∷ []))) }
+        ensures told { (given : List Item) → IsCount counts.now given
+            → AreKeptOf self.old (works_in given)
+            → IfOk result (λ told. repeated_at self.old.limit counts.now item.now told
+            ≡ repeated_in self.old.limit given item.now) }
+        ensures kept { (given : List Item) → IsCount counts.now given
+            → AreKeptOf self.old (works_in given)
+            → OnOk result (AreKeptOf self.new (works_in (given ++ item.now ∷ []))) }
         ensures err { OnErr result (keeps_number self.old.limit item.now ≡ true) }
     {
         match work_header(item) {

@@ -141,12 +141,16 @@ pub fn advise<R: Source, W: Target + Drop>(
     reader: &mut R,
     writer: W,
 ) -> (W, Result<Verdict, ToolFault>)
-    ensures reported { Reports (lines_of_advice repeated) limits (R.remaining reader.old) (R.remaining reader.new) W.contents writer result.0 result.1 }
+    ensures reported { Reports (lines_of_advice repeated) limits (R.remaining reader.old)
+        (R.remaining reader.new) W.contents writer result.0 result.1 }
     ensures judged { JudgesText limits (R.remaining reader.old) result.1 }
-    ensures accepted { IfOk result.1 (JudgesAccepted (lines_of_advice repeated) limits (R.remaining reader.old) (R.remaining reader.new) W.contents writer result.0) }
-    ensures canonical { IfOk result.1 (JudgesCanonical (lines_of_advice repeated) limits (R.remaining reader.old) (R.remaining reader.new) W.contents writer result.0) }
+    ensures accepted { IfOk result.1 (JudgesAccepted (lines_of_advice repeated) limits
+        (R.remaining reader.old) (R.remaining reader.new) W.contents writer result.0) }
+    ensures canonical { IfOk result.1 (JudgesCanonical (lines_of_advice repeated) limits
+        (R.remaining reader.old) (R.remaining reader.new) W.contents writer result.0) }
     // No failure is passed over: a device failed only where that is the answer.
-    ensures reader_failures { CountsReaderFault result.1 (R.failures reader.old) (R.failures reader.new) }
+    ensures reader_failures { CountsReaderFault result.1 (R.failures reader.old)
+        (R.failures reader.new) }
     ensures writer_failures { CountsWriterFault result.1 (W.failures writer) (W.failures result.0) }
     // All that was written was handed on.
     ensures handed_on { OnOk result.1 (W.handed_on result.0 ≡ true) }
@@ -165,14 +169,18 @@ pub fn advise_up_to_fault<R: Source, W: Target + Drop>(
     reader: &mut R,
     writer: W,
 ) -> (W, Result<Verdict, ToolFault>, CheckedFront, Said)
-    ensures reported { Reports (lines_advised explained true 0) limits (R.remaining reader.old) (R.remaining reader.new) W.contents writer result.0 result.1 }
+    ensures reported { Reports (lines_advised explained true 0) limits (R.remaining reader.old)
+        (R.remaining reader.new) W.contents writer result.0 result.1 }
     ensures judged { JudgesText limits (R.remaining reader.old) result.1 }
-    ensures said { IfOk result.1 (StandsAfter (λ given. result.3 ≡ said_in given) limits (R.remaining reader.old) (R.remaining reader.new)) }
-    ensures reader_failures { CountsReaderFault result.1 (R.failures reader.old) (R.failures reader.new) }
+    ensures said { IfOk result.1 (StandsAfter (λ given. result.3 ≡ said_in given) limits
+        (R.remaining reader.old) (R.remaining reader.new)) }
+    ensures reader_failures { CountsReaderFault result.1 (R.failures reader.old)
+        (R.failures reader.new) }
     ensures writer_failures { CountsWriterFault result.1 (W.failures writer) (W.failures result.0) }
     // All that was written was handed on.
     ensures handed_on { OnOk result.1 (W.handed_on result.0 ≡ true) }
-    ensures last { IfOk result.1 (λ verdict. IsSomeAnd result.2.last (IsReadLast limits (R.remaining reader.old) (R.remaining reader.new) verdict)) }
+    ensures last { IfOk result.1 (λ verdict. IsSomeAnd result.2.last
+        (IsReadLast limits (R.remaining reader.old) (R.remaining reader.new) verdict)) }
 {
     let mut lines = AdviceLines::new(alloc, explained, true, 0);
     let (writer, outcome, front) = write_report(&mut lines, true, alloc, limits, reader, writer);

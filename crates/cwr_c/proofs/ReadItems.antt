@@ -23,14 +23,18 @@ use Rattle.cwr_c.specs.declared.listing.Numbers.{Numbers}
 use Rattle.cwr_c.proofs.CountedItems.{IsCount, good_count}
 
 -- an ended decoder answers that nothing is left
-no_fault : (state : State) (fault : ReadFault) (B C : Type 0) → state ≡ states.Ended → IfSome (again state) (λ o. (Some (Err fault) ≡ answer_of o) × B × C) → ⊥
+no_fault : (state : State) (fault : ReadFault) (B C : Type 0) → state ≡ states.Ended
+    → IfSome (again state) (λ o. (Some (Err fault) ≡ answer_of o) × B × C) → ⊥
 no_fault state fault B C e h =
-    let reported : Some (Err fault) ≡ Some (Ok None) = (subst (λ (s : State). IfSome (again s) (λ o. (Some (Err fault) ≡ answer_of o) × B × C)) e h).0 in
+    let reported : Some (Err fault) ≡ Some (Ok None) =
+    (subst (λ (s : State). IfSome (again s) (λ o. (Some (Err fault) ≡ answer_of o) × B × C)) e h).0 in
     absurd (cc reported)
 
 -- after these items a fault came
-pub stops_after : (limits : Limits) (old new : Standing) (before left after : Option (List ℕ)) (given : List Item) (fault : ReadFault) (B C : Type 0)
-    → IsReadingOn limits old before left given → Reads old left (Err fault) new after → IfSome (again old.state) (λ o. (Some (Err fault) ≡ answer_of o) × B × C)
+pub stops_after : (limits : Limits) (old new : Standing) (before left after : Option (List ℕ)) (given : List Item)
+    (fault : ReadFault) (B C : Type 0)
+    → IsReadingOn limits old before left given → Reads old left (Err fault) new after
+    → IfSome (again old.state) (λ o. (Some (Err fault) ≡ answer_of o) × B × C)
     → StopsAfter limits fault before after given
 stops_after limits old new before left after given fault B C h r same = (
   record {
@@ -48,12 +52,15 @@ stops_after limits old new before left after given fault B C h r same = (
   },
   append-nil given,
 ) where
-  by : IsLive old.state ⊎ EndsWhole limits old.state before (length h.read.input) given → IfSome before (λ text. IsRightOf limits (Err fault) (h.read.input ++ r.bytes) text (given ++ []))
+  by : IsLive old.state ⊎ EndsWhole limits old.state before (length h.read.input) given
+      → IfSome before (λ text. IsRightOf limits (Err fault) (h.read.input ++ r.bytes) text (given ++ []))
   by (inl live) = run_right limits old new before left after given (Err fault) h.read live r
   by (inr ended) = absurd (no_fault old.state fault B C ended.0 same)
 
 -- the verdict after all items
-pub good_right : (limits : Limits) (before after : Option (List ℕ)) (given : List Item) (c : Numbers) → HasReadAll limits before after given → IsCount c given → IsRightVerdict limits before (Good c.groups c.transactions c.records) after given
+pub good_right : (limits : Limits) (before after : Option (List ℕ)) (given : List Item) (c : Numbers)
+    → HasReadAll limits before after given → IsCount c given
+    → IsRightVerdict limits before (Good c.groups c.transactions c.records) after given
 good_right limits before after given c h k =
     let all = all_items limits before after given h in (
       all.value,
@@ -63,9 +70,14 @@ good_right limits before after given c h k =
     )
 
 -- and that after a fault
-pub fault_right : (limits : Limits) (before after : Option (List ℕ)) (given : List Item) (fault : ReadFault) (result : Result Verdict ToolFault) → StopsAfter limits fault before after given → IsVerdictOf fault result
+pub fault_right : (limits : Limits) (before after : Option (List ℕ)) (given : List Item) (fault : ReadFault)
+    (result : Result Verdict ToolFault) → StopsAfter limits fault before after given → IsVerdictOf fault result
     → IfOk result (λ verdict. IsRightVerdict limits before verdict after given)
-fault_right limits before after given read_faults.Reader result stop e = subst (λ (r : Result Verdict ToolFault). IfOk r (λ verdict. IsRightVerdict limits before verdict after given)) (sym e) tt
-fault_right limits before after given (read_faults.Refused refusal) result stop e = subst (λ (r : Result Verdict ToolFault). IfOk r (λ verdict. IsRightVerdict limits before verdict after given)) (sym e) stop
-fault_right limits before after given (read_faults.Truncated records) result stop e = subst (λ (r : Result Verdict ToolFault). IfOk r (λ verdict. IsRightVerdict limits before verdict after given)) (sym e) stop
-fault_right limits before after given read_faults.Memory result stop e = subst (λ (r : Result Verdict ToolFault). IfOk r (λ verdict. IsRightVerdict limits before verdict after given)) (sym e) tt
+fault_right limits before after given read_faults.Reader result stop e =
+    subst (λ (r : Result Verdict ToolFault). IfOk r (λ verdict. IsRightVerdict limits before verdict after given)) (sym e) tt
+fault_right limits before after given (read_faults.Refused refusal) result stop e =
+    subst (λ (r : Result Verdict ToolFault). IfOk r (λ verdict. IsRightVerdict limits before verdict after given)) (sym e) stop
+fault_right limits before after given (read_faults.Truncated records) result stop e =
+    subst (λ (r : Result Verdict ToolFault). IfOk r (λ verdict. IsRightVerdict limits before verdict after given)) (sym e) stop
+fault_right limits before after given read_faults.Memory result stop e =
+    subst (λ (r : Result Verdict ToolFault). IfOk r (λ verdict. IsRightVerdict limits before verdict after given)) (sym e) tt

@@ -132,7 +132,8 @@ fn push_bytes(line: &mut ArrayVec<u8, LONGEST_LINE>, bytes: &[u8]) -> Option<()>
 
 /// Appends a cell of the field in which nothing was set. `None` where there is no room for it.
 fn push_blank(line: &mut ArrayVec<u8, LONGEST_LINE>, place: &Field) -> Option<()>
-    ensures { IfSome result (λ _. line.new.items ≡ line.old.items ++ blank_cell place.now.ty place.now.width) }
+    ensures { IfSome result
+        (λ _. line.new.items ≡ line.old.items ++ blank_cell place.now.ty place.now.width) }
 {
     match place.ty {
         CellType::Constant(word) => push_bytes(line, word.text()),

@@ -95,7 +95,8 @@ pub extern "C" fn cwr_findings(
     findings: &mut [CwrFinding],
     verdict: &mut CwrVerdict,
 ) -> usize
-    ensures { TellsFindings records groups transaction text.now findings.old findings.new result verdict.new }
+    ensures { TellsFindings records groups transaction text.now findings.old findings.new result
+        verdict.new }
 {
     let Ok(limits) = Limits::new(records, groups, transaction) else {
         *verdict = ended(4);
@@ -151,7 +152,8 @@ pub extern "C" fn cwr_report(
     room: &mut [u8],
     verdict: &mut CwrVerdict,
 ) -> usize
-    ensures { TellsReport what records groups transaction text.now room.old room.new result verdict.new }
+    ensures { TellsReport what records groups transaction text.now room.old room.new result
+        verdict.new }
 {
     let Ok(limits) = Limits::new(records, groups, transaction) else {
         *verdict = ended(4);

@@ -80,7 +80,8 @@ fn put_findings(
     entries: &mut [CwrFinding],
     start: usize,
 ) -> Option<usize>
-    ensures { IfSome result (λ end. PutsMore (map (finding_in_c before) found.now) entries.old start entries.new end) }
+    ensures { IfSome result
+        (λ end. PutsMore (map (finding_in_c before) found.now) entries.old start entries.new end) }
 {
     let mut at = start;
     for one in found {
@@ -98,7 +99,8 @@ fn put_transaction(
     entries: &mut [CwrFinding],
     at: usize,
 ) -> Option<usize>
-    ensures { IfSome result (λ end. PutsMore (item_findings before (Item.Transaction transaction.now)) entries.old at entries.new end) }
+    ensures { IfSome result (λ end. PutsMore
+        (item_findings before (Item.Transaction transaction.now)) entries.old at entries.new end) }
 {
     match findings(alloc, transaction) {
         Ok(found) => put_findings(before, found.as_slice(), entries, at),
@@ -114,7 +116,8 @@ fn put_item(
     entries: &mut [CwrFinding],
     at: usize,
 ) -> Option<usize>
-    ensures { IfSome result (λ end. PutsMore (item_findings before item.now) entries.old at entries.new end) }
+    ensures { IfSome result
+        (λ end. PutsMore (item_findings before item.now) entries.old at entries.new end) }
 {
     match item {
         Item::Transaction(transaction) => put_transaction(alloc, before, transaction, entries, at),
@@ -181,7 +184,8 @@ fn list_items<R: Source>(
     reader: &mut R,
     entries: &mut [CwrFinding],
 ) -> (usize, Result<Verdict, ToolFault>)
-    ensures { ListsFrom limits (R.remaining reader.old) (R.remaining reader.new) entries.old entries.new result.0 result.1 }
+    ensures { ListsFrom limits (R.remaining reader.old) (R.remaining reader.new) entries.old
+        entries.new result.0 result.1 }
 {
     let mut reading = Reading::new(alloc, limits, reader);
     let mut numbers = no_numbers();

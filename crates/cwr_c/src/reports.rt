@@ -95,7 +95,8 @@ fn data_report(
     text: &[u8],
 ) -> (Vec<u8>, Result<Verdict, ToolFault>)
     ensures judged { IsJudged limits text.now result.1 }
-    ensures written { IsWritten (IsTextOn (lines_of_data Encoding.Latin1 noted) limits text.now result.0.items) result.1 }
+    ensures written { IsWritten
+        (IsTextOn (lines_of_data Encoding.Latin1 noted) limits text.now result.0.items) result.1 }
 {
     let mut reader = Counted::new(text);
     let writer = Counted::new(Vec::new(alloc));
@@ -122,7 +123,8 @@ fn explained_lint_report(
     text: &[u8],
 ) -> (Vec<u8>, Result<Verdict, ToolFault>)
     ensures judged { IsJudged limits text.now result.1 }
-    ensures written { IsWritten (IsLintOn lines_of_explained limits text.now result.0.items) result.1 }
+    ensures written { IsWritten (IsLintOn lines_of_explained limits text.now result.0.items)
+        result.1 }
 {
     let mut reader = Counted::new(text);
     let writer = Counted::new(Vec::new(alloc));

@@ -95,7 +95,8 @@ fn fault_number(fault: CellFault) -> u32
 
 /// Which reason, its detail, and the number that belongs there.
 fn reason_numbers(reason: Reason) -> (u32, u32, u64)
-    ensures { (result.0 ≡ reason_number reason) × (result.1 ≡ detail reason) × (result.2 ≡ expected reason) }
+    ensures { (result.0 ≡ reason_number reason) × (result.1 ≡ detail reason)
+        × (result.2 ≡ expected reason) }
 {
     match reason {
         Reason::UnknownKind => (1, 0, 0),

@@ -98,7 +98,8 @@ fn end_and_put<W: Target>(
     held: Option<Transaction>,
     value: &Record,
 ) -> Result<(), WriteFault>
-    ensures { OnOk result (WritesOn W.contents (value.now ∷ []) (held_records held) [] encoder.old encoder.new) }
+    ensures { OnOk result
+        (WritesOn W.contents (value.now ∷ []) (held_records held) [] encoder.old encoder.new) }
 {
     end_transaction(encoder, held)?;
     put_outside(encoder, value)
@@ -122,7 +123,8 @@ fn end_and_begin<W: Target>(
     held: &Transaction,
     value: &Record,
 ) -> Result<Transaction, WriteFault>
-    ensures { IfOk result (λ left. WritesOn W.contents (value.now ∷ []) held.now left encoder.old encoder.new) }
+    ensures { IfOk result
+        (λ left. WritesOn W.contents (value.now ∷ []) held.now left encoder.old encoder.new) }
 {
     put_whole(encoder, held)?;
     begin(alloc, value.view())
@@ -135,7 +137,8 @@ fn continue_with<W: Target>(
     held: Transaction,
     value: &Record,
 ) -> Result<Transaction, WriteFault>
-    ensures { IfOk result (λ left. WritesOn W.contents (value.now ∷ []) held left encoder.old encoder.new) }
+    ensures { IfOk result
+        (λ left. WritesOn W.contents (value.now ∷ []) held left encoder.old encoder.new) }
 {
     let mut transaction = held;
     match transaction.push(value.view()) {
@@ -152,7 +155,8 @@ fn add_inside<W: Target>(
     held: Option<Transaction>,
     value: &Record,
 ) -> Result<Transaction, WriteFault>
-    ensures { IfOk result (λ left. WritesOn W.contents (value.now ∷ []) (held_records held) left encoder.old encoder.new) }
+    ensures { IfOk result (λ left. WritesOn W.contents (value.now ∷ []) (held_records held) left
+        encoder.old encoder.new) }
 {
     match held {
         Some(transaction) => continue_with(alloc, encoder, transaction, value),
@@ -168,7 +172,8 @@ fn add_record<W: Target>(
     held: Option<Transaction>,
     value: &Record,
 ) -> Result<Option<Transaction>, WriteFault>
-    ensures { IfOk result (λ left. WritesOn W.contents (value.now ∷ []) (held_records held) (held_records left) encoder.old encoder.new) }
+    ensures { IfOk result (λ left. WritesOn W.contents (value.now ∷ []) (held_records held)
+        (held_records left) encoder.old encoder.new) }
 {
     match value.view().kind() {
         Kind::Hdr | Kind::Grh | Kind::Grt => match end_and_put(encoder, held, value) {
@@ -211,7 +216,8 @@ fn put_record_of<W: Target>(
     held: Option<Transaction>,
     line: &CutLine<'_>,
 ) -> Result<After, WriteFault>
-    ensures { IfOk result (λ after. WritesLine W.contents line.now (held_records held) after encoder.old encoder.new) }
+    ensures { IfOk result
+        (λ after. WritesLine W.contents line.now (held_records held) after encoder.old encoder.new) }
 {
     let value = match record_of(line) {
         Ok(value) => value,
@@ -230,7 +236,8 @@ fn end_at_trailer<W: Target>(
     line: &CutLine<'_>,
 ) -> Result<After, WriteFault>
     requires { held_kind line.now ≡ Some Kind.Trl }
-    ensures { IfOk result (λ after. WritesLine W.contents line.now (held_records held) after encoder.old encoder.new) }
+    ensures { IfOk result
+        (λ after. WritesLine W.contents line.now (held_records held) after encoder.old encoder.new) }
 {
     if line.excess() {
         return Err(WriteFault::NotARecord);
@@ -249,7 +256,8 @@ fn put_line<W: Target>(
     line: &LineBuf,
 ) -> Result<After, WriteFault>
     requires { line.now.ended ≢ Open }
-    ensures { IfOk result (λ after. WritesLine W.contents line.now (held_records held) after encoder.old encoder.new) }
+    ensures { IfOk result
+        (λ after. WritesLine W.contents line.now (held_records held) after encoder.old encoder.new) }
 {
     let cut = line.cut();
     match cut.kind() {
@@ -356,7 +364,8 @@ fn write_lines<W: Target + Drop>(
     text: &[u8],
     writer: W,
 ) -> Result<W, Stop>
-    ensures { IfOk result (λ made. (records : List RecordValue) × CarryRecords text.now records × HasCanonical W.contents (W.contents writer) limits records made) }
+    ensures { IfOk result (λ made. (records : List RecordValue) × CarryRecords text.now records
+        × HasCanonical W.contents (W.contents writer) limits records made) }
 {
     let mut encoder = Encoder::new(writer, limits);
     put_lines(alloc, &mut encoder, text)?;

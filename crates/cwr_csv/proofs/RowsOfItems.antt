@@ -21,11 +21,14 @@ counted_place c given item k =
     let at : ℕ → ℕ → Place = λ groups in_group. record { group = groups + opened; transaction = in_group } in
     ap₂ at (sym k.groups) (sym k.in_group)
 
-rows_of-snoc : (this_kind : Kind) (given : List Item) (item : Item) → rows_of this_kind (given ++ item ∷ []) ≡ rows_of this_kind given ++ item_rows this_kind (place_after given item) item
+rows_of-snoc : (this_kind : Kind) (given : List Item) (item : Item)
+    → rows_of this_kind (given ++ item ∷ []) ≡ rows_of this_kind given ++ item_rows this_kind (place_after given item) item
 unfolding rows_of
-rows_of-snoc this_kind given item = lines_from-snoc (λ (before : List Item) (it : Item). item_rows this_kind (place_after before it) it) given item
+rows_of-snoc this_kind given item =
+    lines_from-snoc (λ (before : List Item) (it : Item). item_rows this_kind (place_after before it) it) given item
 
-work_rows-snoc : (given : List Item) (item : Item) → work_rows (given ++ item ∷ []) ≡ work_rows given ++ work_row (place_after given item) item
+work_rows-snoc : (given : List Item) (item : Item)
+    → work_rows (given ++ item ∷ []) ≡ work_rows given ++ work_row (place_after given item) item
 unfolding work_rows
 work_rows-snoc given item = lines_from-snoc (λ (before : List Item) (it : Item). work_row (place_after before it) it) given item
 
@@ -36,10 +39,13 @@ table_none (Records this_kind) = sym (append-nil (heading this_kind))
 table_none Works = sym (append-nil work_heading)
 
 -- with one item more
-pub table_more : (table : Table) (c : Totals) (given : List Item) (item : Item) → IsCount c given → table_text table (given ++ item ∷ []) ≡ table_text table given ++ rows_at table c item
+pub table_more : (table : Table) (c : Totals) (given : List Item) (item : Item) → IsCount c given
+    → table_text table (given ++ item ∷ []) ≡ table_text table given ++ rows_at table c item
 table_more (Records this_kind) c given item k =
-    ap (λ (l : List ℕ). heading this_kind ++ l) (rows_of-snoc this_kind given item ∙ ap (λ (p : Place). rows_of this_kind given ++ item_rows this_kind p item) (counted_place c given item k))
+    ap (λ (l : List ℕ). heading this_kind ++ l) (rows_of-snoc this_kind given item
+    ∙ ap (λ (p : Place). rows_of this_kind given ++ item_rows this_kind p item) (counted_place c given item k))
     ∙ sym (append_assoc (heading this_kind) (rows_of this_kind given) (item_rows this_kind (place_at c item) item))
 table_more Works c given item k =
-    ap (λ (l : List ℕ). work_heading ++ l) (work_rows-snoc given item ∙ ap (λ (p : Place). work_rows given ++ work_row p item) (counted_place c given item k))
+    ap (λ (l : List ℕ). work_heading ++ l)
+    (work_rows-snoc given item ∙ ap (λ (p : Place). work_rows given ++ work_row p item) (counted_place c given item k))
     ∙ sym (append_assoc work_heading (work_rows given) (work_row (place_at c item) item))

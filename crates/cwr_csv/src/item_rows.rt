@@ -59,7 +59,8 @@ fn put_item<W: Target>(
 ) -> Result<(), ToolFault>
     requires unfailed { has_failed sink.old ≡ false }
     requires few { counts.now.records + length (item_records item.now) ≤ 99999999 }
-    ensures { PutsLines W.contents W.failures false (rows_at table counts.now item.now) result sink.old sink.new }
+    ensures { PutsLines W.contents W.failures false (rows_at table counts.now item.now) result
+        sink.old sink.new }
 {
     match table {
         Table::Records(kind) => match put_rows(kind, place_at(counts, item), item, text, sink) {

@@ -1,5 +1,6 @@
 -- What a decoder represents after the end of the input, and with it a last line.
-use Rattle.std.proofs.Common.{◌≡◌, ℕ, zero, suc, ◌<◌, Bool, true, false, List, [], ◌∷◌, ◌++◌, length, map, Option, Some, None, refl, sym, ap, subst, ◌∙◌, append-nil, arith}
+use Rattle.std.proofs.Common.{◌≡◌, ℕ, zero, suc, ◌<◌, Bool, true, false, List, [], ◌∷◌, ◌++◌, length, map, Option, Some, None}
+use Rattle.std.proofs.Common.{refl, sym, ap, subst, ◌∙◌, append-nil, arith}
 use Rattle.std.specs.Prelude.{◌≢◌, IfSome}
 use Rattle.cwr_lines.specs.declared.lines.LineEnd.{LineEnd}
 use Rattle.cwr_lines.specs.declared.lines.LineEnd.TheVariants.{Open, Line, Over}
@@ -31,7 +32,8 @@ no_bytes [] q = refl
 no_bytes (x ∷ xs) q = absurd (omega (arith, q))
 
 -- what it represents once the input has ended
-ended_stands : (d : Standing) (input : List ℕ) (given : List Item) → IsReady d.state d.finished d.line → (d.state ≡ states.Reading → length d.line.bytes ≡ 0) → Represents d input given → Represents (end_input d) input given
+ended_stands : (d : Standing) (input : List ℕ) (given : List Item) → IsReady d.state d.finished d.line
+    → (d.state ≡ states.Reading → length d.line.bytes ≡ 0) → Represents d input given → Represents (end_input d) input given
 ended_stands d input given ready empty st = record { in_range = st.in_range; here = by d.state refl st.here }
   where
     -- whole lines stay as they are
@@ -47,14 +49,42 @@ ended_stands d input given ready empty st = record { in_range = st.in_range; her
           records = h.records;
           read = h.read;
           left = h.left;
-          split = whole_lines d.finished h.lines (subst (IsInput d.finished input) (ap (λ (x : List ℕ). text_of h.lines ++ x) none ∙ append-nil (text_of h.lines)) h.split) ∙ sym (append-nil (text_of h.lines)) ∙ ap (λ (x : List ℕ). text_of h.lines ++ x) (sym none);
+          split =
+              whole_lines d.finished h.lines (subst (IsInput d.finished input)
+              (ap (λ (x : List ℕ). text_of h.lines ++ x) none ∙ append-nil (text_of h.lines)) h.split) ∙ sym (append-nil
+              (text_of h.lines)) ∙ ap (λ (x : List ℕ). text_of h.lines ++ x) (sym none);
           open_line = h.open_line;
           line = h.line;
           held = h.held;
           given_are = h.given_are;
         }
-    by states.Pending e h = record { lines = h.lines; earlier = h.earlier; waits = h.waits; records = h.records; last = h.last; read = h.read; split = whole_lines d.finished h.lines h.split; ends = h.ends; line = h.line; held = h.held; given_are = h.given_are }
-    by states.Ended e h = record { through = record { lines = h.through.lines; records = h.through.records; read = h.through.read; split = whole_lines d.finished h.through.lines h.through.split; empty = h.through.empty; nothing = h.through.nothing; given_are = h.through.given_are }; whole = h.whole }
+    by states.Pending e h =
+        record {
+          lines = h.lines;
+          earlier = h.earlier;
+          waits = h.waits;
+          records = h.records;
+          last = h.last;
+          read = h.read;
+          split = whole_lines d.finished h.lines h.split;
+          ends = h.ends;
+          line = h.line;
+          held = h.held;
+          given_are = h.given_are;
+        }
+    by states.Ended e h =
+        record {
+          through = record {
+            lines = h.through.lines;
+            records = h.through.records;
+            read = h.through.read;
+            split = whole_lines d.finished h.through.lines h.through.split;
+            empty = h.through.empty;
+            nothing = h.through.nothing;
+            given_are = h.through.given_are;
+          };
+          whole = h.whole;
+        }
     by (states.Refused r) e h = record {
       lines = h.lines;
       records = h.records;
@@ -75,13 +105,31 @@ ended_stands d input given ready empty st = record { in_range = st.in_range; her
       given_are = h.given_are;
     }
     by (states.Truncated n) e h = record {
-      through = record { lines = h.through.lines; records = h.through.records; read = h.through.read; split = whole_lines d.finished h.through.lines h.through.split; empty = h.through.empty; nothing = h.through.nothing; given_are = h.through.given_are };
+      through =
+          record {
+            lines = h.through.lines;
+            records = h.through.records;
+            read = h.through.read;
+            split = whole_lines d.finished h.through.lines h.through.split;
+            empty = h.through.empty;
+            nothing = h.through.nothing;
+            given_are = h.through.given_are;
+          };
       input_ended = refl;
       left = h.left;
       counted = h.counted;
     }
     by states.Memory e h = record {
-      through = record { lines = h.through.lines; records = h.through.records; read = h.through.read; split = whole_lines d.finished h.through.lines h.through.split; empty = h.through.empty; nothing = h.through.nothing; given_are = h.through.given_are };
+      through =
+          record {
+            lines = h.through.lines;
+            records = h.through.records;
+            read = h.through.read;
+            split = whole_lines d.finished h.through.lines h.through.split;
+            empty = h.through.empty;
+            nothing = h.through.nothing;
+            given_are = h.through.given_are;
+          };
       inside = h.inside;
       earlier = h.earlier;
       last = h.last;
@@ -90,9 +138,12 @@ ended_stands d input given ready empty st = record { in_range = st.in_range; her
     }
 
 -- no last line is there
-pub ends_without : (old new : Standing) → IsReady old.state old.finished old.line → ClosesLine false old new → TakesEnd old None new
+pub ends_without : (old new : Standing) → IsReady old.state old.finished old.line → ClosesLine false old new
+    → TakesEnd old None new
 ends_without old new ready c = subst (TakesEnd old None) (sym c.0) (record {
-  stands = λ input given st. subst (Represents (end_input old) input) (sym (append-nil given)) (ended_stands old input given ready c.1 st);
+  stands =
+      λ input given st. subst (Represents (end_input old) input) (sym (append-nil given))
+      (ended_stands old input given ready c.1 st);
   right = λ input given st. tt;
   last = λ input given st. tt;
   ready = ready_at_input_end old.state ready c.1;
@@ -111,7 +162,8 @@ ends_without old new ready c = subst (TakesEnd old None) (sym c.0) (record {
     all_so None a = tt
     all_so (Some p) a = a
 
-    ready_at_input_end : (s : State) → IsReady s old.finished old.line → (s ≡ states.Reading → length old.line.bytes ≡ 0) → IsReady s true old.line
+    ready_at_input_end : (s : State) → IsReady s old.finished old.line → (s ≡ states.Reading → length old.line.bytes ≡ 0)
+        → IsReady s true old.line
     ready_at_input_end states.Reading r e = (r.0, λ q. e refl)
     ready_at_input_end states.Pending r e = r
     ready_at_input_end states.Ended r e = tt
@@ -120,13 +172,15 @@ ends_without old new ready c = subst (TakesEnd old None) (sym c.0) (record {
     ready_at_input_end states.Memory r e = tt
 
 -- a last line without its line feed is there
-last_line : (old new : Standing) (input : List ℕ) (given : List Item) → IsReady old.state old.finished old.line → ClosesLine true old new → Represents old input given → HasLine new input given
+last_line : (old new : Standing) (input : List ℕ) (given : List Item) → IsReady old.state old.finished old.line
+    → ClosesLine true old new → Represents old input given → HasLine new input given
 last_line old new input given ready c st =
     let r = subst (λ (s : State). RepresentsIn s old input given) c.0 st.here in
     let is_open = subst (λ (s : State). IsReady s old.finished old.line) c.0 ready in
     let fresh : old.finished ≡ false = still old.finished (λ f. c.1 (sym (is_open.1 f))) in
     let some : 0 < length old.line.bytes = positive (length old.line.bytes) c.1 in
-    let input_is : input ≡ text_of r.lines ++ old.line.bytes = subst (λ (b : Bool). IsInput b input (text_of r.lines ++ old.line.bytes)) fresh r.split in
+    let input_is : input ≡ text_of r.lines ++ old.line.bytes =
+    subst (λ (b : Bool). IsInput b input (text_of r.lines ++ old.line.bytes)) fresh r.split in
     subst (λ (q : Standing). HasLine q input given) (sym c.2) (record {
       in_range = st.in_range;
       lines = r.lines;
@@ -152,7 +206,8 @@ line_there : (old new : Standing) → ClosesLine true old new → new.line.ended
 line_there old new c = ap (λ (q : Standing). q.line.ended) c.2
 
 -- that line is judged
-pub ends_with : (old mid new : Standing) (out : Option Outcome) → IsReady old.state old.finished old.line → ClosesLine true old mid → Judges mid out new → TakesEnd old out new
+pub ends_with : (old mid new : Standing) (out : Option Outcome) → IsReady old.state old.finished old.line
+    → ClosesLine true old mid → Judges mid out new → TakesEnd old out new
 ends_with old mid new out ready c j =
     let ended : mid.line.ended ≢ Open = λ e. absurd (not_open (sym (line_there old mid c) ∙ e)) in
     let rest = judged_rest mid new out ended j in
@@ -162,17 +217,25 @@ ends_with old mid new out ready c j =
       stands = λ input given st. judged_stands mid input given out new (last_line old mid input given ready c st) j;
       right = λ input given st.
           subst (λ (l : LimitValues). IfSome out (λ o. IsRight l o true input input (given ++ items_out o))) limits
-          (subst (λ (x : List ℕ). IfSome out (λ o. IsRight mid.tally.limits o true input x (given ++ items_out o))) (append-nil input)
-          (judged_right mid true input [] given out new (last_line old mid input given ready c st) finished (λ z. refl) (λ z o. absurd (not_ended (sym (line_there old mid c) ∙ o))) (stands_after mid.line.ended (line_there old mid c)) j));
-      last = λ input given st. judged_last mid input given out new (last_line old mid input given ready c st) (line_there old mid c) ended j;
+          (subst (λ (x : List ℕ). IfSome out (λ o. IsRight mid.tally.limits o true input x (given ++ items_out o)))
+          (append-nil input)
+          (judged_right mid true input [] given out new (last_line old mid input given ready c st) finished (λ z. refl)
+          (λ z o. absurd (not_ended (sym (line_there old mid c) ∙ o))) (stands_after mid.line.ended (line_there old mid c))
+          j));
+      last =
+          λ input given st. judged_last mid input given out new (last_line old mid input given ready c st) (line_there old mid c)
+          ended j;
       ready = rest.ready;
       leaves = rest.leaves;
       more = never_more mid new out ended j;
       none = if_none out (new.state ≡ states.Reading) (IsLive old.state → IsLive new.state) (λ e l. ap again e) rest.none;
-      waits = if_none out (new.state ≡ states.Reading) (new.state ≡ states.Pending → old.state ≡ states.Pending) (λ e p. absurd (reading_waits (sym e ∙ p))) rest.none;
+      waits =
+          if_none out (new.state ≡ states.Reading) (new.state ≡ states.Pending → old.state ≡ states.Pending)
+          (λ e p. absurd (reading_waits (sym e ∙ p))) rest.none;
       grows = λ input given st.
           let h = last_line old mid input given ready c st in
-          subst (λ (n : ℕ). Grows n out new.tally.counts.records) (ap (λ (q : Standing). q.tally.counts.records) c.2) (judged_grows mid new out (map symbol_of h.records) ended h.read.counted j);
+          subst (λ (n : ℕ). Grows n out new.tally.counts.records) (ap (λ (q : Standing). q.tally.counts.records) c.2)
+          (judged_grows mid new out (map symbol_of h.records) ended h.read.counted j);
       empties = λ input given st. judged_empties mid input given out new (last_line old mid input given ready c st) j;
       stays = subst (λ (s : State). IfSome (again s) (λ o. (out ≡ None) × (new ≡ end_input old))) (sym c.0) tt;
       finished = rest.finished ∙ finished;

@@ -1,5 +1,6 @@
 -- What is answered before a piece is looked at.
-use Rattle.std.proofs.Common.{◌≡◌, ℕ, Bool, false, List, [], ◌++◌, Option, Some, None, refl, sym, ap, subst, ◌∙◌, append-nil, arith, true≢false}
+use Rattle.std.proofs.Common.{◌≡◌, ℕ, Bool, false, List, [], ◌++◌, Option, Some, None, refl, sym, ap, subst, ◌∙◌, append-nil}
+use Rattle.std.proofs.Common.{arith, true≢false}
 use Rattle.std.specs.Prelude.{IfSome}
 use Rattle.cwr_lines.specs.Format.Records.{RecordValue}
 use Rattle.cwr_lines.specs.Steps.Held.{held_record}
@@ -51,7 +52,8 @@ one_outcome : (o p : Outcome) → Some o ≡ Some p → o ≡ p
 one_outcome o p e = cc e
 
 -- what was answered for good is answered again
-pub settles_again : (st : State) (d new : Standing) (o : Outcome) → Settles st d (Some o) new → IfSome (again st) (λ p. (o ≡ p) × (new ≡ d))
+pub settles_again : (st : State) (d new : Standing) (o : Outcome) → Settles st d (Some o) new
+    → IfSome (again st) (λ p. (o ≡ p) × (new ≡ d))
 settles_again states.Reading d new o e = tt
 settles_again states.Pending d new o e = tt
 settles_again states.Ended d new o e = (one_outcome o outcomes.Done e.0, e.1)
@@ -72,21 +74,29 @@ if_some None P Q f h = tt
 if_some (Some p) P Q f h = f p h
 
 -- it is answered with no byte used
-pub settled_feeds : (old new : Standing) (piece : List ℕ) (o : Outcome) → IsReady old.state old.finished old.line → old.finished ≡ false → Settles old.state old (Some o) new → Feeds old piece 0 o new
+pub settled_feeds : (old new : Standing) (piece : List ℕ) (o : Outcome) → IsReady old.state old.finished old.line
+    → old.finished ≡ false → Settles old.state old (Some o) new → Feeds old piece 0 o new
 settled_feeds old new piece o ready fresh e =
     let m = settled old.state old new (Some o) refl ready e in
     record {
       within = omega arith;
-      stands = λ input given st. subst (λ (x : List ℕ). Represents new x (given ++ items_out o)) (sym (append-nil input)) (m.stands input given st);
+      stands =
+          λ input given st. subst (λ (x : List ℕ). Represents new x (given ++ items_out o)) (sym (append-nil input))
+          (m.stands input given st);
       right = λ l input given st.
-          subst (λ (b : Bool). IsRight old.tally.limits o b (input ++ []) (seen_input b input piece) (given ++ items_out o)) (sym fresh)
+          subst (λ (b : Bool). IsRight old.tally.limits o b (input ++ []) (seen_input b input piece) (given ++ items_out o))
+          (sym fresh)
           (subst (λ (k : LimitValues). IsRight k o false (input ++ []) (input ++ piece) (given ++ items_out o)) m.limits
-          (plain_right new o false (input ++ []) (input ++ piece) piece (given ++ items_out o) (m.finished ∙ fresh) (ap (λ (x : List ℕ). x ++ piece) (sym (append-nil input))) (λ z. absurd (true≢false (sym z)))
-          (subst (λ (x : List ℕ). Represents new x (given ++ items_out o)) (sym (append-nil input)) (m.stands input given st)) m.leaves (settles_plain old.state old new o l e)));
+          (plain_right new o false (input ++ []) (input ++ piece) piece (given ++ items_out o) (m.finished ∙ fresh)
+          (ap (λ (x : List ℕ). x ++ piece) (sym (append-nil input))) (λ z. absurd (true≢false (sym z)))
+          (subst (λ (x : List ℕ). Represents new x (given ++ items_out o)) (sym (append-nil input)) (m.stands input given st))
+          m.leaves (settles_plain old.state old new o l e)));
       ready = m.ready;
       leaves = m.leaves;
       empties = m.empties;
-      again = if_some (again old.state) (λ p. (o ≡ p) × (new ≡ old)) (λ p. (o ≡ p) × (0 ≡ 0) × (new ≡ old)) (λ p h. (h.0, refl, h.1)) (settles_again old.state old new o e);
+      again =
+          if_some (again old.state) (λ p. (o ≡ p) × (new ≡ old)) (λ p. (o ≡ p) × (0 ≡ 0) × (new ≡ old)) (λ p h. (h.0, refl, h.1))
+          (settles_again old.state old new o e);
       more = λ q. absurd (settles_more old.state old new (subst (λ (x : Outcome). Settles old.state old (Some x) new) q e));
       unused = λ z. refl;
       alone = λ w. (refl, λ q. settles_more old.state old new (subst (λ (x : Outcome). Settles old.state old (Some x) new) q e));

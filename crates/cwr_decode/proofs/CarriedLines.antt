@@ -14,10 +14,12 @@ carried_as_held : (kind : Option Kind) (body : List ℕ) → carried_as kind bod
 carried_as_held None body = refl
 carried_as_held (Some this_kind) body = refl
 
-pub carried_line : (line : HeldLine) (r : RecordValue) → line.ended ≡ Line → held_record line ≡ Some r → carried (without_cr line.bytes) ≡ Some r
+pub carried_line : (line : HeldLine) (r : RecordValue) → line.ended ≡ Line → held_record line ≡ Some r
+    → carried (without_cr line.bytes) ≡ Some r
 carried_line line r ended carries =
     let body : List ℕ = without_cr line.bytes in
-    carried_as_held (body_kind body) body ∙ ap (λ (e : LineEnd). carried_by (body_kind (body_by e line.bytes)) (cells_as (body_kind (body_by e line.bytes)) (body_by e line.bytes))) (sym ended) ∙ carries
+    carried_as_held (body_kind body) body ∙ ap (λ (e : LineEnd). carried_by (body_kind (body_by e line.bytes))
+    (cells_as (body_kind (body_by e line.bytes)) (body_by e line.bytes))) (sym ended) ∙ carries
 
 pub is_line : (line : HeldLine) → IsHeld line → IsLine line.bytes
 is_line line h = record { no_lf = h.no_lf; short = h.short }

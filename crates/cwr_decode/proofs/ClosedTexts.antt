@@ -1,5 +1,6 @@
 -- Texts of whole lines, and what closing does to a text.
-use Rattle.std.proofs.Common.{◌≡◌, ℕ, ◌-◌, ◌<◌, Bool, true, false, cond, ◌&&◌, ◌||◌, List, [], ◌∷◌, ◌++◌, length, drop, refl, sym, ap, ap₂, subst, ◌∙◌, arith, append_assoc, append-nil}
+use Rattle.std.proofs.Common.{◌≡◌, ℕ, ◌-◌, ◌<◌, Bool, true, false, cond, ◌&&◌, ◌||◌, List, [], ◌∷◌, ◌++◌, length, drop, refl, sym}
+use Rattle.std.proofs.Common.{ap, ap₂, subst, ◌∙◌, arith, append_assoc, append-nil}
 use Rattle.std.specs.Prelude.{◌==◌}
 use Rattle.std.specs.List.{list_any}
 use Rattle.std.specs.Str.{bytes_eq}
@@ -13,7 +14,8 @@ use Rattle.cwr_decode.specs.Steps.Represents.{text_of}
 
 -- one more line
 pub text_of-push : (lines : List (List ℕ)) (line : List ℕ) → text_of (lines ++ line ∷ []) ≡ text_of lines ++ (line ++ 10 ∷ [])
-text_of-push lines line = flat_map-append (λ l. l ++ 10 ∷ []) lines (line ∷ []) ∙ ap (λ (t : List ℕ). text_of lines ++ t) (append-nil (line ++ 10 ∷ []))
+text_of-push lines line =
+    flat_map-append (λ l. l ++ 10 ∷ []) lines (line ∷ []) ∙ ap (λ (t : List ℕ). text_of lines ++ t) (append-nil (line ++ 10 ∷ []))
 
 -- ---- closing a text that isn't empty looks at its last byte
 
@@ -25,7 +27,8 @@ record Snoc (text : List ℕ) : Type 0 where
 
 snoc : (b : ℕ) (text : List ℕ) → Snoc (b ∷ text)
 snoc b [] = record { front = []; last = b; whole = refl }
-snoc b (c ∷ text) = let s = snoc c text in record { front = b ∷ s.front; last = s.last; whole = ap (λ (t : List ℕ). b ∷ t) s.whole }
+snoc b (c ∷ text) =
+    let s = snoc c text in record { front = b ∷ s.front; last = s.last; whole = ap (λ (t : List ℕ). b ∷ t) s.whole }
 
 -- the text is closed by its last byte
 abbrev closed_by : List ℕ → ℕ → List ℕ
@@ -50,9 +53,11 @@ closed_append : (front : List ℕ) (b : ℕ) (text : List ℕ) → closed (front
 closed_append front b text =
     let s = snoc b text in
     let end : List ℕ = s.front ++ s.last ∷ [] in
-    let whole : front ++ b ∷ text ≡ (front ++ s.front) ++ s.last ∷ [] = ap (λ (t : List ℕ). front ++ t) s.whole ∙ sym (append_assoc front s.front (s.last ∷ [])) in
+    let whole : front ++ b ∷ text ≡ (front ++ s.front) ++ s.last ∷ [] =
+    ap (λ (t : List ℕ). front ++ t) s.whole ∙ sym (append_assoc front s.front (s.last ∷ [])) in
     let here : closed (front ++ b ∷ text) ≡ closed_by (front ++ end) s.last
-    = ap closed whole ∙ closed_last (front ++ s.front) s.last ∙ ap (λ (t : List ℕ). closed_by t s.last) (append_assoc front s.front (s.last ∷ [])) in
+    = ap closed whole ∙ closed_last (front ++ s.front) s.last
+    ∙ ap (λ (t : List ℕ). closed_by t s.last) (append_assoc front s.front (s.last ∷ [])) in
     let alone : closed (b ∷ text) ≡ closed_by end s.last = ap closed s.whole ∙ closed_last s.front s.last in
     here ∙ closed_by-append front end s.last ∙ ap (λ (t : List ℕ). front ++ t) (sym alone)
 
@@ -88,7 +93,8 @@ closed_line (b ∷ bytes) h some =
     ap closed s.whole ∙ closed_last s.front s.last
     ∙ ap₂ (λ (x : Bool) (t : List ℕ). cond (x || false) t (t ++ 10 ∷ [])) open_end (sym s.whole)
 
-pub closed_open : (lines : List (List ℕ)) (bytes : List ℕ) → NoLf bytes → 0 < length bytes → closed (text_of lines ++ bytes) ≡ text_of lines ++ (bytes ++ 10 ∷ [])
+pub closed_open : (lines : List (List ℕ)) (bytes : List ℕ) → NoLf bytes → 0 < length bytes
+    → closed (text_of lines ++ bytes) ≡ text_of lines ++ (bytes ++ 10 ∷ [])
 closed_open lines bytes h some = closed_more lines bytes ∙ ap (λ (t : List ℕ). text_of lines ++ t) (closed_line bytes h some)
 
 -- ---- closing twice

@@ -1,7 +1,8 @@
 -- The items so far have just the records that were read, but for those of the open transaction, and so there are no more
 -- items than records. A transmission's items have as many records as it has rows, and as many groups and transactions as
 -- it has itself.
-use Rattle.std.proofs.Common.{◌≡◌, ℕ, ◌+◌, ◌≤◌, Bool, true, false, cond, List, [], ◌∷◌, ◌++◌, length, map, refl, sym, ap, ap₂, subst, ◌∙◌, arith, append_assoc, append-nil}
+use Rattle.std.proofs.Common.{◌≡◌, ℕ, ◌+◌, ◌≤◌, Bool, true, false, cond, List, [], ◌∷◌, ◌++◌, length, map, refl, sym, ap, ap₂}
+use Rattle.std.proofs.Common.{subst, ◌∙◌, arith, append_assoc, append-nil}
 use Rattle.std.specs.Prelude.{sum_by, count_by}
 use Rattle.std.specs.List.{AllByRecursion, flat_map}
 use Rattle.std.proofs.lemmas.Grind.{flat_map-append}
@@ -65,14 +66,16 @@ record Counts (records : List RecordValue) : Type 0 where
   few : length (items_so_far records) + length (ended_transaction (open_of records)) ≤ length records
 
 -- a record after which the open transaction was handed out is in its own item, or begins a transaction
-own_record : (kind : Kind) (r : RecordValue) → r.kind ≡ kind → IsRecord r → records_in (item_of kind r) ++ cond (is_in_transaction kind) (r ∷ []) [] ≡ r ∷ []
+own_record : (kind : Kind) (r : RecordValue) → r.kind ≡ kind → IsRecord r
+    → records_in (item_of kind r) ++ cond (is_in_transaction kind) (r ∷ []) [] ≡ r ∷ []
 own_record kinds.Hdr r e h = refl
 own_record kinds.Grh r e h = refl
 own_record kinds.Grt r e h = refl
 own_record kinds.Trl r e h = ap (λ (x : RecordValue). x ∷ []) (sym (is_trailer r e h))
 own_record kind r e h = refl
 
-own_few : (kind : Kind) (r : RecordValue) → length (item_of kind r) + length (ended_transaction (cond (is_in_transaction kind) (r ∷ []) [])) ≤ 1
+own_few : (kind : Kind) (r : RecordValue)
+    → length (item_of kind r) + length (ended_transaction (cond (is_in_transaction kind) (r ∷ []) [])) ≤ 1
 own_few kinds.Hdr r = omega arith
 own_few kinds.Grh r = omega arith
 own_few kinds.Grt r = omega arith
@@ -80,13 +83,15 @@ own_few kinds.Trl r = omega arith
 own_few kind r = omega arith
 
 -- the items with that of the open transaction have the records
-records_with_open : (records : List RecordValue) → records_in (items_so_far records) ++ open_of records ≡ records → records_in (items_so_far records ++ ended_transaction (open_of records)) ≡ records
+records_with_open : (records : List RecordValue) → records_in (items_so_far records) ++ open_of records ≡ records
+    → records_in (items_so_far records ++ ended_transaction (open_of records)) ≡ records
 records_with_open records all =
     flat_map-append item_records (items_so_far records) (ended_transaction (open_of records))
     ∙ ap (λ (rs : List RecordValue). records_in (items_so_far records) ++ rs) (records_handed (open_of records))
     ∙ all
 
-counts_stay : (records : List RecordValue) (r : RecordValue) → AllByRecursion IsRecord (records ++ r ∷ []) → Continues Any (map symbol_of (records ++ r ∷ [])) → length records ≤ 99999999
+counts_stay : (records : List RecordValue) (r : RecordValue) → AllByRecursion IsRecord (records ++ r ∷ [])
+    → Continues Any (map symbol_of (records ++ r ∷ [])) → length records ≤ 99999999
     → continues_open (map symbol_of records) (symbol_of r) ≡ true → Counts records → Counts (records ++ r ∷ [])
 counts_stay records r h g few e c =
     let s = continuing_stays records r h g few e in
@@ -97,7 +102,8 @@ counts_stay records r h g few e c =
       few = omega (arith, ap length s.nothing, few_handed (open_of (records ++ r ∷ [])), c.few, length-append records (r ∷ []));
     }
 
-counts_close : (records : List RecordValue) (r : RecordValue) → AllByRecursion IsRecord (records ++ r ∷ []) → Continues Any (map symbol_of (records ++ r ∷ [])) → length records ≤ 99999999
+counts_close : (records : List RecordValue) (r : RecordValue) → AllByRecursion IsRecord (records ++ r ∷ [])
+    → Continues Any (map symbol_of (records ++ r ∷ [])) → length records ≤ 99999999
     → continues_open (map symbol_of records) (symbol_of r) ≡ false → Counts records → Counts (records ++ r ∷ [])
 counts_close records r h g few e c =
     let s = ends_closes records r h g few e in
@@ -105,7 +111,8 @@ counts_close records r h g few e c =
     let own : List Item = item_of r.kind r in
     let open_now : List RecordValue = cond (is_in_transaction r.kind) (r ∷ []) [] in
     let given : records_in (items_so_far (records ++ r ∷ [])) ≡ records ++ records_in own =
-    ap records_in s.given ∙ flat_map-append item_records before own ∙ ap (λ (rs : List RecordValue). rs ++ records_in own) (records_with_open records c.all) in
+    ap records_in s.given ∙ flat_map-append item_records before own
+    ∙ ap (λ (rs : List RecordValue). rs ++ records_in own) (records_with_open records c.all) in
     record {
       all = ap₂ (λ (xs ys : List RecordValue). xs ++ ys) given s.open_now
           ∙ append_assoc records (records_in own) open_now
@@ -122,7 +129,8 @@ counts_close records r h g few e c =
       );
     }
 
-counts_more : (records : List RecordValue) (r : RecordValue) → AllByRecursion IsRecord (records ++ r ∷ []) → Continues Any (map symbol_of (records ++ r ∷ [])) → length records ≤ 99999999
+counts_more : (records : List RecordValue) (r : RecordValue) → AllByRecursion IsRecord (records ++ r ∷ [])
+    → Continues Any (map symbol_of (records ++ r ∷ [])) → length records ≤ 99999999
     → Counts records → Counts (records ++ r ∷ [])
 counts_more records r h g few c = by (continues_open (map symbol_of records) (symbol_of r)) refl
   where
@@ -130,18 +138,24 @@ counts_more records r h g few c = by (continues_open (map symbol_of records) (sy
     by true e = counts_stay records r h g few e c
     by false e = counts_close records r h g few e c
 
-walk : (before rest : List RecordValue) → AllByRecursion IsRecord (before ++ rest) → Continues Any (map symbol_of (before ++ rest)) → length (before ++ rest) ≤ 99999999 → Counts before → Counts (before ++ rest)
+walk : (before rest : List RecordValue) → AllByRecursion IsRecord (before ++ rest)
+    → Continues Any (map symbol_of (before ++ rest)) → length (before ++ rest) ≤ 99999999 → Counts before
+    → Counts (before ++ rest)
 walk before [] h g few c = subst Counts (sym (append-nil before)) c
 walk before (r ∷ rest) h g few c =
     let more : List RecordValue = before ++ r ∷ [] in
     let same : more ++ rest ≡ before ++ r ∷ rest = append_assoc before (r ∷ []) rest in
     let all : AllByRecursion IsRecord (more ++ rest) = subst (AllByRecursion IsRecord) (sym same) h in
-    let goes : Continues Any (map symbol_of (more ++ rest)) = subst (λ (rs : List RecordValue). Continues Any (map symbol_of rs)) (sym same) g in
-    let front : Continues Any (map symbol_of more) = front_goes (map symbol_of more) (map symbol_of rest) (subst (Continues Any) (map-append symbol_of more rest) goes) in
-    let next : Counts more = counts_more before r (all_front IsRecord more rest all) front (omega (arith, few, length-append before (r ∷ rest))) c in
+    let goes : Continues Any (map symbol_of (more ++ rest)) =
+    subst (λ (rs : List RecordValue). Continues Any (map symbol_of rs)) (sym same) g in
+    let front : Continues Any (map symbol_of more) =
+    front_goes (map symbol_of more) (map symbol_of rest) (subst (Continues Any) (map-append symbol_of more rest) goes) in
+    let next : Counts more =
+    counts_more before r (all_front IsRecord more rest all) front (omega (arith, few, length-append before (r ∷ rest))) c in
     subst Counts same (walk more rest all goes (omega (arith, few, ap length same)) next)
 
-counts : (records : List RecordValue) → AllByRecursion IsRecord records → Continues Any (map symbol_of records) → length records ≤ 99999999 → Counts records
+counts : (records : List RecordValue) → AllByRecursion IsRecord records → Continues Any (map symbol_of records)
+    → length records ≤ 99999999 → Counts records
 counts records h g few = walk [] records h g few (record {
   all = ap₂ (λ (is : List Item) (rs : List RecordValue). records_in is ++ rs) no_items no_open;
   few = omega (arith, ap length no_items, ap (λ (rs : List RecordValue). length (ended_transaction rs)) no_open);
@@ -153,34 +167,41 @@ counts records h g few = walk [] records h g few (record {
 abbrev AreFew : List Item → Type 0
 AreFew given = (length given ≤ 199999998) × (length (records_in given) ≤ 99999999)
 
-few_read : (tally : TallyValue) (lines : List (List ℕ)) (records : List RecordValue) → AreInRange tally.limits → AreAccepted tally lines records → length records ≤ 99999999
+few_read : (tally : TallyValue) (lines : List (List ℕ)) (records : List RecordValue) → AreInRange tally.limits
+    → AreAccepted tally lines records → length records ≤ 99999999
 few_read tally lines records range read = omega (arith, few_records tally lines records range read, length-map records symbol_of)
 
-read_few : (tally : TallyValue) (lines : List (List ℕ)) (records : List RecordValue) (given : List Item) → AreInRange tally.limits → AreAccepted tally lines records → given ≡ items_so_far records → AreFew given
+read_few : (tally : TallyValue) (lines : List (List ℕ)) (records : List RecordValue) (given : List Item) → AreInRange tally.limits
+    → AreAccepted tally lines records → given ≡ items_so_far records → AreFew given
 read_few tally lines records given range read are =
     let few : length records ≤ 99999999 = few_read tally lines records range read in
     let c = counts records read.in_order read.counted.stands.begins few in
-    let all : length (records_in (items_so_far records)) + length (open_of records) ≡ length records = sym (length-append (records_in (items_so_far records)) (open_of records)) ∙ ap length c.all in
+    let all : length (records_in (items_so_far records)) + length (open_of records) ≡ length records =
+    sym (length-append (records_in (items_so_far records)) (open_of records)) ∙ ap length c.all in
     subst AreFew (sym are) (omega (arith, few, c.few), omega (arith, few, all))
 
 -- with the last record still waiting
-waiting_few : (tally : TallyValue) (lines : List (List ℕ)) (records : List RecordValue) (last : RecordValue) (given : List Item) → AreInRange tally.limits → AreAccepted tally lines (records ++ last ∷ [])
+waiting_few : (tally : TallyValue) (lines : List (List ℕ)) (records : List RecordValue) (last : RecordValue) (given : List Item)
+    → AreInRange tally.limits → AreAccepted tally lines (records ++ last ∷ [])
     → given ≡ items_so_far records ++ ended_transaction (open_of records) → AreFew given
 waiting_few tally lines records last given range read are =
     let most : length (records ++ last ∷ []) ≤ 99999999 = few_read tally lines (records ++ last ∷ []) range read in
     let few : length records ≤ 99999999 = omega (arith, most, length-append records (last ∷ [])) in
     let goes : Continues Any (map symbol_of records) =
-    front_goes (map symbol_of records) (symbol_of last ∷ []) (subst (Continues Any) (map-append symbol_of records (last ∷ [])) read.counted.stands.begins) in
+    front_goes (map symbol_of records) (symbol_of last ∷ [])
+    (subst (Continues Any) (map-append symbol_of records (last ∷ [])) read.counted.stands.begins) in
     let c = counts records (all_front IsRecord records (last ∷ []) read.in_order) goes few in
     subst AreFew (sym are) (
       omega (arith, few, c.few, length-append (items_so_far records) (ended_transaction (open_of records))),
       omega (arith, few, ap length (records_with_open records c.all)),
     )
 
-through_few : (d : Standing) (input : List ℕ) (given : List Item) → AreInRange d.tally.limits → IsThrough d input given → AreFew given
+through_few : (d : Standing) (input : List ℕ) (given : List Item) → AreInRange d.tally.limits → IsThrough d input given
+    → AreFew given
 through_few d input given range t = read_few d.tally t.lines t.records given range t.read t.given_are
 
-few_in : (state : State) (d : Standing) (input : List ℕ) (given : List Item) → AreInRange d.tally.limits → RepresentsIn state d input given → AreFew given
+few_in : (state : State) (d : Standing) (input : List ℕ) (given : List Item) → AreInRange d.tally.limits
+    → RepresentsIn state d input given → AreFew given
 few_in states.Reading d input given range s = read_few d.tally s.lines s.records given range s.read s.given_are
 few_in states.Pending d input given range s = waiting_few d.tally s.lines s.records s.last given range s.read s.given_are
 few_in states.Ended d input given range s = through_few d input given range s.through
@@ -189,7 +210,8 @@ few_in (states.Truncated count) d input given range s = through_few d input give
 few_in states.Memory d input given range s = through_few d input given range s.through
 
 -- the items that were handed out are few, and so are their records
-pub bounded : (d : Standing) (input : List ℕ) (given : List Item) → Represents d input given → (length given ≤ 199999998) × (length (records_in given) ≤ 99999999)
+pub bounded : (d : Standing) (input : List ℕ) (given : List Item) → Represents d input given
+    → (length given ≤ 199999998) × (length (records_in given) ≤ 99999999)
 bounded d input given s = few_in d.state d input given s.in_range s.here
 
 -- ---- the items of a transmission
@@ -200,18 +222,21 @@ records_of_transactions ts = flat_map-map item_records Transaction ts
 group_records_in : (g : GroupValue) → records_in (group_items g) ≡ records_of_group g
 group_records_in g =
     ap (λ (rs : List RecordValue). g.head ∷ rs)
-    (flat_map-append item_records (map Transaction g.transactions) (GroupClosed g.foot ∷ []) ∙ ap (λ (rs : List RecordValue). rs ++ g.foot ∷ []) (records_of_transactions g.transactions))
+    (flat_map-append item_records (map Transaction g.transactions) (GroupClosed g.foot ∷ [])
+    ∙ ap (λ (rs : List RecordValue). rs ++ g.foot ∷ []) (records_of_transactions g.transactions))
 
 groups_records_in : (gs : List GroupValue) → records_in (flat_map group_items gs) ≡ flat_map records_of_group gs
 groups_records_in [] = refl
 groups_records_in (g ∷ gs) =
-    flat_map-append item_records (group_items g) (flat_map group_items gs) ∙ ap₂ (λ (xs ys : List RecordValue). xs ++ ys) (group_records_in g) (groups_records_in gs)
+    flat_map-append item_records (group_items g) (flat_map group_items gs)
+    ∙ ap₂ (λ (xs ys : List RecordValue). xs ++ ys) (group_records_in g) (groups_records_in gs)
 
 -- they have the records of the transmission
 pub value_records_in : (v : TransmissionValue) → records_in (value_items v) ≡ records_of v
 value_records_in v =
     ap (λ (rs : List RecordValue). v.opening ∷ rs)
-    (flat_map-append item_records (flat_map group_items v.groups) (Ended ∷ []) ∙ ap (λ (rs : List RecordValue). rs ++ trailer ∷ []) (groups_records_in v.groups))
+    (flat_map-append item_records (flat_map group_items v.groups) (Ended ∷ [])
+    ∙ ap (λ (rs : List RecordValue). rs ++ trailer ∷ []) (groups_records_in v.groups))
 
 -- as many records as rows
 pub all_given : (v : TransmissionValue) → length (records_in (value_items v)) ≡ length (rows v)
@@ -225,10 +250,12 @@ count-append : (test : Item → Bool) (is js : List Item) → count_by test (is 
 count-append test is js = sum_by-append (λ (x : Item). cond (test x) 1 0) is js
 
 -- where each group's items pass the test so many times
-counted_groups : (test : Item → Bool) (many : GroupValue → ℕ) → ((g : GroupValue) → count_by test (group_items g) ≡ many g) → (gs : List GroupValue) → count_by test (flat_map group_items gs) ≡ sum_by many gs
+counted_groups : (test : Item → Bool) (many : GroupValue → ℕ) → ((g : GroupValue) → count_by test (group_items g) ≡ many g)
+    → (gs : List GroupValue) → count_by test (flat_map group_items gs) ≡ sum_by many gs
 counted_groups test many each [] = refl
 counted_groups test many each (g ∷ gs) =
-    count-append test (group_items g) (flat_map group_items gs) ∙ ap₂ (λ (m n : ℕ). m + n) (each g) (counted_groups test many each gs) ∙ sym (sum_by-cons many g gs)
+    count-append test (group_items g) (flat_map group_items gs)
+    ∙ ap₂ (λ (m n : ℕ). m + n) (each g) (counted_groups test many each gs) ∙ sym (sum_by-cons many g gs)
 
 no_group_opens : (ts : List (List RecordValue)) → count_by opens_group (map Transaction ts) ≡ 0
 no_group_opens [] = refl
@@ -278,7 +305,8 @@ group_transactions g =
     )
 
 -- and as many transactions
-pub transactions_given : (v : TransmissionValue) → count_by is_transaction (value_items v) ≡ sum_by (λ g. length g.transactions) v.groups
+pub transactions_given : (v : TransmissionValue)
+    → count_by is_transaction (value_items v) ≡ sum_by (λ g. length g.transactions) v.groups
 transactions_given v =
     let inner : List Item = flat_map group_items v.groups in
     omega (

@@ -1,5 +1,6 @@
 -- A decoder holds at most one line and one transaction: bytes no more than the longest line has, and records no more than the limit.
-use Rattle.std.proofs.Common.{◌≡◌, ℕ, ◌-◌, ◌≤◌, List, [], ◌∷◌, ◌++◌, length, map, Option, None, sym, ap, ◌∙◌, subst, arith, append-nil}
+use Rattle.std.proofs.Common.{◌≡◌, ℕ, ◌-◌, ◌≤◌, List, [], ◌∷◌, ◌++◌, length, map, Option, None, sym, ap, ◌∙◌, subst, arith}
+use Rattle.std.proofs.Common.{append-nil}
 use Rattle.std.specs.List.{AllZip}
 use Rattle.std.proofs.lemmas.List.{length-drop}
 use Rattle.cwr_lines.specs.Format.Records.{RecordValue, Row}
@@ -24,7 +25,8 @@ pub record IsBounded (d : Standing) : Type 0 where
   pub transaction : length (held_list d.held) ≤ d.tally.limits.transaction
 
 -- each line of a row is short, the last one too
-last_short : (rows : List Row) (lines front : List (List ℕ)) (line : List ℕ) → AllZip IsLineOf rows lines → lines ≡ front ++ line ∷ [] → length line ≤ 1024
+last_short : (rows : List Row) (lines front : List (List ℕ)) (line : List ℕ) → AllZip IsLineOf rows lines
+    → lines ≡ front ++ line ∷ [] → length line ≤ 1024
 last_short [] [] [] line h e = absurd (cc e)
 last_short [] [] (other ∷ front) line h e = absurd (cc e)
 last_short [] (first ∷ lines) front line h e = absurd h

@@ -1,5 +1,6 @@
 -- The line at the front of a text, and where its bytes stand.
-use Rattle.std.proofs.Common.{◌≡◌, ℕ, ◌-◌, ◌<◌, ◌≤◌, List, [], ◌∷◌, ◌++◌, length, take, Option, Some, refl, sym, ap, subst, ◌∙◌, arith, inl, inr}
+use Rattle.std.proofs.Common.{◌≡◌, ℕ, ◌-◌, ◌<◌, ◌≤◌, List, [], ◌∷◌, ◌++◌, length, take, Option, Some, refl, sym, ap, subst, ◌∙◌}
+use Rattle.std.proofs.Common.{arith, inl, inr}
 use Rattle.std.specs.Prelude.{◌⊎◌, ◌↔◌, IsTrue}
 use Rattle.std.proofs.lemmas.List.{length-append, length-take-le, take_all, take-take}
 use Rattle.cwr_fields.specs.declared.kinds.Kind.TheVariants.{Trl}
@@ -19,14 +20,17 @@ use Rattle.cwr_decode.specs.declared.indexing.Accepted.{Accepted}
 use Rattle.cwr_decode.specs.Steps.TakenLines.{BeginsWithLine, TakesLine}
 
 -- the line's bytes stand at the front of the text
-pub front_is : (rest : List ℕ) (taken : ℕ) (line : HeldLine) → FirstLine rest taken line → line.ended ≡ Line → take (length line.bytes) rest ≡ line.bytes
+pub front_is : (rest : List ℕ) (taken : ℕ) (line : HeldLine) → FirstLine rest taken line → line.ended ≡ Line
+    → take (length line.bytes) rest ≡ line.bytes
 front_is rest taken line f ended = by f.taken
   where
     by : IsCutOff rest taken line ⊎ IsLastLine rest taken line → take (length line.bytes) rest ≡ line.bytes
     by (inl c) =
         let text : line.bytes ++ 10 ∷ [] ≡ take taken rest = ap (λ (e : LineEnd). text_by e line.bytes) (sym ended) ∙ c.text_is in
-        let enough : length line.bytes ≤ taken = omega (arith, ap length text, length-append line.bytes (10 ∷ []), length-take-le taken rest f.within) in
-        sym (take-take (length line.bytes) taken rest enough) ∙ ap (take (length line.bytes)) (sym text) ∙ front line.bytes (10 ∷ [])
+        let enough : length line.bytes ≤ taken =
+        omega (arith, ap length text, length-append line.bytes (10 ∷ []), length-take-le taken rest f.within) in
+        sym (take-take (length line.bytes) taken rest enough) ∙ ap (take (length line.bytes)) (sym text)
+        ∙ front line.bytes (10 ∷ [])
       where
         front : (xs ys : List ℕ) → take (length xs) (xs ++ ys) ≡ xs
         front [] ys = refl
@@ -50,7 +54,13 @@ line_within rest taken line f = by f.taken
 pub first_of : (text : List ℕ) (taken : ℕ) (line : HeldLine) → BeginsWithLine text taken line → FirstLine text taken line
 first_of text taken line b =
     let stops : 0 < taken = subst (λ (e : LineEnd). Stops e text taken) b.ended b.takes.stops in
-    record { within = b.takes.within; some = stops; ended = λ e. no (sym b.ended ∙ e); held = b.held; taken = inl (record { text_is = b.takes.text; stops = b.takes.stops }) }
+    record {
+      within = b.takes.within;
+      some = stops;
+      ended = λ e. no (sym b.ended ∙ e);
+      held = b.held;
+      taken = inl (record { text_is = b.takes.text; stops = b.takes.stops });
+    }
   where
     no : Line ≡ Open → ⊥
     no e = cc e
@@ -60,27 +70,43 @@ same_record : (o : Option RecordValue) (r q : RecordValue) → o ≡ Some r → 
 same_record o r q e f = let same : Some r ≡ Some q = sym e ∙ f in cc same
 
 -- of a line that stands whole in the text, and that quick tests find good; `found` is its record
-pub quick_line : (tally new : TallyValue) (xs : List Symbol) (text : List ℕ) (line : HeldLine) (found : RecordValue) (got : Accepted) → IsTallyOf tally xs → BeginsWithLine text got.taken line → IsCounted tally line new
+pub quick_line : (tally new : TallyValue) (xs : List Symbol) (text : List ℕ) (line : HeldLine) (found : RecordValue)
+    (got : Accepted) → IsTallyOf tally xs → BeginsWithLine text got.taken line → IsCounted tally line new
     → held_record line ≡ Some found → IsTrue got.last ↔ (symbol_of found ≡ Plain Trl)
-    → got.length ≤ length (take (got.taken - 1) text) → take got.length (take (got.taken - 1) text) ≡ without_cr (take (got.taken - 1) text) → TakesLine tally xs text got new
+    → got.length ≤ length (take (got.taken - 1) text)
+    → take got.length (take (got.taken - 1) text) ≡ without_cr (take (got.taken - 1) text) → TakesLine tally xs text got new
 quick_line tally new xs text line found got st b q carried last few body =
     let first : FirstLine text got.taken line = first_of text got.taken line b in
     let next = q.next xs st in
-    let same : symbol_of found ≡ q.symbol = ap symbol_of (same_record (held_record line) found q.accepted carried q.carried) ∙ next.symbol in
-    let whole : line.bytes ++ 10 ∷ [] ≡ take got.taken text = ap (λ (e : LineEnd). text_by e line.bytes) (sym b.ended) ∙ b.takes.text in
-    let long : length line.bytes ≡ got.taken - 1 = omega (arith, ap length whole, length-append line.bytes (10 ∷ []), length-take-le got.taken text b.takes.within) in
-    let bytes : take (got.taken - 1) text ≡ line.bytes = ap (λ (k : ℕ). take k text) (sym long) ∙ front_is text got.taken line first b.ended in
+    let same : symbol_of found ≡ q.symbol =
+    ap symbol_of (same_record (held_record line) found q.accepted carried q.carried) ∙ next.symbol in
+    let whole : line.bytes ++ 10 ∷ [] ≡ take got.taken text =
+    ap (λ (e : LineEnd). text_by e line.bytes) (sym b.ended) ∙ b.takes.text in
+    let long : length line.bytes ≡ got.taken - 1 =
+    omega (arith, ap length whole, length-append line.bytes (10 ∷ []), length-take-le got.taken text b.takes.within) in
+    let bytes : take (got.taken - 1) text ≡ line.bytes =
+    ap (λ (k : ℕ). take k text) (sym long) ∙ front_is text got.taken line first b.ended in
     record {
       line = line;
       first = first;
-      accepted = record { symbol = q.symbol; accepted = q.accepted; next = next; limits = q.limits; stands = q.stands xs st; trailer = subst (λ (s : Symbol). IsTrue got.last ↔ (s ≡ Plain Trl)) same last };
+      accepted =
+          record {
+            symbol = q.symbol;
+            accepted = q.accepted;
+            next = next;
+            limits = q.limits;
+            stands = q.stands xs st;
+            trailer = subst (λ (s : Symbol). IsTrue got.last ↔ (s ≡ Plain Trl)) same last;
+          };
       few = subst (λ (b : List ℕ). got.length ≤ length b) bytes few;
       body = subst (λ (b : List ℕ). take got.length b ≡ without_cr b) bytes body;
     }
 
 -- of a line that was taken into a buffer
-pub slow_line : (tally new : TallyValue) (xs : List Symbol) (text : List ℕ) (line : HeldLine) (n : ℕ) (got : Accepted) → FirstLine text got.taken line → AcceptsLine tally xs line got.last new → n ≡ length line.bytes
-    → got.length ≤ length (take n text) → take got.length (take n text) ≡ without_cr (take n text) → TakesLine tally xs text got new
+pub slow_line : (tally new : TallyValue) (xs : List Symbol) (text : List ℕ) (line : HeldLine) (n : ℕ) (got : Accepted)
+    → FirstLine text got.taken line → AcceptsLine tally xs line got.last new → n ≡ length line.bytes
+    → got.length ≤ length (take n text) → take got.length (take n text) ≡ without_cr (take n text)
+    → TakesLine tally xs text got new
 slow_line tally new xs text line n got first a len few body =
     let ended : line.ended ≡ Line = is_line tally.limits xs line a.symbol a.accepted a.next first.ended in
     let bytes : take n text ≡ line.bytes = ap (λ (k : ℕ). take k text) len ∙ front_is text got.taken line first ended in

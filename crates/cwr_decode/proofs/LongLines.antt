@@ -1,5 +1,6 @@
 -- The first line of a text that continues, after bytes without a line feed, with one that is no line feed.
-use Rattle.std.proofs.Common.{◌≡◌, ◌≢◌, ℕ, Bool, true, false, ◌||◌, List, [], ◌∷◌, ◌++◌, refl, sym, ap, ap₂, ◌∙◌, arith, append_assoc, inl, inr}
+use Rattle.std.proofs.Common.{◌≡◌, ◌≢◌, ℕ, Bool, true, false, ◌||◌, List, [], ◌∷◌, ◌++◌, refl, sym, ap, ap₂, ◌∙◌, arith}
+use Rattle.std.proofs.Common.{append_assoc, inl, inr}
 use Rattle.std.specs.Prelude.{◌⊎◌, ◌==◌}
 use Rattle.std.proofs.lemmas.Bool.{ne_eqb, eqb-true}
 use Rattle.std.proofs.lemmas.List.{length-append}
@@ -22,7 +23,13 @@ first_part (b ∷ text) = by (b == 10) refl (first_part text)
     by : (x : Bool) → (b == 10) ≡ x → NoLf text ⊎ Parted text → NoLf (b ∷ text) ⊎ Parted (b ∷ text)
     by true e r = inr (record { front = []; after = text; split = ap (λ (c : ℕ). c ∷ text) (eqb-true b 10 e); no_lf = refl })
     by false e (inl h) = inl (ap₂ (λ (p q : Bool). p || q) e h)
-    by false e (inr p) = inr (record { front = b ∷ p.front; after = p.after; split = ap (λ (t : List ℕ). b ∷ t) p.split; no_lf = ap₂ (λ (p q : Bool). p || q) e p.no_lf })
+    by false e (inr p) =
+        inr (record {
+          front = b ∷ p.front;
+          after = p.after;
+          split = ap (λ (t : List ℕ). b ∷ t) p.split;
+          no_lf = ap₂ (λ (p q : Bool). p || q) e p.no_lf;
+        })
 
 -- the first raw line of bytes that continue with one that is no line feed
 pub record LongLine (bytes : List ℕ) (next : ℕ) (rest : List ℕ) : Type 0 where
@@ -38,13 +45,21 @@ long_line bytes next rest h other = by (first_part rest)
     whole x n = NoLf-append bytes (next ∷ x) h (ap₂ (λ (p q : Bool). p || q) (ne_eqb next 10 other) n)
 
     by : NoLf rest ⊎ Parted rest → LongLine bytes next rest
-    by (inl n) = record { more = rest; after = []; closes = closed_line (bytes ++ next ∷ rest) (whole rest n) (omega (arith, length-append bytes (next ∷ rest))); no_lf = whole rest n }
+    by (inl n) =
+        record {
+          more = rest;
+          after = [];
+          closes = closed_line (bytes ++ next ∷ rest) (whole rest n) (omega (arith, length-append bytes (next ∷ rest)));
+          no_lf = whole rest n;
+        }
     by (inr p) =
         let line : List ℕ = bytes ++ next ∷ p.front in
         record {
           more = p.front;
           after = closed p.after;
-          closes = ap closed (ap (λ (t : List ℕ). bytes ++ next ∷ t) p.split ∙ sym (append_assoc bytes (next ∷ p.front) (10 ∷ p.after)) ∙ sym (text_of-cons line [] p.after))
+          closes =
+              ap closed (ap (λ (t : List ℕ). bytes ++ next ∷ t) p.split ∙ sym (append_assoc bytes (next ∷ p.front) (10 ∷ p.after))
+              ∙ sym (text_of-cons line [] p.after))
               ∙ closed_more (line ∷ []) p.after ∙ text_of-cons line [] (closed p.after);
           no_lf = whole p.front p.no_lf;
         }

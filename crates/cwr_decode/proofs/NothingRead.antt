@@ -20,13 +20,21 @@ unfolding rows_after
 no_rows = tt
 
 -- nothing was read
-pub nothing_read : (d : Standing) → AreInRange d.tally.limits → tallies.IsTallyOf d.tally [] → d ≡ at_start d.tally → Represents d [] []
+pub nothing_read : (d : Standing) → AreInRange d.tally.limits → tallies.IsTallyOf d.tally [] → d ≡ at_start d.tally
+    → Represents d [] []
 nothing_read d in_range counted is = subst (λ (q : Standing). Represents q [] []) (sym is) (record {
   in_range = in_range;
   here = record {
     lines = [];
     records = [];
-    read = record { counted = counted; in_order = tt; rows = no_rows; within = λ front rest e. subst (λ (xs : List Symbol). passed_limit d.tally.limits xs ≡ None) (no_front front rest e) (nothing_passed d.tally.limits) };
+    read =
+        record {
+          counted = counted;
+          in_order = tt;
+          rows = no_rows;
+          within = λ front rest e. subst
+              (λ (xs : List Symbol). passed_limit d.tally.limits xs ≡ None) (no_front front rest e) (nothing_passed d.tally.limits);
+        };
     left = λ w. not_empty w.0 w.2;
     split = refl;
     open_line = refl;
@@ -44,4 +52,5 @@ nothing_read d in_range counted is = subst (λ (q : Standing). Represents q [] [
     not_empty groups e = cc e
 
     nothing_passed : (limits : LimitValues) → passed_limit limits [] ≡ None
-    nothing_passed limits = passes_none limits [] (record { records = omega arith; groups = omega arith; transaction = omega arith })
+    nothing_passed limits =
+        passes_none limits [] (record { records = omega arith; groups = omega arith; transaction = omega arith })

@@ -20,11 +20,15 @@ raw_line line rest h =
     let some : length (line ∷ parts) - 1 ≡ suc (length parts - 1) = omega (arith, length-slice_split is_lf rest) in
     ap (λ (ps : List (List ℕ)). take (length ps - 1) ps) (split_line line rest h) ∙ ap (λ (n : ℕ). take n (line ∷ parts)) some
 
-pub raw_begins : (lines : List (List ℕ)) (rest : List ℕ) → AllByRecursion NoLf lines → raw_lines (text_of lines ++ rest) ≡ lines ++ raw_lines rest
+pub raw_begins : (lines : List (List ℕ)) (rest : List ℕ) → AllByRecursion NoLf lines
+    → raw_lines (text_of lines ++ rest) ≡ lines ++ raw_lines rest
 raw_begins [] rest h = refl
 raw_begins (line ∷ lines) rest h =
-    ap raw_lines (text_of-cons line lines rest) ∙ raw_line line (text_of lines ++ rest) h.0 ∙ ap (λ (l : List (List ℕ)). line ∷ l) (raw_begins lines rest h.1)
+    ap raw_lines (text_of-cons line lines rest) ∙ raw_line line (text_of lines ++ rest) h.0
+    ∙ ap (λ (l : List (List ℕ)). line ∷ l) (raw_begins lines rest h.1)
 
 -- so is the line after them
-pub raw_after : (lines : List (List ℕ)) (line rest : List ℕ) → AllByRecursion NoLf lines → NoLf line → raw_lines (text_of lines ++ (line ++ 10 ∷ rest)) ≡ lines ++ line ∷ raw_lines rest
-raw_after lines line rest h no_lf = raw_begins lines (line ++ 10 ∷ rest) h ∙ ap (λ (l : List (List ℕ)). lines ++ l) (raw_line line rest no_lf)
+pub raw_after : (lines : List (List ℕ)) (line rest : List ℕ) → AllByRecursion NoLf lines → NoLf line
+    → raw_lines (text_of lines ++ (line ++ 10 ∷ rest)) ≡ lines ++ line ∷ raw_lines rest
+raw_after lines line rest h no_lf =
+    raw_begins lines (line ++ 10 ∷ rest) h ∙ ap (λ (l : List (List ℕ)). lines ++ l) (raw_line line rest no_lf)

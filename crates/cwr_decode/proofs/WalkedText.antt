@@ -1,8 +1,10 @@
 -- A text is walked line by line up to its end: what each line does to what was walked, and what ends the walk.
-use Rattle.std.proofs.Common.{◌≡◌, ◌≢◌, ℕ, zero, suc, ◌+◌, ◌-◌, ◌<◌, ◌≤◌, Bool, true, false, List, [], ◌∷◌, ◌++◌, length, map, take, drop, refl, sym, ap, ap₂, subst, ◌∙◌, arith, append-nil, inl, inr, true≢false}
+use Rattle.std.proofs.Common.{◌≡◌, ◌≢◌, ℕ, zero, suc, ◌+◌, ◌-◌, ◌<◌, ◌≤◌, Bool, true, false, List, [], ◌∷◌, ◌++◌, length, map}
+use Rattle.std.proofs.Common.{take, drop, refl, sym, ap, ap₂, subst, ◌∙◌, arith, append-nil, inl, inr, true≢false}
 use Rattle.std.specs.Prelude.{◌⊎◌, None, slice_index}
 use Rattle.std.proofs.Math.Seq.{take-add, take-length}
-use Rattle.std.proofs.lemmas.List.{length-drop, length-map, length-take-le, take_all, drop-drop, drop_all, map-append, take-append-drop}
+use Rattle.std.proofs.lemmas.List.{length-drop, length-map, length-take-le, take_all, drop-drop, drop_all, map-append}
+use Rattle.std.proofs.lemmas.List.{take-append-drop}
 use Rattle.cwr_fields.specs.declared.kinds.Kind.TheVariants.{Trl}
 use Rattle.cwr_lines.specs.declared.lines.LineEnd.{LineEnd}
 use Rattle.cwr_lines.specs.declared.lines.LineEnd.TheVariants.{Open, Line, Over}
@@ -45,7 +47,8 @@ pub record WalkedTo (limits : LimitValues) (text : List ℕ) (used : ℕ) (tally
   pub late : input_ended ≡ true → used ≡ length text
   pub split : IsInput input_ended (take used text) (text_of lines)
 
-pub walked_none : (limits : LimitValues) (text : List ℕ) (tally : TallyValue) → tally.limits ≡ limits → AreInRange tally.limits → tallies.IsTallyOf tally [] → WalkedTo limits text 0 tally
+pub walked_none : (limits : LimitValues) (text : List ℕ) (tally : TallyValue) → tally.limits ≡ limits → AreInRange tally.limits
+    → tallies.IsTallyOf tally [] → WalkedTo limits text 0 tally
 walked_none limits text tally limits_are range stands =
     let r = (nothing_read (at_start tally) range stands refl).here in
     record {
@@ -88,7 +91,8 @@ first_of used [] h = absurd (omega (arith, h))
 first_of zero (b ∷ piece) h = (piece, refl)
 first_of (suc used) (b ∷ piece) h = first_of used piece (omega (arith, h))
 
-pub line_at : (limits : LimitValues) (text : List ℕ) (used count : ℕ) (tally : TallyValue) (line : HeldLine) (w : WalkedTo limits text used tally) → FirstLine (drop used text) count line
+pub line_at : (limits : LimitValues) (text : List ℕ) (used count : ℕ) (tally : TallyValue) (line : HeldLine)
+    (w : WalkedTo limits text used tally) → FirstLine (drop used text) count line
     → LineAt text (used + count) w.lines line
 line_at limits text used count tally line w f = by w.input_ended w.late w.split f.taken
   where
@@ -104,7 +108,12 @@ line_at limits text used count tally line w f = by w.input_ended w.late w.split 
       further = λ e.
           let stops = subst (λ (x : LineEnd). Stops x (drop used text) count) e c.stops in
           let next = first_of count (drop used text) stops.0 in
-          record { next = slice_index (drop used text) count; rest = next.0; split = sym (drop-drop count used text) ∙ next.1; other = stops.1 };
+          record {
+            next = slice_index (drop used text) count;
+            rest = next.0;
+            split = sym (drop-drop count used text) ∙ next.1;
+            other = stops.1;
+          };
       early = λ e. refl;
     }
 
@@ -112,13 +121,16 @@ line_at limits text used count tally line w f = by w.input_ended w.late w.split 
     last split l =
         let all : used + count ≡ length text = omega (arith, l.all, length-drop used text, w.within) in
         let whole : take (used + count) text ≡ text_of w.lines ++ line.bytes =
-        ap (λ (n : ℕ). take n text) all ∙ take-length text ∙ sym (take-append-drop used text) ∙ ap₂ (λ (x y : List ℕ). x ++ y) split (sym l.bytes) in
+        ap (λ (n : ℕ). take n text) all ∙ take-length text ∙ sym (take-append-drop used text)
+        ∙ ap₂ (λ (x y : List ℕ). x ++ y) split (sym l.bytes) in
         let some : 0 < length line.bytes = omega (arith, f.some, l.all, ap length l.bytes) in
         record {
           input_ended = true;
           within = inside;
           late = λ e. all;
-          split = ap closed whole ∙ closed_open w.lines line.bytes f.held.no_lf some ∙ ap (λ (e : LineEnd). text_of w.lines ++ text_by e line.bytes) (sym l.ends);
+          split =
+              ap closed whole ∙ closed_open w.lines line.bytes f.held.no_lf some
+              ∙ ap (λ (e : LineEnd). text_of w.lines ++ text_by e line.bytes) (sym l.ends);
           further = λ e. absurd (no (sym l.ends ∙ e));
           early = λ e. absurd (no (sym l.ends ∙ e));
         }
@@ -126,7 +138,8 @@ line_at limits text used count tally line w f = by w.input_ended w.late w.split 
         no : Line ≡ Over → ⊥
         no e = cc e
 
-    by : (b : Bool) → (b ≡ true → used ≡ length text) → IsInput b (take used text) (text_of w.lines) → IsCutOff (drop used text) count line ⊎ IsLastLine (drop used text) count line
+    by : (b : Bool) → (b ≡ true → used ≡ length text) → IsInput b (take used text) (text_of w.lines)
+        → IsCutOff (drop used text) count line ⊎ IsLastLine (drop used text) count line
         → LineAt text (used + count) w.lines line
     by true late split t = absurd (omega (arith, late refl, f.within, f.some, length-drop used text))
     by false late split (inl c) = cut_off split c
@@ -135,22 +148,27 @@ line_at limits text used count tally line w f = by w.input_ended w.late w.split 
 -- ---- it is accepted
 
 -- the accepted lines with that one
-record OneMore (limits : LimitValues) (tally new : TallyValue) (lines : List (List ℕ)) (records : List RecordValue) (line : HeldLine) (accepted : RecordValue) (symbol : Symbol) : Type 0 where
+record OneMore (limits : LimitValues) (tally new : TallyValue) (lines : List (List ℕ)) (records : List RecordValue)
+    (line : HeldLine) (accepted : RecordValue) (symbol : Symbol) : Type 0 where
   read : AreAccepted new (lines ++ line.bytes ∷ []) (records ++ accepted ∷ [])
   text : text_of lines ++ held_text line ≡ text_of (lines ++ line.bytes ∷ [])
   symbols : map symbol_of (records ++ accepted ∷ []) ≡ map symbol_of records ++ symbol ∷ []
 
-one_more : (limits : LimitValues) (text : List ℕ) (used count : ℕ) (tally new : TallyValue) (line : HeldLine) (last : Bool) (w : WalkedTo limits text used tally) → FirstLine (drop used text) count line
-    → (a : AcceptsLine tally (map symbol_of w.records) line last new) → OneMore limits tally new w.lines w.records line a.accepted a.symbol
+one_more : (limits : LimitValues) (text : List ℕ) (used count : ℕ) (tally new : TallyValue) (line : HeldLine) (last : Bool)
+    (w : WalkedTo limits text used tally) → FirstLine (drop used text) count line
+    → (a : AcceptsLine tally (map symbol_of w.records) line last new)
+    → OneMore limits tally new w.lines w.records line a.accepted a.symbol
 one_more limits text used count tally new line last w f a =
     let ends : line.ended ≡ Line = is_line tally.limits (map symbol_of w.records) line a.symbol a.accepted a.next f.ended in
     record {
       read = reads_more tally new w.lines w.records line a.symbol a.accepted w.read f.held ends a.next a.limits a.stands;
       text = ap (λ (e : LineEnd). text_of w.lines ++ text_by e line.bytes) ends ∙ sym (text_of-push w.lines line.bytes);
-      symbols = map-append symbol_of w.records (a.accepted ∷ []) ∙ ap (λ (s : Symbol). map symbol_of w.records ++ s ∷ []) a.next.symbol;
+      symbols =
+          map-append symbol_of w.records (a.accepted ∷ []) ∙ ap (λ (s : Symbol). map symbol_of w.records ++ s ∷ []) a.next.symbol;
     }
 
-pub walked_more : (limits : LimitValues) (text : List ℕ) (used count : ℕ) (tally new : TallyValue) (line : HeldLine) (w : WalkedTo limits text used tally) → FirstLine (drop used text) count line
+pub walked_more : (limits : LimitValues) (text : List ℕ) (used count : ℕ) (tally new : TallyValue) (line : HeldLine)
+    (w : WalkedTo limits text used tally) → FirstLine (drop used text) count line
     → AcceptsLine tally (map symbol_of w.records) line false new → WalkedTo limits text (used + count) new
 walked_more limits text used count tally new line w f a =
     let m = one_more limits text used count tally new line false w f a in
@@ -162,7 +180,8 @@ walked_more limits text used count tally new line w f a =
       in_range = subst AreInRange (sym a.limits) w.in_range;
       limits_are = a.limits ∙ w.limits_are;
       read = m.read;
-      left = λ whole. true≢false (sym (a.trailer.1 (whole_ends (map symbol_of w.records) a.symbol (subst IsWhole m.symbols whole))));
+      left =
+          λ whole. true≢false (sym (a.trailer.1 (whole_ends (map symbol_of w.records) a.symbol (subst IsWhole m.symbols whole))));
       within = l.within;
       late = l.late;
       split = subst (IsInput l.input_ended (take (used + count) text)) m.text l.split;
@@ -172,8 +191,10 @@ nothing_more : (input_ended : Bool) → MayFollow input_ended []
 nothing_more false = tt
 nothing_more true = refl
 
-pub walked_accepted : (limits : LimitValues) (text : List ℕ) (used count : ℕ) (tally new : TallyValue) (line : HeldLine) (w : WalkedTo limits text used tally) → FirstLine (drop used text) count line
-    → AcceptsLine tally (map symbol_of w.records) line true new → (v : TransmissionValue) × IsAccepted limits text v (used + count)
+pub walked_accepted : (limits : LimitValues) (text : List ℕ) (used count : ℕ) (tally new : TallyValue) (line : HeldLine)
+    (w : WalkedTo limits text used tally) → FirstLine (drop used text) count line
+    → AcceptsLine tally (map symbol_of w.records) line true new
+    → (v : TransmissionValue) × IsAccepted limits text v (used + count)
 walked_accepted limits text used count tally new line w f a =
     let xs : List Symbol = map symbol_of w.records in
     let m = one_more limits text used count tally new line true w f a in
@@ -182,21 +203,28 @@ walked_accepted limits text used count tally new line w f a =
     let trailer : a.symbol ≡ Plain Trl = a.trailer.0 refl in
     let comes : Continues Any (xs ++ a.symbol ∷ []) = (a.next.may_come.0, a.next.may_come.1, tt, a.next.may_come.3) in
     let whole : IsWhole (map symbol_of all) =
-    subst IsWhole (sym (m.symbols ∙ ap (λ (s : Symbol). xs ++ s ∷ []) trailer)) (trailer_ends xs (subst (λ (s : Symbol). Continues Any (xs ++ s ∷ [])) trailer comes)) in
+    subst IsWhole (sym (m.symbols ∙ ap (λ (s : Symbol). xs ++ s ∷ []) trailer))
+    (trailer_ends xs (subst (λ (s : Symbol). Continues Any (xs ++ s ∷ [])) trailer comes)) in
     let input : List ℕ = take (used + count) text in
     let tail : List ℕ = drop (used + count) text in
-    let e = accepts_whole new (w.lines ++ line.bytes ∷ []) all l.input_ended input text tail (items_so_far all) (subst AreInRange (sym a.limits) w.in_range) m.read whole
-    (subst (IsInput l.input_ended input) m.text l.split) (sym (take-append-drop (used + count) text)) (λ z. drop_all (used + count) text (omega (arith, l.late z))) refl [] (nothing_more l.input_ended) in
+    let e =
+    accepts_whole new (w.lines ++ line.bytes ∷ []) all l.input_ended input text tail (items_so_far all)
+    (subst AreInRange (sym a.limits) w.in_range) m.read whole
+    (subst (IsInput l.input_ended input) m.text l.split) (sym (take-append-drop (used + count) text))
+    (λ z. drop_all (used + count) text (omega (arith, l.late z))) refl [] (nothing_more l.input_ended) in
     let taken : length input ≡ used + count = length-take-le (used + count) text l.within in
     let accepted : IsAccepted new.limits text e.0 (used + count) =
-    subst (IsAccepted new.limits text e.0) taken (subst (λ (x : List ℕ). IsAccepted new.limits x e.0 (length input)) (append-nil text) e.1) in
+    subst (IsAccepted new.limits text e.0) taken
+    (subst (λ (x : List ℕ). IsAccepted new.limits x e.0 (length input)) (append-nil text) e.1) in
     (e.0, subst (λ (k : LimitValues). IsAccepted k text e.0 (used + count)) (a.limits ∙ w.limits_are) accepted)
 
 -- ---- it is refused
 
-pub walked_refused : (limits : LimitValues) (text : List ℕ) (used count : ℕ) (tally : TallyValue) (line : HeldLine) (refusal : Refusal) (w : WalkedTo limits text used tally) → FirstLine (drop used text) count line
+pub walked_refused : (limits : LimitValues) (text : List ℕ) (used count : ℕ) (tally : TallyValue) (line : HeldLine)
+    (refusal : Refusal) (w : WalkedTo limits text used tally) → FirstLine (drop used text) count line
     → RefusesLine tally (map symbol_of w.records) line refusal → IsRefused limits text refusal
-walked_refused limits text used count tally line refusal w f r = subst (λ (k : LimitValues). IsRefused k text refusal) w.limits_are (by line.ended refl)
+walked_refused limits text used count tally line refusal w f r =
+    subst (λ (k : LimitValues). IsRefused k text refusal) w.limits_are (by line.ended refl)
   where
     l : LineAt text (used + count) w.lines line
     l = line_at limits text used count tally line w f
@@ -237,7 +265,9 @@ walked_refused limits text used count tally line refusal w f r = subst (λ (k : 
 
     by : (e : LineEnd) → line.ended ≡ e → IsRefused tally.limits text refusal
     by Open q = absurd (f.ended q)
-    by Line q = subst (λ (x : List ℕ). IsRefused tally.limits x refusal) whole (refused_line d input (items_so_far w.records) refusal (drop (used + count) text) stopped q (follows l.input_ended l.late))
+    by Line q =
+        subst (λ (x : List ℕ). IsRefused tally.limits x refusal) whole (refused_line d input (items_so_far w.records) refusal
+        (drop (used + count) text) stopped q (follows l.input_ended l.late))
     by Over q =
         let g = l.further q in
         subst (λ (x : List ℕ). IsRefused tally.limits x refusal) (ap (λ (x : List ℕ). input ++ x) (sym g.split) ∙ whole)
@@ -245,11 +275,22 @@ walked_refused limits text used count tally line refusal w f r = subst (λ (k : 
 
 -- ---- the text ends
 
-pub walked_truncated : (limits : LimitValues) (text : List ℕ) (used count : ℕ) (tally : TallyValue) (w : WalkedTo limits text used tally) → drop used text ≡ [] → count ≡ length (map symbol_of w.records)
+pub walked_truncated : (limits : LimitValues) (text : List ℕ) (used count : ℕ) (tally : TallyValue)
+    (w : WalkedTo limits text used tally) → drop used text ≡ [] → count ≡ length (map symbol_of w.records)
     → IsTruncated limits text count
 walked_truncated limits text used count tally w nothing counted =
-    subst (λ (k : LimitValues). IsTruncated k text count) w.limits_are (cut_truncated d text (items_so_far w.records) count (record {
-      through = record { lines = w.lines; records = w.records; read = w.read; split = by w.input_ended (subst (λ (x : List ℕ). IsInput w.input_ended x (text_of w.lines)) whole w.split); empty = refl; nothing = refl; given_are = refl };
+    subst (λ (k : LimitValues). IsTruncated k text count) w.limits_are
+    (cut_truncated d text (items_so_far w.records) count (record {
+      through =
+          record {
+            lines = w.lines;
+            records = w.records;
+            read = w.read;
+            split = by w.input_ended (subst (λ (x : List ℕ). IsInput w.input_ended x (text_of w.lines)) whole w.split);
+            empty = refl;
+            nothing = refl;
+            given_are = refl;
+          };
       input_ended = refl;
       left = w.left;
       counted = counted ∙ length-map w.records symbol_of;
@@ -259,7 +300,8 @@ walked_truncated limits text used count tally w nothing counted =
     d = record { line = empty_line; tally = tally; held = None; state = states.Truncated count; finished = true }
 
     whole : take used text ≡ text
-    whole = sym (append-nil (take used text)) ∙ ap (λ (x : List ℕ). take used text ++ x) (sym nothing) ∙ take-append-drop used text
+    whole =
+        sym (append-nil (take used text)) ∙ ap (λ (x : List ℕ). take used text ++ x) (sym nothing) ∙ take-append-drop used text
 
     by : (b : Bool) → IsInput b text (text_of w.lines) → closed text ≡ text_of w.lines
     by false e = ap closed e ∙ closed_text w.lines

@@ -1,5 +1,6 @@
 -- The lines of a whole transmission spell it, and it is accepted with their bytes, however the input continues.
-use Rattle.std.proofs.Common.{◌≡◌, ℕ, ◌<◌, ◌^◌, Bool, true, false, List, [], ◌++◌, length, map, Some, refl, sym, ap, ap₂, subst, ◌∙◌, arith, append_assoc, append-nil}
+use Rattle.std.proofs.Common.{◌≡◌, ℕ, ◌<◌, ◌^◌, Bool, true, false, List, [], ◌++◌, length, map, Some, refl, sym, ap, ap₂, subst}
+use Rattle.std.proofs.Common.{◌∙◌, arith, append_assoc, append-nil}
 use Rattle.std.specs.List.{AllZip}
 use Rattle.std.proofs.lemmas.List.{length-append}
 use Rattle.cwr_lines.specs.Format.Records.{RecordValue, Row}
@@ -30,12 +31,14 @@ pub record SpellsWhole (limits : LimitValues) (lines : List (List ℕ)) (records
   pub spelled : Spells value (text_of lines)
   pub given : items_so_far records ≡ value_items value
 
-pub spells_whole : (tally : TallyValue) (lines : List (List ℕ)) (records : List RecordValue) → AreInRange tally.limits → AreAccepted tally lines records → IsWhole (map symbol_of records) → SpellsWhole tally.limits lines records
+pub spells_whole : (tally : TallyValue) (lines : List (List ℕ)) (records : List RecordValue) → AreInRange tally.limits
+    → AreAccepted tally lines records → IsWhole (map symbol_of records) → SpellsWhole tally.limits lines records
 spells_whole tally lines records range read (groups, outline, symbols) =
     let b = built groups records outline symbols read.in_order in
     let same : rows b.value ≡ rows_so_far records = rows_whole b.value b.whole ∙ ap rows_so_far b.records_are in
     let fits : FitsIn tally.limits b.value
-    = subst (IsWithin tally.limits) (sym b.outline) (along_fits tally.limits groups outline (λ front rest e. read.within front rest (symbols ∙ e))) in
+    = subst (IsWithin tally.limits) (sym b.outline)
+    (along_fits tally.limits groups outline (λ front rest e. read.within front rest (symbols ∙ e))) in
     let few : tally.limits.records < 10 ^ 8 = omega (arith, range.most_records) in
     record {
       value = b.value;
@@ -46,12 +49,16 @@ spells_whole tally lines records range read (groups, outline, symbols) =
     }
 
 -- what was read of a whole transmission is accepted, however the input continues
-pub accepts_whole : (tally : TallyValue) (lines : List (List ℕ)) (records : List RecordValue) (input_ended : Bool) (used seen tail : List ℕ) (given : List Item)
-    → AreInRange tally.limits → AreAccepted tally lines records → IsWhole (map symbol_of records) → IsInput input_ended used (text_of lines) → seen ≡ used ++ tail → (input_ended ≡ true → tail ≡ []) → given ≡ items_so_far records
+pub accepts_whole : (tally : TallyValue) (lines : List (List ℕ)) (records : List RecordValue) (input_ended : Bool)
+    (used seen tail : List ℕ) (given : List Item)
+    → AreInRange tally.limits → AreAccepted tally lines records → IsWhole (map symbol_of records)
+    → IsInput input_ended used (text_of lines) → seen ≡ used ++ tail → (input_ended ≡ true → tail ≡ [])
+    → given ≡ items_so_far records
     → IsEndAlways tally.limits input_ended seen given (Some (ends.Accepted (length used)))
 accepts_whole tally lines records false used seen tail given range read whole input split late are = λ more may.
     let w = spells_whole tally lines records range read whole in
-    let text : seen ++ more ≡ text_of lines ++ (tail ++ more) = ap (λ (t : List ℕ). t ++ more) (split ∙ ap (λ (t : List ℕ). t ++ tail) input) ∙ append_assoc (text_of lines) tail more in (
+    let text : seen ++ more ≡ text_of lines ++ (tail ++ more) =
+    ap (λ (t : List ℕ). t ++ more) (split ∙ ap (λ (t : List ℕ). t ++ tail) input) ∙ append_assoc (text_of lines) tail more in (
       w.value,
       record {
         whole = w.whole;

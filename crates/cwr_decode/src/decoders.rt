@@ -86,7 +86,8 @@ impl Decoder {
     /// Enters the record that waits, where that needs no answer, and says whether a byte is needed now. A no says nothing,
     /// and then nothing changes.
     pub(crate) fn is_settled(&mut self) -> bool
-        ensures continues { IsTrue result → (left : Option (List ℕ)) → FeedsOn 0 self.old left self.new left }
+        ensures continues { IsTrue result → (left : Option (List ℕ))
+            → FeedsOn 0 self.old left self.new left }
         ensures fresh { IsTrue result → has_ended self.old ≡ false }
         ensures inside { IsTrue result → WaitsOutside self.old → ⊥ }
         ensures kept { IsFalse result → self.new ≡ self.old }
@@ -99,7 +100,8 @@ impl Decoder {
     pub(crate) fn feed_quickly(&mut self, piece: &[u8]) -> (usize, Option<Transaction>)
         requires reading { self.old.state ≡ State.Reading }
         requires fresh { self.old.finished ≡ false }
-        ensures some { IfSome result.1 (λ whole. Feeds self.old piece.now result.0 (Outcome.Item (Item.Transaction whole)) self.new) }
+        ensures some { IfSome result.1 (λ whole. Feeds self.old piece.now result.0
+            (Outcome.Item (Item.Transaction whole)) self.new) }
         ensures none { IsNone result.1 → Fed self.old piece.now result.0 self.new }
         ensures under_way { RepresentsSome self.old }
     {
@@ -132,17 +134,21 @@ impl Decoder {
         ensures right { final_answer self.old ≡ None → (input : List ℕ) (given : List Item) → Represents self.old input given
             → IsRight (limits_of self.old) result.outcome (has_ended self.old) (input ++ take result.used piece.now)
             (seen_input (has_ended self.old) input piece.now) (given ++ items_out result.outcome) }
-        ensures more { result.outcome ≡ Outcome.More → (result.used ≡ length piece.now) × (has_ended self.old ≡ false) }
+        ensures more { result.outcome ≡ Outcome.More
+            → (result.used ≡ length piece.now) × (has_ended self.old ≡ false) }
         // What stays held: after an item nothing, but after a transaction the line that ended it.
         ensures leaves { StandsAfter result.outcome self.new }
         ensures empties { Empties result.outcome self.new }
         // What uses no byte: a record that waits and is an item of its own, and all once the input has ended.
-        ensures alone { WaitsOutside self.old → (result.used ≡ 0) × (result.outcome ≢ Outcome.More) }
+        ensures alone { WaitsOutside self.old
+            → (result.used ≡ 0) × (result.outcome ≢ Outcome.More) }
         ensures unused { has_ended self.old ≡ true → result.used ≡ 0 }
         // What was answered for good is answered again.
-        ensures again { IfSome (final_answer self.old) (λ outcome. (result.outcome ≡ outcome) × (result.used ≡ 0) × (self.new ≡ self.old)) }
+        ensures again { IfSome (final_answer self.old)
+            (λ outcome. (result.outcome ≡ outcome) × (result.used ≡ 0) × (self.new ≡ self.old)) }
         // Out of memory comes only with a record that was being added: where none was accepted, it was the one that waited.
-        ensures memory { result.outcome ≡ Outcome.Memory → final_answer self.old ≡ None → RunsOutOfMemory self.old result.used self.new }
+        ensures memory { result.outcome ≡ Outcome.Memory → final_answer self.old ≡ None
+            → RunsOutOfMemory self.old result.used self.new }
         ensures kept { accepted_records self.old ≤ accepted_records self.new }
         ensures input_ended { has_ended self.new ≡ has_ended self.old }
         ensures limits { limits_of self.new ≡ limits_of self.old }
@@ -169,9 +175,11 @@ impl Decoder {
         ensures leaves { StandsAfter result.outcome self.new }
         ensures empties { Empties result.outcome self.new }
         // What was answered for good is answered again.
-        ensures again { IfSome (final_answer self.old) (λ outcome. (result.outcome ≡ outcome) × (self.new ≡ end_input self.old)) }
+        ensures again { IfSome (final_answer self.old)
+            (λ outcome. (result.outcome ≡ outcome) × (self.new ≡ end_input self.old)) }
         // Out of memory comes only with a record that was being added: where none was accepted, it was the one that waited.
-        ensures memory { result.outcome ≡ Outcome.Memory → final_answer self.old ≡ None → RunsOutOfMemory self.old 0 self.new }
+        ensures memory { result.outcome ≡ Outcome.Memory → final_answer self.old ≡ None
+            → RunsOutOfMemory self.old 0 self.new }
         ensures kept { accepted_records self.old ≤ accepted_records self.new }
         ensures input_ended { has_ended self.new ≡ true }
         ensures limits { limits_of self.new ≡ limits_of self.old }

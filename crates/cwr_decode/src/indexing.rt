@@ -54,8 +54,10 @@ fn is_trailer(symbol: Symbol) -> bool
 /// Counts the record of a line that may come next, and answers whether it is the last one; else why the line is refused.
 fn judge_line(tally: &mut Tally, line: &LineBuf) -> Result<bool, Refusal>
     requires { line.now.ended ≢ Open }
-    ensures ok { (xs : List Symbol) → IsTallyOf tally.old xs → IfOk result (λ last. AcceptsLine tally.old xs line.now last tally.new) }
-    ensures err { (xs : List Symbol) → IsTallyOf tally.old xs → IfErr result (λ refusal. RefusesLine tally.old xs line.now refusal) }
+    ensures ok { (xs : List Symbol) → IsTallyOf tally.old xs
+        → IfOk result (λ last. AcceptsLine tally.old xs line.now last tally.new) }
+    ensures err { (xs : List Symbol) → IsTallyOf tally.old xs
+        → IfErr result (λ refusal. RefusesLine tally.old xs line.now refusal) }
 {
     let cut = line.cut();
     match judge(tally, &cut) {
@@ -92,7 +94,8 @@ fn take_cut(
     text: &[u8],
 ) -> Option<Accepted>
     requires { BeginsWithLine text.now taken cut.now }
-    ensures some { (xs : List Symbol) → IsTallyOf tally.old xs → IfSome result (λ got. TakesLine tally.old xs text.now got tally.new) }
+    ensures some { (xs : List Symbol) → IsTallyOf tally.old xs
+        → IfSome result (λ got. TakesLine tally.old xs text.now got tally.new) }
     ensures none { IsNone result → tally.new ≡ tally.old }
 {
     if !count_quickly(tally, cut, expected) {
@@ -118,7 +121,8 @@ fn take_as(
 ) -> Option<Accepted>
     requires named { kind_of (take 3 text.now) ≡ Some kind }
     requires three { 3 ≤ length text.now }
-    ensures some { (xs : List Symbol) → IsTallyOf tally.old xs → IfSome result (λ got. TakesLine tally.old xs text.now got tally.new) }
+    ensures some { (xs : List Symbol) → IsTallyOf tally.old xs
+        → IfSome result (λ got. TakesLine tally.old xs text.now got tally.new) }
     ensures none { IsNone result → tally.new ≡ tally.old }
 {
     let Some((cut, taken)) = CutLine::at_front(kind, text) else {
@@ -133,7 +137,8 @@ fn take_where_it_stands(
     expected: &mut SpelledPair,
     text: &[u8],
 ) -> Option<Accepted>
-    ensures some { (xs : List Symbol) → IsTallyOf tally.old xs → IfSome result (λ got. TakesLine tally.old xs text.now got tally.new) }
+    ensures some { (xs : List Symbol) → IsTallyOf tally.old xs
+        → IfSome result (λ got. TakesLine tally.old xs text.now got tally.new) }
     ensures none { IsNone result → tally.new ≡ tally.old }
 {
     if text.len() < 3 {
@@ -167,7 +172,8 @@ fn take_filled(
     text: &[u8],
 ) -> Option<Accepted>
     requires { line.old ≡ empty_line }
-    ensures some { (xs : List Symbol) → IsTallyOf tally.old xs → IfSome result (λ got. TakesLine tally.old xs text.now got tally.new) }
+    ensures some { (xs : List Symbol) → IsTallyOf tally.old xs
+        → IfSome result (λ got. TakesLine tally.old xs text.now got tally.new) }
     ensures none { IsNone result → tally.new ≡ tally.old }
     ensures line { line.new ≡ empty_line }
 {
@@ -187,9 +193,11 @@ fn take_slowly(
     text: &[u8],
 ) -> Result<Option<Accepted>, Refusal>
     requires { line.old ≡ empty_line }
-    ensures some { (xs : List Symbol) → IsTallyOf tally.old xs → IfOk result (λ found. IfSome found (λ got. TakesLine tally.old xs text.now got tally.new)) }
+    ensures some { (xs : List Symbol) → IsTallyOf tally.old xs → IfOk result
+        (λ found. IfSome found (λ got. TakesLine tally.old xs text.now got tally.new)) }
     ensures none { IsOkAnd result IsNone → (text.now ≡ []) × (tally.new ≡ tally.old) }
-    ensures err { (xs : List Symbol) → IsTallyOf tally.old xs → IfErr result (λ refusal. RefusesText tally.old xs text.now refusal) }
+    ensures err { (xs : List Symbol) → IsTallyOf tally.old xs
+        → IfErr result (λ refusal. RefusesText tally.old xs text.now refusal) }
     ensures line { IsOk result → line.new ≡ empty_line }
 {
     let Some(taken) = first_line(line, text) else {
@@ -219,7 +227,8 @@ fn take_quickly(
     text: &[u8],
 ) -> Option<Accepted>
     requires { line.old ≡ empty_line }
-    ensures some { (xs : List Symbol) → IsTallyOf tally.old xs → IfSome result (λ got. TakesLine tally.old xs text.now got tally.new) }
+    ensures some { (xs : List Symbol) → IsTallyOf tally.old xs
+        → IfSome result (λ got. TakesLine tally.old xs text.now got tally.new) }
     ensures none { IsNone result → tally.new ≡ tally.old }
     ensures line { line.new ≡ empty_line }
 {
@@ -238,9 +247,11 @@ fn take_line(
     text: &[u8],
 ) -> Result<Option<Accepted>, Refusal>
     requires { line.old ≡ empty_line }
-    ensures some { (xs : List Symbol) → IsTallyOf tally.old xs → IfOk result (λ found. IfSome found (λ got. TakesLine tally.old xs text.now got tally.new)) }
+    ensures some { (xs : List Symbol) → IsTallyOf tally.old xs → IfOk result
+        (λ found. IfSome found (λ got. TakesLine tally.old xs text.now got tally.new)) }
     ensures none { IsOkAnd result IsNone → (text.now ≡ []) × (tally.new ≡ tally.old) }
-    ensures err { (xs : List Symbol) → IsTallyOf tally.old xs → IfErr result (λ refusal. RefusesText tally.old xs text.now refusal) }
+    ensures err { (xs : List Symbol) → IsTallyOf tally.old xs
+        → IfErr result (λ refusal. RefusesText tally.old xs text.now refusal) }
     ensures line { IsOk result → line.new ≡ empty_line }
 {
     match take_quickly(tally, expected, line, text) {

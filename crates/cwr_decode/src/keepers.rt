@@ -20,9 +20,11 @@ pub trait Keeper {
 
     /// Adds one record more, and says whether it does.
     fn add(&mut self, next: &RecordRef<'_>) -> bool
-        ensures { (records : List RecordValue) → stands_for self.old records → IsTrue result → stands_for self.new (records ++ next.now ∷ []) };
+        ensures { (records : List RecordValue) → stands_for self.old records → IsTrue result
+            → stands_for self.new (records ++ next.now ∷ []) };
 
     /// Whether the transaction surely is as it should be, where these were all its records.
     fn is_clean(&self) -> bool
-        ensures { (records : List RecordValue) → stands_for self.now records → IsTrue result → are_clean records };
+        ensures { (records : List RecordValue) → stands_for self.now records → IsTrue result
+            → are_clean records };
 }

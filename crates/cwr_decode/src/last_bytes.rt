@@ -84,7 +84,8 @@ impl LastBytes {
     /// Holds the end of a long piece, and nothing before it.
     fn hold_end(&mut self, bytes: &[u8])
         requires { LINE_AND_FEED ≤ length bytes.now }
-        ensures { (read : List ℕ) → HoldsLast read self.old → HoldsLast (read ++ bytes.now) self.new }
+        ensures { (read : List ℕ) → HoldsLast read self.old
+            → HoldsLast (read ++ bytes.now) self.new }
     {
         let from = bytes.len() - LINE_AND_FEED;
         self.held.truncate(0);
@@ -95,7 +96,8 @@ impl LastBytes {
     /// Adds bytes that there is room for.
     fn add(&mut self, bytes: &[u8])
         requires { length (last_held self.old) + length bytes.now ≤ MOST_HELD }
-        ensures { (read : List ℕ) → HoldsLast read self.old → HoldsLast (read ++ bytes.now) self.new }
+        ensures { (read : List ℕ) → HoldsLast read self.old
+            → HoldsLast (read ++ bytes.now) self.new }
     {
         let _fits = self.held.try_extend_from_slice(bytes);
         self.read = self.read.saturating_add(bytes.len() as u64);
@@ -114,7 +116,8 @@ impl LastBytes {
 
     /// Takes bytes that were read after those before.
     pub(crate) fn keep(&mut self, bytes: &[u8])
-        ensures { (read : List ℕ) → HoldsLast read self.old → HoldsLast (read ++ bytes.now) self.new }
+        ensures { (read : List ℕ) → HoldsLast read self.old
+            → HoldsLast (read ++ bytes.now) self.new }
     {
         if bytes.len() >= LINE_AND_FEED {
             return self.hold_end(bytes);

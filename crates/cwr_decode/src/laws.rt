@@ -91,7 +91,8 @@ pub fn viable_where_cells_are_good()
 
 /// Over a whole run at most 1,025 bytes are used for each record that the limits hold: no decoder represents more.
 pub fn used_bytes_are_bounded()
-    ensures { (d : Standing) (input : List ℕ) (given : List Item) → Represents d input given → length input ≤ 1025 * d.tally.limits.records }
+    ensures { (d : Standing) (input : List ℕ) (given : List Item) → Represents d input given
+        → length input ≤ 1025 * d.tally.limits.records }
 {}
 
 /// Whatever a decoder was fed, it holds at most 1,024 bytes of a line, and no more records of a transaction than the limit.
@@ -106,7 +107,8 @@ pub fn what_is_held_is_bounded(decoder: &Decoder) -> (usize, usize)
 /// The items that a decoder handed out are the first of those of some transmission within its limits: a transaction is a
 /// whole one of its group's type, and each comes in its place.
 pub fn items_are_the_first()
-    ensures { (d : Standing) (input : List ℕ) (given : List Item) → Represents d input given → AreFirstItems d.tally.limits given }
+    ensures { (d : Standing) (input : List ℕ) (given : List Item) → Represents d input given
+        → AreFirstItems d.tally.limits given }
 {}
 
 /// The items that a decoder handed out from the front of a text that is accepted are the first of that transmission's,

@@ -1,6 +1,7 @@
 //! The steps of a decoder.
 
-ghost use Rattle.std.specs.Prelude.{List, ◌∷◌, ◌++◌, [], ◌≡◌, ◌≢◌, ◌↔◌, ◌<◌, ◌≤◌, length, take, true, false, None, Some, Err, IsOk, IsTrue, IsFalse, IsSome, IsSomeAnd, IsNone, IfSome, OnOk, OnErr};
+ghost use Rattle.std.specs.Prelude.{List, ◌∷◌, ◌++◌, [], ◌≡◌, ◌≢◌, ◌↔◌, ◌<◌, ◌≤◌, length, take, true, false, None, Some, Err, IsOk, IsTrue, IsFalse, IsSome};
+ghost use Rattle.std.specs.Prelude.{IsSomeAnd, IsNone, IfSome, OnOk, OnErr};
 ghost use Rattle.cwr_lines.specs.Steps.Held.{IsHeld, Takes, held_kind, held_record};
 ghost use Rattle.cwr_lines.specs.Format.Growth.{AsksMemory};
 ghost use Rattle.cwr_fields.specs.Format.Kinds.{kind_of};
@@ -9,7 +10,9 @@ ghost use Rattle.cwr_shape.specs.Steps.Stages.{stage_after};
 ghost use Rattle.cwr_shape.specs.Steps.Tallies.{IsAdmitted, IsTallyOf};
 ghost use Rattle.cwr_shape.specs.declared.symbols.Symbol.{Symbol};
 ghost use Rattle.cwr_judge.specs.Steps.Open.{continues_open};
-ghost use Rattle.cwr_decode.specs.Steps.Machines.{Adds, ClosesLine, EntersHeld, FindsCut, FindsFront, FindsLine, FinishesRecord, HandsOut, HasRecord, HoldsOpen, FitsHeld, FitsWaiting, IsReady, Judges, Settles, ReportsFault, at_start, emptied, held_list, reading, stopped};
+ghost use Rattle.cwr_decode.specs.Steps.Machines.{Adds, ClosesLine, EntersHeld, FindsCut, FindsFront, FindsLine, FinishesRecord, HandsOut, HasRecord};
+ghost use Rattle.cwr_decode.specs.Steps.Machines.{HoldsOpen, FitsHeld, FitsWaiting, IsReady, Judges, Settles, ReportsFault, at_start, emptied, held_list};
+ghost use Rattle.cwr_decode.specs.Steps.Machines.{reading, stopped};
 ghost use Rattle.cwr_decode.specs.Steps.Represents.{IsSound};
 ghost use Rattle.cwr_decode.specs.Steps.Calls.{Advances, Fed, TakesEnd, Feeds, Finishes};
 ghost use Rattle.cwr_values.specs.Format.Begun.{BeginsWithOneMore};
@@ -104,7 +107,8 @@ impl Model for Machine {
 /// Whether a record that was counted continues the open transaction.
 #[inline(always)]
 fn stays_open(before: &Tally, counted: &Tally) -> bool
-    ensures { (xs : List Symbol) (symbol : Symbol) → IsTallyOf before.now xs → IsTallyOf counted.now (xs ++ symbol ∷ []) → result ≡ continues_open xs symbol }
+    ensures { (xs : List Symbol) (symbol : Symbol) → IsTallyOf before.now xs
+        → IsTallyOf counted.now (xs ++ symbol ∷ []) → result ≡ continues_open xs symbol }
 {
     let begun = before.transactions();
     counted.transactions() == begun && matches!(counted.scope(), Scope::Transaction)
@@ -115,7 +119,8 @@ fn stays_open(before: &Tally, counted: &Tally) -> bool
 fn step_continues_open(tally: &mut Tally, symbol: Symbol) -> bool
     requires { IsAdmitted tally.old symbol }
     ensures limits { tally.new.limits ≡ tally.old.limits }
-    ensures stands { (xs : List Symbol) → IsTallyOf tally.old xs → IsTallyOf tally.new (xs ++ symbol ∷ []) }
+    ensures stands { (xs : List Symbol) → IsTallyOf tally.old xs
+        → IsTallyOf tally.new (xs ++ symbol ∷ []) }
     ensures same { (xs : List Symbol) → IsTallyOf tally.old xs → result ≡ continues_open xs symbol }
 {
     let before = *tally;
@@ -501,7 +506,8 @@ impl Machine {
     fn begin_waiting(&mut self) -> bool
         requires carries { HasRecord self.old.line }
         requires fits { IfSome (held_record self.old.line) (λ r. FitsHeld r self.old.held) }
-        ensures entered { IsTrue result → EntersHeld (held_record self.old.line) self.old None self.new }
+        ensures entered { IsTrue result
+            → EntersHeld (held_record self.old.line) self.old None self.new }
         ensures kept { IsFalse result → self.new ≡ self.old }
     {
         let accepted = self.line.cut().known_record();
@@ -591,7 +597,8 @@ impl Machine {
         requires ready { IsReady self.old.state self.old.finished self.old.line }
         requires reading { self.old.state ≡ State.Reading }
         requires fresh { self.old.finished ≡ false }
-        ensures some { IfSome result.1 (λ whole. Advances self.old piece.now result.0 (Some (Outcome.Item (Item.Transaction whole))) self.new) }
+        ensures some { IfSome result.1 (λ whole. Advances self.old piece.now result.0
+            (Some (Outcome.Item (Item.Transaction whole))) self.new) }
         ensures none { IsNone result.1 → Fed self.old piece.now result.0 self.new }
     {
         let mut used = 0;

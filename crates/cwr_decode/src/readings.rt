@@ -124,7 +124,8 @@ fn pull_quickly<R: Source>(
 ) -> Quick
     requires reading { decoder.old.state ≡ State.Reading }
     requires fresh { decoder.old.finished ≡ false }
-    ensures reads { ReadsQuickly result decoder.old (R.remaining reader.old) decoder.new (R.remaining reader.new) }
+    ensures reads { ReadsQuickly result decoder.old (R.remaining reader.old) decoder.new
+        (R.remaining reader.new) }
     ensures failures { CountsQuickly result (R.failures reader.old) (R.failures reader.new) }
     ensures last { ReadsLast (R.remaining reader.old) (R.remaining reader.new) last.old last.new }
 {
@@ -148,7 +149,8 @@ fn pass_shown<R: Source, K: Keeper>(
     reader: &mut R,
     keeper: &mut K,
 ) -> Option<Passed>
-    ensures passes { PassesOrFails K.are_clean decoder.old (R.remaining reader.old) result decoder.new (R.remaining reader.new) }
+    ensures passes { PassesOrFails K.are_clean decoder.old (R.remaining reader.old) result
+        decoder.new (R.remaining reader.new) }
     ensures failures { CountsPassing result (R.failures reader.old) (R.failures reader.new) }
     ensures last { ReadsLast (R.remaining reader.old) (R.remaining reader.new) last.old last.new }
 {
@@ -174,10 +176,13 @@ fn pull<R: Source>(
     requires reading { decoder.old.state ≡ State.Reading }
     requires fresh { decoder.old.finished ≡ false }
     ensures stood { IfNone result (RepresentsSome decoder.old) }
-    ensures continues { IfNone result (FeedsOn 1 decoder.old (R.remaining reader.old) decoder.new (R.remaining reader.new)) }
-    ensures reads { IfSome result (λ answer. Reads decoder.old (R.remaining reader.old) answer decoder.new (R.remaining reader.new)) }
+    ensures continues { IfNone result
+        (FeedsOn 1 decoder.old (R.remaining reader.old) decoder.new (R.remaining reader.new)) }
+    ensures reads { IfSome result (λ answer. Reads decoder.old (R.remaining reader.old) answer
+        decoder.new (R.remaining reader.new)) }
     ensures same { IfNone result (R.failures reader.new ≡ R.failures reader.old) }
-    ensures failures { IfSome result (λ answer. CountsReader answer (R.failures reader.old) (R.failures reader.new)) }
+    ensures failures { IfSome result
+        (λ answer. CountsReader answer (R.failures reader.old) (R.failures reader.new)) }
     ensures last { ReadsLast (R.remaining reader.old) (R.remaining reader.new) last.old last.new }
 {
     let piece = match reader.fill() {
@@ -201,7 +206,8 @@ fn read_on<R: Source>(
 ) -> Result<Option<Item>, ReadFault>
     requires reading { decoder.old.state ≡ State.Reading }
     requires fresh { decoder.old.finished ≡ false }
-    ensures reads { Reads decoder.old (R.remaining reader.old) result decoder.new (R.remaining reader.new) }
+    ensures reads { Reads decoder.old (R.remaining reader.old) result decoder.new
+        (R.remaining reader.new) }
     ensures failures { CountsReader result (R.failures reader.old) (R.failures reader.new) }
     ensures last { ReadsLast (R.remaining reader.old) (R.remaining reader.new) last.old last.new }
 {
@@ -216,10 +222,14 @@ fn read_on<R: Source>(
 
 /// What the decoder answers to an empty piece. `None` where it needs a byte.
 fn answer_now(decoder: &mut Decoder) -> Option<Result<Option<Item>, ReadFault>>
-    ensures continues { IfNone result ((left : Option (List ℕ)) → FeedsOn 0 decoder.old left decoder.new left) }
-    ensures reads { IfSome result (λ answer. (left : Option (List ℕ)) → Reads decoder.old left answer decoder.new left) }
-    ensures failures { IfSome result (λ answer. (failures : ℕ) → CountsReader answer failures failures) }
-    ensures again { IfSome (again decoder.old.state) (λ outcome. (result ≡ answer_of outcome) × (decoder.new ≡ decoder.old)) }
+    ensures continues { IfNone result
+        ((left : Option (List ℕ)) → FeedsOn 0 decoder.old left decoder.new left) }
+    ensures reads { IfSome result
+        (λ answer. (left : Option (List ℕ)) → Reads decoder.old left answer decoder.new left) }
+    ensures failures { IfSome result
+        (λ answer. (failures : ℕ) → CountsReader answer failures failures) }
+    ensures again { IfSome (again decoder.old.state)
+        (λ outcome. (result ≡ answer_of outcome) × (decoder.new ≡ decoder.old)) }
     ensures input_ended { decoder.old.finished ≡ true → IsSome result }
     ensures alone { WaitsOutside decoder.old → IsSome result }
 {
@@ -228,10 +238,14 @@ fn answer_now(decoder: &mut Decoder) -> Option<Result<Option<Item>, ReadFault>>
 
 /// What the decoder answers without a further byte. `None` where it needs one.
 fn settle(decoder: &mut Decoder) -> Option<Result<Option<Item>, ReadFault>>
-    ensures continues { IfNone result ((left : Option (List ℕ)) → FeedsOn 0 decoder.old left decoder.new left) }
-    ensures reads { IfSome result (λ answer. (left : Option (List ℕ)) → Reads decoder.old left answer decoder.new left) }
-    ensures failures { IfSome result (λ answer. (failures : ℕ) → CountsReader answer failures failures) }
-    ensures again { IfSome (again decoder.old.state) (λ outcome. (result ≡ answer_of outcome) × (decoder.new ≡ decoder.old)) }
+    ensures continues { IfNone result
+        ((left : Option (List ℕ)) → FeedsOn 0 decoder.old left decoder.new left) }
+    ensures reads { IfSome result
+        (λ answer. (left : Option (List ℕ)) → Reads decoder.old left answer decoder.new left) }
+    ensures failures { IfSome result
+        (λ answer. (failures : ℕ) → CountsReader answer failures failures) }
+    ensures again { IfSome (again decoder.old.state)
+        (λ outcome. (result ≡ answer_of outcome) × (decoder.new ≡ decoder.old)) }
     ensures input_ended { decoder.old.finished ≡ true → IsSome result }
     ensures alone { WaitsOutside decoder.old → IsSome result }
 {
@@ -296,8 +310,10 @@ impl<'a, R: Source> Reading<'a, R> {
     /// answered again by each later call.
     pub fn next_item(&mut self) -> Result<Option<Item>, ReadFault>
         ensures same_reference { self.new.reader.ghost_name ≡ self.old.reader.ghost_name }
-        ensures reads { Reads self.old.decoder (R.remaining self.old.reader.now) result self.new.decoder (R.remaining self.new.reader.now) }
-        ensures failures { CountsReader result (R.failures self.old.reader.now) (R.failures self.new.reader.now) }
+        ensures reads { Reads self.old.decoder (R.remaining self.old.reader.now) result
+            self.new.decoder (R.remaining self.new.reader.now) }
+        ensures failures { CountsReader result (R.failures self.old.reader.now)
+            (R.failures self.new.reader.now) }
         // Out of memory comes only with a record that was being added: where none was accepted in this call, it was the one
         // that waited, and the reader is as it was.
         ensures memory { result ≡ Err ReadFault.Memory → final_answer self.old.decoder ≡ None
@@ -307,11 +323,13 @@ impl<'a, R: Source> Reading<'a, R> {
         ensures again { IfSome (final_answer self.old.decoder) (λ outcome. (Some result ≡ answer_of outcome)
             × (self.new.decoder ≡ self.old.decoder) × (self.new.reader.now ≡ self.old.reader.now)) }
         // Once the reader was at its end, it is read no more.
-        ensures input_ended { has_ended self.old.decoder ≡ true → self.new.reader.now ≡ self.old.reader.now }
+        ensures input_ended { has_ended self.old.decoder ≡ true
+            → self.new.reader.now ≡ self.old.reader.now }
         // Nor is it where a record waits that is an item of its own.
         ensures alone { WaitsOutside self.old.decoder → self.new.reader.now ≡ self.old.reader.now }
         // Where the last bytes are held, those that the reader lost are.
-        ensures last { ReadsLast (R.remaining self.old.reader.now) (R.remaining self.new.reader.now) self.old.last self.new.last }
+        ensures last { ReadsLast (R.remaining self.old.reader.now) (R.remaining self.new.reader.now)
+            self.old.last self.new.last }
     {
         if let Some(reported) = settle(&mut self.decoder) {
             return reported;
@@ -331,9 +349,12 @@ impl<'a, R: Source> Reading<'a, R> {
         keeper: &mut K,
     ) -> (Passed, Result<Option<Item>, ReadFault>)
         ensures same_reference { self.new.reader.ghost_name ≡ self.old.reader.ghost_name }
-        ensures reads { ReadsPassing K.are_clean self.old.decoder (R.remaining self.old.reader.now) result.0 result.1 self.new.decoder (R.remaining self.new.reader.now) }
-        ensures failures { CountsReader result.1 (R.failures self.old.reader.now) (R.failures self.new.reader.now) }
-        ensures last { ReadsLast (R.remaining self.old.reader.now) (R.remaining self.new.reader.now) self.old.last self.new.last }
+        ensures reads { ReadsPassing K.are_clean self.old.decoder (R.remaining self.old.reader.now)
+            result.0 result.1 self.new.decoder (R.remaining self.new.reader.now) }
+        ensures failures { CountsReader result.1 (R.failures self.old.reader.now)
+            (R.failures self.new.reader.now) }
+        ensures last { ReadsLast (R.remaining self.old.reader.now) (R.remaining self.new.reader.now)
+            self.old.last self.new.last }
     {
         match pass_shown(&mut self.decoder, &mut self.last, self.reader, keeper) {
             Some(passed) => (passed, self.next_item()),
@@ -344,8 +365,10 @@ impl<'a, R: Source> Reading<'a, R> {
     /// What was read last, and how far the accepted records have come. After a refusal the bytes end with the refused line.
     /// `None` where the last bytes aren't held.
     pub fn last_read(&self) -> Option<LastRead>
-        ensures front { IfSome result (λ last. (last.stage ≡ stage_of_records self.now.decoder) × (last.counts ≡ counts_of_records self.now.decoder)) }
-        ensures bytes { (read : List ℕ) → AreHeld read self.now.last → IsSomeAnd result (λ last. HoldsLast read last.bytes) }
+        ensures front { IfSome result (λ last. (last.stage ≡ stage_of_records self.now.decoder)
+            × (last.counts ≡ counts_of_records self.now.decoder)) }
+        ensures bytes { (read : List ℕ) → AreHeld read self.now.last
+            → IsSomeAnd result (λ last. HoldsLast read last.bytes) }
     {
         match &self.last {
             Some(last) => Some(LastRead {

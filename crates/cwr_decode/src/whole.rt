@@ -22,9 +22,12 @@ fn read_items<R: Source>(
     limits: Limits,
     reader: &mut R,
 ) -> Result<Vec<Item>, ReadFault>
-    ensures all { IfOk result (λ items. HasReadAll limits (R.remaining reader.old) (R.remaining reader.new) items.items) }
-    ensures stops { IfErr result (λ fault. StopsReading limits fault (R.remaining reader.old) (R.remaining reader.new)) }
-    ensures failures { MatchResult result (λ _. R.failures reader.new ≡ R.failures reader.old) (λ fault. CountsFault fault (R.failures reader.old) (R.failures reader.new)) }
+    ensures all { IfOk result
+        (λ items. HasReadAll limits (R.remaining reader.old) (R.remaining reader.new) items.items) }
+    ensures stops { IfErr result
+        (λ fault. StopsReading limits fault (R.remaining reader.old) (R.remaining reader.new)) }
+    ensures failures { MatchResult result (λ _. R.failures reader.new ≡ R.failures reader.old)
+        (λ fault. CountsFault fault (R.failures reader.old) (R.failures reader.new)) }
 {
     let mut reading = Reading::new(alloc, limits, reader);
     let mut items = Vec::new(alloc);
@@ -44,7 +47,8 @@ fn collect_group(
 ) -> Result<Group, AllocError>
     requires { AreGroupItems head (into_iter_items items.old) }
     ensures head { IfOk result (λ group. group.head ≡ head) }
-    ensures items { IfOk result (λ group. into_iter_items items.old ≡ group_rest group ++ into_iter_items items.new) }
+    ensures items { IfOk result
+        (λ group. into_iter_items items.old ≡ group_rest group ++ into_iter_items items.new) }
 {
     let Ok(mut group) = Group::new(alloc, head) else {
         unreachable!()
@@ -69,7 +73,8 @@ fn collect_group(
 /// Adds a whole transaction of the group's type.
 fn add_transaction(group: &mut Group, transaction: Transaction) -> Result<(), AllocError>
     requires { IsTransaction (type_of group.old.head) transaction }
-    ensures { OnOk result (group.new ≡ record group.old { transactions = group.old.transactions ++ transaction ∷ [] }) }
+    ensures { OnOk result
+        (group.new ≡ record group.old { transactions = group.old.transactions ++ transaction ∷ [] }) }
 {
     match group.push(transaction) {
         Ok(()) => Ok(()),
@@ -83,7 +88,8 @@ fn add_transaction(group: &mut Group, transaction: Transaction) -> Result<(), Al
 /// Adds a group that has a transaction.
 fn add_group(transmission: &mut Transmission, group: Group) -> Result<(), AllocError>
     requires { 0 < length group.transactions }
-    ensures { OnOk result (transmission.new ≡ record transmission.old { groups = transmission.old.groups ++ group ∷ [] }) }
+    ensures { OnOk result (transmission.new
+        ≡ record transmission.old { groups = transmission.old.groups ++ group ∷ [] }) }
 {
     match transmission.push(group) {
         Ok(()) => Ok(()),
@@ -133,11 +139,16 @@ pub fn read_all<R: Source>(
     limits: Limits,
     reader: &mut R,
 ) -> Result<Transmission, ReadFault>
-    ensures takes { IfOk result (λ transmission. TakesFront limits (R.remaining reader.old) transmission (R.remaining reader.new)) }
-    ensures stops { IfErr result (λ fault. StopsReading limits fault (R.remaining reader.old) (R.remaining reader.new)) }
-    ensures accepted { ReportsAccepted limits (R.remaining reader.old) result (R.remaining reader.new) }
-    ensures canonical { ReportsCanonical limits (R.remaining reader.old) result (R.remaining reader.new) }
-    ensures failures { MatchResult result (λ _. R.failures reader.new ≡ R.failures reader.old) (λ fault. CountsFault fault (R.failures reader.old) (R.failures reader.new)) }
+    ensures takes { IfOk result (λ transmission. TakesFront limits (R.remaining reader.old)
+        transmission (R.remaining reader.new)) }
+    ensures stops { IfErr result
+        (λ fault. StopsReading limits fault (R.remaining reader.old) (R.remaining reader.new)) }
+    ensures accepted { ReportsAccepted limits (R.remaining reader.old) result
+        (R.remaining reader.new) }
+    ensures canonical { ReportsCanonical limits (R.remaining reader.old) result
+        (R.remaining reader.new) }
+    ensures failures { MatchResult result (λ _. R.failures reader.new ≡ R.failures reader.old)
+        (λ fault. CountsFault fault (R.failures reader.old) (R.failures reader.new)) }
 {
     let items = read_items(alloc, limits, reader)?;
     match collect(alloc, items) {

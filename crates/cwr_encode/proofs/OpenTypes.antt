@@ -20,11 +20,13 @@ use Rattle.cwr_encode.specs.Format.Encoders.{reached, IsInGroup, IsBetween}
 use Rattle.cwr_encode.specs.Steps.Encoders.{reached_at, TakesTransactions}
 use Rattle.cwr_encode.proofs.Comes.{reached_stands, foot_inside}
 
-reached_is : (t : TallyValue) (stage : Stage) (xs : List Symbol) → IsTallyOf t xs → stage ≡ t.stage → reached xs ≡ reached_at stage
+reached_is : (t : TallyValue) (stage : Stage) (xs : List Symbol) → IsTallyOf t xs → stage ≡ t.stage
+    → reached xs ≡ reached_at stage
 reached_is t stage xs st e = sym (reached_stands xs t.stage st.stands) ∙ ap reached_at (sym e)
 
 -- right after GRH
-pub ready_head : (t : TallyValue) (stage : Stage) (ty : TransactionType) (xs : List Symbol) → IsTallyOf t xs → stage ≡ t.stage → stage ≡ stages.Within ty steps.InGroup → TakesTransactions ty xs
+pub ready_head : (t : TallyValue) (stage : Stage) (ty : TransactionType) (xs : List Symbol) → IsTallyOf t xs → stage ≡ t.stage
+    → stage ≡ stages.Within ty steps.InGroup → TakesTransactions ty xs
 ready_head t stage ty xs st e w =
     let r : reached xs ≡ reached_to.GroupHead = reached_is t stage xs st e ∙ ap reached_at w in
     record {
@@ -34,7 +36,8 @@ ready_head t stage ty xs st e w =
     }
 
 -- after a transaction that is whole
-pub ready_later : (t : TallyValue) (stage : Stage) (ty : TransactionType) (step : TransactionStep) (xs : List Symbol) (b : Bool) → IsTallyOf t xs → stage ≡ t.stage → stage ≡ stages.Within ty step
+pub ready_later : (t : TallyValue) (stage : Stage) (ty : TransactionType) (step : TransactionStep) (xs : List Symbol) (b : Bool)
+    → IsTallyOf t xs → stage ≡ t.stage → stage ≡ stages.Within ty step
     → (b ≡ true) ↔ Continues Any (xs ++ Plain kinds.Grt ∷ []) → b ≡ true → TakesTransactions ty xs
 ready_later t stage ty step xs b st e w test h = record {
   same_type = sym (stands_type xs ty step (subst (StandsAt xs) (sym e ∙ w) st.stands));
@@ -43,19 +46,23 @@ ready_later t stage ty step xs b st e w test h = record {
 }
 
 -- after one that isn't
-pub unready_later : (t : TallyValue) (stage : Stage) (ty : TransactionType) (step : TransactionStep) (xs : List Symbol) (b : Bool) → IsTallyOf t xs → stage ≡ t.stage → stage ≡ stages.Within ty step → (step ≡ steps.InGroup → ⊥)
+pub unready_later : (t : TallyValue) (stage : Stage) (ty : TransactionType) (step : TransactionStep) (xs : List Symbol) (b : Bool)
+    → IsTallyOf t xs → stage ≡ t.stage → stage ≡ stages.Within ty step → (step ≡ steps.InGroup → ⊥)
     → (b ≡ true) ↔ Continues Any (xs ++ Plain kinds.Grt ∷ []) → b ≡ false → IsBetween xs → ¬ IsInGroup (reached xs)
-unready_later t stage ty step xs b st e w later test h between inside = true≢false (sym (test.1 (between (reached_is t stage xs st e ∙ ap reached_at w ∙ named step later))) ∙ h)
+unready_later t stage ty step xs b st e w later test h between inside =
+    true≢false (sym (test.1 (between (reached_is t stage xs st e ∙ ap reached_at w ∙ named step later))) ∙ h)
   where
     named : (p : TransactionStep) → (p ≡ steps.InGroup → ⊥) → reached_at (stages.Within ty p) ≡ reached_to.Inside
     named steps.InGroup n = absurd (n refl)
     named p n = refl
 
 -- where no group is open
-pub none_open : (t : TallyValue) (stage : Stage) (xs : List Symbol) → IsTallyOf t xs → stage ≡ t.stage → ((ty : TransactionType) (step : TransactionStep) → stage ≡ stages.Within ty step → ⊥) → ¬ IsInGroup (reached xs)
+pub none_open : (t : TallyValue) (stage : Stage) (xs : List Symbol) → IsTallyOf t xs → stage ≡ t.stage
+    → ((ty : TransactionType) (step : TransactionStep) → stage ≡ stages.Within ty step → ⊥) → ¬ IsInGroup (reached xs)
 none_open t stage xs st e n inside = by stage n (subst IsInGroup (reached_is t stage xs st e) inside)
   where
-    by : (s : Stage) → ((ty : TransactionType) (step : TransactionStep) → s ≡ stages.Within ty step → ⊥) → IsInGroup (reached_at s) → ⊥
+    by : (s : Stage) → ((ty : TransactionType) (step : TransactionStep) → s ≡ stages.Within ty step → ⊥)
+        → IsInGroup (reached_at s) → ⊥
     by stages.Start m k = k
     by stages.Opened m k = k
     by stages.Closed m k = k

@@ -17,11 +17,14 @@ taken [] ys = refl
 taken (x ∷ xs) ys = ap (λ (l : List Row). x ∷ l) (taken xs ys)
 
 -- the rows of the first records of a transmission
-first_rows : (v : TransmissionValue) (before rest : List RecordValue) → IsTransmission v → records_of v ≡ before ++ rest → take (length before) (rows v) ≡ rows_so_far before
+first_rows : (v : TransmissionValue) (before rest : List RecordValue) → IsTransmission v → records_of v ≡ before ++ rest
+    → take (length before) (rows v) ≡ rows_so_far before
 first_rows v before rest h e =
-    ap₂ (λ (n : ℕ) (l : List Row). take n l) (sym (length-rows_so_far before)) (rows_split v before rest h e) ∙ taken (rows_so_far before) (rows_after before rest)
+    ap₂ (λ (n : ℕ) (l : List Row). take n l) (sym (length-rows_so_far before)) (rows_split v before rest h e)
+    ∙ taken (rows_so_far before) (rows_after before rest)
 
-pub has_part : (limits : Limits) (records : List RecordValue) → AllByRecursion IsRecord records → Continues (IsWithin limits) (map symbol_of records) → IsPart limits records (part_of records)
+pub has_part : (limits : Limits) (records : List RecordValue) → AllByRecursion IsRecord records
+    → Continues (IsWithin limits) (map symbol_of records) → IsPart limits records (part_of records)
 has_part limits records in_order g =
     let c = completed g.0 records g.3.0 g.1 in_order g.3.1 in
     record {
@@ -33,6 +36,8 @@ has_part limits records in_order g =
       written = ap (flat_map canonical_line) (sym (first_rows c.value records c.more c.whole c.begins));
     }
 
-pub one_part : (limits others : Limits) (records : List RecordValue) (text other : List ℕ) → IsPart limits records text → IsPart others records other → text ≡ other
+pub one_part : (limits others : Limits) (records : List RecordValue) (text other : List ℕ) → IsPart limits records text
+    → IsPart others records other → text ≡ other
 one_part limits others records text other p q =
-    p.written ∙ ap (flat_map canonical_line) (same_rows p.value q.value records p.rest q.rest p.whole q.whole p.begins q.begins) ∙ sym q.written
+    p.written ∙ ap (flat_map canonical_line) (same_rows p.value q.value records p.rest q.rest p.whole q.whole p.begins q.begins)
+    ∙ sym q.written

@@ -1,5 +1,6 @@
 -- What is put, row by row, of a transaction.
-use Rattle.std.proofs.Common.{◌≡◌, ℕ, zero, suc, ◌+◌, ◌<◌, ◌≤◌, true, true≢false, List, [], ◌∷◌, ◌++◌, length, take, drop, Option, Some, None, refl, sym, ap, subst, ◌∙◌, arith, append_assoc}
+use Rattle.std.proofs.Common.{◌≡◌, ℕ, zero, suc, ◌+◌, ◌<◌, ◌≤◌, true, true≢false, List, [], ◌∷◌, ◌++◌, length, take, drop, Option}
+use Rattle.std.proofs.Common.{Some, None, refl, sym, ap, subst, ◌∙◌, arith, append_assoc}
 use Rattle.std.specs.Prelude.{slice_get, Result, Ok, Err, IsErr}
 use Rattle.cwr_fields.specs.Format.Failures.{one_more_failure}
 use Rattle.std.proofs.lemmas.List.{take_all}
@@ -21,7 +22,8 @@ none_within (y ∷ xs) zero e = absurd (cc e)
 none_within (y ∷ xs) (suc i) e = omega (arith, none_within xs i e)
 
 -- after a fault whatever more was to be put isn't written
-pub written_longer : {W : Type 0} (contents : W → Option (List ℕ)) (start : Option (List ℕ)) (text more : List ℕ) (sink : Sink W) → has_failed sink ≡ true → HasWritten contents start text sink
+pub written_longer : {W : Type 0} (contents : W → Option (List ℕ)) (start : Option (List ℕ)) (text more : List ℕ) (sink : Sink W)
+    → has_failed sink ≡ true → HasWritten contents start text sink
     → HasWritten contents start (text ++ more) sink
 written_longer contents start text more sink failed h = record {
   bytes = h.bytes;
@@ -38,7 +40,8 @@ text-split j k (suc n) [] = refl
 text-split j k (suc n) (r ∷ t) =
     ap (λ (l : List ℕ). canonical_line (row_of (j ∷ k ∷ []) r) ++ l)
     (text-split j (k + 1) n t ∙ ap (λ (m : ℕ). text_from j (k + 1) (take n t) ++ text_from j m (drop n t)) (omega arith))
-    ∙ sym (append_assoc (canonical_line (row_of (j ∷ k ∷ []) r)) (text_from j (k + 1) (take n t)) (text_from j (k + suc n) (drop n t)))
+    ∙ sym (append_assoc (canonical_line (row_of (j ∷ k ∷ []) r)) (text_from j (k + 1) (take n t))
+    (text_from j (k + suc n) (drop n t)))
 
 zero_and : (i : ℕ) → 0 + i ≡ i
 zero_and i = omega arith
@@ -47,35 +50,52 @@ suc_is : (i : ℕ) → suc i ≡ i + 1
 suc_is i = omega arith
 
 -- with the row of one more record
-pub row_more : {W : Type 0} (contents : W → Option (List ℕ)) (start : Option (List ℕ)) (before : List ℕ) (j i : ℕ) (t : List RecordValue) (r : RecordValue) (new : Sink W) → Some r ≡ slice_get t i
-    → HasWritten contents start ((before ++ text_from j 0 (take i t)) ++ canonical_line (row_of (j ∷ i ∷ []) r)) new → HasWritten contents start (before ++ text_from j 0 (take (i + 1) t)) new
+pub row_more : {W : Type 0} (contents : W → Option (List ℕ)) (start : Option (List ℕ)) (before : List ℕ) (j i : ℕ)
+    (t : List RecordValue) (r : RecordValue) (new : Sink W) → Some r ≡ slice_get t i
+    → HasWritten contents start ((before ++ text_from j 0 (take i t)) ++ canonical_line (row_of (j ∷ i ∷ []) r)) new
+    → HasWritten contents start (before ++ text_from j 0 (take (i + 1) t)) new
 row_more contents start before j i t r new e h =
     let one : text_from j 0 (take (suc i) t) ≡ text_from j 0 (take i t) ++ canonical_line (row_of (j ∷ i ∷ []) r)
-    = text-snoc j 0 t i r (sym e) ∙ ap (λ (n : ℕ). text_from j 0 (take i t) ++ canonical_line (row_of (j ∷ n ∷ []) r)) (zero_and i) in
-    let same : (before ++ text_from j 0 (take i t)) ++ canonical_line (row_of (j ∷ i ∷ []) r) ≡ before ++ text_from j 0 (take (i + 1) t)
-    = append_assoc before (text_from j 0 (take i t)) (canonical_line (row_of (j ∷ i ∷ []) r)) ∙ ap (λ (l : List ℕ). before ++ l) (sym one ∙ ap (λ (n : ℕ). text_from j 0 (take n t)) (suc_is i)) in
+    = text-snoc j 0 t i r (sym e)
+    ∙ ap (λ (n : ℕ). text_from j 0 (take i t) ++ canonical_line (row_of (j ∷ n ∷ []) r)) (zero_and i) in
+    let same : (before ++ text_from j 0 (take i t)) ++ canonical_line (row_of (j ∷ i ∷ []) r)
+    ≡ before ++ text_from j 0 (take (i + 1) t)
+    = append_assoc before (text_from j 0 (take i t)) (canonical_line (row_of (j ∷ i ∷ []) r))
+    ∙ ap (λ (l : List ℕ). before ++ l) (sym one ∙ ap (λ (n : ℕ). text_from j 0 (take n t)) (suc_is i)) in
     subst (λ (l : List ℕ). HasWritten contents start l new) same h
 
 -- and once the writer failed there, with all rows
-pub rows_failed : {W : Type 0} (contents : W → Option (List ℕ)) (start : Option (List ℕ)) (before : List ℕ) (j i : ℕ) (t : List RecordValue) (r : RecordValue) (new : Sink W) → Some r ≡ slice_get t i → has_failed new ≡ true
-    → HasWritten contents start ((before ++ text_from j 0 (take i t)) ++ canonical_line (row_of (j ∷ i ∷ []) r)) new → HasWritten contents start (before ++ text_from j 0 t) new
+pub rows_failed : {W : Type 0} (contents : W → Option (List ℕ)) (start : Option (List ℕ)) (before : List ℕ) (j i : ℕ)
+    (t : List RecordValue) (r : RecordValue) (new : Sink W) → Some r ≡ slice_get t i → has_failed new ≡ true
+    → HasWritten contents start ((before ++ text_from j 0 (take i t)) ++ canonical_line (row_of (j ∷ i ∷ []) r)) new
+    → HasWritten contents start (before ++ text_from j 0 t) new
 rows_failed contents start before j i t r new e failed h =
-    let longer = written_longer contents start (before ++ text_from j 0 (take (i + 1) t)) (text_from j (0 + (i + 1)) (drop (i + 1) t)) new failed (row_more contents start before j i t r new e h) in
+    let longer =
+    written_longer contents start (before ++ text_from j 0 (take (i + 1) t)) (text_from j (0 + (i + 1)) (drop (i + 1) t)) new
+    failed (row_more contents start before j i t r new e h) in
     subst (λ (l : List ℕ). HasWritten contents start l new)
-    (append_assoc before (text_from j 0 (take (i + 1) t)) (text_from j (0 + (i + 1)) (drop (i + 1) t)) ∙ ap (λ (l : List ℕ). before ++ l) (sym (text-split j 0 (i + 1) t))) longer
+    (append_assoc before (text_from j 0 (take (i + 1) t)) (text_from j (0 + (i + 1)) (drop (i + 1) t))
+    ∙ ap (λ (l : List ℕ). before ++ l) (sym (text-split j 0 (i + 1) t))) longer
 
-pub rows_whole : {W : Type 0} (contents : W → Option (List ℕ)) (start : Option (List ℕ)) (before : List ℕ) (j i : ℕ) (t : List RecordValue) (new : Sink W) → None ≡ slice_get t i
-    → HasWritten contents start (before ++ text_from j 0 (take i t)) new → HasWritten contents start (before ++ text_from j 0 t) new
+pub rows_whole : {W : Type 0} (contents : W → Option (List ℕ)) (start : Option (List ℕ)) (before : List ℕ) (j i : ℕ)
+    (t : List RecordValue) (new : Sink W) → None ≡ slice_get t i
+    → HasWritten contents start (before ++ text_from j 0 (take i t)) new
+    → HasWritten contents start (before ++ text_from j 0 t) new
 rows_whole contents start before j i t new e h =
-    subst (λ (l : List RecordValue). HasWritten contents start (before ++ text_from j 0 l) new) (take_all i t (none_within t i e)) h
+    subst (λ (l : List RecordValue). HasWritten contents start (before ++ text_from j 0 l) new) (take_all i t (none_within t i e))
+    h
 
-pub rows_refused : {W E : Type 0} (contents : W → Option (List ℕ)) (failures : W → ℕ) (j i : ℕ) (t : List RecordValue) (r : RecordValue) (old mid new : Sink W) (f : E) (result : Result (Unit {0}) E)
+pub rows_refused : {W E : Type 0} (contents : W → Option (List ℕ)) (failures : W → ℕ) (j i : ℕ) (t : List RecordValue)
+    (r : RecordValue) (old mid new : Sink W) (f : E) (result : Result (Unit {0}) E)
     → Some r ≡ slice_get t i → IsErr result → failures (writer_of mid) ≡ failures (writer_of old)
-    → ((start : Option (List ℕ)) (before : List ℕ) → HasWritten contents start before old → HasWritten contents start (before ++ text_from j 0 (take i t)) mid)
-    → Puts contents failures (canonical_line (row_of (j ∷ i ∷ []) r)) (Err f) mid new → Puts contents failures (text_from j 0 t) result old new
+    → ((start : Option (List ℕ)) (before : List ℕ) → HasWritten contents start before old
+    → HasWritten contents start (before ++ text_from j 0 (take i t)) mid)
+    → Puts contents failures (canonical_line (row_of (j ∷ i ∷ []) r)) (Err f) mid new
+    → Puts contents failures (text_from j 0 t) result old new
 rows_refused contents failures j i t r old mid new f (Ok x) e failed same so_far p = absurd (true≢false (sym failed))
 rows_refused contents failures j i t r old mid new f (Err g) e failed same so_far p = record {
-  written = λ start before h. rows_failed contents start before j i t r new e p.failed (p.written start _ (so_far start before h));
+  written =
+      λ start before h. rows_failed contents start before j i t r new e p.failed (p.written start _ (so_far start before h));
   failed = p.failed;
   counts = p.counts ∙ ap one_more_failure same;
 }

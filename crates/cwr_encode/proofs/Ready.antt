@@ -45,8 +45,13 @@ ends_now ty =
 -- one more transaction, and then they end
 ends_after : (ty : TransactionType) (t : List Symbol) → IsShape ty t → Matches (rest_of ty) (t ++ foot_and_trailer)
 ends_after ty t shape =
-    let foot = one kinds.Grt in
-    (t, foot_and_trailer, refl, (t ∷ [], sym (append-nil t), (shape, tt)), (Plain kinds.Grt ∷ [], Plain kinds.Trl ∷ [], refl, foot, closes))
+    let foot = one kinds.Grt in (
+      t,
+      foot_and_trailer,
+      refl,
+      (t ∷ [], sym (append-nil t), (shape, tt)),
+      (Plain kinds.Grt ∷ [], Plain kinds.Trl ∷ [], refl, foot, closes),
+    )
 
 -- a transaction that may end is whole as it is
 whole_now : (ty : TransactionType) (step : TransactionStep) → Ending (stages.Within ty step) → Matches (left_of step) []
@@ -60,17 +65,29 @@ whole_now ty step e = absurd (cc e.goes)
 
 -- what the whole transmission that ends so says
 ends_whole : (xs t : List Symbol) → IsWhole (xs ++ (t ++ foot_and_trailer)) → Continues Any ((xs ++ t) ++ Plain kinds.Grt ∷ [])
-ends_whole xs t w =
-    (w.0, w.1, tt, (Plain kinds.Trl ∷ [], sym w.2 ∙ sym (append_assoc xs t foot_and_trailer) ∙ sym (append_assoc (xs ++ t) (Plain kinds.Grt ∷ []) (Plain kinds.Trl ∷ []))))
+ends_whole xs t w = (
+  w.0,
+  w.1,
+  tt,
+  (
+    Plain kinds.Trl ∷ [],
+    sym w.2 ∙ sym (append_assoc xs t foot_and_trailer)
+        ∙ sym (append_assoc (xs ++ t) (Plain kinds.Grt ∷ []) (Plain kinds.Trl ∷ [])),
+  ),
+)
 
-pub takes : (xs t : List Symbol) (stage : Stage) (ty : TransactionType) → StandsAt xs stage → open_type xs ≡ ty → IsInGroup (reached xs) → IsBetween xs → IsShape ty t → Continues Any ((xs ++ t) ++ Plain kinds.Grt ∷ [])
+pub takes : (xs t : List Symbol) (stage : Stage) (ty : TransactionType) → StandsAt xs stage → open_type xs ≡ ty
+    → IsInGroup (reached xs) → IsBetween xs → IsShape ty t → Continues Any ((xs ++ t) ++ Plain kinds.Grt ∷ [])
 takes xs t stage ty st same inside between shape = by stage st (subst IsInGroup (sym (reached_stands xs stage st)) inside)
   where
-    later : (u : TransactionType) (step : TransactionStep) → StandsAt xs (stages.Within u step) → reached_at (stages.Within u step) ≡ reached_to.Inside
-        → (Matches (left_of step) [] → Matches (left (stages.Within u step)) (t ++ foot_and_trailer)) → Continues Any ((xs ++ t) ++ Plain kinds.Grt ∷ [])
+    later : (u : TransactionType) (step : TransactionStep) → StandsAt xs (stages.Within u step)
+        → reached_at (stages.Within u step) ≡ reached_to.Inside
+        → (Matches (left_of step) [] → Matches (left (stages.Within u step)) (t ++ foot_and_trailer))
+        → Continues Any ((xs ++ t) ++ Plain kinds.Grt ∷ [])
     later u step s r f =
         let goes = between (sym (reached_stands xs (stages.Within u step) s) ∙ r) in
-        ends_whole xs t (((stands_leaves xs (stages.Within u step) s).leaves (t ++ foot_and_trailer)).1 (f (whole_now u step (ending_at xs (stages.Within u step) s goes))))
+        ends_whole xs t (((stands_leaves xs (stages.Within u step) s).leaves (t ++ foot_and_trailer)).1
+        (f (whole_now u step (ending_at xs (stages.Within u step) s goes))))
 
     by : (g : Stage) → StandsAt xs g → IsInGroup (reached_at g) → Continues Any ((xs ++ t) ++ Plain kinds.Grt ∷ [])
     by stages.Start s k = absurd k
@@ -81,7 +98,8 @@ takes xs t stage ty st same inside between shape = by stage st (subst IsInGroup 
         let e : u ≡ ty = stands_type xs u steps.InGroup s ∙ same in
         let own : IsShape u t = subst (λ (v : TransactionType). IsShape v t) (sym e) shape in
         let now = ends_now u in
-        ends_whole xs t (((stands_leaves xs (stages.Within u steps.InGroup) s).leaves (t ++ foot_and_trailer)).1 (t, foot_and_trailer, refl, own, now))
+        ends_whole xs t (((stands_leaves xs (stages.Within u steps.InGroup) s).leaves (t ++ foot_and_trailer)).1
+        (t, foot_and_trailer, refl, own, now))
     by (stages.Within u step) s k =
         let e : u ≡ ty = stands_type xs u step s ∙ same in
         let own : IsShape u t = subst (λ (v : TransactionType). IsShape v t) (sym e) shape in

@@ -17,7 +17,8 @@ use cwr_values::{Transaction, symbol_of};
 
 /// Whether a group may end at the stage.
 pub(crate) fn group_may_end(stage: Stage) -> bool
-    ensures { (xs : List Symbol) → StandsAt xs stage → IsTrue result ↔ Continues Any (xs ++ Plain Grt ∷ []) }
+    ensures { (xs : List Symbol) → StandsAt xs stage → IsTrue result
+        ↔ Continues Any (xs ++ Plain Grt ∷ []) }
 {
     stage.next(Symbol::Plain(Kind::Grt)).is_some()
 }
@@ -41,9 +42,11 @@ pub(crate) fn limit_passed(tally: &Tally, records: usize) -> Option<LimitKind>
 /// Counts the records of a transaction with which some transmission within the limits continues.
 pub(crate) fn count_all(tally: &mut Tally, transaction: &Transaction)
     requires few { length transaction.now ≤ 999999 }
-    requires may_come { (xs : List Symbol) × IsTallyOf tally.old xs × Continues (IsWithin tally.old.limits) (xs ++ map symbol_by_cells transaction.now) }
+    requires may_come { (xs : List Symbol) × IsTallyOf tally.old xs
+        × Continues (IsWithin tally.old.limits) (xs ++ map symbol_by_cells transaction.now) }
     ensures limits { tally.new.limits ≡ tally.old.limits }
-    ensures stands { (xs : List Symbol) → IsTallyOf tally.old xs → IsTallyOf tally.new (xs ++ map symbol_by_cells transaction.now) }
+    ensures stands { (xs : List Symbol) → IsTallyOf tally.old xs
+        → IsTallyOf tally.new (xs ++ map symbol_by_cells transaction.now) }
 {
     let mut i = 0;
     while let Some(shown) = transaction.record(i) {

@@ -8,8 +8,10 @@ ghost use Rattle.cwr_values.specs.Format.Values.{symbol_of as symbol_by_cells};
 ghost use Rattle.cwr_values.specs.Format.Rows.{canonical_line, trailer};
 ghost use Rattle.cwr_sinks.specs.Steps.Sinks.{Puts, writer_of, written_of};
 ghost use Rattle.cwr_encode.specs.Steps.Texts.{text_from};
-ghost use Rattle.cwr_encode.specs.Format.Encoders.{IsUnlimited, IsBetween, IsInGroup, JudgesTransaction, JudgesFoot, JudgesGroup, JudgesOpening, MayBeginGroup, reached};
-ghost use Rattle.cwr_encode.specs.Steps.Encoders.{Encodes, AddsRecords, AnswersAgain, IsNextNumber, TakesTransactions, end_fault, fault_of_bar, reached_at, is_stopped, encoder_limits, target_of, bytes_written};
+ghost use Rattle.cwr_encode.specs.Format.Encoders.{IsUnlimited, IsBetween, IsInGroup, JudgesTransaction, JudgesFoot, JudgesGroup, JudgesOpening, MayBeginGroup};
+ghost use Rattle.cwr_encode.specs.Format.Encoders.{reached};
+ghost use Rattle.cwr_encode.specs.Steps.Encoders.{Encodes, AddsRecords, AnswersAgain, IsNextNumber, TakesTransactions, end_fault, fault_of_bar, reached_at};
+ghost use Rattle.cwr_encode.specs.Steps.Encoders.{is_stopped, encoder_limits, target_of, bytes_written};
 ghost use Rattle.std.specs.Io.KnownBytes.{Keeps};
 ghost use Rattle.cwr_fields.specs.Format.Failures.{one_more_failure};
 ghost use Rattle.cwr_encode.specs.Format.EncodeFaultTexts.{encode_fault_text};
@@ -138,7 +140,8 @@ impl<W: Target> Encoder<W> {
     /// Puts the record's line with these numbers.
     fn put(&mut self, shown: &RecordRef<'_>, numbers: &[u64]) -> Result<(), EncodeFault>
         requires { is_stopped self.old ≡ false }
-        ensures puts { Puts W.contents W.failures (canonical_line (row_of numbers.now shown.now)) result self.old.sink self.new.sink }
+        ensures puts { Puts W.contents W.failures (canonical_line (row_of numbers.now shown.now))
+            result self.old.sink self.new.sink }
         ensures fault { IfErr result (λ e. e ≡ EncodeFault.Writer (bytes_written self.new)) }
         ensures tally { self.new.tally ≡ self.old.tally }
     {
@@ -156,7 +159,8 @@ impl<W: Target> Encoder<W> {
         ensures judged { is_stopped self.old ≡ false → (start : Option (List ℕ)) (records : List RecordValue) → Encodes W.contents start records self.old
             → JudgesOpening (encoder_limits self.old) opening.now (map symbol_by_cells records) result }
         ensures unlimited { IsUnlimited result }
-        ensures adds { is_stopped self.old ≡ false → AddsRecords W.contents W.failures (opening.now ∷ []) result self.old self.new }
+        ensures adds { is_stopped self.old ≡ false
+            → AddsRecords W.contents W.failures (opening.now ∷ []) result self.old self.new }
         ensures limits { encoder_limits self.new ≡ encoder_limits self.old }
     {
         if self.is_stopped() {
@@ -185,7 +189,8 @@ impl<W: Target> Encoder<W> {
         ensures again { is_stopped self.old ≡ true → AnswersAgain result self.old self.new }
         ensures judged { is_stopped self.old ≡ false → (start : Option (List ℕ)) (records : List RecordValue) → Encodes W.contents start records self.old
             → JudgesGroup (encoder_limits self.old) head.now (map symbol_by_cells records) result }
-        ensures adds { is_stopped self.old ≡ false → AddsRecords W.contents W.failures (head.now ∷ []) result self.old self.new }
+        ensures adds { is_stopped self.old ≡ false
+            → AddsRecords W.contents W.failures (head.now ∷ []) result self.old self.new }
         ensures limits { encoder_limits self.new ≡ encoder_limits self.old }
     {
         if self.is_stopped() {
@@ -228,7 +233,8 @@ impl<W: Target> Encoder<W> {
     fn put_all(&mut self, transaction: &Transaction, number: u64) -> Result<(), EncodeFault>
         requires unfailed { is_stopped self.old ≡ false }
         requires few { length transaction.now ≤ 999999 }
-        ensures puts { Puts W.contents W.failures (text_from number 0 transaction.now) result self.old.sink self.new.sink }
+        ensures puts { Puts W.contents W.failures (text_from number 0 transaction.now) result
+            self.old.sink self.new.sink }
         ensures fault { IfErr result (λ e. e ≡ EncodeFault.Writer (bytes_written self.new)) }
         ensures tally { self.new.tally ≡ self.old.tally }
     {
@@ -246,7 +252,8 @@ impl<W: Target> Encoder<W> {
         ensures again { is_stopped self.old ≡ true → AnswersAgain result self.old self.new }
         ensures judged { is_stopped self.old ≡ false → (start : Option (List ℕ)) (records : List RecordValue) → Encodes W.contents start records self.old
             → JudgesTransaction (encoder_limits self.old) transaction.now (map symbol_by_cells records) result }
-        ensures adds { is_stopped self.old ≡ false → AddsRecords W.contents W.failures transaction.now result self.old self.new }
+        ensures adds { is_stopped self.old ≡ false
+            → AddsRecords W.contents W.failures transaction.now result self.old self.new }
         ensures limits { encoder_limits self.new ≡ encoder_limits self.old }
     {
         if self.is_stopped() {
@@ -275,7 +282,8 @@ impl<W: Target> Encoder<W> {
         ensures judged { is_stopped self.old ≡ false → (start : Option (List ℕ)) (records : List RecordValue) → Encodes W.contents start records self.old
             → JudgesFoot (encoder_limits self.old) foot.now (map symbol_by_cells records) result }
         ensures unlimited { IsUnlimited result }
-        ensures adds { is_stopped self.old ≡ false → AddsRecords W.contents W.failures (foot.now ∷ []) result self.old self.new }
+        ensures adds { is_stopped self.old ≡ false
+            → AddsRecords W.contents W.failures (foot.now ∷ []) result self.old self.new }
         ensures limits { encoder_limits self.new ≡ encoder_limits self.old }
     {
         if self.is_stopped() {
@@ -304,7 +312,8 @@ impl<W: Target> Encoder<W> {
         ensures judged { is_stopped self.old ≡ false → (start : Option (List ℕ)) (records : List RecordValue) → Encodes W.contents start records self.old
             → JudgesEnd (encoder_limits self.old) (map symbol_by_cells records) result }
         ensures unlimited { IsUnlimited result }
-        ensures adds { is_stopped self.old ≡ false → AddsRecords W.contents W.failures (trailer ∷ []) result self.old self.new }
+        ensures adds { is_stopped self.old ≡ false
+            → AddsRecords W.contents W.failures (trailer ∷ []) result self.old self.new }
         ensures limits { encoder_limits self.new ≡ encoder_limits self.old }
     {
         if self.is_stopped() {
@@ -324,11 +333,13 @@ impl<W: Target> Encoder<W> {
     /// Writes TRL, and has the writer hand on all that was written. Gives the writer back, and answers how many bytes
     /// were written in all: the length of the transmission's canonical text.
     pub fn finish(self) -> (W, Result<u64, EncodeFault>)
-        ensures again { is_stopped self ≡ true → (result.0 ≡ target_of self) × (result.1 ≡ Err (EncodeFault.Writer (bytes_written self))) }
+        ensures again { is_stopped self ≡ true → (result.0 ≡ target_of self)
+            × (result.1 ≡ Err (EncodeFault.Writer (bytes_written self))) }
         ensures judged { is_stopped self ≡ false → (start : Option (List ℕ)) (records : List RecordValue) → Encodes W.contents start records self
             → JudgesEnd (encoder_limits self) (map symbol_by_cells records) result.1 }
         ensures unlimited { IsUnlimited result.1 }
-        ensures finishes { is_stopped self ≡ false → FinishesWriting W.contents W.failures self result.0 result.1 }
+        ensures finishes { is_stopped self ≡ false
+            → FinishesWriting W.contents W.failures self result.0 result.1 }
         // All that was written was handed on.
         ensures handed_on { OnOk result.1 (W.handed_on result.0 ≡ true) }
     {
@@ -401,8 +412,10 @@ pub(crate) fn trailer() -> Record
 /// The writer of a sink, once it handed on what was written, and how many bytes that are.
 pub(crate) fn flushed<W: Target>(sink: Sink<W>) -> (W, Result<u64, EncodeFault>)
     ensures kept { Keeps (W.contents (writer_of sink)) (W.contents result.0) }
-    ensures ok { IfOk result.1 (λ n. (n ≡ written_of sink) × (W.failures result.0 ≡ W.failures (writer_of sink))) }
-    ensures err { IfErr result.1 (λ e. (e ≡ EncodeFault.Writer (written_of sink)) × (W.failures result.0 ≡ one_more_failure (W.failures (writer_of sink)))) }
+    ensures ok { IfOk result.1
+        (λ n. (n ≡ written_of sink) × (W.failures result.0 ≡ W.failures (writer_of sink))) }
+    ensures err { IfErr result.1 (λ e. (e ≡ EncodeFault.Writer (written_of sink))
+        × (W.failures result.0 ≡ one_more_failure (W.failures (writer_of sink)))) }
     ensures handed_on { OnOk result.1 (W.handed_on result.0 ≡ true) }
 {
     let written = sink.written();

@@ -55,7 +55,8 @@ fn put_transactions<W: Target>(
     requires unfailed { has_failed sink.old ≡ false }
     requires transactions { length group.now.transactions ≤ 99999999 }
     requires each { AllByRecursion (λ t. length t ≤ 999999) group.now.transactions }
-    ensures puts { Puts W.contents W.failures (text_of_transactions group.now.transactions) result sink.old sink.new }
+    ensures puts { Puts W.contents W.failures (text_of_transactions group.now.transactions) result
+        sink.old sink.new }
     ensures fault { IfErr result (λ f. f.written ≡ written_of sink.new) }
 {
     let mut i = 0;
@@ -75,7 +76,8 @@ fn put_group<W: Target>(
 ) -> Result<(), SinkFault>
     requires unfailed { has_failed sink.old ≡ false }
     requires few { HasFewRecords group.now }
-    ensures puts { Puts W.contents W.failures (text_of_group number group.now) result sink.old sink.new }
+    ensures puts { Puts W.contents W.failures (text_of_group number group.now) result sink.old
+        sink.new }
     ensures fault { IfErr result (λ f. f.written ≡ written_of sink.new) }
 {
     let head = group.head().view();
@@ -96,7 +98,8 @@ pub(crate) fn put_groups<W: Target>(
     requires unfailed { has_failed sink.old ≡ false }
     requires groups { length transmission.now.groups ≤ 99999 }
     requires few { AllByRecursion HasFewRecords transmission.now.groups }
-    ensures puts { Puts W.contents W.failures (text_of_groups transmission.now.groups) result sink.old sink.new }
+    ensures puts { Puts W.contents W.failures (text_of_groups transmission.now.groups) result
+        sink.old sink.new }
     ensures fault { IfErr result (λ f. f.written ≡ written_of sink.new) }
 {
     let mut i = 0;

@@ -19,7 +19,8 @@ pub(crate) fn put_row<W: Target>(
     numbers: &[u64],
 ) -> Result<(), SinkFault>
     requires { has_failed sink.old ≡ false }
-    ensures puts { Puts W.contents W.failures (canonical_line (row_of numbers.now shown.now)) result sink.old sink.new }
+    ensures puts { Puts W.contents W.failures (canonical_line (row_of numbers.now shown.now)) result
+        sink.old sink.new }
     ensures fault { IfErr result (λ f. f.written ≡ written_of sink.new) }
 {
     line.set(shown, numbers);
@@ -35,7 +36,8 @@ pub(crate) fn put_transaction<W: Target>(
 ) -> Result<(), SinkFault>
     requires unfailed { has_failed sink.old ≡ false }
     requires few { length transaction.now ≤ 999999 }
-    ensures puts { Puts W.contents W.failures (text_from number 0 transaction.now) result sink.old sink.new }
+    ensures puts { Puts W.contents W.failures (text_from number 0 transaction.now) result sink.old
+        sink.new }
     ensures fault { IfErr result (λ f. f.written ≡ written_of sink.new) }
 {
     let mut i = 0;

@@ -36,7 +36,8 @@ fn put_transmission<W: Target>(
 ) -> Result<(), SinkFault>
     requires unfailed { has_failed sink.old ≡ false }
     requires few { IsFew transmission.now }
-    ensures puts { Puts W.contents W.failures (canonical_text transmission.now) result sink.old sink.new }
+    ensures puts { Puts W.contents W.failures (canonical_text transmission.now) result sink.old
+        sink.new }
     ensures fault { IfErr result (λ f. f.written ≡ written_of sink.new) }
 {
     let mut line = CanonicalLine::new();
@@ -56,7 +57,8 @@ fn write_transmission<W: Target>(
     writer: W,
 ) -> (W, Result<u64, EncodeFault>)
     requires { IsFew transmission.now }
-    ensures writes { WritesAll W.contents W.failures (canonical_text transmission.now) writer result.0 result.1 }
+    ensures writes { WritesAll W.contents W.failures (canonical_text transmission.now) writer
+        result.0 result.1 }
     ensures handed_on { OnOk result.1 (W.handed_on result.0 ≡ true) }
 {
     let mut sink = Sink::new(writer);

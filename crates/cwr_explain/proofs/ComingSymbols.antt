@@ -41,24 +41,37 @@ pub none_come : (stage : Stage) → HaveCome stage [] []
 none_come stage xs at s = (λ h. absurd (omega (arith, h.1)), λ h. absurd (omega (arith, h.0.1)))
 
 -- one symbol more may come
-pub one_comes : (stage : Stage) (asked found : List Symbol) (a : Symbol) (b : Bool) → HaveCome stage asked found → ((xs : List Symbol) → StandsAt xs stage → IsTrue b ↔ Continues Any (xs ++ a ∷ [])) → b ≡ true → HaveCome stage (asked ++ a ∷ []) (found ++ a ∷ [])
-one_comes stage asked found a b h may is xs at s = (λ c. there (Contains-append_cases found (a ∷ []) s c), λ c. back (Contains-append_cases asked (a ∷ []) s c.0) c.1)
+pub one_comes : (stage : Stage) (asked found : List Symbol) (a : Symbol) (b : Bool) → HaveCome stage asked found
+    → ((xs : List Symbol) → StandsAt xs stage → IsTrue b ↔ Continues Any (xs ++ a ∷ [])) → b ≡ true
+    → HaveCome stage (asked ++ a ∷ []) (found ++ a ∷ [])
+one_comes stage asked found a b h may is xs at s =
+    (λ c. there (Contains-append_cases found (a ∷ []) s c), λ c. back (Contains-append_cases asked (a ∷ []) s c.0) c.1)
   where
     there : Contains found s ⊎ Contains (a ∷ []) s → Contains (asked ++ a ∷ []) s × Continues Any (xs ++ s ∷ [])
     there (inl c) = let old = (h xs at s).0 c in (Contains-append_left asked (a ∷ []) s old.0, old.1)
-    there (inr c) = (Contains-append_right asked (a ∷ []) s c, subst (λ (x : Symbol). Continues Any (xs ++ x ∷ [])) (only a s c) ((may xs at).0 is))
+    there (inr c) = (
+      Contains-append_right asked (a ∷ []) s c,
+      subst (λ (x : Symbol). Continues Any (xs ++ x ∷ [])) (only a s c) ((may xs at).0 is),
+    )
 
     back : Contains asked s ⊎ Contains (a ∷ []) s → Continues Any (xs ++ s ∷ []) → Contains (found ++ a ∷ []) s
     back (inl c) on = Contains-append_left found (a ∷ []) s ((h xs at s).1 (c, on))
     back (inr c) on = Contains-append_right found (a ∷ []) s c
 
 -- one symbol more may not
-pub one_stays : (stage : Stage) (asked found : List Symbol) (a : Symbol) (b : Bool) → HaveCome stage asked found → ((xs : List Symbol) → StandsAt xs stage → IsTrue b ↔ Continues Any (xs ++ a ∷ [])) → b ≡ false → HaveCome stage (asked ++ a ∷ []) found
-one_stays stage asked found a b h may is xs at s = (λ c. let old = (h xs at s).0 c in (Contains-append_left asked (a ∷ []) s old.0, old.1), λ c. back (Contains-append_cases asked (a ∷ []) s c.0) c.1)
+pub one_stays : (stage : Stage) (asked found : List Symbol) (a : Symbol) (b : Bool) → HaveCome stage asked found
+    → ((xs : List Symbol) → StandsAt xs stage → IsTrue b ↔ Continues Any (xs ++ a ∷ [])) → b ≡ false
+    → HaveCome stage (asked ++ a ∷ []) found
+one_stays stage asked found a b h may is xs at s = (
+  λ c. let old = (h xs at s).0 c in
+      (Contains-append_left asked (a ∷ []) s old.0, old.1),
+  λ c. back (Contains-append_cases asked (a ∷ []) s c.0) c.1,
+)
   where
     back : Contains asked s ⊎ Contains (a ∷ []) s → Continues Any (xs ++ s ∷ []) → Contains found s
     back (inl c) on = (h xs at s).1 (c, on)
-    back (inr c) on = absurd (false_true (sym is ∙ (may xs at).1 (subst (λ (x : Symbol). Continues Any (xs ++ x ∷ [])) (sym (only a s c)) on)))
+    back (inr c) on =
+        absurd (false_true (sym is ∙ (may xs at).1 (subst (λ (x : Symbol). Continues Any (xs ++ x ∷ [])) (sym (only a s c)) on)))
       where
         false_true : false ≡ true → ⊥
         false_true e = cc e

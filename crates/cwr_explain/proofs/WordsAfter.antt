@@ -1,5 +1,6 @@
 -- What is written, read and counted in two steps.
-use Rattle.std.proofs.Common.{◌≡◌, ℕ, zero, suc, ◌+◌, ◌-◌, ◌<◌, ◌≤◌, Bool, true, false, true≢false, List, [], ◌∷◌, ◌++◌, length, take, drop, Option, Some, None, refl, sym, ap, ap₂, subst, ◌∙◌, arith}
+use Rattle.std.proofs.Common.{◌≡◌, ℕ, zero, suc, ◌+◌, ◌-◌, ◌<◌, ◌≤◌, Bool, true, false, true≢false, List, [], ◌∷◌, ◌++◌, length}
+use Rattle.std.proofs.Common.{take, drop, Option, Some, None, refl, sym, ap, ap₂, subst, ◌∙◌, arith}
 use Rattle.std.specs.Prelude.{◌^◌, min, nat_eq, nat_lt, slice_index, if◌then◌else◌, IfSome, IsSomeAnd, OnOk, Result, Ok, Err}
 use Rattle.std.specs.Io.{StartsWith}
 use Rattle.std.specs.Io.KnownBytes.{Consumes, IsAtEnd, Keeps}
@@ -25,14 +26,20 @@ takes_both left mid after p q = (p.0 ++ q.0, Consumes-trans left mid after p.0 q
 
 -- ---- the first bytes
 
-byte_joined : (more piece begins : List ℕ) (count place : ℕ) → count ≡ min (length more) (2 ^ 64 - 1) → place < 3 → slice_index begins place ≡ slice_index more place → byte_with count begins piece place ≡ slice_index (more ++ piece) place
+byte_joined : (more piece begins : List ℕ) (count place : ℕ) → count ≡ min (length more) (2 ^ 64 - 1) → place < 3
+    → slice_index begins place ≡ slice_index more place → byte_with count begins piece place ≡ slice_index (more ++ piece) place
 byte_joined more piece begins count place c low same = by (nat_lt place count) refl
   where
-    by : (b : Bool) → nat_lt place count ≡ b → (if b then slice_index begins place else slice_index piece (place - count)) ≡ slice_index (more ++ piece) place
-    by true e = let before : place < count = ltb-true place count e in same ∙ sym (get_or_append_left more piece 0 place (omega arith))
-    by false e = let after : count ≤ place = ltb-false place count e in sym (get_or-append_right more piece count place 0 (omega arith) after)
+    by : (b : Bool) → nat_lt place count ≡ b
+        → (if b then slice_index begins place else slice_index piece (place - count)) ≡ slice_index (more ++ piece) place
+    by true e =
+        let before : place < count = ltb-true place count e in same ∙ sym (get_or_append_left more piece 0 place (omega arith))
+    by false e =
+        let after : count ≤ place =
+        ltb-false place count e in sym (get_or-append_right more piece count place 0 (omega arith) after)
 
-begins_joined : (more piece begins : List ℕ) (count : ℕ) → count ≡ min (length more) (2 ^ 64 - 1) → begins ≡ first_bytes more → begins_with count begins piece ≡ first_bytes (more ++ piece)
+begins_joined : (more piece begins : List ℕ) (count : ℕ) → count ≡ min (length more) (2 ^ 64 - 1) → begins ≡ first_bytes more
+    → begins_with count begins piece ≡ first_bytes (more ++ piece)
 begins_joined more piece begins count c e =
     let first = byte_joined more piece begins count 0 c (omega arith) (ap (λ (l : List ℕ). slice_index l 0) e) in
     let second = byte_joined more piece begins count 1 c (omega arith) (ap (λ (l : List ℕ). slice_index l 1) e) in
@@ -42,7 +49,8 @@ begins_joined more piece begins count c e =
 -- ---- pieces
 
 -- none was read yet
-pub taken_none : (left : Option (List ℕ)) (found : Trailing) → found.bytes ≡ 0 → found.begins ≡ 0 ∷ 0 ∷ 0 ∷ [] → found.is_all ≡ false → HasTaken left left 0 found
+pub taken_none : (left : Option (List ℕ)) (found : Trailing) → found.bytes ≡ 0 → found.begins ≡ 0 ∷ 0 ∷ 0 ∷ []
+    → found.is_all ≡ false → HasTaken left left 0 found
 taken_none left found none begins goes_on = record {
   more = [];
   consumed = Consumes-nil left;
@@ -52,13 +60,15 @@ taken_none left found none begins goes_on = record {
   goes_on = goes_on;
 }
 
-ends_with : (left mid after : Option (List ℕ)) (more : List ℕ) → Consumes left mid more → IfSome mid (λ bytes. IsAtEnd after) → IfSome left (λ bytes. IsAtEnd after)
+ends_with : (left mid after : Option (List ℕ)) (more : List ℕ) → Consumes left mid more → IfSome mid (λ bytes. IsAtEnd after)
+    → IfSome left (λ bytes. IsAtEnd after)
 ends_with None mid after more c h = tt
 ends_with (Some xs) None after more c h = absurd c
 ends_with (Some xs) (Some ys) after more c h = h
 
 -- a piece more was read
-pub taken_more : (left mid after : Option (List ℕ)) (pieces : ℕ) (old new : Trailing) (ended : Bool) → ended ≡ false → HasTaken left mid pieces old → TakesPiece mid after old new ended → HasTaken left after (pieces + 1) new
+pub taken_more : (left mid after : Option (List ℕ)) (pieces : ℕ) (old new : Trailing) (ended : Bool) → ended ≡ false
+    → HasTaken left mid pieces old → TakesPiece mid after old new ended → HasTaken left after (pieces + 1) new
 taken_more left mid after pieces old new ended e h p = record {
   more = h.more ++ p.piece;
   consumed = Consumes-trans left mid after h.more p.piece h.consumed p.consumed;
@@ -69,7 +79,8 @@ taken_more left mid after pieces old new ended e h p = record {
 }
 
 -- the end was reached
-pub taken_all : (left mid after : Option (List ℕ)) (pieces : ℕ) (old new : Trailing) (ended : Bool) → ended ≡ true → HasTaken left mid pieces old → TakesPiece mid after old new ended → IsTrailing left after (record new { is_all = true })
+pub taken_all : (left mid after : Option (List ℕ)) (pieces : ℕ) (old new : Trailing) (ended : Bool) → ended ≡ true
+    → HasTaken left mid pieces old → TakesPiece mid after old new ended → IsTrailing left after (record new { is_all = true })
 taken_all left mid after pieces old new ended e h p = record {
   more = h.more ++ p.piece;
   consumed = Consumes-trans left mid after h.more p.piece h.consumed p.consumed;
@@ -80,7 +91,8 @@ taken_all left mid after pieces old new ended e h p = record {
 }
 
 -- whatever was read was taken
-pub taken_so_far : (left after : Option (List ℕ)) (pieces : ℕ) (found : Trailing) → HasTaken left after pieces found → TakesMore left after
+pub taken_so_far : (left after : Option (List ℕ)) (pieces : ℕ) (found : Trailing) → HasTaken left after pieces found
+    → TakesMore left after
 taken_so_far left after pieces found h = (h.more, h.consumed)
 
 take_all : (xs : List ℕ) → take (length xs) xs ≡ xs
@@ -88,12 +100,20 @@ take_all [] = refl
 take_all (x ∷ xs) = ap (λ (l : List ℕ). x ∷ l) (take_all xs)
 
 -- what a reader shows is taken whole
-pub takes_shown : (left mid after : Option (List ℕ)) (piece : List ℕ) → Keeps left mid → IfSome left (λ xs. StartsWith xs piece) → IfSome mid (λ xs. after ≡ Some (drop (length piece) xs)) → TakesMore left after
-takes_shown left mid after piece kept front lost = (piece, subst (Consumes left after) (take_all piece) (consumes_taken left mid after piece (length piece) kept front (omega arith) lost))
+pub takes_shown : (left mid after : Option (List ℕ)) (piece : List ℕ) → Keeps left mid → IfSome left (λ xs. StartsWith xs piece)
+    → IfSome mid (λ xs. after ≡ Some (drop (length piece) xs)) → TakesMore left after
+takes_shown left mid after piece kept front lost = (
+  piece,
+  subst (Consumes left after) (take_all piece)
+      (consumes_taken left mid after piece (length piece) kept front (omega arith) lost),
+)
 
 -- and counted
-pub takes_piece : (left mid after : Option (List ℕ)) (piece : List ℕ) (old new : Trailing) → Keeps left mid → IfSome left (λ xs. StartsWith xs piece) → IfSome left (λ xs. length piece ≡ 0 → xs ≡ [])
-    → IfSome mid (λ xs. after ≡ Some (drop (length piece) xs)) → new.bytes ≡ min (old.bytes + length piece) (2 ^ 64 - 1) → new.begins ≡ begins_with old.bytes old.begins piece → new.is_all ≡ old.is_all → TakesPiece left after old new (nat_eq (length piece) 0)
+pub takes_piece : (left mid after : Option (List ℕ)) (piece : List ℕ) (old new : Trailing) → Keeps left mid
+    → IfSome left (λ xs. StartsWith xs piece) → IfSome left (λ xs. length piece ≡ 0 → xs ≡ [])
+    → IfSome mid (λ xs. after ≡ Some (drop (length piece) xs)) → new.bytes ≡ min (old.bytes + length piece) (2 ^ 64 - 1)
+    → new.begins ≡ begins_with old.bytes old.begins piece → new.is_all ≡ old.is_all
+    → TakesPiece left after old new (nat_eq (length piece) 0)
 unfolding takes_shown
 takes_piece left mid after piece old new kept front end lost counted begins same = record {
   piece = piece;
@@ -104,10 +124,12 @@ takes_piece left mid after piece old new kept front end lost counted begins same
   at_end = λ e. ended left mid kept end lost (eqb-true (length piece) 0 e);
   some = λ e. not_none (length piece) e;
 } where
-  ended : (left mid : Option (List ℕ)) → Keeps left mid → IfSome left (λ xs. length piece ≡ 0 → xs ≡ []) → IfSome mid (λ xs. after ≡ Some (drop (length piece) xs)) → length piece ≡ 0 → IfSome left (λ bytes. IsAtEnd after)
+  ended : (left mid : Option (List ℕ)) → Keeps left mid → IfSome left (λ xs. length piece ≡ 0 → xs ≡ [])
+      → IfSome mid (λ xs. after ≡ Some (drop (length piece) xs)) → length piece ≡ 0 → IfSome left (λ bytes. IsAtEnd after)
   ended None mid kept end lost e = tt
   ended (Some xs) None kept end lost e = absurd kept
-  ended (Some xs) (Some ys) kept end lost e = subst IsAtEnd (sym (lost ∙ ap₂ (λ (k : ℕ) (l : List ℕ). Some (drop k l)) e (kept ∙ end e))) refl
+  ended (Some xs) (Some ys) kept end lost e =
+      subst IsAtEnd (sym (lost ∙ ap₂ (λ (k : ℕ) (l : List ℕ). Some (drop k l)) e (kept ∙ end e))) refl
 
   not_none : (n : ℕ) → nat_eq n 0 ≡ false → 0 < n
   not_none zero e = absurd (true≢false e)
@@ -117,8 +139,10 @@ pub taken_by : (left after : Option (List ℕ)) (found : Trailing) → IsTrailin
 taken_by left after found h = (h.more, h.consumed)
 
 -- a check and words after it
-pub explains_after : {W : Type 0} (limits : Limits) (before left after : Option (List ℕ)) (contents : W → Option (List ℕ)) (old between new : W) (checked result : Result Verdict ToolFault)
-    → Reports lines_of_explained limits before left contents old between checked → AddsWords contents between new → TakesMore left after → IsAnswerAfter checked result → Explains limits before after contents old new result
+pub explains_after : {W : Type 0} (limits : Limits) (before left after : Option (List ℕ)) (contents : W → Option (List ℕ))
+    (old between new : W) (checked result : Result Verdict ToolFault)
+    → Reports lines_of_explained limits before left contents old between checked → AddsWords contents between new
+    → TakesMore left after → IsAnswerAfter checked result → Explains limits before after contents old new result
 explains_after limits before left after contents old between new checked result r w t a = record {
   between = between;
   left = left;
@@ -138,15 +162,20 @@ pub no_more : (left : Option (List ℕ)) → TakesMore left left
 no_more left = ([], Consumes-nil left)
 
 -- failures that are counted after none were
-pub counts_reader : (result : Result Verdict ToolFault) (old mid new : ℕ) → mid ≡ old → CountsReaderFault result mid new → CountsReaderFault result old new
+pub counts_reader : (result : Result Verdict ToolFault) (old mid new : ℕ) → mid ≡ old → CountsReaderFault result mid new
+    → CountsReaderFault result old new
 counts_reader result old mid new e h = subst (λ (n : ℕ). CountsReaderFault result n new) e h
 
-pub counts_writer : (result : Result Verdict ToolFault) (old mid new : ℕ) → mid ≡ old → CountsWriterFault result mid new → CountsWriterFault result old new
+pub counts_writer : (result : Result Verdict ToolFault) (old mid new : ℕ) → mid ≡ old → CountsWriterFault result mid new
+    → CountsWriterFault result old new
 counts_writer result old mid new e h = subst (λ (n : ℕ). CountsWriterFault result n new) e h
 
 -- what stands after an accepted transmission was found
-pub finds_after : {W : Type 0} (limits : Limits) (before left after : Option (List ℕ)) (contents : W → Option (List ℕ)) (old new : W) (verdict : Verdict) (result : Result Verdict ToolFault) (found : Option Trailing)
-    → JudgesAccepted lines_of_explained limits before left contents old new verdict → (is_good verdict ≡ true → OnOk result (IsSomeAnd found (IsTrailing left after))) → OnOk result (FindsAfter limits before after found)
+pub finds_after : {W : Type 0} (limits : Limits) (before left after : Option (List ℕ)) (contents : W → Option (List ℕ))
+    (old new : W) (verdict : Verdict) (result : Result Verdict ToolFault) (found : Option Trailing)
+    → JudgesAccepted lines_of_explained limits before left contents old new verdict
+    → (is_good verdict ≡ true → OnOk result (IsSomeAnd found (IsTrailing left after)))
+    → OnOk result (FindsAfter limits before after found)
 finds_after limits before left after contents old new verdict (Err fault) found accepted h = tt
 finds_after limits None left after contents old new verdict (Ok other) found accepted h = tt
 finds_after limits (Some text) left after contents old new verdict (Ok other) found accepted h = λ v n a.

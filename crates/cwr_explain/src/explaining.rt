@@ -90,7 +90,8 @@ fn look_beyond<R: Source>(
     verdict: &Verdict,
     last: &LastRead,
 ) -> Result<Beyond, ToolFault>
-    ensures found { is_good verdict.now ≡ true → IfOk result (λ beyond. IsSomeAnd (found_in beyond) (IsTrailing (R.remaining reader.old) (R.remaining reader.new))) }
+    ensures found { is_good verdict.now ≡ true → IfOk result (λ beyond. IsSomeAnd (found_in beyond)
+        (IsTrailing (R.remaining reader.old) (R.remaining reader.new))) }
     ensures taken { TakesMore (R.remaining reader.old) (R.remaining reader.new) }
     ensures failures { ReadsOnly result (R.failures reader.old) (R.failures reader.new) }
 {
@@ -215,7 +216,8 @@ fn explained<R: Source>(
     verdict: &Verdict,
     last: &LastRead,
 ) -> Result<(String, Beyond), ToolFault>
-    ensures found { is_good verdict.now ≡ true → IfOk result (λ p. IsSomeAnd (found_in p.1) (IsTrailing (R.remaining reader.old) (R.remaining reader.new))) }
+    ensures found { is_good verdict.now ≡ true → IfOk result (λ p. IsSomeAnd (found_in p.1)
+        (IsTrailing (R.remaining reader.old) (R.remaining reader.new))) }
     ensures taken { TakesMore (R.remaining reader.old) (R.remaining reader.new) }
     ensures failures { ReadsOnly result (R.failures reader.old) (R.failures reader.new) }
 {
@@ -236,11 +238,13 @@ fn add_explanation<R: Source, W: Target>(
     last: &LastRead,
     writer: W,
 ) -> (W, Result<Verdict, ToolFault>, Option<Trailing>)
-    ensures found { is_good verdict ≡ true → OnOk result.1 (IsSomeAnd result.2 (IsTrailing (R.remaining reader.old) (R.remaining reader.new))) }
+    ensures found { is_good verdict ≡ true → OnOk result.1
+        (IsSomeAnd result.2 (IsTrailing (R.remaining reader.old) (R.remaining reader.new))) }
     ensures words { AddsWords W.contents writer result.0 }
     ensures taken { TakesMore (R.remaining reader.old) (R.remaining reader.new) }
     ensures answered { IsAnswerTo verdict result.1 }
-    ensures reader_failures { CountsReaderFault result.1 (R.failures reader.old) (R.failures reader.new) }
+    ensures reader_failures { CountsReaderFault result.1 (R.failures reader.old)
+        (R.failures reader.new) }
     ensures writer_failures { CountsWriterFault result.1 (W.failures writer) (W.failures result.0) }
     ensures handed_on { OnOk result.1 (W.handed_on result.0 ≡ true) }
 {
@@ -270,13 +274,16 @@ pub fn explain<R: Source, W: Target + Drop>(
     reader: &mut R,
     writer: W,
 ) -> (W, Result<Verdict, ToolFault>, Option<Trailing>)
-    ensures explains { Explains limits (R.remaining reader.old) (R.remaining reader.new) W.contents writer result.0 result.1 }
+    ensures explains { Explains limits (R.remaining reader.old) (R.remaining reader.new) W.contents
+        writer result.0 result.1 }
     ensures judged { JudgesText limits (R.remaining reader.old) result.1 }
     // Where the text is accepted, the watch saw the findings in its transmission, and what stands after that was found.
     ensures seen { OnOk result.1 (SeesAccepted limits (R.remaining reader.old) watch.old watch.new) }
-    ensures found { OnOk result.1 (FindsAfter limits (R.remaining reader.old) (R.remaining reader.new) result.2) }
+    ensures found { OnOk result.1
+        (FindsAfter limits (R.remaining reader.old) (R.remaining reader.new) result.2) }
     // No failure is passed over: a device failed only where that is the answer.
-    ensures reader_failures { CountsReaderFault result.1 (R.failures reader.old) (R.failures reader.new) }
+    ensures reader_failures { CountsReaderFault result.1 (R.failures reader.old)
+        (R.failures reader.new) }
     ensures writer_failures { CountsWriterFault result.1 (W.failures writer) (W.failures result.0) }
     // All that was written was handed on.
     ensures handed_on { OnOk result.1 (W.handed_on result.0 ≡ true) }

@@ -49,7 +49,8 @@ fn after_last_feed(text: &[u8]) -> &[u8]
 
 /// The line with which the bytes end that were read. A carriage return at its end is shown.
 pub fn line_at_end(last: &LastBytes) -> LineAtEnd<'_>
-    ensures { (read front line : List ℕ) → HoldsLast read last.now → EndsWithLine read front line → IsFound read front line result }
+    ensures { (read front line : List ℕ) → HoldsLast read last.now → EndsWithLine read front line
+        → IsFound read front line result }
 {
     let (text, ended) = without_feed(last.as_slice());
     let bytes = after_last_feed(text);
@@ -92,7 +93,8 @@ fn last_of_lines(lines: &[u8], is_all: bool) -> Option<&[u8]>
 
 /// Whether all bytes are held that were read.
 fn is_whole(last: &LastBytes) -> bool
-    ensures { result ≡ true → (read : List ℕ) → HoldsLast read last.now → read ≡ last_held last.now }
+    ensures { result ≡ true → (read : List ℕ) → HoldsLast read last.now
+        → read ≡ last_held last.now }
 {
     let count = last.as_slice().len() as u64;
     count < u64::MAX && last.read() == count
@@ -101,7 +103,8 @@ fn is_whole(last: &LastBytes) -> bool
 /// The line before the one with which the bytes end, without its line feed. `None` where not all of it is still held, or there is
 /// none.
 pub(crate) fn line_before(last: &LastBytes) -> Option<&[u8]>
-    ensures { (read front line : List ℕ) → HoldsLast read last.now → EndsWithLine read front line → IfSome result (λ before. EndsInLine front true before.now) }
+    ensures { (read front line : List ℕ) → HoldsLast read last.now → EndsWithLine read front line
+        → IfSome result (λ before. EndsInLine front true before.now) }
 {
     let (text, _) = without_feed(last.as_slice());
     let (front, _) = last_line(text);
@@ -111,7 +114,8 @@ pub(crate) fn line_before(last: &LastBytes) -> Option<&[u8]>
 /// An open line of these bytes, or where they have a line feed or are too many, of their front. How that ended is answered too.
 fn line_of(bytes: &[u8]) -> (LineBuf, LineEnd)
     ensures ended { result.1 ≡ result.0.ended }
-    ensures whole { length bytes.now ≤ LONGEST_LINE → IsFalse (list_any is_lf bytes.now) → result.0 ≡ record { bytes = bytes.now; ended = LineEnd.Open } }
+    ensures whole { length bytes.now ≤ LONGEST_LINE → IsFalse (list_any is_lf bytes.now)
+        → result.0 ≡ record { bytes = bytes.now; ended = LineEnd.Open } }
 {
     let mut line = LineBuf::new();
     let taken = line.take(bytes);
@@ -121,7 +125,8 @@ fn line_of(bytes: &[u8]) -> (LineBuf, LineEnd)
 /// The line once more in a line buffer, which cuts it into cells.
 pub(crate) fn line_again(bytes: &[u8]) -> LineBuf
     ensures ended { result.ended ≢ LineEnd.Open }
-    ensures whole { length bytes.now ≤ LONGEST_LINE → IsFalse (list_any is_lf bytes.now) → result ≡ record { bytes = bytes.now; ended = LineEnd.Line } }
+    ensures whole { length bytes.now ≤ LONGEST_LINE → IsFalse (list_any is_lf bytes.now)
+        → result ≡ record { bytes = bytes.now; ended = LineEnd.Line } }
 {
     let (mut line, ended) = line_of(bytes);
     if let LineEnd::Open = ended {

@@ -63,7 +63,8 @@ static SYMBOLS: [Symbol; 46] = [
 
 /// Whether a record of the symbol may come at the stage: whether some transmission continues so. Limits aren't asked.
 pub fn may_come(stage: Stage, symbol: Symbol) -> bool
-    ensures { (xs : List Symbol) → StandsAt xs stage → IsTrue result ↔ Continues Any (xs ++ symbol ∷ []) }
+    ensures { (xs : List Symbol) → StandsAt xs stage → IsTrue result
+        ↔ Continues Any (xs ++ symbol ∷ []) }
 {
     stage.next(symbol).is_some()
 }

@@ -57,7 +57,8 @@ pub(crate) fn sequence_in(line: &[u8], start: usize) -> Option<u64>
 /// The sequences that stand in a line and in the line before it from that byte on, from 0.
 pub(crate) fn sequences_of(line: &[u8], before: Option<&[u8]>, start: usize) -> Sequences
     ensures here { IfSome result.here (λ n. HasSequence start n line.now) }
-    ensures before { IfSome result.before (λ n. IsSomeAnd before.entry (λ b. HasSequence start n b.now)) }
+    ensures before { IfSome result.before
+        (λ n. IsSomeAnd before.entry (λ b. HasSequence start n b.now)) }
 {
     let here = sequence_in(line, start);
     match before {

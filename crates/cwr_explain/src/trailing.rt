@@ -72,7 +72,8 @@ impl Trailing {
 
 /// Takes what the reader shows next, and counts it. The answer is whether that was the end.
 fn take_piece<R: Source>(reader: &mut R, found: &mut Trailing) -> Result<bool, ToolFault>
-    ensures ok { IfOk result (TakesPiece (R.remaining reader.old) (R.remaining reader.new) found.old found.new) }
+    ensures ok { IfOk result
+        (TakesPiece (R.remaining reader.old) (R.remaining reader.new) found.old found.new) }
     ensures err { OnErr result (TakesMore (R.remaining reader.old) (R.remaining reader.new)) }
     ensures failures { ReadsAlone result (R.failures reader.old) (R.failures reader.new) }
 {

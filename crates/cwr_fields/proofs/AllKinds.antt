@@ -52,10 +52,13 @@ pub trimmed-letters : (kind : Kind) (rest : List ℕ) → (ys : List ℕ) × (tr
 trimmed-letters Hdr rest = trimmed_three _ _ _ rest refl
 trimmed-letters this_kind rest = trimmed_three _ _ _ rest refl
 
-none_among : (kinds : List Kind) (text : List ℕ) → (length text ≡ 3 → ⊥) → find (λ kind. bytes_eq (letters kind) text) kinds ≡ None
+none_among : (kinds : List Kind) (text : List ℕ) → (length text ≡ 3 → ⊥)
+    → find (λ kind. bytes_eq (letters kind) text) kinds ≡ None
 none_among [] text h = refl
 none_among (kind ∷ kinds) text h =
-    let other : bytes_eq (letters kind) text ≡ false = false_from_ne_true (bytes_eq (letters kind) text) (λ e. h (sym (ap length ((bytes_eq-Decides (letters kind) text).0 e)) ∙ length-letters kind)) in
+    let other : bytes_eq (letters kind) text ≡ false =
+    false_from_ne_true (bytes_eq (letters kind) text)
+    (λ e. h (sym (ap length ((bytes_eq-Decides (letters kind) text).0 e)) ∙ length-letters kind)) in
     rw other (none_among kinds text h)
 
 -- a text that isn't three bytes long names no kind

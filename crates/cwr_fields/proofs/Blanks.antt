@@ -1,5 +1,6 @@
 -- Cells that are all spaces, and tests that take them too.
-use Rattle.std.proofs.Common.{◌≡◌, ℕ, zero, suc, ◌<◌, Bool, true, false, not, ◌&&◌, ◌||◌, ltb, List, [], ◌∷◌, length, replicate, refl, sym, ap, ◌∙◌, subst, inl, inr, true≢false, get_or}
+use Rattle.std.proofs.Common.{◌≡◌, ℕ, zero, suc, ◌<◌, Bool, true, false, not, ◌&&◌, ◌||◌, ltb, List, [], ◌∷◌, length, replicate}
+use Rattle.std.proofs.Common.{refl, sym, ap, ◌∙◌, subst, inl, inr, true≢false, get_or}
 use Rattle.std.specs.Prelude.{◌↔◌, ◌⊎◌, ◌==◌, IsTrue}
 use Rattle.std.specs.List.{list_all}
 use Rattle.std.proofs.lemmas.Bool.{eqb-true, and_parts, lt-ltb}
@@ -25,14 +26,17 @@ pub spaces : (n : ℕ) (cell : List ℕ) → cell ≡ replicate n 32 → is_spac
 spaces n cell e = ap is_spaces e ∙ all_of n
 
 -- a test that says yes to a blank cell, and to another else by its own test
-pub blank_then : {P : Type 0} (n : ℕ) (cell : List ℕ) (s : Bool) → length cell ≡ n → s ≡ is_spaces cell → s ≡ true → IsTrue s ↔ ((cell ≡ replicate n 32) ⊎ P)
+pub blank_then : {P : Type 0} (n : ℕ) (cell : List ℕ) (s : Bool) → length cell ≡ n → s ≡ is_spaces cell → s ≡ true → IsTrue s
+    ↔ ((cell ≡ replicate n 32) ⊎ P)
 blank_then n cell s wide same taken = (λ h. inl (blank n cell wide (sym same ∙ taken)), λ p. taken)
 
-not_blank : {P : Type 0} (n : ℕ) (cell : List ℕ) (s b : Bool) → s ≡ is_spaces cell → s ≡ false → (P → IsTrue b) → (cell ≡ replicate n 32) ⊎ P → IsTrue b
+not_blank : {P : Type 0} (n : ℕ) (cell : List ℕ) (s b : Bool) → s ≡ is_spaces cell → s ≡ false → (P → IsTrue b)
+    → (cell ≡ replicate n 32) ⊎ P → IsTrue b
 not_blank n cell s b same refused f (inl e) = absurd (true≢false (sym (spaces n cell e) ∙ sym same ∙ refused))
 not_blank n cell s b same refused f (inr p) = f p
 
-pub blank_else : {P : Type 0} (n : ℕ) (cell : List ℕ) (s b : Bool) → s ≡ is_spaces cell → s ≡ false → (IsTrue b ↔ P) → IsTrue b ↔ ((cell ≡ replicate n 32) ⊎ P)
+pub blank_else : {P : Type 0} (n : ℕ) (cell : List ℕ) (s b : Bool) → s ≡ is_spaces cell → s ≡ false → (IsTrue b ↔ P) → IsTrue b
+    ↔ ((cell ≡ replicate n 32) ⊎ P)
 blank_else n cell s b same refused t = (λ h. inr (t.0 h), not_blank n cell s b same refused t.1)
 
 -- bytes are plain where none is a control byte

@@ -1,5 +1,6 @@
 -- Tests that compute whether a cell is one of its type. A test that passes shows that it is.
-use Rattle.std.proofs.Common.{◌≡◌, ℕ, suc, ◌^◌, ◌<◌, ◌≤◌, Bool, true, false, not, ◌&&◌, ◌||◌, ltb, leb, List, [], ◌∷◌, ◌++◌, length, take, drop, replicate, refl, sym, subst, inl, inr, arith, true≢false, pos}
+use Rattle.std.proofs.Common.{◌≡◌, ℕ, suc, ◌^◌, ◌<◌, ◌≤◌, Bool, true, false, not, ◌&&◌, ◌||◌, ltb, leb, List, [], ◌∷◌, ◌++◌}
+use Rattle.std.proofs.Common.{length, take, drop, replicate, refl, sym, subst, inl, inr, arith, true≢false, pos}
 use Rattle.std.specs.Prelude.{◌⊎◌}
 use Rattle.std.specs.List.{list_any, IsAmong}
 use Rattle.std.specs.Str.{bytes_eq}
@@ -8,7 +9,8 @@ use Rattle.std.proofs.lemmas.Slice.Eq.{bytes_eq-Decides}
 use Rattle.std.proofs.lemmas.Int.{ints}
 use Rattle.jiff.specs.Words.{IsDate, days_in_month}
 use Rattle.cwr_fields.specs.declared.cell_types.CellType.{CellType}
-use Rattle.cwr_fields.specs.declared.cell_types.CellType.TheVariants.{Text, Required, Number, OptNumber, Date, OptDate, Time, OptTime, OptDuration, Share, Flag, Code, OptCode, Constant}
+use Rattle.cwr_fields.specs.declared.cell_types.CellType.TheVariants.{Text, Required, Number, OptNumber, Date, OptDate, Time}
+use Rattle.cwr_fields.specs.declared.cell_types.CellType.TheVariants.{OptTime, OptDuration, Share, Flag, Code, OptCode, Constant}
 use Rattle.cwr_fields.specs.declared.tables.Table.{Table}
 use Rattle.cwr_fields.specs.declared.tables.Table.TheVariants as tables
 use Rattle.cwr_fields.specs.Format.Bytes.{is_plain, is_spaces, digits, number_of, filled}
@@ -20,14 +22,19 @@ same : (xs ys : List ℕ) → bytes_eq xs ys ≡ true → xs ≡ ys
 same xs ys h = (bytes_eq-Decides xs ys).0 h
 
 unfoldable pub number_test : List ℕ → Bool
-number_test cell = ltb 0 (length cell) && (ltb (number_of cell) (10 ^ length cell) && bytes_eq cell (digits (length cell) (number_of cell)))
+number_test cell =
+    ltb 0 (length cell) && (ltb (number_of cell) (10 ^ length cell) && bytes_eq cell (digits (length cell) (number_of cell)))
 
 number_sound : (cell : List ℕ) → number_test cell ≡ true → SpellsNumber cell
 unfolding number_test
 number_sound cell h =
     let p = and_parts _ _ h in
-    let q = and_parts _ _ p.1 in
-    (number_of cell, ltb-true 0 (length cell) p.0, ltb-true (number_of cell) (10 ^ length cell) q.0, same cell (digits (length cell) (number_of cell)) q.1)
+    let q = and_parts _ _ p.1 in (
+      number_of cell,
+      ltb-true 0 (length cell) p.0,
+      ltb-true (number_of cell) (10 ^ length cell) q.0,
+      same cell (digits (length cell) (number_of cell)) q.1,
+    )
 
 abbrev pub date_test : ℕ → ℕ → ℕ → Bool
 date_test y m d = leb 1 y && (leb y 9999 && (leb 1 m && (leb m 12 && (leb 1 d && leb d (days_in_month (pos y) m)))))
@@ -48,7 +55,9 @@ date_sound y m d h =
     (omega arith, omega (arith, ints))
 
 unfoldable pub day_test : List ℕ → Bool
-day_test cell = date_test (year_part cell) (month_part cell) (day_part cell) && bytes_eq cell (digits 4 (year_part cell) ++ digits 2 (month_part cell) ++ digits 2 (day_part cell))
+day_test cell =
+    date_test (year_part cell) (month_part cell) (day_part cell) && bytes_eq cell
+    (digits 4 (year_part cell) ++ digits 2 (month_part cell) ++ digits 2 (day_part cell))
 
 day_sound : (cell : List ℕ) → day_test cell ≡ true → SpellsDay cell
 unfolding day_test
@@ -67,7 +76,9 @@ abbrev pub seconds : List ℕ → ℕ
 seconds cell = number_of (take 2 (drop 4 cell))
 
 unfoldable pub time_test : ℕ → List ℕ → Bool
-time_test bound cell = ltb (hours cell) bound && (ltb (minutes cell) 60 && (ltb (seconds cell) 60 && bytes_eq cell (digits 2 (hours cell) ++ digits 2 (minutes cell) ++ digits 2 (seconds cell))))
+time_test bound cell =
+    ltb (hours cell) bound && (ltb (minutes cell) 60
+    && (ltb (seconds cell) 60 && bytes_eq cell (digits 2 (hours cell) ++ digits 2 (minutes cell) ++ digits 2 (seconds cell))))
 
 time_sound : (bound : ℕ) (cell : List ℕ) → time_test bound cell ≡ true → SpellsTime bound cell
 unfolding time_test
@@ -87,14 +98,18 @@ share_sound cell h = let p = and_parts _ _ h in (number_of cell, leb-true _ _ p.
 abbrev FoundBy : (List ℕ → List ℕ) → List (List ℕ) → List ℕ → Type 0
 FoundBy f list cell = (code : List ℕ) × IsAmong list code × (cell ≡ f code)
 
-found_first : (f : List ℕ → List ℕ) (c : List ℕ) (list : List (List ℕ)) (cell : List ℕ) → (list_any (λ code. bytes_eq cell (f code)) list ≡ true → FoundBy f list cell)
+found_first : (f : List ℕ → List ℕ) (c : List ℕ) (list : List (List ℕ)) (cell : List ℕ)
+    → (list_any (λ code. bytes_eq cell (f code)) list ≡ true → FoundBy f list cell)
     → (bytes_eq cell (f c) ≡ true) ⊎ (list_any (λ code. bytes_eq cell (f code)) list ≡ true) → FoundBy f (c ∷ list) cell
 found_first f c list cell ih (inl e) = (c, (0, (omega arith, refl)), same cell (f c) e)
 found_first f c list cell ih (inr e) = let m = ih e in (m.0, (suc m.1.0, (omega (arith, m.1.1.0), m.1.1.1)), m.2)
 
-among_sound : (f : List ℕ → List ℕ) (list : List (List ℕ)) (cell : List ℕ) → list_any (λ code. bytes_eq cell (f code)) list ≡ true → FoundBy f list cell
+among_sound : (f : List ℕ → List ℕ) (list : List (List ℕ)) (cell : List ℕ) → list_any (λ code. bytes_eq cell (f code)) list ≡ true
+    → FoundBy f list cell
 among_sound f [] cell h = absurd (true≢false (sym h))
-among_sound f (c ∷ list) cell h = found_first f c list cell (among_sound f list cell) (or_cases (bytes_eq cell (f c)) (list_any (λ code. bytes_eq cell (f code)) list) h)
+among_sound f (c ∷ list) cell h =
+    found_first f c list cell (among_sound f list cell)
+    (or_cases (bytes_eq cell (f c)) (list_any (λ code. bytes_eq cell (f code)) list) h)
 
 abbrev pub code_test : Table → List ℕ → Bool
 code_test table cell = list_any (λ code. bytes_eq cell (filled (code_width table) code)) (codes_of table)

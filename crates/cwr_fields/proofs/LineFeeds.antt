@@ -1,11 +1,13 @@
 -- No cell of any type has a line feed.
-use Rattle.std.proofs.Common.{◌≡◌, ℕ, zero, suc, ◌+◌, ◌-◌, ◌/◌, ◌%◌, ◌<◌, Bool, true, false, not, ◌&&◌, ltb, List, [], ◌∷◌, ◌++◌, length, replicate, refl, sym, subst, ◌∙◌, inl, inr, arith, true≢false}
+use Rattle.std.proofs.Common.{◌≡◌, ℕ, zero, suc, ◌+◌, ◌-◌, ◌/◌, ◌%◌, ◌<◌, Bool, true, false, not, ◌&&◌, ltb, List, [], ◌∷◌, ◌++◌}
+use Rattle.std.proofs.Common.{length, replicate, refl, sym, subst, ◌∙◌, inl, inr, arith, true≢false}
 use Rattle.std.specs.Prelude.{◌==◌, slice_index_or}
 use Rattle.std.specs.List.{list_any, list_all, IsAmong}
 use Rattle.std.proofs.lemmas.List.Folds.{list_any-append}
 use Rattle.std.proofs.lemmas.Bool.{eqb-true, ne_eqb, and_parts, not-true, or_from, false_from_ne_true}
 use Rattle.cwr_fields.specs.declared.cell_types.CellType.{CellType}
-use Rattle.cwr_fields.specs.declared.cell_types.CellType.TheVariants.{Text, Required, Number, OptNumber, Date, OptDate, Time, OptTime, OptDuration, Share, Flag, Code, OptCode, Constant}
+use Rattle.cwr_fields.specs.declared.cell_types.CellType.TheVariants.{Text, Required, Number, OptNumber, Date, OptDate, Time}
+use Rattle.cwr_fields.specs.declared.cell_types.CellType.TheVariants.{OptTime, OptDuration, Share, Flag, Code, OptCode, Constant}
 use Rattle.cwr_fields.specs.declared.tables.Table.{Table}
 use Rattle.cwr_fields.specs.declared.tables.Table.TheVariants as tables
 use Rattle.cwr_fields.specs.declared.cell_types.Word.{Word}
@@ -33,12 +35,14 @@ unfolding digits
 NoLf-digits zero n = refl
 NoLf-digits (suc width) n =
     let here : ((48 + n % 10) == 10) ≡ false = ne_eqb (48 + n % 10) 10 (omega arith) in
-    NoLf-append (digits width (n / 10)) ((48 + n % 10) ∷ []) (NoLf-digits width (n / 10)) (or_from ((48 + n % 10) == 10) false here refl)
+    NoLf-append (digits width (n / 10)) ((48 + n % 10) ∷ []) (NoLf-digits width (n / 10))
+    (or_from ((48 + n % 10) == 10) false here refl)
 
 -- a plain byte is no line feed
 plain_byte : (b : ℕ) → (ltb b 256 && not (is_control b)) ≡ true → (b == 10) ≡ false
 plain_byte b h = false_from_ne_true (b == 10) (λ e.
-    let at : (ltb 10 256 && not (is_control 10)) ≡ true = subst (λ (x : ℕ). (ltb x 256 && not (is_control x)) ≡ true) (eqb-true b 10 e) h in
+    let at : (ltb 10 256 && not (is_control 10)) ≡ true =
+    subst (λ (x : ℕ). (ltb x 256 && not (is_control x)) ≡ true) (eqb-true b 10 e) h in
     true≢false (sym at))
 
 pub NoLf-plain : (cell : List ℕ) → is_plain cell ≡ true → NoLf cell
@@ -55,7 +59,8 @@ NoLf-spaces (b ∷ cell) h =
     or_from (b == 10) (has_lf cell) (ne_eqb b 10 (omega arith)) (NoLf-spaces cell parts.1)
 
 -- what passes a test that each of some texts passes
-among_all : (p : List ℕ → Bool) (list : List (List ℕ)) (x : List ℕ) (i : ℕ) → list_all p list ≡ true → i < length list → p (slice_index_or list i x) ≡ true
+among_all : (p : List ℕ → Bool) (list : List (List ℕ)) (x : List ℕ) (i : ℕ) → list_all p list ≡ true → i < length list
+    → p (slice_index_or list i x) ≡ true
 among_all p [] x i h k = absurd (omega arith)
 among_all p (y ∷ list) x zero h k = (and_parts (p y) (list_all p list) h).0
 among_all p (y ∷ list) x (suc i) h k = among_all p list x i (and_parts (p y) (list_all p list) h).1 (omega arith)
@@ -88,7 +93,8 @@ no_code_has_lf tables.Technique = refl
 
 NoLf-code_of : (table : Table) (width : ℕ) (cell : List ℕ) → IsCodeOf (codes_of table) width cell → NoLf cell
 NoLf-code_of table width cell c =
-    subst NoLf (sym c.2) (NoLf-append c.0 (replicate (width - length c.0) 32) (NoLf-among (codes_of table) c.0 (no_code_has_lf table) c.1) (NoLf-replicate (width - length c.0) 32 refl))
+    subst NoLf (sym c.2) (NoLf-append c.0 (replicate (width - length c.0) 32)
+    (NoLf-among (codes_of table) c.0 (no_code_has_lf table) c.1) (NoLf-replicate (width - length c.0) 32 refl))
 
 NoLf-code : (table : Table) (cell : List ℕ) → SpellsCode table cell → NoLf cell
 NoLf-code tables.Sender cell (inl c) = NoLf-code_of tables.Sender 2 cell c
@@ -96,10 +102,14 @@ NoLf-code tables.Sender cell (inr c) = subst NoLf (sym c.2) (NoLf-digits 2 c.0)
 NoLf-code table cell c = NoLf-code_of table (code_width table) cell c
 
 NoLf-day : (cell : List ℕ) → SpellsDay cell → NoLf cell
-NoLf-day cell s = subst NoLf (sym s.5) (NoLf-append (digits 4 s.0 ++ digits 2 s.1) (digits 2 s.2) (NoLf-append (digits 4 s.0) (digits 2 s.1) (NoLf-digits 4 s.0) (NoLf-digits 2 s.1)) (NoLf-digits 2 s.2))
+NoLf-day cell s =
+    subst NoLf (sym s.5) (NoLf-append (digits 4 s.0 ++ digits 2 s.1) (digits 2 s.2)
+    (NoLf-append (digits 4 s.0) (digits 2 s.1) (NoLf-digits 4 s.0) (NoLf-digits 2 s.1)) (NoLf-digits 2 s.2))
 
 NoLf-time : (bound : ℕ) (cell : List ℕ) → SpellsTime bound cell → NoLf cell
-NoLf-time bound cell s = subst NoLf (sym s.6) (NoLf-append (digits 2 s.0 ++ digits 2 s.1) (digits 2 s.2) (NoLf-append (digits 2 s.0) (digits 2 s.1) (NoLf-digits 2 s.0) (NoLf-digits 2 s.1)) (NoLf-digits 2 s.2))
+NoLf-time bound cell s =
+    subst NoLf (sym s.6) (NoLf-append (digits 2 s.0 ++ digits 2 s.1) (digits 2 s.2)
+    (NoLf-append (digits 2 s.0) (digits 2 s.1) (NoLf-digits 2 s.0) (NoLf-digits 2 s.1)) (NoLf-digits 2 s.2))
 
 NoLf-same : (n b : ℕ) (cell : List ℕ) → (b == 10) ≡ false → cell ≡ replicate n b → NoLf cell
 NoLf-same n b cell h e = subst NoLf (sym e) (NoLf-replicate n b h)

@@ -1,6 +1,7 @@
 -- The digits of the next number are those of a number with one more at the end, where that isn't a nine; those of a number
 -- below ten are zeros and one digit.
-use Rattle.std.proofs.Common.{◌≡◌, ◌≢◌, ℕ, ◌+◌, ◌/◌, ◌%◌, ◌<◌, List, [], ◌∷◌, ◌++◌, slice_index_or, slice_set, refl, ap, ap₂, subst, ◌∙◌, arith}
+use Rattle.std.proofs.Common.{◌≡◌, ◌≢◌, ℕ, ◌+◌, ◌/◌, ◌%◌, ◌<◌, List, [], ◌∷◌, ◌++◌, slice_index_or, slice_set, refl, ap, ap₂}
+use Rattle.std.proofs.Common.{subst, ◌∙◌, arith}
 use Rattle.std.specs.Prelude.{slice_index}
 use Rattle.cwr_fields.specs.Format.Bytes.{digits}
 
@@ -12,7 +13,8 @@ pub last_digit : (text : List ℕ) (n : ℕ) → text ≡ digits 8 n → slice_i
 unfolding digits
 last_digit text n e = ap (λ (t : List ℕ). slice_index_or t 7 0) e
 
-pub one_more : (text : List ℕ) (n : ℕ) → text ≡ digits 8 n → slice_index text 7 ≢ 57 → slice_set text 7 (slice_index_or text 7 0 + 1) ≡ digits 8 (n + 1)
+pub one_more : (text : List ℕ) (n : ℕ) → text ≡ digits 8 n → slice_index text 7 ≢ 57
+    → slice_set text 7 (slice_index_or text 7 0 + 1) ≡ digits 8 (n + 1)
 unfolding digits
 one_more text n e last =
     let here : 48 + n % 10 ≢ 57 = subst (λ (k : ℕ). k ≢ 57) (last_digit text n e) last in

@@ -1,6 +1,7 @@
 -- Trailing spaces, from the end of a text.
 use Rattle.std.proofs.lemmas.List.{take_more, take_all}
-use Rattle.std.proofs.Common.{◌≡◌, ◌≢◌, ℕ, ◌+◌, ◌-◌, ◌<◌, ◌≤◌, length, take, get_or, sym, false, eqb, List, [], ◌∷◌, ◌++◌, refl, ap, ◌∙◌, arith}
+use Rattle.std.proofs.Common.{◌≡◌, ◌≢◌, ℕ, ◌+◌, ◌-◌, ◌<◌, ◌≤◌, length, take, get_or, sym, false, eqb, List, [], ◌∷◌, ◌++◌, refl}
+use Rattle.std.proofs.Common.{ap, ◌∙◌, arith}
 use Rattle.std.proofs.lemmas.Bool.{ne_eqb}
 use Rattle.cwr_fields.specs.Format.Bytes.{trimmed, before_trimmed}
 
@@ -27,11 +28,14 @@ ends_in text some =
     let whole : length text - 1 + 1 ≡ length text = omega arith in
     sym (take_all (length text) text (omega arith)) ∙ ap (λ n. take n text) (sym whole) ∙ take_more text (length text - 1) 0 there
 
-pub trimmed-front : (text : List ℕ) (last : ℕ) → 1 ≤ length text → last ≡ get_or text (length text - 1) 0 → last ≡ 32 → trimmed (take (length text - 1) text) ≡ trimmed text
+pub trimmed-front : (text : List ℕ) (last : ℕ) → 1 ≤ length text → last ≡ get_or text (length text - 1) 0 → last ≡ 32
+    → trimmed (take (length text - 1) text) ≡ trimmed text
 trimmed-front text last some is space =
-    sym (trimmed-space (take (length text - 1) text)) ∙ ap (λ b. trimmed (take (length text - 1) text ++ b ∷ [])) (sym space ∙ is) ∙ ap trimmed (sym (ends_in text some))
+    sym (trimmed-space (take (length text - 1) text)) ∙ ap (λ b. trimmed (take (length text - 1) text ++ b ∷ [])) (sym space ∙ is)
+    ∙ ap trimmed (sym (ends_in text some))
 
-pub trimmed-stays : (text : List ℕ) (last : ℕ) → 1 ≤ length text → last ≡ get_or text (length text - 1) 0 → last ≢ 32 → trimmed text ≡ text
+pub trimmed-stays : (text : List ℕ) (last : ℕ) → 1 ≤ length text → last ≡ get_or text (length text - 1) 0 → last ≢ 32
+    → trimmed text ≡ text
 trimmed-stays text last some is other =
     ap trimmed (ends_in text some)
     ∙ ap (λ b. trimmed (take (length text - 1) text ++ b ∷ [])) (sym is)

@@ -16,13 +16,16 @@ pub all_wide : (kind : Kind) → list_all is_wide (layout kind) ≡ true
 all_wide Hdr = refl
 all_wide this_kind = refl
 
-pub wide_one : (fields : List FieldLayout) (i : ℕ) (f : FieldLayout) → list_all is_wide fields ≡ true → slice_get fields i ≡ Some f → is_wide f ≡ true
+pub wide_one : (fields : List FieldLayout) (i : ℕ) (f : FieldLayout) → list_all is_wide fields ≡ true
+    → slice_get fields i ≡ Some f → is_wide f ≡ true
 wide_one [] i f h e = absurd (cc e)
-wide_one (g ∷ fields) zero f h e = let same : g ≡ f = cc e in ap is_wide (sym same) ∙ (and_parts (is_wide g) (list_all is_wide fields) h).0
+wide_one (g ∷ fields) zero f h e =
+    let same : g ≡ f = cc e in ap is_wide (sym same) ∙ (and_parts (is_wide g) (list_all is_wide fields) h).0
 wide_one (g ∷ fields) (suc i) f h e = wide_one fields i f (and_parts (is_wide g) (list_all is_wide fields) h).1 e
 
 -- a field of a type that has a width has that width
-pub type_width-field : (kind : Kind) (j : ℕ) (f : FieldLayout) (w : ℕ) → field_at kind j ≡ Some f → type_width f.ty ≡ Some w → f.width ≡ w
+pub type_width-field : (kind : Kind) (j : ℕ) (f : FieldLayout) (w : ℕ) → field_at kind j ≡ Some f → type_width f.ty ≡ Some w
+    → f.width ≡ w
 type_width-field kind zero f w e h = absurd (cc e)
 type_width-field kind (suc i) f w e h =
     let wide : is_wide f ≡ true = wide_one (layout kind) i f (all_wide kind) e in

@@ -3,7 +3,8 @@
 ghost use Rattle.std.specs.Prelude.{Some};
 ghost use Rattle.std.proofs.Common.{rules};
 ghost use Rattle.cwr_fields.specs.declared.tables.Table.TheVariants as tables;
-ghost use Rattle.cwr_fields.specs.Format.AgreementCodes.{agreement_code, agreement_types, prior_code, prior_statuses, post_term_code, post_term_statuses, sales_code, sales_clauses, sign_code, signs};
+ghost use Rattle.cwr_fields.specs.Format.AgreementCodes.{agreement_code, agreement_types, prior_code, prior_statuses, post_term_code, post_term_statuses};
+ghost use Rattle.cwr_fields.specs.Format.AgreementCodes.{sales_code, sales_clauses, sign_code, signs};
 
 use crate::code_lists::{AGREEMENT_TYPE, POST_TERM, PRIOR, SALES, SIGN};
 use crate::coded::Coded;

@@ -85,9 +85,12 @@ pub(crate) fn three_numbers(first: usize, cell: &[u8]) -> Option<(u64, u64, u64)
     requires few { first ≤ 4 }
     requires width { length cell.now ≡ first + 4 }
     ensures some { IsSome result ↔ IsTrue (are_digits cell.now) }
-    ensures first { IfSome result (λ x. (x.0 ≡ number_of (take first cell.now)) × (x.0 < 10 ^ first)) }
-    ensures second { IfSome result (λ x. (x.1 ≡ number_of (take 2 (drop first cell.now))) × (x.1 < 100)) }
-    ensures third { IfSome result (λ x. (x.2 ≡ number_of (take 2 (drop (first + 2) cell.now))) × (x.2 < 100)) }
+    ensures first { IfSome result
+        (λ x. (x.0 ≡ number_of (take first cell.now)) × (x.0 < 10 ^ first)) }
+    ensures second { IfSome result
+        (λ x. (x.1 ≡ number_of (take 2 (drop first cell.now))) × (x.1 < 100)) }
+    ensures third { IfSome result
+        (λ x. (x.2 ≡ number_of (take 2 (drop (first + 2) cell.now))) × (x.2 < 100)) }
 {
     let number = number_in(&cell[..first])?;
     let second = number_in(&cell[first..first + 2])?;

@@ -67,7 +67,8 @@ fn fault_unless(is_one: bool, fault: CellFault) -> Result<(), CellFault>
 #[inline(always)]
 fn blank_or_fault_unless(is_one: bool, other: CellFault, cell: &[u8]) -> Result<(), CellFault>
     ensures ok { OnOk result (IsTrue is_one) }
-    ensures err { IfErr result (λ f. IsFalse is_one × (f ≡ (if is_spaces cell.now then CellFault.Blank else other))) }
+    ensures err { IfErr result
+        (λ f. IsFalse is_one × (f ≡ (if is_spaces cell.now then CellFault.Blank else other))) }
 {
     if is_one {
         Ok(())

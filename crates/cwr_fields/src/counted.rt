@@ -91,7 +91,8 @@ impl<R: Read> Counted<R> {
         ensures bytes { Keeps (prepend_known (ahead_of self.old) (R.remaining (inner_of self.old)))
             (prepend_known (ahead_of self.new) (R.remaining (inner_of self.new))) }
         ensures shown { IfOk result (λ _. self.new.start + self.new.shown ≡ self.new.end) }
-        ensures end { IfOk result (λ _. self.new.shown ≡ 0 → IsAtEnd (R.remaining (inner_of self.new))) }
+        ensures end { IfOk result
+            (λ _. self.new.shown ≡ 0 → IsAtEnd (R.remaining (inner_of self.new))) }
         ensures none { OnErr result (self.new.shown ≡ 0) }
         ensures failures { CountsFailure result (failures_of self.old) (failures_of self.new) }
     {

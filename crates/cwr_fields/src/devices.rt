@@ -25,8 +25,10 @@ pub trait Source {
 
     /// Shows bytes that come next, and takes none. It shows none only at the end.
     fn fill(&mut self) -> Result<&[u8], DeviceFault>
-        ensures front { IfSome (remaining self.old) (λ left. IfOk result (λ bytes. StartsWith left bytes.now)) }
-        ensures end { IfSome (remaining self.old) (λ left. IfOk result (λ bytes. length bytes.now ≡ 0 → left ≡ [])) }
+        ensures front { IfSome (remaining self.old)
+            (λ left. IfOk result (λ bytes. StartsWith left bytes.now)) }
+        ensures end { IfSome (remaining self.old)
+            (λ left. IfOk result (λ bytes. length bytes.now ≡ 0 → left ≡ [])) }
         ensures* after_borrow { sem 𝓛 (Rests Self.row self.entry (λ new.
             Keeps (remaining self.old) (remaining new) × (shown new ≡ shown_by result)
             × CountsFailure result (failures self.old) (failures new))) };
@@ -34,7 +36,8 @@ pub trait Source {
     /// Takes the next `count` bytes, of those that the last `fill` showed.
     fn consume(&mut self, count: usize)
         requires { count ≤ shown self.old }
-        ensures bytes { IfSome (remaining self.old) (λ left. remaining self.new ≡ Some (drop count left)) }
+        ensures bytes { IfSome (remaining self.old)
+            (λ left. remaining self.new ≡ Some (drop count left)) }
         ensures shown { shown self.new ≡ shown self.old - count }
         ensures failures { failures self.new ≡ failures self.old };
 }

@@ -21,7 +21,8 @@ impl PlayingTime {
     /// The duration. `None` for more than 99 hours, and for more than 59 minutes or seconds beyond them.
     pub fn new(hours: u8, minutes: u8, seconds: u8) -> Option<PlayingTime>
         ensures some { IsSome result ↔ ((hours < 100) × (minutes < 60) × (seconds < 60)) }
-        ensures value { IfSome result (λ t. (t.hours ≡ hours) × (t.minutes ≡ minutes) × (t.seconds ≡ seconds)) }
+        ensures value { IfSome result
+            (λ t. (t.hours ≡ hours) × (t.minutes ≡ minutes) × (t.seconds ≡ seconds)) }
     {
         if hours < 100 && minutes < 60 && seconds < 60 {
             Some(PlayingTime {

@@ -23,7 +23,8 @@ pub fn make_room<T>(
     ensures len { vec_len list.new ≡ vec_len list.old }
     ensures ok { IfOk result (λ r. IsRoom least r (vec_len list.old + more) (vec_capacity list.new)) }
     ensures err { OnErr result (vec_capacity list.new ≡ vec_capacity list.old) }
-    ensures asks { OnErr result (Outgrows least (length list.old.items) (length list.old.items + more)) }
+    ensures asks { OnErr result
+        (Outgrows least (length list.old.items) (length list.old.items + more)) }
 {
     let len = list.as_slice().len();
     if more <= room - len {

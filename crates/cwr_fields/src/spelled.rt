@@ -120,7 +120,8 @@ impl SpelledPair {
     #[inline(always)]
     pub fn are_in(&mut self, text: &[u8], first: u64, second: u64) -> bool
         requires { length text.now ≡ 16 }
-        ensures { IsTrue result → (take 8 text.now ≡ digits 8 first) × (drop 8 text.now ≡ digits 8 second) }
+        ensures { IsTrue result
+            → (take 8 text.now ≡ digits 8 first) × (drop 8 text.now ≡ digits 8 second) }
     {
         let (front, back) = text.split_at(8);
         let is_first = self.first.is_in(front, first);

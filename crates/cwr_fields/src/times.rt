@@ -21,7 +21,8 @@ impl TimeOfDay {
     /// The time of day. `None` for an hour above 23, and for a minute or a second above 59.
     pub fn new(hour: u8, minute: u8, second: u8) -> Option<TimeOfDay>
         ensures some { IsSome result ↔ ((hour < 24) × (minute < 60) × (second < 60)) }
-        ensures value { IfSome result (λ t. (t.hour ≡ hour) × (t.minute ≡ minute) × (t.second ≡ second)) }
+        ensures value { IfSome result
+            (λ t. (t.hour ≡ hour) × (t.minute ≡ minute) × (t.second ≡ second)) }
     {
         if hour < 24 && minute < 60 && second < 60 {
             Some(TimeOfDay {

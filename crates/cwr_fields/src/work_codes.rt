@@ -3,7 +3,9 @@
 ghost use Rattle.std.specs.Prelude.{Some};
 ghost use Rattle.std.proofs.Common.{rules};
 ghost use Rattle.cwr_fields.specs.declared.tables.Table.TheVariants as tables;
-ghost use Rattle.cwr_fields.specs.Format.WorkCodes.{category_code, categories, version_code, version_types, composite_code, composite_types, excerpt_code, excerpt_types, title_code, title_types, format_code, recording_formats, technique_code, recording_techniques};
+ghost use Rattle.cwr_fields.specs.Format.WorkCodes.{category_code, categories, version_code, version_types, composite_code, composite_types, excerpt_code};
+ghost use Rattle.cwr_fields.specs.Format.WorkCodes.{excerpt_types, title_code, title_types, format_code, recording_formats, technique_code};
+ghost use Rattle.cwr_fields.specs.Format.WorkCodes.{recording_techniques};
 
 use crate::code_lists::{CATEGORY, COMPOSITE, EXCERPT, RECORDING, TECHNIQUE, TITLE, VERSION};
 use crate::coded::Coded;

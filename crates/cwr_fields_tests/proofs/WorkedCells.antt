@@ -1,9 +1,12 @@
 -- Worked cells: what each type holds, and the fault of what it doesn't.
-use Rattle.std.proofs.Common.{◌≡◌, ℕ, ◌<◌, true, false, List, [], ◌∷◌, refl, inl, inr, arith, lit<, lit≤, ap, ◌∙◌, sym, true≢false, ◌+◌, ◌%◌, zero, suc}
+use Rattle.std.proofs.Common.{◌≡◌, ℕ, ◌<◌, true, false, List, [], ◌∷◌, refl, inl, inr, arith, lit<, lit≤, ap, ◌∙◌, sym}
+use Rattle.std.proofs.Common.{true≢false, ◌+◌, ◌%◌, zero, suc}
 use Rattle.std.specs.Prelude.{codes, ◌⊎◌, slice_index, slice_index_or}
 use Rattle.std.proofs.lemmas.Int.{ints}
-use Rattle.cwr_fields.specs.declared.cell_types.CellType.TheVariants.{Text, Required, Date, OptDate, Time, OptDuration, Share, Flag}
-use Rattle.cwr_fields.specs.declared.cell_types.CellFault.TheVariants.{Blank, Control, NotADate, NotATime, OverShare, NotDigits, NotACode}
+use Rattle.cwr_fields.specs.declared.cell_types.CellType.TheVariants.{Text, Required, Date, OptDate, Time, OptDuration, Share}
+use Rattle.cwr_fields.specs.declared.cell_types.CellType.TheVariants.{Flag}
+use Rattle.cwr_fields.specs.declared.cell_types.CellFault.TheVariants.{Blank, Control, NotADate, NotATime, OverShare, NotDigits}
+use Rattle.cwr_fields.specs.declared.cell_types.CellFault.TheVariants.{NotACode}
 use Rattle.cwr_fields.specs.Format.Bytes.{digits, number_of}
 use Rattle.cwr_fields.specs.Format.Cells.{Allows, HasFault}
 use Rattle.cwr_fields.specs.Format.Iswc.{is_iswc}
@@ -55,7 +58,8 @@ over_share = (outside, refl)
   where
     outside : ¬ Allows Share (codes "10001")
     outside (inl e) = apart 0 _ _ (inr (lit< tt)) e
-    outside (inr s) = let n : number_of (codes "10001") ≡ s.0 = ap number_of s.2 ∙ number_of-digits 5 s.0 (omega arith) in omega (arith, n)
+    outside (inr s) =
+        let n : number_of (codes "10001") ≡ s.0 = ap number_of s.2 ∙ number_of-digits 5 s.0 (omega arith) in omega (arith, n)
 
 share_with_space : HasFault Share (codes "1000 ") NotDigits
 unfolding digits
@@ -82,7 +86,8 @@ text_tab : HasFault Text (9 ∷ []) Control
 text_tab = ((λ s. absurd (true≢false (sym s))), refl)
 
 -- check digits
-iswc_right : (is_iswc (codes "T0345246801") ≡ true) × (is_iswc (codes "T0000000009") ≡ true) × (is_iswc (codes "T0000000010") ≡ true)
+iswc_right : (is_iswc (codes "T0345246801") ≡ true) × (is_iswc (codes "T0000000009") ≡ true)
+    × (is_iswc (codes "T0000000010") ≡ true)
 iswc_right = (refl, refl, refl)
 
 iswc_wrong : (is_iswc (codes "T0345246802") ≡ false) × (is_iswc (codes "T0000000000") ≡ false) × (is_iswc [] ≡ false)

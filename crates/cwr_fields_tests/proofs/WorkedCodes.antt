@@ -1,5 +1,6 @@
 -- Worked codes: the cells of each table as they are written out, and a text for each that is no code of it.
-use Rattle.std.proofs.Common.{◌≡◌, ℕ, zero, suc, ◌+◌, ◌%◌, ◌<◌, true, false, List, [], ◌∷◌, length, refl, sym, ap, ◌∙◌, arith, true≢false, inl, inr, lit<}
+use Rattle.std.proofs.Common.{◌≡◌, ℕ, zero, suc, ◌+◌, ◌%◌, ◌<◌, true, false, List, [], ◌∷◌, length, refl, sym, ap, ◌∙◌, arith}
+use Rattle.std.proofs.Common.{true≢false, inl, inr, lit<}
 use Rattle.std.specs.Prelude.{codes, map, slice_index, slice_index_or}
 use Rattle.std.specs.List.{list_all, list_any}
 use Rattle.std.specs.Str.{bytes_eq}
@@ -29,9 +30,14 @@ cells_of tables.Version = codes "ORI" ∷ codes "MOD" ∷ []
 cells_of tables.Composite = codes "COS" ∷ codes "MED" ∷ codes "POT" ∷ codes "UCO" ∷ []
 cells_of tables.Excerpt = codes "MOV" ∷ codes "UEX" ∷ []
 cells_of tables.Publisher = codes "E " ∷ codes "AQ" ∷ codes "AM" ∷ codes "PA" ∷ codes "ES" ∷ codes "SE" ∷ []
-cells_of tables.Designation = codes "A " ∷ codes "AD" ∷ codes "AR" ∷ codes "C " ∷ codes "CA" ∷ codes "PA" ∷ codes "SA" ∷ codes "SR" ∷ codes "TR" ∷ []
-cells_of tables.Title = codes "AT" ∷ codes "TE" ∷ codes "FT" ∷ codes "IT" ∷ codes "OT" ∷ codes "TT" ∷ codes "PT" ∷ codes "RT" ∷ codes "ET" ∷ codes "OL" ∷ codes "AL" ∷ []
-cells_of tables.Status = codes "CO" ∷ codes "DU" ∷ codes "RA" ∷ codes "AS" ∷ codes "AC" ∷ codes "SR" ∷ codes "CR" ∷ codes "RJ" ∷ codes "NP" ∷ codes "RC" ∷ []
+cells_of tables.Designation =
+    codes "A " ∷ codes "AD" ∷ codes "AR" ∷ codes "C " ∷ codes "CA" ∷ codes "PA" ∷ codes "SA" ∷ codes "SR" ∷ codes "TR" ∷ []
+cells_of tables.Title =
+    codes "AT" ∷ codes "TE" ∷ codes "FT" ∷ codes "IT" ∷ codes "OT" ∷ codes "TT" ∷ codes "PT" ∷ codes "RT" ∷ codes "ET"
+    ∷ codes "OL" ∷ codes "AL" ∷ []
+cells_of tables.Status =
+    codes "CO" ∷ codes "DU" ∷ codes "RA" ∷ codes "AS" ∷ codes "AC" ∷ codes "SR" ∷ codes "CR" ∷ codes "RJ" ∷ codes "NP"
+    ∷ codes "RC" ∷ []
 cells_of tables.Message = codes "E" ∷ codes "G" ∷ codes "T" ∷ codes "R" ∷ codes "F" ∷ []
 cells_of tables.Recording = codes "A" ∷ codes "V" ∷ []
 cells_of tables.Technique = codes "A" ∷ codes "D" ∷ codes "U" ∷ []
@@ -82,12 +88,16 @@ cells_fit tables.Recording = refl
 cells_fit tables.Technique = refl
 
 -- a code is found by the test
-found : (f : List ℕ → List ℕ) (list : List (List ℕ)) (cell code : List ℕ) (i : ℕ) → i < length list → code ≡ slice_index_or list i code → cell ≡ f code → list_any (λ c. bytes_eq cell (f c)) list ≡ true
+found : (f : List ℕ → List ℕ) (list : List (List ℕ)) (cell code : List ℕ) (i : ℕ) → i < length list
+    → code ≡ slice_index_or list i code → cell ≡ f code → list_any (λ c. bytes_eq cell (f c)) list ≡ true
 found f [] cell code i h e s = absurd (omega arith)
-found f (c ∷ list) cell code zero h e s = or_left (bytes_eq cell (f c)) (list_any (λ d. bytes_eq cell (f d)) list) ((bytes_eq-Decides cell (f c)).1 (s ∙ ap f e))
-found f (c ∷ list) cell code (suc i) h e s = or_right (bytes_eq cell (f c)) (list_any (λ d. bytes_eq cell (f d)) list) (found f list cell code i (omega arith) e s)
+found f (c ∷ list) cell code zero h e s =
+    or_left (bytes_eq cell (f c)) (list_any (λ d. bytes_eq cell (f d)) list) ((bytes_eq-Decides cell (f c)).1 (s ∙ ap f e))
+found f (c ∷ list) cell code (suc i) h e s =
+    or_right (bytes_eq cell (f c)) (list_any (λ d. bytes_eq cell (f d)) list) (found f list cell code i (omega arith) e s)
 
-no_code : (list : List (List ℕ)) (width : ℕ) (cell : List ℕ) → list_any (λ code. bytes_eq cell (filled width code)) list ≡ false → ¬ IsCodeOf list width cell
+no_code : (list : List (List ℕ)) (width : ℕ) (cell : List ℕ) → list_any (λ code. bytes_eq cell (filled width code)) list ≡ false
+    → ¬ IsCodeOf list width cell
 no_code list width cell h c = true≢false (sym (found (filled width) list cell c.0 c.1.0 c.1.1.0 c.1.1.1 c.2) ∙ h)
 
 -- a text of each table's width that is no code of it

@@ -19,7 +19,9 @@ abbrev pub is_known_of : Kind → FieldLayout → Bool
 is_known_of kind f = is_known kind (key_of f.name)
 
 abbrev is_good_kind : Kind → Bool
-is_good_kind kind = are_distinct (kind_key ∷ keys_of (carried_fields kind)) && (list_all is_told (carried_fields kind) && list_all (is_known_of kind) (carried_fields kind))
+is_good_kind kind =
+    are_distinct (kind_key ∷ keys_of (carried_fields kind))
+    && (list_all is_told (carried_fields kind) && list_all (is_known_of kind) (carried_fields kind))
 
 abbrev are_apart : Kind → Bool
 are_apart kind = are_distinct (keys_of (layout kind))
@@ -41,6 +43,8 @@ pub record HasGoodKeys (kind : Kind) : Type 0 where
 
 pub good_keys : (kind : Kind) → HasGoodKeys kind
 good_keys kind =
-    let all = and_parts (are_distinct (kind_key ∷ keys_of (carried_fields kind))) (list_all is_told (carried_fields kind) && list_all (is_known_of kind) (carried_fields kind)) (good_kind kind) in
+    let all =
+    and_parts (are_distinct (kind_key ∷ keys_of (carried_fields kind)))
+    (list_all is_told (carried_fields kind) && list_all (is_known_of kind) (carried_fields kind)) (good_kind kind) in
     let others = and_parts (list_all is_told (carried_fields kind)) (list_all (is_known_of kind) (carried_fields kind)) all.1 in
     record { distinct = all.0; told = others.0; known = others.1; apart = keys_apart kind }

@@ -1,11 +1,13 @@
 -- No cell of any type has a byte below 32.
-use Rattle.std.proofs.Common.{◌≡◌, ℕ, zero, suc, ◌+◌, ◌-◌, ◌/◌, ◌%◌, ◌<◌, Bool, true, false, not, ◌&&◌, ltb, List, [], ◌∷◌, ◌++◌, length, replicate, refl, sym, subst, ◌∙◌, inl, inr, arith, true≢false}
+use Rattle.std.proofs.Common.{◌≡◌, ℕ, zero, suc, ◌+◌, ◌-◌, ◌/◌, ◌%◌, ◌<◌, Bool, true, false, not, ◌&&◌, ltb, List, [], ◌∷◌, ◌++◌}
+use Rattle.std.proofs.Common.{length, replicate, refl, sym, subst, ◌∙◌, inl, inr, arith, true≢false}
 use Rattle.std.specs.Prelude.{◌==◌, ◌||◌, nat_lt, slice_index_or}
 use Rattle.std.specs.List.{list_all, IsAmong}
 use Rattle.std.proofs.lemmas.List.Folds.{list_any-append}
 use Rattle.std.proofs.lemmas.Bool.{eqb-true, le-ltb, and_parts, not-true, or_from}
 use Rattle.cwr_fields.specs.declared.cell_types.CellType.{CellType}
-use Rattle.cwr_fields.specs.declared.cell_types.CellType.TheVariants.{Text, Required, Number, OptNumber, Date, OptDate, Time, OptTime, OptDuration, Share, Flag, Code, OptCode, Constant}
+use Rattle.cwr_fields.specs.declared.cell_types.CellType.TheVariants.{Text, Required, Number, OptNumber, Date, OptDate, Time}
+use Rattle.cwr_fields.specs.declared.cell_types.CellType.TheVariants.{OptTime, OptDuration, Share, Flag, Code, OptCode, Constant}
 use Rattle.cwr_fields.specs.declared.tables.Table.{Table}
 use Rattle.cwr_fields.specs.declared.tables.Table.TheVariants as tables
 use Rattle.cwr_fields.specs.declared.cell_types.Word.{Word}
@@ -27,7 +29,8 @@ unfolding digits
 NoLow-digits zero n = refl
 NoLow-digits (suc width) n =
     let here : nat_lt (48 + n % 10) 32 ≡ false = le-ltb (48 + n % 10) 32 (omega arith) in
-    NoLow-append (digits width (n / 10)) ((48 + n % 10) ∷ []) (NoLow-digits width (n / 10)) (or_from (nat_lt (48 + n % 10) 32) false here refl)
+    NoLow-append (digits width (n / 10)) ((48 + n % 10) ∷ []) (NoLow-digits width (n / 10))
+    (or_from (nat_lt (48 + n % 10) 32) false here refl)
 
 -- a plain byte isn't low
 plain_byte : (b : ℕ) → (ltb b 256 && not (nat_lt b 32 || (b == 127))) ≡ true → nat_lt b 32 ≡ false
@@ -51,7 +54,8 @@ NoLow-spaces (b ∷ cell) h =
     or_from (nat_lt b 32) (has_low cell) (le-ltb b 32 (omega arith)) (NoLow-spaces cell parts.1)
 
 -- what passes a test that each of some texts passes
-among_all : (p : List ℕ → Bool) (list : List (List ℕ)) (x : List ℕ) (i : ℕ) → list_all p list ≡ true → i < length list → p (slice_index_or list i x) ≡ true
+among_all : (p : List ℕ → Bool) (list : List (List ℕ)) (x : List ℕ) (i : ℕ) → list_all p list ≡ true → i < length list
+    → p (slice_index_or list i x) ≡ true
 among_all p [] x i h k = absurd (omega arith)
 among_all p (y ∷ list) x zero h k = (and_parts (p y) (list_all p list) h).0
 among_all p (y ∷ list) x (suc i) h k = among_all p list x i (and_parts (p y) (list_all p list) h).1 (omega arith)
@@ -84,7 +88,8 @@ no_code_has_low tables.Technique = refl
 
 NoLow-code_of : (table : Table) (width : ℕ) (cell : List ℕ) → IsCodeOf (codes_of table) width cell → NoLow cell
 NoLow-code_of table width cell c =
-    subst NoLow (sym c.2) (NoLow-append c.0 (replicate (width - length c.0) 32) (NoLow-among (codes_of table) c.0 (no_code_has_low table) c.1) (NoLow-replicate (width - length c.0) 32 refl))
+    subst NoLow (sym c.2) (NoLow-append c.0 (replicate (width - length c.0) 32)
+    (NoLow-among (codes_of table) c.0 (no_code_has_low table) c.1) (NoLow-replicate (width - length c.0) 32 refl))
 
 NoLow-code : (table : Table) (cell : List ℕ) → SpellsCode table cell → NoLow cell
 NoLow-code tables.Sender cell (inl c) = NoLow-code_of tables.Sender 2 cell c
@@ -92,10 +97,14 @@ NoLow-code tables.Sender cell (inr c) = subst NoLow (sym c.2) (NoLow-digits 2 c.
 NoLow-code table cell c = NoLow-code_of table (code_width table) cell c
 
 NoLow-day : (cell : List ℕ) → SpellsDay cell → NoLow cell
-NoLow-day cell s = subst NoLow (sym s.5) (NoLow-append (digits 4 s.0 ++ digits 2 s.1) (digits 2 s.2) (NoLow-append (digits 4 s.0) (digits 2 s.1) (NoLow-digits 4 s.0) (NoLow-digits 2 s.1)) (NoLow-digits 2 s.2))
+NoLow-day cell s =
+    subst NoLow (sym s.5) (NoLow-append (digits 4 s.0 ++ digits 2 s.1) (digits 2 s.2)
+    (NoLow-append (digits 4 s.0) (digits 2 s.1) (NoLow-digits 4 s.0) (NoLow-digits 2 s.1)) (NoLow-digits 2 s.2))
 
 NoLow-time : (bound : ℕ) (cell : List ℕ) → SpellsTime bound cell → NoLow cell
-NoLow-time bound cell s = subst NoLow (sym s.6) (NoLow-append (digits 2 s.0 ++ digits 2 s.1) (digits 2 s.2) (NoLow-append (digits 2 s.0) (digits 2 s.1) (NoLow-digits 2 s.0) (NoLow-digits 2 s.1)) (NoLow-digits 2 s.2))
+NoLow-time bound cell s =
+    subst NoLow (sym s.6) (NoLow-append (digits 2 s.0 ++ digits 2 s.1) (digits 2 s.2)
+    (NoLow-append (digits 2 s.0) (digits 2 s.1) (NoLow-digits 2 s.0) (NoLow-digits 2 s.1)) (NoLow-digits 2 s.2))
 
 NoLow-same : (n b : ℕ) (cell : List ℕ) → nat_lt b 32 ≡ false → cell ≡ replicate n b → NoLow cell
 NoLow-same n b cell h e = subst NoLow (sym e) (NoLow-replicate n b h)

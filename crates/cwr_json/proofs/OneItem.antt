@@ -1,7 +1,8 @@
 -- Data is that of one record, and of one item, at most; and what is shown of an item is data of it.
 use Rattle.std.proofs.Common.{◌≡◌, ℕ, List, [], ◌∷◌, Option, Some, None, refl, sym, ap, ap₂, subst, ◌∙◌}
 use Rattle.std.specs.List.{AllZip, AllByRecursion}
-use Rattle.json.specs.Json.{Json, null, boolean, number, string, array, object, Items, no_items, item, Members, no_members, member}
+use Rattle.json.specs.Json.{Json, null, boolean, number, string, array, object, Items, no_items, item, Members, no_members}
+use Rattle.json.specs.Json.{member}
 use Rattle.cwr_fields.specs.Format.Bytes.{filled}
 use Rattle.cwr_fields.specs.declared.kinds.Kind.{Kind}
 use Rattle.cwr_fields.specs.Format.Kinds.{letters}
@@ -13,14 +14,16 @@ use Rattle.cwr_values.specs.declared.items.Item.TheVariants.{Opened, GroupOpened
 use Rattle.cwr_judge.specs.Format.Items.{item_records}
 use Rattle.cwr_json.specs.declared.notes.Notes.{Notes}
 use Rattle.cwr_json.specs.declared.encodings.Encoding.{Encoding}
-use Rattle.cwr_json.specs.Format.Forms.{key_of, records_key, records_items, with_notes, told, first_of, IsCellFrom, IsDataOf, IsRecordData, AreRecordsData, AreListData, AreOnlyRecords}
+use Rattle.cwr_json.specs.Format.Forms.{key_of, records_key, records_items, with_notes, told, first_of, IsCellFrom, IsDataOf}
+use Rattle.cwr_json.specs.Format.Forms.{IsRecordData, AreRecordsData, AreListData, AreOnlyRecords}
 use Rattle.cwr_json.specs.Format.Laws.{OwnData, OneData}
 use Rattle.cwr_json.proofs.Encoded.{one_text}
 use Rattle.cwr_json.proofs.OwnData.{own_data}
 
 -- ---- cells
 
-one_cell : (enc : Encoding) (f : FieldLayout) (o : Option Json) (c d : List ℕ) → IsCellFrom enc f o c → IsCellFrom enc f o d → c ≡ d
+one_cell : (enc : Encoding) (f : FieldLayout) (o : Option Json) (c d : List ℕ) → IsCellFrom enc f o c → IsCellFrom enc f o d
+    → c ≡ d
 one_cell enc f None c d p q = p ∙ sym q
 one_cell enc f (Some null) c d p q = absurd p
 one_cell enc f (Some (boolean b)) c d p q = absurd p
@@ -32,14 +35,16 @@ one_cell enc f (Some (object ms)) c d p q = absurd p
 abbrev AreFrom : Encoding → Members → List FieldLayout → List (List ℕ) → Type 0
 AreFrom enc ms fields cells = AllZip (λ f cell. IsCellFrom enc f (first_of (key_of f.name) ms) cell) fields cells
 
-pub one_cells : (enc : Encoding) (ms : Members) (fields : List FieldLayout) (cs ds : List (List ℕ)) → AreFrom enc ms fields cs → AreFrom enc ms fields ds → cs ≡ ds
+pub one_cells : (enc : Encoding) (ms : Members) (fields : List FieldLayout) (cs ds : List (List ℕ)) → AreFrom enc ms fields cs
+    → AreFrom enc ms fields ds → cs ≡ ds
 one_cells enc ms [] [] [] p q = refl
 one_cells enc ms [] [] (d ∷ ds) p q = absurd q
 one_cells enc ms [] (c ∷ cs) ds p q = absurd p
 one_cells enc ms (f ∷ fields) [] ds p q = absurd p
 one_cells enc ms (f ∷ fields) (c ∷ cs) [] p q = absurd q
 one_cells enc ms (f ∷ fields) (c ∷ cs) (d ∷ ds) p q =
-    ap₂ (λ (x : List ℕ) (l : List (List ℕ)). x ∷ l) (one_cell enc f (first_of (key_of f.name) ms) c d p.0 q.0) (one_cells enc ms fields cs ds p.1 q.1)
+    ap₂ (λ (x : List ℕ) (l : List (List ℕ)). x ∷ l) (one_cell enc f (first_of (key_of f.name) ms) c d p.0 q.0)
+    (one_cells enc ms fields cs ds p.1 q.1)
 
 -- ---- records
 
@@ -48,7 +53,8 @@ one_record enc ms r s p q =
     let named : Some (string (letters r.kind)) ≡ Some (string (letters s.kind)) = sym p.kind ∙ q.kind in
     let same : letters r.kind ≡ letters s.kind = cc named in
     let kinds : r.kind ≡ s.kind = letters-injective r.kind s.kind same in
-    let theirs : AreFrom enc ms (carried_fields r.kind) s.cells = subst (λ (kind : Kind). AreFrom enc ms (carried_fields kind) s.cells) (sym kinds) q.cells in
+    let theirs : AreFrom enc ms (carried_fields r.kind) s.cells =
+    subst (λ (kind : Kind). AreFrom enc ms (carried_fields kind) s.cells) (sym kinds) q.cells in
     let whole : Kind → List (List ℕ) → RecordValue = λ kind cells. record { kind = kind; cells = cells } in
     ap₂ whole kinds (one_cells enc ms (carried_fields r.kind) r.cells s.cells p.cells theirs)
 
@@ -60,16 +66,19 @@ one_of enc (string t) r s p q = absurd p
 one_of enc (array js) r s p q = absurd p
 one_of enc (object ms) r s p q = one_record enc (told ms) r s p q
 
-one_list : (enc : Encoding) (js : Items) (rs others : List RecordValue) → AreRecordsData enc js rs → AreRecordsData enc js others → rs ≡ others
+one_list : (enc : Encoding) (js : Items) (rs others : List RecordValue) → AreRecordsData enc js rs → AreRecordsData enc js others
+    → rs ≡ others
 unfolding AreRecordsData
 one_list enc no_items [] [] p q = refl
 one_list enc no_items [] (s ∷ others) p q = absurd q
 one_list enc no_items (r ∷ rs) others p q = absurd p
 one_list enc (item j js) [] others p q = absurd p
 one_list enc (item j js) (r ∷ rs) [] p q = absurd q
-one_list enc (item j js) (r ∷ rs) (s ∷ others) p q = ap₂ (λ (x : RecordValue) (l : List RecordValue). x ∷ l) (one_of enc j r s p.0 q.0) (one_list enc js rs others p.1 q.1)
+one_list enc (item j js) (r ∷ rs) (s ∷ others) p q =
+    ap₂ (λ (x : RecordValue) (l : List RecordValue). x ∷ l) (one_of enc j r s p.0 q.0) (one_list enc js rs others p.1 q.1)
 
-one_in : (enc : Encoding) (j : Json) (rs others : List RecordValue) → AreListData enc j rs → AreListData enc j others → rs ≡ others
+one_in : (enc : Encoding) (j : Json) (rs others : List RecordValue) → AreListData enc j rs → AreListData enc j others
+    → rs ≡ others
 one_in enc null rs others p q = absurd p
 one_in enc (boolean b) rs others p q = absurd p
 one_in enc (number n) rs others p q = absurd p
@@ -77,7 +86,8 @@ one_in enc (string t) rs others p q = absurd p
 one_in enc (array js) rs others p q = one_list enc js rs others p q
 one_in enc (object ms) rs others p q = absurd p
 
-one_only : (enc : Encoding) (ms : Members) (rs others : List RecordValue) → AreOnlyRecords enc ms rs → AreOnlyRecords enc ms others → rs ≡ others
+one_only : (enc : Encoding) (ms : Members) (rs others : List RecordValue) → AreOnlyRecords enc ms rs
+    → AreOnlyRecords enc ms others → rs ≡ others
 one_only enc no_members rs others p q = absurd p
 one_only enc (member k j no_members) rs others p q = one_in enc j rs others p.1 q.1
 one_only enc (member k j (member l i ms)) rs others p q = absurd p
@@ -113,4 +123,6 @@ told_records j = refl
 pub own_item : OwnData
 own_item enc notes i h =
     let js : Items = records_items enc (item_records i) in
-    subst (λ (ms : Members). AreOnlyRecords enc ms (item_records i)) (sym (told_notes notes i (member records_key (array js) no_members) ∙ told_records js)) (refl, own_records enc (item_records i) h)
+    subst (λ (ms : Members). AreOnlyRecords enc ms (item_records i))
+    (sym (told_notes notes i (member records_key (array js) no_members) ∙ told_records js))
+    (refl, own_records enc (item_records i) h)

@@ -1,5 +1,6 @@
 -- Bytes as they stand between quotes, one by one.
-use Rattle.std.proofs.Common.{◌≡◌, ◌⊎◌, ℕ, zero, suc, ◌+◌, ◌-◌, ◌/◌, ◌%◌, ◌<◌, ◌≤◌, Bool, true, false, cond, List, [], ◌∷◌, ◌++◌, length, take, get_or, refl, sym, subst, ap, ap₂, ◌∙◌, inl, inr, arith, append-nil, lt-ltb, le-ltb}
+use Rattle.std.proofs.Common.{◌≡◌, ◌⊎◌, ℕ, zero, suc, ◌+◌, ◌-◌, ◌/◌, ◌%◌, ◌<◌, ◌≤◌, Bool, true, false, cond, List, [], ◌∷◌, ◌++◌}
+use Rattle.std.proofs.Common.{length, take, get_or, refl, sym, subst, ap, ap₂, ◌∙◌, inl, inr, arith, append-nil, lt-ltb, le-ltb}
 use Rattle.std.specs.Prelude.{◌||◌, nat_lt}
 use Rattle.std.proofs.lemmas.List.{take_more, map-append}
 use Rattle.std.proofs.lemmas.Grind.{flat_map-append}
@@ -39,12 +40,14 @@ pub escaped_high : (enc : Encoding) (b : ℕ) → 128 ≤ b → escape (high_cha
 escaped_high Latin1 b h = escaped_two (192 + b / 64) (128 + b % 64) (omega arith) (omega arith)
 escaped_high Utf8 b h = by (nat_lt b 192) refl
   where
-    by : (x : Bool) → nat_lt b 192 ≡ x → escape (cond x (239 ∷ 158 ∷ b ∷ []) (239 ∷ 159 ∷ (b - 64) ∷ [])) ≡ cond x (239 ∷ 158 ∷ b ∷ []) (239 ∷ 159 ∷ (b - 64) ∷ [])
+    by : (x : Bool) → nat_lt b 192 ≡ x → escape (cond x (239 ∷ 158 ∷ b ∷ []) (239 ∷ 159 ∷ (b - 64) ∷ []))
+        ≡ cond x (239 ∷ 158 ∷ b ∷ []) (239 ∷ 159 ∷ (b - 64) ∷ [])
     by true e = escaped_three 239 158 b (omega arith) (omega arith) h
     by false e = escaped_three 239 159 (b - 64) (omega arith) (omega arith) (omega (arith, ltb-false b 192 e))
 
 pub spelled_low : (enc : Encoding) (b : ℕ) → b < 128 → spelled_byte enc b ≡ escape_byte b
-spelled_low enc b h = ap (λ (x : Bool). escape (cond x (b ∷ []) (high_character enc b))) (lt-ltb b 128 h) ∙ append-nil (escape_byte b)
+spelled_low enc b h =
+    ap (λ (x : Bool). escape (cond x (b ∷ []) (high_character enc b))) (lt-ltb b 128 h) ∙ append-nil (escape_byte b)
 
 pub spelled_high : (enc : Encoding) (b : ℕ) → 128 ≤ b → spelled_byte enc b ≡ high_character enc b
 spelled_high enc b h = ap (λ (x : Bool). escape (cond x (b ∷ []) (high_character enc b))) (le-ltb b 128 h) ∙ escaped_high enc b h
@@ -75,7 +78,8 @@ pub simple_none : IsSimple []
 unfolding byte_by_byte
 simple_none = record { marks = refl; low = λ enc. refl }
 
-pub simple_more : (text : List ℕ) (i : ℕ) → i < length text → IsSimple (take i text) → IsSimple (get_or text i 0 ∷ []) → IsSimple (take (i + 1) text)
+pub simple_more : (text : List ℕ) (i : ℕ) → i < length text → IsSimple (take i text) → IsSimple (get_or text i 0 ∷ [])
+    → IsSimple (take (i + 1) text)
 simple_more text i h p q = subst IsSimple (sym (take_more text i 0 h)) (simple_both (take i text) (get_or text i 0 ∷ []) p q)
 
 -- ---- a whole cell
@@ -95,7 +99,9 @@ spelled_as_is enc text e = ap (λ (x : Bool). escape (cond x text (byte_by_byte 
 escaped_bytes : (enc : Encoding) (text : List ℕ) → escape (byte_by_byte enc text) ≡ spelled_bytes enc text
 unfolding byte_by_byte
 escaped_bytes enc [] = refl
-escaped_bytes enc (b ∷ text) = flat_map-append escape_byte (character enc b) (byte_by_byte enc text) ∙ ap (λ (l : List ℕ). spelled_byte enc b ++ l) (escaped_bytes enc text)
+escaped_bytes enc (b ∷ text) =
+    flat_map-append escape_byte (character enc b) (byte_by_byte enc text)
+    ∙ ap (λ (l : List ℕ). spelled_byte enc b ++ l) (escaped_bytes enc text)
 
 pub spelled_each : (enc : Encoding) (text : List ℕ) → are_shown_as_is enc text ≡ false → spelled enc text ≡ spelled_bytes enc text
 unfolding characters
@@ -103,17 +109,20 @@ spelled_each enc text e = ap (λ (x : Bool). escape (cond x text (byte_by_byte e
 
 -- ---- with one byte more
 
-pub escaped_more : (text : List ℕ) (i : ℕ) → i < length text → escape (take (i + 1) text) ≡ escape (take i text) ++ escape_byte (get_or text i 0)
+pub escaped_more : (text : List ℕ) (i : ℕ) → i < length text
+    → escape (take (i + 1) text) ≡ escape (take i text) ++ escape_byte (get_or text i 0)
 escaped_more text i h =
     ap escape (take_more text i 0 h) ∙ flat_map-append escape_byte (take i text) (get_or text i 0 ∷ [])
     ∙ ap (λ (l : List ℕ). escape (take i text) ++ l) (append-nil (escape_byte (get_or text i 0)))
 
-pub spelled_more : (enc : Encoding) (text : List ℕ) (i : ℕ) → i < length text → spelled_bytes enc (take (i + 1) text) ≡ spelled_bytes enc (take i text) ++ spelled_byte enc (get_or text i 0)
+pub spelled_more : (enc : Encoding) (text : List ℕ) (i : ℕ) → i < length text
+    → spelled_bytes enc (take (i + 1) text) ≡ spelled_bytes enc (take i text) ++ spelled_byte enc (get_or text i 0)
 spelled_more enc text i h =
     ap (spelled_bytes enc) (take_more text i 0 h) ∙ flat_map-append (spelled_byte enc) (take i text) (get_or text i 0 ∷ [])
     ∙ ap (λ (l : List ℕ). spelled_bytes enc (take i text) ++ l) (append-nil (spelled_byte enc (get_or text i 0)))
 
-pub key_more : (name : List ℕ) (i : ℕ) → i < length name → key_of (take (i + 1) name) ≡ key_of (take i name) ++ key_byte (get_or name i 0) ∷ []
+pub key_more : (name : List ℕ) (i : ℕ) → i < length name
+    → key_of (take (i + 1) name) ≡ key_of (take i name) ++ key_byte (get_or name i 0) ∷ []
 key_more name i h = ap key_of (take_more name i 0 h) ∙ map-append key_byte (take i name) (get_or name i 0 ∷ [])
 
 no_first : (x y : Bool) → (x || y) ≡ false → x ≡ false

@@ -31,7 +31,8 @@ fn put_trailer<W: Target>(
     sink: &mut Sink<W>,
 ) -> Result<(), SinkFault>
     requires { has_failed sink.old ≡ false }
-    ensures puts { Puts W.contents W.failures (listed_texts encoding 0 (trailer ∷ [])) result sink.old sink.new }
+    ensures puts { Puts W.contents W.failures (listed_texts encoding 0 (trailer ∷ [])) result
+        sink.old sink.new }
     ensures fault { IfErr result (λ f. f.written ≡ written_of sink.new) }
 {
     text.set_trailer();
@@ -47,7 +48,8 @@ fn put_listed<W: Target>(
     sink: &mut Sink<W>,
 ) -> Result<(), SinkFault>
     requires { has_failed sink.old ≡ false }
-    ensures puts { Puts W.contents W.failures (listed_text encoding before shown.now) result sink.old sink.new }
+    ensures puts { Puts W.contents W.failures (listed_text encoding before shown.now) result
+        sink.old sink.new }
     ensures fault { IfErr result (λ f. f.written ≡ written_of sink.new) }
 {
     text.set_listed(encoding, before, shown);
@@ -62,7 +64,8 @@ fn put_records<W: Target>(
     sink: &mut Sink<W>,
 ) -> Result<(), SinkFault>
     requires unfailed { has_failed sink.old ≡ false }
-    ensures puts { Puts W.contents W.failures (listed_texts encoding 0 transaction.now) result sink.old sink.new }
+    ensures puts { Puts W.contents W.failures (listed_texts encoding 0 transaction.now) result
+        sink.old sink.new }
     ensures fault { IfErr result (λ f. f.written ≡ written_of sink.new) }
 {
     let count = transaction.len();
@@ -83,7 +86,8 @@ fn put_alone<W: Target>(
     sink: &mut Sink<W>,
 ) -> Result<(), SinkFault>
     requires { has_failed sink.old ≡ false }
-    ensures puts { Puts W.contents W.failures (listed_texts encoding 0 (shown.now ∷ [])) result sink.old sink.new }
+    ensures puts { Puts W.contents W.failures (listed_texts encoding 0 (shown.now ∷ [])) result
+        sink.old sink.new }
     ensures fault { IfErr result (λ f. f.written ≡ written_of sink.new) }
 {
     text.set_listed(encoding, 0, shown);
@@ -98,7 +102,8 @@ fn put_all<W: Target>(
     sink: &mut Sink<W>,
 ) -> Result<(), SinkFault>
     requires unfailed { has_failed sink.old ≡ false }
-    ensures puts { Puts W.contents W.failures (listed_texts encoding 0 (item_records item.now)) result sink.old sink.new }
+    ensures puts { Puts W.contents W.failures (listed_texts encoding 0 (item_records item.now))
+        result sink.old sink.new }
     ensures fault { IfErr result (λ f. f.written ≡ written_of sink.new) }
 {
     match item {
@@ -134,7 +139,9 @@ fn put_begun<W: Target>(
     sink: &mut Sink<W>,
 ) -> Result<(), SinkFault>
     requires unfailed { has_failed sink.old ≡ false }
-    ensures puts { Puts W.contents W.failures (opening_text notes item.now ++ listed_texts encoding 0 (item_records item.now)) result sink.old sink.new }
+    ensures puts { Puts W.contents W.failures
+        (opening_text notes item.now ++ listed_texts encoding 0 (item_records item.now)) result
+        sink.old sink.new }
     ensures fault { IfErr result (λ f. f.written ≡ written_of sink.new) }
 {
     put_opening(notes, item, text, sink)?;
@@ -160,7 +167,8 @@ pub fn put_data<W: Target>(
     sink: &mut Sink<W>,
 ) -> Result<(), SinkFault>
     requires unfailed { has_failed sink.old ≡ false }
-    ensures puts { Puts W.contents W.failures (item_line encoding notes item.now) result sink.old sink.new }
+    ensures puts { Puts W.contents W.failures (item_line encoding notes item.now) result sink.old
+        sink.new }
     ensures fault { IfErr result (λ f. f.written ≡ written_of sink.new) }
 {
     put_begun(encoding, notes, item, text, sink)?;

@@ -2,7 +2,8 @@
 
 ghost use Rattle.std.specs.Prelude.{◌≡◌, ◌+◌, ◌*◌, ◌≤◌, [], ◌∷◌, ◌++◌, decimal, length};
 ghost use Rattle.cwr_fields.specs.Steps.Views.{field_view};
-ghost use Rattle.cwr_json.specs.Steps.FormTexts.{NoLow, field_member, head_text, member_text, member_texts, group_notes_text, note_text, notes_text, opening_text, listed_text, listed_texts};
+ghost use Rattle.cwr_json.specs.Steps.FormTexts.{NoLow, field_member, head_text, member_text, member_texts, group_notes_text, note_text, notes_text};
+ghost use Rattle.cwr_json.specs.Steps.FormTexts.{opening_text, listed_text, listed_texts};
 ghost use Rattle.cwr_values.specs.Format.Rows.{trailer};
 ghost use Rattle.cwr_json.specs.declared.encodings.Encoding.{Encoding};
 
@@ -19,10 +20,13 @@ use std::marker::Model;
 /// Appends a cell as a member after others, unless it is blank.
 #[inline(always)]
 fn push_member(text: &mut Text, encoding: Encoding, place: &Field, cell: &[u8])
-    requires room { length text.old.items + 3 * (length place.now.name.now + length cell.now) + 6 ≤ LONGEST }
+    requires room { length text.old.items + 3 * (length place.now.name.now + length cell.now) + 6
+        ≤ LONGEST }
     requires high { NoLow cell.now }
-    ensures value { text.new.items ≡ text.old.items ++ member_text encoding (field_view place.now).1 cell.now }
-    ensures len { length text.new.items ≤ length text.old.items + 3 * (length place.now.name.now + length cell.now) + 6 }
+    ensures value { text.new.items
+        ≡ text.old.items ++ member_text encoding (field_view place.now).1 cell.now }
+    ensures len { length text.new.items
+        ≤ length text.old.items + 3 * (length place.now.name.now + length cell.now) + 6 }
 {
     if is_spaces(cell) {
         return;

@@ -21,18 +21,21 @@ abbrev pub BarsWith : LimitValues → List Symbol → List Symbol → Bar → Ty
 BarsWith limits xs cs bars.Misplaced = ¬ ContinuesWith xs cs Any
 BarsWith limits xs cs (bars.Limit limit) = ¬ ContinuesWith xs cs (KeepsTo limit limits)
 
-pub bars_seen : (limits : LimitValues) (records : List RecordValue) (lines : List (List ℕ)) (cs : List Symbol) (bar : Bar) → AllByRecursion IsRecord records → AllZip IsLineOf (rows_so_far records) lines
+pub bars_seen : (limits : LimitValues) (records : List RecordValue) (lines : List (List ℕ)) (cs : List Symbol) (bar : Bar)
+    → AllByRecursion IsRecord records → AllZip IsLineOf (rows_so_far records) lines
     → BarsWith limits (map symbol_of records) cs bar → Bars limits (named_by_lines lines ++ cs ∷ []) bar
 bars_seen limits records lines cs bars.Misplaced h z b = λ g. b (among_with Any records lines cs h z g)
 bars_seen limits records lines cs (bars.Limit limit) h z b = λ g. b (among_with (KeepsTo limit limits) records lines cs h z g)
 
-pub seen_bars : (limits : LimitValues) (records : List RecordValue) (lines : List (List ℕ)) (cs : List Symbol) (bar : Bar) → AllByRecursion IsRecord records → AllZip IsLineOf (rows_so_far records) lines
+pub seen_bars : (limits : LimitValues) (records : List RecordValue) (lines : List (List ℕ)) (cs : List Symbol) (bar : Bar)
+    → AllByRecursion IsRecord records → AllZip IsLineOf (rows_so_far records) lines
     → Bars limits (named_by_lines lines ++ cs ∷ []) bar → BarsWith limits (map symbol_of records) cs bar
 seen_bars limits records lines cs bars.Misplaced h z b = λ g. b (with_among Any records lines cs h z g)
 seen_bars limits records lines cs (bars.Limit limit) h z b = λ g. b (with_among (KeepsTo limit limits) records lines cs h z g)
 
 -- the first bar is one of them
-pub first_bars : (limits : LimitValues) (xs cs : List Symbol) (bar : Bar) → IsBarredFirst limits (ContinuesWith xs cs) bar → BarsWith limits xs cs bar
+pub first_bars : (limits : LimitValues) (xs cs : List Symbol) (bar : Bar) → IsBarredFirst limits (ContinuesWith xs cs) bar
+    → BarsWith limits xs cs bar
 first_bars limits xs cs bars.Misplaced b = b
 first_bars limits xs cs (bars.Limit limit_kinds.Records) b = b.1
 first_bars limits xs cs (bars.Limit limit_kinds.Groups) b = b.1
@@ -43,8 +46,12 @@ pub any_with : (P : List GroupOutline → Type 0) (xs cs : List Symbol) → Cont
 any_with P xs cs (s, among, (groups, whole, p, begins)) = (s, among, (groups, whole, tt, begins))
 
 -- where some transmission within the limits continues, nothing bars
-pub none_bars : (limits : LimitValues) (xs cs : List Symbol) (bar : Bar) → ContinuesWith xs cs (IsWithin limits) → ¬ BarsWith limits xs cs bar
+pub none_bars : (limits : LimitValues) (xs cs : List Symbol) (bar : Bar) → ContinuesWith xs cs (IsWithin limits)
+    → ¬ BarsWith limits xs cs bar
 none_bars limits xs cs bars.Misplaced (s, among, (groups, whole, within, begins)) b = b (s, among, (groups, whole, tt, begins))
-none_bars limits xs cs (bars.Limit limit_kinds.Records) (s, among, (groups, whole, within, begins)) b = b (s, among, (groups, whole, within.0, begins))
-none_bars limits xs cs (bars.Limit limit_kinds.Groups) (s, among, (groups, whole, within, begins)) b = b (s, among, (groups, whole, within.1, begins))
-none_bars limits xs cs (bars.Limit limit_kinds.Transaction) (s, among, (groups, whole, within, begins)) b = b (s, among, (groups, whole, within.2, begins))
+none_bars limits xs cs (bars.Limit limit_kinds.Records) (s, among, (groups, whole, within, begins)) b =
+    b (s, among, (groups, whole, within.0, begins))
+none_bars limits xs cs (bars.Limit limit_kinds.Groups) (s, among, (groups, whole, within, begins)) b =
+    b (s, among, (groups, whole, within.1, begins))
+none_bars limits xs cs (bars.Limit limit_kinds.Transaction) (s, among, (groups, whole, within, begins)) b =
+    b (s, among, (groups, whole, within.2, begins))

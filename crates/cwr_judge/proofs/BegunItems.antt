@@ -13,7 +13,8 @@ use Rattle.cwr_judge.specs.Steps.Open.{items_so_far}
 use Rattle.cwr_judge.proofs.ItemsOfTransactions.{items-append}
 use Rattle.cwr_judge.proofs.ItemLaws.{items_of_parts}
 
-pub begun_items : (limits : LimitValues) (records : List RecordValue) → limits.records < 10 ^ 8 → AllByRecursion IsRecord records → Continues (IsWithin limits) (map symbol_of records)
+pub begun_items : (limits : LimitValues) (records : List RecordValue) → limits.records < 10 ^ 8 → AllByRecursion IsRecord records
+    → Continues (IsWithin limits) (map symbol_of records)
     → AreFirstItems limits (items_so_far records)
 begun_items limits records few in_order g =
     let v = completed g.0 records g.3.0 g.1 in_order g.3.1 in
@@ -23,6 +24,7 @@ begun_items limits records few in_order g =
       whole = v.whole;
       within = within;
       rest = items_after (rows_so_far records) (rows_after records v.more);
-      split = sym (items_of_parts limits v.value v.whole within few) ∙ ap items (rows_split v.value records v.more v.whole v.begins)
+      split =
+          sym (items_of_parts limits v.value v.whole within few) ∙ ap items (rows_split v.value records v.more v.whole v.begins)
           ∙ items-append [] (rows_so_far records) (rows_after records v.more);
     }

@@ -26,26 +26,33 @@ use Rattle.cwr_judge.proofs.MixedCells.{line_parts, wide_length}
 use Rattle.cwr_judge.proofs.GoodFrontsContinue.{party_symbol, group_symbol, only_among}
 
 -- all cells of a record's row name its symbol alone
-pub symbol_alone : (kind : Kind) (ns : List ℕ) (cells : List (List ℕ)) (s : Symbol) → IsRecord (record { kind = kind; cells = cells })
-    → IsAmong (candidates (Some kind) (row_of ns (record { kind = kind; cells = cells })).cells) s → s ≡ symbol_of (record { kind = kind; cells = cells })
+pub symbol_alone : (kind : Kind) (ns : List ℕ) (cells : List (List ℕ)) (s : Symbol)
+    → IsRecord (record { kind = kind; cells = cells })
+    → IsAmong (candidates (Some kind) (row_of ns (record { kind = kind; cells = cells })).cells) s
+    → s ≡ symbol_of (record { kind = kind; cells = cells })
 symbol_alone kinds.Ipa ns cells s h a = party_symbol cells h s a
 symbol_alone kinds.Grh ns cells s h a = group_symbol cells h s a
 symbol_alone kind ns cells s h a = only_among (Plain kind) s a
 
 -- the line of a record's row names the record's symbol alone
-pub line_names : (ns : List ℕ) (r : RecordValue) (line : List ℕ) (s : Symbol) → IsRecord r → IsLineOf (row_of ns r) line → IsAmong (candidates (line_kind line) (line_cells line)) s → s ≡ symbol_of r
+pub line_names : (ns : List ℕ) (r : RecordValue) (line : List ℕ) (s : Symbol) → IsRecord r → IsLineOf (row_of ns r) line
+    → IsAmong (candidates (line_kind line) (line_cells line)) s → s ≡ symbol_of r
 line_names ns r line s h l a =
     let cut = line_is_cut (row_of ns r) line (IsRow-row_of ns r h) l in
     symbol_alone r.kind ns r.cells s h
-    (subst (λ (cs : List (List ℕ)). IsAmong (candidates (Some r.kind) cs) s) cut.cells (subst (λ (o : Option Kind). IsAmong (candidates o (line_cells line)) s) cut.kind a))
+    (subst (λ (cs : List (List ℕ)). IsAmong (candidates (Some r.kind) cs) s) cut.cells
+    (subst (λ (o : Option Kind). IsAmong (candidates o (line_cells line)) s) cut.kind a))
 
 -- and it names it
-pub line_names_it : (ns : List ℕ) (r : RecordValue) (line : List ℕ) → IsRecord r → IsLineOf (row_of ns r) line → IsAmong (candidates (line_kind line) (line_cells line)) (symbol_of r)
+pub line_names_it : (ns : List ℕ) (r : RecordValue) (line : List ℕ) → IsRecord r → IsLineOf (row_of ns r) line
+    → IsAmong (candidates (line_kind line) (line_cells line)) (symbol_of r)
 line_names_it ns r line h l =
     let cut = line_is_cut (row_of ns r) line (IsRow-row_of ns r h) l in
-    let all : take (suc (length (row_of ns r).cells)) (row_of ns r).cells ≡ (row_of ns r).cells = take_all (suc (length (row_of ns r).cells)) (row_of ns r).cells (omega arith) in
+    let all : take (suc (length (row_of ns r).cells)) (row_of ns r).cells ≡ (row_of ns r).cells =
+    take_all (suc (length (row_of ns r).cells)) (row_of ns r).cells (omega arith) in
     let named : IsAmong (candidates (Some r.kind) (row_of ns r).cells) (symbol_of r) =
-    subst (λ (cs : List (List ℕ)). IsAmong (candidates (Some r.kind) cs) (symbol_of r)) all (symbol_named r.kind (length (row_of ns r).cells) ns r.cells h) in
+    subst (λ (cs : List (List ℕ)). IsAmong (candidates (Some r.kind) cs) (symbol_of r)) all
+    (symbol_named r.kind (length (row_of ns r).cells) ns r.cells h) in
     subst (λ (o : Option Kind). IsAmong (candidates o (line_cells line)) (symbol_of r)) (sym cut.kind)
     (subst (λ (cs : List (List ℕ)). IsAmong (candidates (Some r.kind) cs) (symbol_of r)) (sym cut.cells) named)
 
@@ -57,7 +64,8 @@ pub record LineRecord (limits : LimitValues) (xs : List Symbol) (line : List ℕ
   pub is_line : IsLineOf (row_of (numbers_after xs value.kind) value) line
 
 -- a line whose front is good up to after its last field is that of a record that may come next
-pub line_record : (limits : LimitValues) (xs : List Symbol) (line : List ℕ) (m : ℕ) → NoLf line → (g : HasGoodFront limits xs line m) → length (layout g.kind) ≤ m → LineRecord limits xs line
+pub line_record : (limits : LimitValues) (xs : List Symbol) (line : List ℕ) (m : ℕ) → NoLf line
+    → (g : HasGoodFront limits xs line m) → length (layout g.kind) ≤ m → LineRecord limits xs line
 line_record limits xs line m no_lf g far =
     let fields : List FieldLayout = fields_after_type g.kind in
     let ns : List ℕ = numbers_after xs g.kind in
@@ -70,7 +78,8 @@ line_record limits xs line m no_lf g far =
     let v = good_line_is_row ns g.kind line no_lf g.known (g.excess (omega (arith, far))) good in
     let among : IsAmong (candidates (line_kind line) (line_cells line)) g.symbol =
     subst (λ (o : Option Kind). IsAmong (candidates o (line_cells line)) g.symbol) (sym g.known)
-    (subst (λ (cs : List (List ℕ)). IsAmong (candidates (Some g.kind) cs) g.symbol) (take_all (suc m) (line_cells line) (omega (arith, far, many, ap length parts.0))) g.among) in
+    (subst (λ (cs : List (List ℕ)). IsAmong (candidates (Some g.kind) cs) g.symbol)
+    (take_all (suc m) (line_cells line) (omega (arith, far, many, ap length parts.0))) g.among) in
     let symbol : g.symbol ≡ symbol_of v.value = line_names ns v.value line g.symbol v.in_order v.is_line among in
     record {
       value = v.value;

@@ -21,7 +21,8 @@ abbrev is_derived : Option FieldLayout → Bool
 is_derived None = false
 is_derived (Some f) = f.derived
 
-pub unfit_nameless : (kind : Kind) (j : ℕ) (f : FieldLayout) (c : List ℕ) → field_at kind j ≡ Some f → ¬ Allows f.ty c → named_symbol kind j c ≡ None
+pub unfit_nameless : (kind : Kind) (j : ℕ) (f : FieldLayout) (c : List ℕ) → field_at kind j ≡ Some f → ¬ Allows f.ty c
+    → named_symbol kind j c ≡ None
 unfit_nameless kinds.Ipa j f c at fault = by (j == 4) refl
   where
     by : (b : Bool) → (j == 4) ≡ b → cond b (option_map Ipa (role_in c)) None ≡ None
@@ -38,7 +39,8 @@ unfit_nameless kinds.Grh j f c at fault = by (j == 2) refl
     by false e = refl
 unfit_nameless kind j f c at fault = refl
 
-pub derived_nameless : (kind : Kind) (j : ℕ) (f : FieldLayout) (c : List ℕ) → field_at kind j ≡ Some f → f.derived ≡ true → named_symbol kind j c ≡ None
+pub derived_nameless : (kind : Kind) (j : ℕ) (f : FieldLayout) (c : List ℕ) → field_at kind j ≡ Some f → f.derived ≡ true
+    → named_symbol kind j c ≡ None
 derived_nameless kinds.Ipa j f c at d = by (j == 4) refl
   where
     by : (b : Bool) → (j == 4) ≡ b → cond b (option_map Ipa (role_in c)) None ≡ None

@@ -1,5 +1,6 @@
 -- A text has one end at most: it is accepted, or refused at one place for one reason, or truncated with one number of lines.
-use Rattle.std.proofs.Common.{◌≡◌, ℕ, ◌≤◌, Bool, true, false, List, [], ◌∷◌, ◌++◌, length, refl, sym, ap, ap₂, subst, ◌∙◌, arith, Option, Some, None, nat_eq, true≢false, inl, inr, lit≤}
+use Rattle.std.proofs.Common.{◌≡◌, ℕ, ◌≤◌, Bool, true, false, List, [], ◌∷◌, ◌++◌, length, refl, sym, ap, ap₂, subst, ◌∙◌, arith}
+use Rattle.std.proofs.Common.{Option, Some, None, nat_eq, true≢false, inl, inr, lit≤}
 use Rattle.std.specs.Prelude.{option_and_then, ◌⊎◌}
 use Rattle.std.proofs.lemmas.Bool.{eqb-true, eq-eqb}
 use Rattle.cwr_fields.specs.declared.cell_types.CellFault.{CellFault}
@@ -20,7 +21,8 @@ use Rattle.cwr_judge.specs.Format.Ends.{IsRefused, IsTruncated, last_kind}
 use Rattle.cwr_judge.proofs.Accepted.{one_place}
 
 -- the line after as many others is the same
-pub same_line : (xs ys : List (List ℕ)) (a b : List ℕ) (us vs : List (List ℕ)) → length xs ≡ length ys → xs ++ a ∷ us ≡ ys ++ b ∷ vs → (xs ≡ ys) × (a ≡ b)
+pub same_line : (xs ys : List (List ℕ)) (a b : List ℕ) (us vs : List (List ℕ)) → length xs ≡ length ys
+    → xs ++ a ∷ us ≡ ys ++ b ∷ vs → (xs ≡ ys) × (a ≡ b)
 same_line [] [] a b us vs l e = (refl, cc)
 same_line [] (y ∷ ys) a b us vs l e = absurd (omega arith)
 same_line (x ∷ xs) [] a b us vs l e = absurd (omega arith)
@@ -35,18 +37,21 @@ no_value a e = cc
 one_some : {A : Type 0} (a b : A) → Some a ≡ Some b → a ≡ b
 one_some a b e = cc
 
-known_kind : (kind : Option Kind) (k : ℕ) (f : FieldLayout) → option_and_then (λ known. field_at known k) kind ≡ Some f → (known : Kind) × (kind ≡ Some known)
+known_kind : (kind : Option Kind) (k : ℕ) (f : FieldLayout) → option_and_then (λ known. field_at known k) kind ≡ Some f
+    → (known : Kind) × (kind ≡ Some known)
 known_kind None k f e = absurd (no_value f e)
 known_kind (Some kind) k f e = (kind, refl)
 
-one_number : (before : List (List ℕ)) (line : List ℕ) (k m n : ℕ) (kind : Kind) → IsNumber before line k m → IsNumber before line k n → line_kind line ≡ Some kind
+one_number : (before : List (List ℕ)) (line : List ℕ) (k m n : ℕ) (kind : Kind) → IsNumber before line k m
+    → IsNumber before line k n → line_kind line ≡ Some kind
     → ¬ (¬ ContinuesAmong (λ groups. Unit {0}) (line_candidates before line k)) → m ≡ n
 one_number before line k m n kind h j at continues = by (nat_eq m n) refl
   where
     by : (b : Bool) → nat_eq m n ≡ b → m ≡ n
     by true e = eqb-true m n e
     by false e =
-        absurd (continues (λ g. true≢false (sym (eq-eqb m n (one_some m n (sym (h g.0 kind g.1 g.3 at) ∙ j g.0 kind g.1 g.3 at))) ∙ e)))
+        absurd (continues
+        (λ g. true≢false (sym (eq-eqb m n (one_some m n (sym (h g.0 kind g.1 g.3 at) ∙ j g.0 kind g.1 g.3 at))) ∙ e)))
 
 same_limit : (k l : LimitKind) → rank (Limit k) ≡ rank (Limit l) → k ≡ l
 same_limit limit_kinds.Records limit_kinds.Records e = refl
@@ -64,7 +69,8 @@ late : (r : ℕ) → r ≡ 4 → r ≤ 2 → ⊥
 late r e s = omega arith
 
 -- reasons of one rank are one, but for what they carry
-same_reason : (a b : Reason) → rank a ≡ rank b → ((x y : CellFault) → a ≡ Cell x → b ≡ Cell y → x ≡ y) → ((m n : ℕ) → a ≡ Number m → b ≡ Number n → m ≡ n) → a ≡ b
+same_reason : (a b : Reason) → rank a ≡ rank b → ((x y : CellFault) → a ≡ Cell x → b ≡ Cell y → x ≡ y)
+    → ((m n : ℕ) → a ≡ Number m → b ≡ Number n → m ≡ n) → a ≡ b
 same_reason UnknownKind UnknownKind e f g = refl
 same_reason Misplaced Misplaced e f g = refl
 same_reason (Cell x) (Cell y) e f g = ap Cell (f x y refl refl)
@@ -83,7 +89,8 @@ same_reason Excess (Limit l) e f g = absurd (no_limit l 8 (sym e) (inr (lit≤ t
 same_reason Excess Excess e f g = refl
 same_reason a b e f g = absurd (omega arith)
 
-one_reason : (limits : Limits) (before : List (List ℕ)) (line : List ℕ) (k : ℕ) (a b : Reason) → IsReason limits before line k a → IsReason limits before line k b → a ≡ b
+one_reason : (limits : Limits) (before : List (List ℕ)) (line : List ℕ) (k : ℕ) (a b : Reason) → IsReason limits before line k a
+    → IsReason limits before line k b → a ≡ b
 one_reason limits before line k a b h j =
     let first = h.1 b j.0 in
     let second = j.1 a h.0 in
@@ -101,7 +108,8 @@ one_reason limits before line k a b h j =
         let one = subst (Applies limits before line k) p h.0 in
         let two = subst (Applies limits before line k) q j.0 in
         let kind = known_kind (line_kind line) k one.0 one.1 in
-        let placed : ¬ (¬ ContinuesAmong (λ groups. Unit {0}) (line_candidates before line k)) = λ misplaced. absurd (late (rank a) (ap rank p) (h.1 Misplaced misplaced)) in
+        let placed : ¬ (¬ ContinuesAmong (λ groups. Unit {0}) (line_candidates before line k)) =
+        λ misplaced. absurd (late (rank a) (ap rank p) (h.1 Misplaced misplaced)) in
         one_number before line k m n kind.0 one.3 two.3 kind.1 placed
 
 -- a text is refused in one way at most
@@ -112,13 +120,17 @@ refused_once limits text a b h j =
     let line = same_line h.before j.before h.line j.line h.after j.after many (sym h.lines ∙ j.lines) in
     let other : IsReason limits h.before h.line a.field b.reason =
     subst (λ (xs : List (List ℕ)). IsReason limits xs h.line a.field b.reason) (sym line.0)
-    (subst (λ (l : List ℕ). IsReason limits j.before l a.field b.reason) (sym line.1) (subst (λ (k : ℕ). IsReason limits j.before j.line k b.reason) (sym place.1) j.reason)) in
+    (subst (λ (l : List ℕ). IsReason limits j.before l a.field b.reason) (sym line.1)
+    (subst (λ (k : ℕ). IsReason limits j.before j.line k b.reason) (sym place.1) j.reason)) in
     let reason : a.reason ≡ b.reason = one_reason limits h.before h.line a.field a.reason b.reason h.reason other in
     let level : a.level ≡ b.level =
-    h.level ∙ ap₂ (λ (l : List ℕ) (k : ℕ). level_of (line_kind l) k a.reason (scope_after_kind (last_kind h.before))) line.1 place.1
-    ∙ ap₂ (λ (r : Reason) (xs : List (List ℕ)). level_of (line_kind j.line) b.field r (scope_after_kind (last_kind xs))) reason line.0 ∙ sym j.level in
+    h.level
+    ∙ ap₂ (λ (l : List ℕ) (k : ℕ). level_of (line_kind l) k a.reason (scope_after_kind (last_kind h.before))) line.1 place.1
+    ∙ ap₂ (λ (r : Reason) (xs : List (List ℕ)). level_of (line_kind j.line) b.field r (scope_after_kind (last_kind xs))) reason
+    line.0 ∙ sym j.level in
     λ i. record { rec = place.0 i; field = place.1 i; level = level i; reason = reason i }
 
 -- a text that is refused isn't truncated
-pub refused_or_truncated : (limits : Limits) (text : List ℕ) (refusal : Refusal) (records : ℕ) → IsRefused limits text refusal → IsTruncated limits text records → ⊥
+pub refused_or_truncated : (limits : Limits) (text : List ℕ) (refusal : Refusal) (records : ℕ) → IsRefused limits text refusal
+    → IsTruncated limits text records → ⊥
 refused_or_truncated limits text refusal records h j = j.nowhere refusal.rec refusal.field h.first.0

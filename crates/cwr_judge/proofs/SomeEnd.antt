@@ -19,7 +19,8 @@ compared (suc a) (suc b) = by (compared a b)
     by (inr (inr h)) = inr (inr (omega arith))
 
 -- what is bad, with nothing bad before it, is bad first
-pub is_first : (limits : Limits) (text : List ℕ) (i k : ℕ) → IsBadAt limits text i k → ((j : ℕ) → j < i → (l : ℕ) → ¬ IsBadAt limits text j l) → ((l : ℕ) → l < k → ¬ IsBadAt limits text i l)
+pub is_first : (limits : Limits) (text : List ℕ) (i k : ℕ) → IsBadAt limits text i k
+    → ((j : ℕ) → j < i → (l : ℕ) → ¬ IsBadAt limits text j l) → ((l : ℕ) → l < k → ¬ IsBadAt limits text i l)
     → IsFirstBad limits text i k
 is_first limits text i k bad lines fields = (bad, λ j l other. by j l other (compared i j))
   where
@@ -34,17 +35,21 @@ is_first limits text i k bad lines fields = (bad, λ j l other. by j l other (co
     by j l other (inr (inr h)) = absurd (lines j h l other)
 
 -- no place is bad, where none is the first
-nowhere_bad : (limits : Limits) (text : List ℕ) → ((i k : ℕ) → ¬ IsFirstBad limits text i k) → (i k : ℕ) → ¬ IsBadAt limits text i k
+nowhere_bad : (limits : Limits) (text : List ℕ) → ((i k : ℕ) → ¬ IsFirstBad limits text i k) → (i k : ℕ)
+    → ¬ IsBadAt limits text i k
 nowhere_bad limits text none i k = below (suc i) i (omega arith) k
   where
-    fields_below : (i : ℕ) → ((j : ℕ) → j < i → (l : ℕ) → ¬ IsBadAt limits text j l) → (n k : ℕ) → k < n → ¬ IsBadAt limits text i k
+    fields_below : (i : ℕ) → ((j : ℕ) → j < i → (l : ℕ) → ¬ IsBadAt limits text j l) → (n k : ℕ) → k < n
+        → ¬ IsBadAt limits text i k
     fields_below i lines zero k h bad = absurd (omega arith)
-    fields_below i lines (suc n) k h bad = none i k (is_first limits text i k bad lines (λ l s. fields_below i lines n l (omega (arith, s, h))))
+    fields_below i lines (suc n) k h bad =
+        none i k (is_first limits text i k bad lines (λ l s. fields_below i lines n l (omega (arith, s, h))))
 
     below : (n i : ℕ) → i < n → (k : ℕ) → ¬ IsBadAt limits text i k
     below zero i h k bad = absurd (omega arith)
     below (suc n) i h k bad = fields_below i (λ j s. below n j (omega (arith, s, h))) (suc k) k (omega arith) bad
 
 -- a text that is neither accepted nor bad at some first place is truncated
-pub some_end : (limits : Limits) (text : List ℕ) → IsNotAccepted limits text → ((i k : ℕ) → ¬ IsFirstBad limits text i k) → IsTruncated limits text (length (raw_lines (closed text)))
+pub some_end : (limits : Limits) (text : List ℕ) → IsNotAccepted limits text → ((i k : ℕ) → ¬ IsFirstBad limits text i k)
+    → IsTruncated limits text (length (raw_lines (closed text)))
 some_end limits text unaccepted none = record { unaccepted = unaccepted; nowhere = nowhere_bad limits text none; count = refl }

@@ -20,7 +20,8 @@ record Alone (set : List Symbol) (x : Symbol) : Type 0 where
   has : IsAmong set x
   only : (t : Symbol) → IsAmong set t → t ≡ x
 
-all_alone : (before rs : List RecordValue) (lines : List (List ℕ)) → AllByRecursion IsRecord rs → AllZip IsLineOf (rows_after before rs) lines → AllZip Alone (named_by_lines lines) (map symbol_of rs)
+all_alone : (before rs : List RecordValue) (lines : List (List ℕ)) → AllByRecursion IsRecord rs
+    → AllZip IsLineOf (rows_after before rs) lines → AllZip Alone (named_by_lines lines) (map symbol_of rs)
 unfolding rows_after
 all_alone before [] [] h z = tt
 all_alone before [] (line ∷ lines) h z = absurd z
@@ -39,7 +40,8 @@ record EndsIn (xs cs ys : List Symbol) : Type 0 where
   among : IsAmong cs symbol
   are : ys ≡ xs ++ symbol ∷ []
 
-ends_in : (sets : List (List Symbol)) (xs cs ys : List Symbol) → AllZip Alone sets xs → AllZip IsAmong (sets ++ cs ∷ []) ys → EndsIn xs cs ys
+ends_in : (sets : List (List Symbol)) (xs cs ys : List Symbol) → AllZip Alone sets xs → AllZip IsAmong (sets ++ cs ∷ []) ys
+    → EndsIn xs cs ys
 ends_in [] [] cs [] a z = absurd z
 ends_in [] [] cs (y ∷ []) a z = record { symbol = y; among = z.0; are = refl }
 ends_in [] [] cs (y ∷ z ∷ ys) a q = absurd q.1
@@ -50,19 +52,31 @@ ends_in (set ∷ sets) (x ∷ xs) cs (y ∷ ys) a z =
     let e = ends_in sets xs cs ys a.1 z.1 in
     record { symbol = e.symbol; among = e.among; are = ap₂ (λ (s : Symbol) (l : List Symbol). s ∷ l) (a.0.only y z.0) e.are }
 
-all_among : (sets : List (List Symbol)) (xs cs : List Symbol) (s : Symbol) → AllZip Alone sets xs → IsAmong cs s → AllZip IsAmong (sets ++ cs ∷ []) (xs ++ s ∷ [])
+all_among : (sets : List (List Symbol)) (xs cs : List Symbol) (s : Symbol) → AllZip Alone sets xs → IsAmong cs s
+    → AllZip IsAmong (sets ++ cs ∷ []) (xs ++ s ∷ [])
 all_among [] [] cs s a m = (m, tt)
 all_among [] (x ∷ xs) cs s a m = absurd a
 all_among (set ∷ sets) [] cs s a m = absurd a
 all_among (set ∷ sets) (x ∷ xs) cs s a m = (a.0.has, all_among sets xs cs s a.1 m)
 
-pub among_with : (P : List GroupOutline → Type 0) (records : List RecordValue) (lines : List (List ℕ)) (cs : List Symbol) → AllByRecursion IsRecord records → AllZip IsLineOf (rows_so_far records) lines
+pub among_with : (P : List GroupOutline → Type 0) (records : List RecordValue) (lines : List (List ℕ)) (cs : List Symbol)
+    → AllByRecursion IsRecord records → AllZip IsLineOf (rows_so_far records) lines
     → ContinuesAmong P (named_by_lines lines ++ cs ∷ []) → ContinuesWith (map symbol_of records) cs P
 among_with P records lines cs h z (groups, whole, p, (ys, rest, begins, each)) =
     let e = ends_in (named_by_lines lines) (map symbol_of records) cs ys (all_alone [] records lines h z) each in
     (e.symbol, e.among, (groups, whole, p, (rest, begins ∙ ap (λ (l : List Symbol). l ++ rest) e.are)))
 
-pub with_among : (P : List GroupOutline → Type 0) (records : List RecordValue) (lines : List (List ℕ)) (cs : List Symbol) → AllByRecursion IsRecord records → AllZip IsLineOf (rows_so_far records) lines
+pub with_among : (P : List GroupOutline → Type 0) (records : List RecordValue) (lines : List (List ℕ)) (cs : List Symbol)
+    → AllByRecursion IsRecord records → AllZip IsLineOf (rows_so_far records) lines
     → ContinuesWith (map symbol_of records) cs P → ContinuesAmong P (named_by_lines lines ++ cs ∷ [])
-with_among P records lines cs h z (s, among, (groups, whole, p, (rest, begins))) =
-    (groups, whole, p, (map symbol_of records ++ s ∷ [], rest, begins, all_among (named_by_lines lines) (map symbol_of records) cs s (all_alone [] records lines h z) among))
+with_among P records lines cs h z (s, among, (groups, whole, p, (rest, begins))) = (
+  groups,
+  whole,
+  p,
+  (
+    map symbol_of records ++ s ∷ [],
+    rest,
+    begins,
+    all_among (named_by_lines lines) (map symbol_of records) cs s (all_alone [] records lines h z) among,
+  ),
+)

@@ -19,7 +19,8 @@ trailer_ends xs g =
     subst IsWhole (append-nil ys) (((stands_leaves ys stages.Ended stands).leaves []).1 ([], refl, tt))
 
 last_is : (xs : List Symbol) (s : Symbol) → IsWhole (xs ++ s ∷ []) → Some s ≡ Some (Plain Trl)
-last_is xs s w = sym (last_or-snoc None xs s) ∙ ap (last_or None) w.2 ∙ last_or-snoc None (Plain Hdr ∷ flat_map group_symbols w.0) (Plain Trl)
+last_is xs s w =
+    sym (last_or-snoc None xs s) ∙ ap (last_or None) w.2 ∙ last_or-snoc None (Plain Hdr ∷ flat_map group_symbols w.0) (Plain Trl)
 
 pub whole_ends : (xs : List Symbol) (s : Symbol) → IsWhole (xs ++ s ∷ []) → s ≡ Plain Trl
 whole_ends xs s w = let same = last_is xs s w in cc same

@@ -9,7 +9,8 @@ ghost use Rattle.cwr_lines.specs.Steps.Held.{held_excess, held_kind, held_record
 ghost use Rattle.cwr_lines.specs.Format.Records.{IsRecord};
 ghost use Rattle.cwr_shape.specs.declared.symbols.Symbol.{Symbol};
 ghost use Rattle.cwr_shape.specs.Steps.Tallies.{IsAdmitted, IsTallyOf};
-ghost use Rattle.cwr_judge.specs.Steps.Judged.{HasNumberAt, HasNumbers, IsCounted, IsNext, IsOfNone, Lacks, named_symbol, bar_reason, IsGoodText, IsTextFault, IsNumberFault, IsGoodAt, HasReasonAt, MayComeOf, IsFirstFault};
+ghost use Rattle.cwr_judge.specs.Steps.Judged.{HasNumberAt, HasNumbers, IsCounted, IsNext, IsOfNone, Lacks, named_symbol, bar_reason, IsGoodText, IsTextFault};
+ghost use Rattle.cwr_judge.specs.Steps.Judged.{IsNumberFault, IsGoodAt, HasReasonAt, MayComeOf, IsFirstFault};
 
 use cwr_fields::{
     Cell, CellType, Kind, Role, SpelledPair, TransactionType, field, fields, fits, spells,
@@ -31,8 +32,10 @@ pub struct LineFault {
 #[inline(always)]
 fn has_number(tally: &Tally, line: &CutLine<'_>, kind: Kind, j: u8) -> bool
     requires { held_kind line.now ≡ Some kind }
-    ensures yes { (xs : List Symbol) → IsTallyOf tally.now xs → IsTrue result → HasNumberAt xs line.now kind j }
-    ensures no { (xs : List Symbol) → IsTallyOf tally.now xs → IsFalse result → Lacks xs kind (HasNumberAt xs line.now kind j) }
+    ensures yes { (xs : List Symbol) → IsTallyOf tally.now xs → IsTrue result
+        → HasNumberAt xs line.now kind j }
+    ensures no { (xs : List Symbol) → IsTallyOf tally.now xs → IsFalse result
+        → Lacks xs kind (HasNumberAt xs line.now kind j) }
 {
     let Some(place) = field(kind, j) else {
         return true;
@@ -59,7 +62,8 @@ fn surely_has_numbers(
     expected: &mut SpelledPair,
 ) -> bool
     requires { held_kind line.now ≡ Some kind }
-    ensures { (xs : List Symbol) → IsTallyOf tally.now xs → IsTrue result → HasNumbers xs line.now kind }
+    ensures { (xs : List Symbol) → IsTallyOf tally.now xs → IsTrue result
+        → HasNumbers xs line.now kind }
 {
     let Some(sequences) = line.sequences() else {
         return false;
@@ -76,8 +80,10 @@ fn surely_has_numbers(
 /// Whether each derived cell of the line is the number that belongs there. No kind has one after its fourth field.
 fn has_numbers(tally: &Tally, line: &CutLine<'_>, kind: Kind) -> bool
     requires { held_kind line.now ≡ Some kind }
-    ensures yes { (xs : List Symbol) → IsTallyOf tally.now xs → IsTrue result → HasNumbers xs line.now kind }
-    ensures no { (xs : List Symbol) → IsTallyOf tally.now xs → IsFalse result → Lacks xs kind (HasNumbers xs line.now kind) }
+    ensures yes { (xs : List Symbol) → IsTallyOf tally.now xs → IsTrue result
+        → HasNumbers xs line.now kind }
+    ensures no { (xs : List Symbol) → IsTallyOf tally.now xs → IsFalse result
+        → Lacks xs kind (HasNumbers xs line.now kind) }
 {
     if !has_number(tally, line, kind, 2) {
         return false;
@@ -90,10 +96,13 @@ fn has_numbers(tally: &Tally, line: &CutLine<'_>, kind: Kind) -> bool
 
 /// The record of the line and its symbol, where it may come next.
 fn next_record<'a>(tally: &Tally, line: &CutLine<'a>) -> Option<(Symbol, RecordRef<'a>)>
-    ensures some { (xs : List Symbol) → IsTallyOf tally.now xs → IfSome result (λ found. IsNext tally.now.limits xs line.now found.0 found.1) }
-    ensures none { (xs : List Symbol) → IsTallyOf tally.now xs → IsNone result → IsOfNone tally.now.limits xs line.now }
+    ensures some { (xs : List Symbol) → IsTallyOf tally.now xs
+        → IfSome result (λ found. IsNext tally.now.limits xs line.now found.0 found.1) }
+    ensures none { (xs : List Symbol) → IsTallyOf tally.now xs → IsNone result
+        → IsOfNone tally.now.limits xs line.now }
     ensures admitted { IfSome result (λ found. IsAdmitted tally.now found.0) }
-    ensures carried { IfSome result (λ found. (held_record line.now ≡ Some found.1) × IsRecord found.1 × IsFalse (held_excess line.now)) }
+    ensures carried { IfSome result (λ found. (held_record line.now ≡ Some found.1)
+        × IsRecord found.1 × IsFalse (held_excess line.now)) }
 {
     let Some(record) = line.record() else {
         return None;
@@ -178,8 +187,10 @@ fn named_symbol(kind: Kind, j: u8, cell: &[u8]) -> Option<Symbol>
 /// Whether a carried cell in field `j` is one of its type, and the record whose symbol it names may come, or why not.
 fn judge_text(tally: &Tally, kind: Kind, j: u8, ty: CellType, cell: &[u8]) -> Result<(), Reason>
     requires { ForSome (type_width ty) (λ width. length cell.now ≡ width) }
-    ensures ok { (xs : List Symbol) → IsTallyOf tally.now xs → OnOk result (IsGoodText tally.now.limits xs kind j ty cell.now) }
-    ensures err { (xs : List Symbol) → IsTallyOf tally.now xs → IfErr result (IsTextFault tally.now.limits xs kind j ty cell.now) }
+    ensures ok { (xs : List Symbol) → IsTallyOf tally.now xs
+        → OnOk result (IsGoodText tally.now.limits xs kind j ty cell.now) }
+    ensures err { (xs : List Symbol) → IsTallyOf tally.now xs
+        → IfErr result (IsTextFault tally.now.limits xs kind j ty cell.now) }
 {
     if let Err(fault) = fits(ty, cell) {
         return Err(Reason::Cell(fault));
@@ -199,8 +210,10 @@ fn judge_field(tally: &Tally, line: &CutLine<'_>, kind: Kind, j: u8) -> Result<(
     requires known { held_kind line.now ≡ Some kind }
     requires from { 2 ≤ j }
     requires to { j ≤ length (layout_of kind) }
-    ensures ok { (xs : List Symbol) → IsTallyOf tally.now xs → MayComeOf tally.now.limits xs kind → OnOk result (IsGoodAt tally.now.limits xs line.now kind j) }
-    ensures err { (xs : List Symbol) → IsTallyOf tally.now xs → MayComeOf tally.now.limits xs kind → IfErr result (HasReasonAt tally.now.limits xs line.now kind j) }
+    ensures ok { (xs : List Symbol) → IsTallyOf tally.now xs → MayComeOf tally.now.limits xs kind
+        → OnOk result (IsGoodAt tally.now.limits xs line.now kind j) }
+    ensures err { (xs : List Symbol) → IsTallyOf tally.now xs → MayComeOf tally.now.limits xs kind
+        → IfErr result (HasReasonAt tally.now.limits xs line.now kind j) }
 {
     let Some(place) = field(kind, j) else {
         return Ok(());
@@ -248,11 +261,15 @@ fn first_fault(tally: &Tally, line: &CutLine<'_>) -> LineFault
 
 /// Whether the line may come next: its record and that record's symbol, or the first field that is wrong.
 pub fn judge<'a>(tally: &Tally, line: &CutLine<'a>) -> Result<(Symbol, RecordRef<'a>), LineFault>
-    ensures ok { (xs : List Symbol) → IsTallyOf tally.now xs → IfOk result (λ found. IsNext tally.now.limits xs line.now found.0 found.1) }
-    ensures err { (xs : List Symbol) → IsTallyOf tally.now xs → IfErr result (λ _. IsOfNone tally.now.limits xs line.now) }
+    ensures ok { (xs : List Symbol) → IsTallyOf tally.now xs
+        → IfOk result (λ found. IsNext tally.now.limits xs line.now found.0 found.1) }
+    ensures err { (xs : List Symbol) → IsTallyOf tally.now xs
+        → IfErr result (λ _. IsOfNone tally.now.limits xs line.now) }
     ensures admitted { IfOk result (λ found. IsAdmitted tally.now found.0) }
-    ensures carried { IfOk result (λ found. (held_record line.now ≡ Some found.1) × IsRecord found.1 × IsFalse (held_excess line.now)) }
-    ensures first { (xs : List Symbol) → IsTallyOf tally.now xs → IfErr result (λ f. IsFirstFault tally.now.limits xs line.now f.field f.reason) }
+    ensures carried { IfOk result (λ found. (held_record line.now ≡ Some found.1) × IsRecord found.1
+        × IsFalse (held_excess line.now)) }
+    ensures first { (xs : List Symbol) → IsTallyOf tally.now xs
+        → IfErr result (λ f. IsFirstFault tally.now.limits xs line.now f.field f.reason) }
 {
     match next_record(tally, line) {
         Some(found) => Ok(found),

@@ -1,14 +1,17 @@
 -- Where the copy of an acknowledgement starts, record by record.
-use Rattle.std.proofs.Common.{◌≡◌, ℕ, zero, suc, ◌+◌, ◌≤◌, Bool, true, false, cond, List, [], ◌∷◌, length, Option, Some, refl, sym, ap, ◌∙◌, arith, true≢false}
+use Rattle.std.proofs.Common.{◌≡◌, ℕ, zero, suc, ◌+◌, ◌≤◌, Bool, true, false, cond, List, [], ◌∷◌, length, Option, Some, refl}
+use Rattle.std.proofs.Common.{sym, ap, ◌∙◌, arith, true≢false}
 use Rattle.std.specs.Prelude.{slice_get}
 use Rattle.std.specs.List.{prefix_len}
 use Rattle.std.proofs.lemmas.List.Sums.{prefix_len-le-length}
 
 -- the front of a list is as long as its first element and the rest say
-front_by : {X : Type 0} (p : X → Bool) (x : X) (xs : List X) (b : Bool) → p x ≡ b → prefix_len p (x ∷ xs) ≡ cond b (1 + prefix_len p xs) 0
+front_by : {X : Type 0} (p : X → Bool) (x : X) (xs : List X) (b : Bool) → p x ≡ b
+    → prefix_len p (x ∷ xs) ≡ cond b (1 + prefix_len p xs) 0
 front_by p x xs b e = ap (λ (c : Bool). cond c (1 + prefix_len p xs) 0) e
 
-pub front_more : {X : Type 0} (p : X → Bool) (xs : List X) (k : ℕ) (x : X) → k ≤ prefix_len p xs → slice_get xs k ≡ Some x → p x ≡ true → k + 1 ≤ prefix_len p xs
+pub front_more : {X : Type 0} (p : X → Bool) (xs : List X) (k : ℕ) (x : X) → k ≤ prefix_len p xs → slice_get xs k ≡ Some x
+    → p x ≡ true → k + 1 ≤ prefix_len p xs
 front_more p [] k x h e t = absurd (cc e)
 front_more p (y ∷ ys) zero x h e t =
     let same : y ≡ x = cc e in omega (arith, front_by p y ys true (ap p same ∙ t))
@@ -18,7 +21,8 @@ front_more p (y ∷ ys) (suc k) x h e t = by (p y) refl (λ (g : k ≤ prefix_le
     by true f g = omega (arith, front_by p y ys true f, g (omega (arith, h, front_by p y ys true f)))
     by false f g = absurd (omega (arith, h, front_by p y ys false f))
 
-pub front_ends : {X : Type 0} (p : X → Bool) (xs : List X) (k : ℕ) (x : X) → k ≤ prefix_len p xs → slice_get xs k ≡ Some x → p x ≡ false → k ≡ prefix_len p xs
+pub front_ends : {X : Type 0} (p : X → Bool) (xs : List X) (k : ℕ) (x : X) → k ≤ prefix_len p xs → slice_get xs k ≡ Some x
+    → p x ≡ false → k ≡ prefix_len p xs
 front_ends p [] k x h e t = absurd (cc e)
 front_ends p (y ∷ ys) zero x h e t =
     let same : y ≡ x = cc e in omega (arith, front_by p y ys false (ap p same ∙ t))

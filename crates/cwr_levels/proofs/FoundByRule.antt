@@ -1,5 +1,6 @@
 -- The findings at a record, rule by rule.
-use Rattle.std.proofs.Common.{◌≡◌, ℕ, zero, suc, ◌+◌, ◌<◌, ◌≤◌, Bool, true, false, cond, List, [], ◌∷◌, ◌++◌, length, map, take, get_or, refl, sym, ap, ◌∙◌, arith, nat_eq, append_assoc, true≢false}
+use Rattle.std.proofs.Common.{◌≡◌, ℕ, zero, suc, ◌+◌, ◌<◌, ◌≤◌, Bool, true, false, cond, List, [], ◌∷◌, ◌++◌, length, map, take}
+use Rattle.std.proofs.Common.{get_or, refl, sym, ap, ◌∙◌, arith, nat_eq, append_assoc, true≢false}
 use Rattle.std.specs.Prelude.{OnErr, Ok, Err, Result, Some, filter, slice_get, ◌&&◌, ◌||◌}
 use Rattle.std.proofs.lemmas.Bool.{and_parts, eqb-true}
 use Rattle.std.proofs.lemmas.List.{append-nil, map-append, take_all}
@@ -9,7 +10,8 @@ use Rattle.cwr_lines.specs.Format.Records.{RecordValue}
 use Rattle.cwr_levels.specs.declared.rules.Rule.{Rule}
 use Rattle.cwr_levels.specs.declared.rules.Rule.TheVariants.{V1, V2, V3, V4, V5, V6, V7, V8, V9, V10, V11}
 use Rattle.cwr_levels.specs.declared.rules.Finding.{Finding}
-use Rattle.cwr_levels.specs.Format.Findings.{breaks, is_a, is_work, is_agreement, field_of_rule, level_of_rule, all_rules, findings_at}
+use Rattle.cwr_levels.specs.Format.Findings.{breaks, is_a, is_work, is_agreement, field_of_rule, level_of_rule, all_rules}
+use Rattle.cwr_levels.specs.Format.Findings.{findings_at}
 use Rattle.cwr_levels.specs.Steps.Walks.{can_break, is_kind, rules_on}
 use Rattle.cwr_levels.proofs.RuleTests.{first_of_work, first_of_agreement, or_none}
 
@@ -23,14 +25,16 @@ found_by n t k r rules = map (finding_of n k r) (filter (λ rule. breaks rule t 
 
 -- ---- a rule is broken only by the kinds that can break it
 
-header_at : (t : List RecordValue) (k : ℕ) (r : RecordValue) (x : Bool) → slice_get t k ≡ Some r → (is_work t && nat_eq k 0 && x) ≡ true → (is_kind kinds.Nwr r.kind || is_kind kinds.Rev r.kind) ≡ true
+header_at : (t : List RecordValue) (k : ℕ) (r : RecordValue) (x : Bool) → slice_get t k ≡ Some r
+    → (is_work t && nat_eq k 0 && x) ≡ true → (is_kind kinds.Nwr r.kind || is_kind kinds.Rev r.kind) ≡ true
 header_at t k r x there h =
     let p = and_parts (is_work t && nat_eq k 0) x h in
     let q = and_parts (is_work t) (nat_eq k 0) p.0 in
     let first : slice_get t 0 ≡ Some r = ap (slice_get t) (sym (eqb-true k 0 q.1)) ∙ there in
     sym (or_none (is_a kinds.Nwr r || is_a kinds.Rev r)) ∙ first_of_work t r first ∙ q.0
 
-agreement_at : (t : List RecordValue) (k : ℕ) (r : RecordValue) (x : Bool) → slice_get t k ≡ Some r → (is_agreement t && nat_eq k 0 && x) ≡ true → is_kind kinds.Agr r.kind ≡ true
+agreement_at : (t : List RecordValue) (k : ℕ) (r : RecordValue) (x : Bool) → slice_get t k ≡ Some r
+    → (is_agreement t && nat_eq k 0 && x) ≡ true → is_kind kinds.Agr r.kind ≡ true
 agreement_at t k r x there h =
     let p = and_parts (is_agreement t && nat_eq k 0) x h in
     let q = and_parts (is_agreement t) (nat_eq k 0) p.0 in
@@ -55,9 +59,11 @@ second_of_three false false c h = h
 second_of_four : (a b c d : Bool) → (a && b && c && d) ≡ true → b ≡ true
 second_of_four a b c d h = second_of_three a b c (and_parts (a && b && c) d h).0
 
-pub broken_can_be : (rule : Rule) (t : List RecordValue) (k : ℕ) (r : RecordValue) → slice_get t k ≡ Some r → breaks rule t k r ≡ true → can_break rule r.kind ≡ true
+pub broken_can_be : (rule : Rule) (t : List RecordValue) (k : ℕ) (r : RecordValue) → slice_get t k ≡ Some r
+    → breaks rule t k r ≡ true → can_break rule r.kind ≡ true
 broken_can_be V1 t k r there h = first_of_three (can_break V1 r.kind) _ _ h
-broken_can_be V2 t k r there h = one_of_two (is_kind kinds.Spt r.kind) (is_kind kinds.Swt r.kind) _ _ (and_parts (is_work t) _ h).1
+broken_can_be V2 t k r there h =
+    one_of_two (is_kind kinds.Spt r.kind) (is_kind kinds.Swt r.kind) _ _ (and_parts (is_work t) _ h).1
 broken_can_be V3 t k r there h = header_at t k r _ there h
 broken_can_be V4 t k r there h = header_at t k r _ there h
 broken_can_be V5 t k r there h = header_at t k r _ there h
@@ -68,40 +74,50 @@ broken_can_be V9 t k r there h = header_at t k r _ there h
 broken_can_be V10 t k r there h = agreement_at t k r _ there h
 broken_can_be V11 t k r there h = second_of_four (is_agreement t) (is_a kinds.Ter r) _ _ h
 
-filter_by : (p q : Rule → Bool) (x : Rule) (l : List Rule) (a b : Bool) → p x ≡ a → q x ≡ b → (a ≡ true → b ≡ true) → filter p (filter q l) ≡ filter p l → filter p (filter q (x ∷ l)) ≡ filter p (x ∷ l)
+filter_by : (p q : Rule → Bool) (x : Rule) (l : List Rule) (a b : Bool) → p x ≡ a → q x ≡ b → (a ≡ true → b ≡ true)
+    → filter p (filter q l) ≡ filter p l → filter p (filter q (x ∷ l)) ≡ filter p (x ∷ l)
 filter_by p q x l true true e f h rest = rw (f, e) (ap (λ (m : List Rule). x ∷ m) rest)
 filter_by p q x l true false e f h rest = absurd (true≢false (sym (h refl)))
 filter_by p q x l false true e f h rest = rw (f, e) rest
 filter_by p q x l false false e f h rest = rw (f, e) rest
 
 -- whom one test keeps, another that lets them all pass doesn't matter to
-filter_within : (p q : Rule → Bool) → ((x : Rule) → p x ≡ true → q x ≡ true) → (l : List Rule) → filter p (filter q l) ≡ filter p l
+filter_within : (p q : Rule → Bool) → ((x : Rule) → p x ≡ true → q x ≡ true) → (l : List Rule)
+    → filter p (filter q l) ≡ filter p l
 filter_within p q h [] = refl
 filter_within p q h (x ∷ l) = filter_by p q x l (p x) (q x) refl refl (h x) (filter_within p q h l)
 
 -- so these rules are all that need to be asked
-pub found_by_all : (n : ℕ) (t : List RecordValue) (k : ℕ) (r : RecordValue) → slice_get t k ≡ Some r → found_by n t k r (rules_on r.kind) ≡ findings_at n t k r
+pub found_by_all : (n : ℕ) (t : List RecordValue) (k : ℕ) (r : RecordValue) → slice_get t k ≡ Some r
+    → found_by n t k r (rules_on r.kind) ≡ findings_at n t k r
 found_by_all n t k r there =
-    ap (map (finding_of n k r)) (filter_within (λ rule. breaks rule t k r) (λ rule. can_break rule r.kind) (λ rule h. broken_can_be rule t k r there h) all_rules)
+    ap (map (finding_of n k r)) (filter_within (λ rule. breaks rule t k r) (λ rule. can_break rule r.kind)
+    (λ rule h. broken_can_be rule t k r there h) all_rules)
 
-pub found_by_end : (n : ℕ) (t : List RecordValue) (k : ℕ) (r : RecordValue) (rules : List Rule) (i : ℕ) → slice_get t k ≡ Some r → rules ≡ rules_on r.kind → length rules ≤ i → found_by n t k r (take i rules) ≡ findings_at n t k r
+pub found_by_end : (n : ℕ) (t : List RecordValue) (k : ℕ) (r : RecordValue) (rules : List Rule) (i : ℕ) → slice_get t k ≡ Some r
+    → rules ≡ rules_on r.kind → length rules ≤ i → found_by n t k r (take i rules) ≡ findings_at n t k r
 found_by_end n t k r rules i there e end = ap (found_by n t k r) (take_all i rules end ∙ e) ∙ found_by_all n t k r there
 
 -- ---- one rule more
 
-pub found_by_more : (n : ℕ) (t : List RecordValue) (k : ℕ) (r : RecordValue) (rules : List Rule) (i : ℕ) (d : Rule) (old found : List Finding) → i < length rules → breaks (get_or rules i d) t k r ≡ true
-    → found ≡ old ++ found_by n t k r (take i rules) → found ++ finding_of n k r (get_or rules i d) ∷ [] ≡ old ++ found_by n t k r (take (i + 1) rules)
+pub found_by_more : (n : ℕ) (t : List RecordValue) (k : ℕ) (r : RecordValue) (rules : List Rule) (i : ℕ) (d : Rule)
+    (old found : List Finding) → i < length rules → breaks (get_or rules i d) t k r ≡ true
+    → found ≡ old ++ found_by n t k r (take i rules)
+    → found ++ finding_of n k r (get_or rules i d) ∷ [] ≡ old ++ found_by n t k r (take (i + 1) rules)
 found_by_more n t k r rules i d old found below broken h =
     ap (λ (l : List Finding). l ++ finding_of n k r (get_or rules i d) ∷ []) h
     ∙ append_assoc old (found_by n t k r (take i rules)) (finding_of n k r (get_or rules i d) ∷ [])
-    ∙ ap (λ (l : List Finding). old ++ l) (sym (ap (map (finding_of n k r)) (filter_more (λ rule. breaks rule t k r) rules i d below
+    ∙ ap (λ (l : List Finding). old ++ l)
+    (sym (ap (map (finding_of n k r)) (filter_more (λ rule. breaks rule t k r) rules i d below
     ∙ ap (λ (b : Bool). filter (λ rule. breaks rule t k r) (take i rules) ++ cond b (get_or rules i d ∷ []) []) broken)
     ∙ map-append (finding_of n k r) (filter (λ rule. breaks rule t k r) (take i rules)) (get_or rules i d ∷ [])))
 
-pub found_by_same : (n : ℕ) (t : List RecordValue) (k : ℕ) (r : RecordValue) (rules : List Rule) (i : ℕ) (d : Rule) (old found : List Finding) → i < length rules → breaks (get_or rules i d) t k r ≡ false
+pub found_by_same : (n : ℕ) (t : List RecordValue) (k : ℕ) (r : RecordValue) (rules : List Rule) (i : ℕ) (d : Rule)
+    (old found : List Finding) → i < length rules → breaks (get_or rules i d) t k r ≡ false
     → found ≡ old ++ found_by n t k r (take i rules) → found ≡ old ++ found_by n t k r (take (i + 1) rules)
 found_by_same n t k r rules i d old found below kept h =
-    h ∙ ap (λ (l : List Finding). old ++ l) (sym (ap (map (finding_of n k r)) (filter_more (λ rule. breaks rule t k r) rules i d below
+    h ∙ ap (λ (l : List Finding). old ++ l)
+    (sym (ap (map (finding_of n k r)) (filter_more (λ rule. breaks rule t k r) rules i d below
     ∙ ap (λ (b : Bool). filter (λ rule. breaks rule t k r) (take i rules) ++ cond b (get_or rules i d ∷ []) []) kept
     ∙ append-nil (filter (λ rule. breaks rule t k r) (take i rules)))))
 
@@ -124,11 +140,13 @@ none_mapped : (f : Rule → Finding) (l : List Rule) → map f l ≡ [] → l �
 none_mapped f [] e = refl
 none_mapped f (x ∷ l) e = absurd (cc e)
 
-pub some_found : (n : ℕ) (t : List RecordValue) (k : ℕ) (r : RecordValue) (rules : List Rule) (i : ℕ) (d : Rule) → slice_get t k ≡ Some r → rules ≡ rules_on r.kind → i < length rules → breaks (get_or rules i d) t k r ≡ true
+pub some_found : (n : ℕ) (t : List RecordValue) (k : ℕ) (r : RecordValue) (rules : List Rule) (i : ℕ) (d : Rule)
+    → slice_get t k ≡ Some r → rules ≡ rules_on r.kind → i < length rules → breaks (get_or rules i d) t k r ≡ true
     → findings_at n t k r ≡ [] → ⊥
 some_found n t k r rules i d there e below broken none =
     some_kept (λ rule. breaks rule t k r) rules i d below broken
-    (none_mapped (finding_of n k r) (filter (λ rule. breaks rule t k r) rules) (ap (found_by n t k r) e ∙ found_by_all n t k r there ∙ none))
+    (none_mapped (finding_of n k r) (filter (λ rule. breaks rule t k r) rules)
+    (ap (found_by n t k r) e ∙ found_by_all n t k r there ∙ none))
 
 pub on_err : {T E : Type 0} → (r : Result T E) (P : Type 0) → P → OnErr r P
 on_err (Ok x) P h = tt

@@ -15,18 +15,22 @@ last_pushed : (o : Option RecordValue) (xs : List RecordValue) (r : RecordValue)
 last_pushed o [] r = refl
 last_pushed o (x ∷ xs) r = last_pushed (Some x) xs r
 
-last_kept : (p : RecordValue → Bool) (rs : List RecordValue) (r : RecordValue) (b : Bool) → p r ≡ b → last_or None (filter p rs ++ filter p (r ∷ [])) ≡ cond b (Some r) (last_or None (filter p rs))
+last_kept : (p : RecordValue → Bool) (rs : List RecordValue) (r : RecordValue) (b : Bool) → p r ≡ b
+    → last_or None (filter p rs ++ filter p (r ∷ [])) ≡ cond b (Some r) (last_or None (filter p rs))
 last_kept p rs r true e = rw e (last_pushed None (filter p rs) r)
 last_kept p rs r false e = rw e (ap (last_or None) (append-nil (filter p rs)))
 
-last_more : (p : RecordValue → Bool) (rs : List RecordValue) (r : RecordValue) (b : Bool) → p r ≡ b → last_or None (filter p (rs ++ r ∷ [])) ≡ cond b (Some r) (last_or None (filter p rs))
+last_more : (p : RecordValue → Bool) (rs : List RecordValue) (r : RecordValue) (b : Bool) → p r ≡ b
+    → last_or None (filter p (rs ++ r ∷ [])) ≡ cond b (Some r) (last_or None (filter p rs))
 last_more p rs r b e = ap (last_or None) (filter-append p rs (r ∷ [])) ∙ last_kept p rs r b e
 
 -- a record of the kind is the nearest
-pub number_more : (kind : Kind) (rs : List RecordValue) (r : RecordValue) → r.kind ≡ kind → party_number (nearest kind (rs ++ r ∷ [])) ≡ Some (cell_named "interested party number" r)
+pub number_more : (kind : Kind) (rs : List RecordValue) (r : RecordValue) → r.kind ≡ kind
+    → party_number (nearest kind (rs ++ r ∷ [])) ≡ Some (cell_named "interested party number" r)
 number_more kind rs r h = ap party_number (last_more (is_a kind) rs r true (is_of_kind kind r h))
 
-pub number_same : (kind : Kind) (rs : List RecordValue) (r : RecordValue) → (r.kind ≡ kind → ⊥) → party_number (nearest kind (rs ++ r ∷ [])) ≡ party_number (nearest kind rs)
+pub number_same : (kind : Kind) (rs : List RecordValue) (r : RecordValue) → (r.kind ≡ kind → ⊥)
+    → party_number (nearest kind (rs ++ r ∷ [])) ≡ party_number (nearest kind rs)
 number_same kind rs r h = ap party_number (last_more (is_a kind) rs r false (is_of_no_kind kind r h))
 
 abbrev ends_with_territory : List RecordValue → Bool
@@ -46,7 +50,8 @@ party_more rs r h =
     by : Kind → Bool
     by k = is_a kinds.Ter (record { kind = k; cells = [] })
 
-pub territory_same : (rs : List RecordValue) (r : RecordValue) → (r.kind ≡ kinds.Ter → ⊥) → (r.kind ≡ kinds.Ipa → ⊥) → ends_with_territory (rs ++ r ∷ []) ≡ ends_with_territory rs
+pub territory_same : (rs : List RecordValue) (r : RecordValue) → (r.kind ≡ kinds.Ter → ⊥) → (r.kind ≡ kinds.Ipa → ⊥)
+    → ends_with_territory (rs ++ r ∷ []) ≡ ends_with_territory rs
 territory_same rs r no_ter no_ipa =
     let is_ter : is_a kinds.Ter r ≡ false = is_of_no_kind kinds.Ter r no_ter in
     let is_ipa : is_a kinds.Ipa r ≡ false = is_of_no_kind kinds.Ipa r no_ipa in

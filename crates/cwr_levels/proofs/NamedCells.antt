@@ -1,5 +1,6 @@
 -- A record's cell of a name is that of the field that has the name, and is as wide as the field.
-use Rattle.std.proofs.Common.{◌≡◌, ℕ, zero, suc, ◌+◌, Bool, true, false, cond, List, [], ◌∷◌, length, refl, sym, ap, ◌∙◌, arith, subst}
+use Rattle.std.proofs.Common.{◌≡◌, ℕ, zero, suc, ◌+◌, Bool, true, false, cond, List, [], ◌∷◌, length, refl, sym, ap, ◌∙◌, arith}
+use Rattle.std.proofs.Common.{subst}
 use Rattle.std.specs.Prelude.{Option, Some, None, find, zip, option_map, unwrap_or, slice_get, codes, not, is_some}
 use Rattle.std.specs.List.{AllZip}
 use Rattle.std.specs.Option.{option_and_then}
@@ -12,7 +13,8 @@ use Rattle.cwr_lines.specs.Format.Records.{RecordValue, IsRecord, IsCellOf, cell
 use Rattle.cwr_levels.specs.Format.Fields.{IsField, index_of_name}
 
 found_at : (name : List ℕ) (fields : List FieldLayout) (cells : List (List ℕ)) → length cells ≡ length fields
-    → option_map (λ (p : FieldLayout × List ℕ). p.1) (find (λ p. bytes_eq p.0.name name) (zip fields cells)) ≡ slice_get cells (index_of_name name fields)
+    → option_map (λ (p : FieldLayout × List ℕ). p.1) (find (λ p. bytes_eq p.0.name name) (zip fields cells))
+    ≡ slice_get cells (index_of_name name fields)
 found_at name [] [] h = refl
 found_at name [] (c ∷ cells) h = absurd (omega (arith, h))
 found_at name (f ∷ fields) [] h = absurd (omega (arith, h))
@@ -21,8 +23,11 @@ found_at name (f ∷ fields) (c ∷ cells) h = by (bytes_eq f.name name) (found_
     one_more : suc (index_of_name name fields) ≡ 1 + index_of_name name fields
     one_more = omega arith
 
-    by : (b : Bool) → option_map (λ (p : FieldLayout × List ℕ). p.1) (find (λ p. bytes_eq p.0.name name) (zip fields cells)) ≡ slice_get cells (index_of_name name fields)
-        → option_map (λ (p : FieldLayout × List ℕ). p.1) (cond b (Some (f, c)) (find (λ p. bytes_eq p.0.name name) (zip fields cells))) ≡ slice_get (c ∷ cells) (cond (not b) (1 + index_of_name name fields) 0)
+    by : (b : Bool) → option_map (λ (p : FieldLayout × List ℕ). p.1) (find (λ p. bytes_eq p.0.name name) (zip fields cells))
+        ≡ slice_get cells (index_of_name name fields)
+        → option_map (λ (p : FieldLayout × List ℕ). p.1)
+        (cond b (Some (f, c)) (find (λ p. bytes_eq p.0.name name) (zip fields cells))) ≡ slice_get (c ∷ cells)
+        (cond (not b) (1 + index_of_name name fields) 0)
     by true e = refl
     by false e = e ∙ ap (λ (i : ℕ). slice_get (c ∷ cells) i) one_more
 
@@ -40,19 +45,24 @@ width_at (f ∷ fields) [] i h = absurd h
 width_at (f ∷ fields) (c ∷ cells) zero h = h.0.0
 width_at (f ∷ fields) (c ∷ cells) (suc i) h = width_at fields cells i h.1
 
-cell_at : (r : RecordValue) (j : ℕ) (o : Option FieldLayout) → is_some o ≡ true → option_and_then (λ _. slice_get r.cells (carried_before r.kind j)) o ≡ slice_get r.cells (carried_before r.kind j)
+cell_at : (r : RecordValue) (j : ℕ) (o : Option FieldLayout) → is_some o ≡ true
+    → option_and_then (λ _. slice_get r.cells (carried_before r.kind j)) o ≡ slice_get r.cells (carried_before r.kind j)
 cell_at r j None e = absurd (cc e)
 cell_at r j (Some f) e = refl
 
 -- the cell of a name, by the field's number
-pub named_cell : (name : String) (kind : Kind) (j wide : ℕ) (r : RecordValue) → IsField name kind j wide → r.kind ≡ kind → IsRecord r → unwrap_or (record_cell r j) [] ≡ cell_named name r
+pub named_cell : (name : String) (kind : Kind) (j wide : ℕ) (r : RecordValue) → IsField name kind j wide → r.kind ≡ kind
+    → IsRecord r → unwrap_or (record_cell r j) [] ≡ cell_named name r
 named_cell name kind j wide r h e fits =
     let at = subst (λ k. IsField name k j wide) (sym e) h in
     ap (λ (o : Option (List ℕ)). unwrap_or o []) (cell_at r j (carried_at r.kind j) at.carried ∙ ap (slice_get r.cells) at.place)
-    ∙ sym (ap (λ (o : Option (List ℕ)). unwrap_or o []) (found_at (codes name) (carried_fields r.kind) r.cells (cells_many (carried_fields r.kind) r.cells fits)))
+    ∙ sym (ap (λ (o : Option (List ℕ)). unwrap_or o [])
+    (found_at (codes name) (carried_fields r.kind) r.cells (cells_many (carried_fields r.kind) r.cells fits)))
 
 -- and its width
-pub cell_width : (name : String) (kind : Kind) (j wide : ℕ) (r : RecordValue) → IsField name kind j wide → r.kind ≡ kind → IsRecord r → length (unwrap_or (record_cell r j) []) ≡ wide
+pub cell_width : (name : String) (kind : Kind) (j wide : ℕ) (r : RecordValue) → IsField name kind j wide → r.kind ≡ kind
+    → IsRecord r → length (unwrap_or (record_cell r j) []) ≡ wide
 cell_width name kind j wide r h e fits =
     let at = subst (λ k. IsField name k j wide) (sym e) h in
-    ap (λ (o : Option (List ℕ)). length (unwrap_or o [])) (cell_at r j (carried_at r.kind j) at.carried) ∙ width_at (carried_fields r.kind) r.cells (carried_before r.kind j) fits ∙ at.width
+    ap (λ (o : Option (List ℕ)). length (unwrap_or o [])) (cell_at r j (carried_at r.kind j) at.carried)
+    ∙ width_at (carried_fields r.kind) r.cells (carried_before r.kind j) fits ∙ at.width

@@ -35,7 +35,8 @@ impl<'a> Before<'a> {
     /// With one more record.
     #[inline(always)]
     pub(crate) fn with(self, shown: &RecordRef<'a>) -> Before<'a>
-        ensures { (rs : List RecordValue) → IsBefore rs self.entry → IsBefore (rs ++ shown.now ∷ []) result }
+        ensures { (rs : List RecordValue) → IsBefore rs self.entry
+            → IsBefore (rs ++ shown.now ∷ []) result }
     {
         match shown.kind() {
             Kind::Spu => Before {

@@ -70,7 +70,8 @@ fn is_number(number: &[u8], party: Option<&[u8]>) -> bool
 /// Whether a territory names another party than the nearest publisher or writer before it; also where there is none.
 #[inline(always)]
 pub(crate) fn names_another_party(shown: &RecordRef<'_>, before: &Before<'_>) -> bool
-    ensures { (t : List RecordValue) (k : ℕ) → is_work t ≡ true → IsBefore (take k t) before.now → result ≡ breaks V2 t k shown.now }
+    ensures { (t : List RecordValue) (k : ℕ) → is_work t ≡ true → IsBefore (take k t) before.now
+        → result ≡ breaks V2 t k shown.now }
 {
     match shown.kind() {
         Kind::Spt => !is_number(cell(shown, TERRITORY_NUMBER), before.publisher),
@@ -87,8 +88,10 @@ fn names_no_publisher(
     shown: &RecordRef<'_>,
 ) -> bool
     requires totals { AreTotals transaction.now totals.now }
-    requires publishers { KnowsNumbersOf (take totals.now.publishers_end transaction.now) publishers.now }
-    ensures { (k : ℕ) → is_work transaction.now ≡ true → result ≡ breaks V7 transaction.now k shown.now }
+    requires publishers { KnowsNumbersOf (take totals.now.publishers_end transaction.now)
+        publishers.now }
+    ensures { (k : ℕ) → is_work transaction.now ≡ true
+        → result ≡ breaks V7 transaction.now k shown.now }
 {
     is_of(shown, Kind::Pwr)
         && !publishers.have(
@@ -113,7 +116,8 @@ fn has_no_excerpt_type(transaction: &Registered<'_>) -> bool
 /// whole.
 #[inline(always)]
 fn is_off_in(transaction: &Registered<'_>, sequence: usize, total: u64) -> bool
-    ensures { (n : ℕ) → total ≡ capped n → result ≡ (is_work transaction.now && (sequence == 0) && is_off n) }
+    ensures { (n : ℕ) → total ≡ capped n
+        → result ≡ (is_work transaction.now && (sequence == 0) && is_off n) }
 {
     is_work(transaction) && sequence == 0 && is_off(total)
 }
@@ -146,7 +150,8 @@ fn begins_block_over_whole(
 ) -> bool
     requires before { IsBefore (take sequence transaction.now) before.now }
     requires there { slice_get transaction.now sequence ≡ Some shown.now }
-    ensures { is_agreement transaction.now ≡ true → result ≡ breaks V11 transaction.now sequence shown.now }
+    ensures { is_agreement transaction.now ≡ true
+        → result ≡ breaks V11 transaction.now sequence shown.now }
 {
     if !is_of(shown, Kind::Ter) {
         return false;
@@ -165,7 +170,8 @@ pub(crate) fn breaks(
     shown: &RecordRef<'_>,
 ) -> bool
     requires totals { AreTotals transaction.now totals.now }
-    requires publishers { KnowsNumbersOf (take totals.now.publishers_end transaction.now) publishers.now }
+    requires publishers { KnowsNumbersOf (take totals.now.publishers_end transaction.now)
+        publishers.now }
     requires before { IsBefore (take sequence transaction.now) before.now }
     requires there { slice_get transaction.now sequence ≡ Some shown.now }
     ensures { result ≡ breaks rule transaction.now sequence shown.now }

@@ -2,7 +2,8 @@
 
 ghost use Rattle.std.specs.Prelude.{◌≡◌, ◌+◌, ◌≤◌, ◌++◌, [], ◌∷◌, length, codes, decimal};
 ghost use Rattle.cwr_shape.specs.Format.ReasonTexts.{reason_text};
-ghost use Rattle.cwr_levels.specs.Format.ReportLines.{fault_line, faults_line, finding_line, good_line, input_mark, joined_line, limit_line, refusal_line, split_line, truncated_line, with_numbers};
+ghost use Rattle.cwr_levels.specs.Format.ReportLines.{fault_line, faults_line, finding_line, good_line, input_mark, joined_line, limit_line, refusal_line};
+ghost use Rattle.cwr_levels.specs.Format.ReportLines.{split_line, truncated_line, with_numbers};
 ghost use Rattle.cwr_levels.specs.Steps.Putting.{PutsText};
 
 use crate::rules::Finding;
@@ -77,7 +78,8 @@ impl Line {
     /// Adds the numbers of a transmission, and ends the line.
     fn add_numbers(&mut self, groups: u32, transactions: u32, records: u32)
         requires { length self.old.text.items + 100 ≤ LONGEST_REPORT_LINE }
-        ensures { self.new.text.items ≡ with_numbers self.old.text.items groups transactions records }
+        ensures { self.new.text.items
+            ≡ with_numbers self.old.text.items groups transactions records }
     {
         self.add(b" groups ");
         self.add_number(groups.into());
@@ -231,7 +233,8 @@ pub fn good_line<W: Target>(
     records: u32,
     sink: &mut Sink<W>,
 ) -> Result<(), SinkFault>
-    ensures puts { PutsText W.contents W.failures (good_line groups transactions records) result sink.old sink.new }
+    ensures puts { PutsText W.contents W.failures (good_line groups transactions records) result
+        sink.old sink.new }
     ensures short { length (good_line groups transactions records) ≤ LONGEST_REPORT_LINE }
 {
     Line::good(groups, transactions, records).put(sink)
@@ -247,7 +250,8 @@ pub fn truncated_line<W: Target>(records: u32, sink: &mut Sink<W>) -> Result<(),
 
 /// Puts the line on an input that is refused.
 pub fn refusal_line<W: Target>(refusal: &Refusal, sink: &mut Sink<W>) -> Result<(), SinkFault>
-    ensures puts { PutsText W.contents W.failures (refusal_line refusal.now) result sink.old sink.new }
+    ensures puts { PutsText W.contents W.failures (refusal_line refusal.now) result sink.old
+        sink.new }
     ensures short { length (refusal_line refusal.now) ≤ LONGEST_REPORT_LINE }
 {
     Line::refused(refusal).put(sink)
@@ -268,7 +272,8 @@ pub fn faults_line<W: Target>(
     records: u64,
     sink: &mut Sink<W>,
 ) -> Result<(), SinkFault>
-    ensures puts { PutsText W.contents W.failures (faults_line faults findings records) result sink.old sink.new }
+    ensures puts { PutsText W.contents W.failures (faults_line faults findings records) result
+        sink.old sink.new }
     ensures short { length (faults_line faults findings records) ≤ LONGEST_REPORT_LINE }
 {
     Line::faults(faults, findings, records).put(sink)
@@ -281,7 +286,8 @@ pub fn finding_line<W: Target>(
     finding: &Finding,
     sink: &mut Sink<W>,
 ) -> Result<(), SinkFault>
-    ensures puts { PutsText W.contents W.failures (finding_line group transaction finding.now) result sink.old sink.new }
+    ensures puts { PutsText W.contents W.failures (finding_line group transaction finding.now)
+        result sink.old sink.new }
     ensures short { length (finding_line group transaction finding.now) ≤ LONGEST_REPORT_LINE }
 {
     Line::finding(group, transaction, finding).put(sink)
@@ -295,7 +301,8 @@ pub fn joined_line<W: Target>(
     records: u32,
     sink: &mut Sink<W>,
 ) -> Result<(), SinkFault>
-    ensures puts { PutsText W.contents W.failures (joined_line inputs groups transactions records) result sink.old sink.new }
+    ensures puts { PutsText W.contents W.failures (joined_line inputs groups transactions records)
+        result sink.old sink.new }
     ensures short { length (joined_line inputs groups transactions records) ≤ LONGEST_REPORT_LINE }
 {
     Line::joined(inputs, groups, transactions, records).put(sink)
@@ -307,7 +314,8 @@ pub fn split_line<W: Target>(
     transactions: u32,
     sink: &mut Sink<W>,
 ) -> Result<(), SinkFault>
-    ensures puts { PutsText W.contents W.failures (split_line outputs transactions) result sink.old sink.new }
+    ensures puts { PutsText W.contents W.failures (split_line outputs transactions) result sink.old
+        sink.new }
     ensures short { length (split_line outputs transactions) ≤ LONGEST_REPORT_LINE }
 {
     Line::split(outputs, transactions).put(sink)

@@ -59,7 +59,8 @@ impl Shares {
     /// With those of one more record, where it counts.
     pub(crate) fn with(self, shown: &RecordRef<'_>, counts: bool) -> Shares
         requires { counts ≡ true → has_shares shown.now ≡ true }
-        ensures { (rs : List RecordValue) → AddUpTo rs self → AddUpTo (rs ++ (if counts then shown.now ∷ [] else [])) result }
+        ensures { (rs : List RecordValue) → AddUpTo rs self
+            → AddUpTo (rs ++ (if counts then shown.now ∷ [] else [])) result }
     {
         if !counts {
             return self;
@@ -109,7 +110,8 @@ impl Sides {
     /// With those of one more party.
     fn with(self, party: &RecordRef<'_>) -> Sides
         requires { is_party party.now ≡ true }
-        ensures { (rs : List RecordValue) → SidesAddUpTo rs self → SidesAddUpTo (rs ++ party.now ∷ []) result }
+        ensures { (rs : List RecordValue) → SidesAddUpTo rs self
+            → SidesAddUpTo (rs ++ party.now ∷ []) result }
     {
         let role = cell(party, ROLE);
         Sides {
@@ -142,7 +144,8 @@ impl Sides {
 
     /// Whether one side has more than the whole in one or more rights.
     pub(crate) fn exceed_whole(&self) -> bool
-        ensures { (parties : List RecordValue) → SidesAddUpTo parties self.now → result ≡ have_side_over_whole parties }
+        ensures { (parties : List RecordValue) → SidesAddUpTo parties self.now
+            → result ≡ have_side_over_whole parties }
     {
         self.assignors.exceed_whole() || self.acquirers.exceed_whole()
     }

@@ -168,7 +168,8 @@ impl Sums {
     /// Whether PWR may name a publisher that the work hasn't.
     #[inline(always)]
     fn may_name_no_publisher(&self, shown: &RecordRef<'_>) -> bool
-        ensures { (rs : List RecordValue) → AreSums self.now rs → IsFalse result → breaks V7 (rs ++ shown.now ∷ []) (length rs) shown.now ≡ false }
+        ensures { (rs : List RecordValue) → AreSums self.now rs → IsFalse result
+            → breaks V7 (rs ++ shown.now ∷ []) (length rs) shown.now ≡ false }
     {
         if !is_of(shown, Kind::Pwr) {
             return false;
@@ -179,7 +180,8 @@ impl Sums {
     /// Whether EWT stands in a work that may have no excerpt type.
     #[inline(always)]
     fn may_lack_excerpt_type(&self, shown: &RecordRef<'_>) -> bool
-        ensures { (rs : List RecordValue) → AreSums self.now rs → IsFalse result → breaks V8 (rs ++ shown.now ∷ []) (length rs) shown.now ≡ false }
+        ensures { (rs : List RecordValue) → AreSums self.now rs → IsFalse result
+            → breaks V8 (rs ++ shown.now ∷ []) (length rs) shown.now ≡ false }
     {
         if !is_of(shown, Kind::Ewt) {
             return false;
@@ -190,7 +192,8 @@ impl Sums {
     /// Whether the record may break a rule, after those so far.
     #[inline(always)]
     fn may_break(&self, shown: &RecordRef<'_>) -> bool
-        ensures { (rs : List RecordValue) → AreSums self.now rs → IsFalse result → IsUnbroken (rs ++ shown.now ∷ []) (length rs) shown.now }
+        ensures { (rs : List RecordValue) → AreSums self.now rs → IsFalse result
+            → IsUnbroken (rs ++ shown.now ∷ []) (length rs) shown.now }
     {
         if has_wrong_iswc(shown) {
             return true;
@@ -208,7 +211,8 @@ impl Sums {
     /// Keeps the number of a publisher or a writer, and says whether it does.
     #[inline(always)]
     fn keep_number(&mut self, shown: &RecordRef<'_>) -> bool
-        ensures { (rs : List RecordValue) → AreSums self.old rs → IsTrue result → KeepsNumbers rs shown.now self.old self.new }
+        ensures { (rs : List RecordValue) → AreSums self.old rs → IsTrue result
+            → KeepsNumbers rs shown.now self.old self.new }
     {
         match shown.kind() {
             Kind::Spu => {
@@ -232,7 +236,8 @@ impl Sums {
 
     /// Adds one record more of the work, and says whether it does: a no says nothing.
     fn add_to_work(&mut self, shown: &RecordRef<'_>) -> bool
-        ensures { (rs : List RecordValue) → AreSums self.old rs → IsTrue result → AreSums self.new (rs ++ shown.now ∷ []) }
+        ensures { (rs : List RecordValue) → AreSums self.old rs → IsTrue result
+            → AreSums self.new (rs ++ shown.now ∷ []) }
     {
         let records = self.records;
         if records >= MOST_RECORDS {
@@ -251,7 +256,8 @@ impl Sums {
 
     /// Whether the work surely has no finding, where these were all its records. A no says nothing.
     fn is_work_clean(&self) -> bool
-        ensures { (rs : List RecordValue) (n : ℕ) → AreSums self.now rs → IsTrue result → findings_after n rs ≡ [] }
+        ensures { (rs : List RecordValue) (n : ℕ) → AreSums self.now rs → IsTrue result
+            → findings_after n rs ≡ [] }
     {
         let totals = &self.totals;
         if is_off(totals.ownership.performing) {
@@ -278,7 +284,8 @@ impl Sums {
 
     /// Adds one record more of the transaction, and says whether it does: a no says nothing.
     pub fn add(&mut self, shown: &RecordRef<'_>) -> bool
-        ensures { (rs : List RecordValue) → StandFor self.old rs → IsTrue result → StandFor self.new (rs ++ shown.now ∷ []) }
+        ensures { (rs : List RecordValue) → StandFor self.old rs → IsTrue result
+            → StandFor self.new (rs ++ shown.now ∷ []) }
     {
         if self.is_begun {
             return self.add_to_work(shown);
@@ -291,7 +298,8 @@ impl Sums {
 
     /// Whether the transaction surely has no finding, where these were all its records. A no says nothing.
     pub fn is_clean(&self) -> bool
-        ensures { (rs : List RecordValue) → StandFor self.now rs → IsTrue result → findings rs ≡ [] }
+        ensures { (rs : List RecordValue) → StandFor self.now rs → IsTrue result
+            → findings rs ≡ [] }
     {
         if !self.is_begun {
             return true;

@@ -62,7 +62,8 @@ impl TransactionTotals {
     /// With one more record, which may count and stands after `sequence` others.
     fn with_counted(self, sequence: usize, shown: &RecordRef<'_>) -> TransactionTotals
         requires { sequence + 1 < 2 ^ 64 }
-        ensures { (rs : List RecordValue) → length rs ≡ sequence → AreTotals rs self → AreTotals (rs ++ shown.now ∷ []) result }
+        ensures { (rs : List RecordValue) → length rs ≡ sequence → AreTotals rs self
+            → AreTotals (rs ++ shown.now ∷ []) result }
     {
         let author = is_author(shown);
         let component = is_of(shown, Kind::Com);
@@ -85,7 +86,8 @@ impl TransactionTotals {
     #[inline(always)]
     pub(crate) fn with(self, sequence: usize, shown: &RecordRef<'_>) -> TransactionTotals
         requires { sequence + 1 < 2 ^ 64 }
-        ensures { (rs : List RecordValue) → length rs ≡ sequence → AreTotals rs self → AreTotals (rs ++ shown.now ∷ []) result }
+        ensures { (rs : List RecordValue) → length rs ≡ sequence → AreTotals rs self
+            → AreTotals (rs ++ shown.now ∷ []) result }
     {
         match shown.kind() {
             Kind::Spu | Kind::Opu | Kind::Swr | Kind::Owr | Kind::Com => self.with_counted(

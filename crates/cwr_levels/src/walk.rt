@@ -74,11 +74,13 @@ fn add_findings_at(
     shown: &RecordRef<'_>,
 ) -> Result<(), AllocError>
     requires totals { AreTotals transaction.now totals.now }
-    requires publishers { KnowsNumbersOf (take totals.now.publishers_end transaction.now) publishers.now }
+    requires publishers { KnowsNumbersOf (take totals.now.publishers_end transaction.now)
+        publishers.now }
     requires before { IsBefore (take sequence transaction.now) before.now }
     requires there { slice_get transaction.now sequence ≡ Some shown.now }
     requires room { start + sequence < 2 ^ 64 }
-    ensures ok { OnOk result (found.new.items ≡ found.old.items ++ findings_at start transaction.now sequence shown.now) }
+    ensures ok { OnOk result
+        (found.new.items ≡ found.old.items ++ findings_at start transaction.now sequence shown.now) }
     ensures err { OnErr result (findings_at start transaction.now sequence shown.now ≢ []) }
 {
     let kind = shown.kind();

@@ -1,5 +1,6 @@
 -- Records that are kept in one text stay as they are where a line is added at its end.
-use Rattle.std.proofs.Common.{◌≡◌, ℕ, zero, suc, ◌+◌, ◌≤◌, false, ltb-false, List, [], ◌∷◌, ◌++◌, length, take, drop, None, inl, inr, refl, sym, ap, subst, ◌∙◌, arith}
+use Rattle.std.proofs.Common.{◌≡◌, ℕ, zero, suc, ◌+◌, ◌≤◌, false, ltb-false, List, [], ◌∷◌, ◌++◌, length, take, drop, None, inl}
+use Rattle.std.proofs.Common.{inr, refl, sym, ap, subst, ◌∙◌, arith}
 use Rattle.std.specs.Prelude.{slice_get, nat_lt}
 use Rattle.std.specs.List.{AllByRecursion}
 use Rattle.std.proofs.lemmas.List.{map-append, length-map, length-append, length-drop, drop-append-le, take-append-le}
@@ -15,17 +16,20 @@ use Rattle.cwr_lines.specs.Steps.Carried.{record_in}
 use Rattle.cwr_lines.specs.Steps.KeptLines.{IsKeptLine, KeepsLines, kept_records, line_at, record_at}
 
 -- each of them is in order
-all_in_order : (text : List ℕ) (starts : List LineStart) → AllByRecursion (IsKeptLine text) starts → AllByRecursion IsRecord (kept_records text starts)
+all_in_order : (text : List ℕ) (starts : List LineStart) → AllByRecursion (IsKeptLine text) starts
+    → AllByRecursion IsRecord (kept_records text starts)
 all_in_order text [] h = tt
 all_in_order text (p ∷ starts) h = (h.0.fits, all_in_order text starts h.1)
 
 -- a line stays where it is
-line_stays : (text more : List ℕ) (p : LineStart) → p.start + line_width p.kind ≤ length text → line_at (text ++ more) p ≡ line_at text p
+line_stays : (text more : List ℕ) (p : LineStart) → p.start + line_width p.kind ≤ length text
+    → line_at (text ++ more) p ≡ line_at text p
 line_stays text more p h =
     ap (take (line_width p.kind)) (drop-append-le p.start text more (omega (arith, h)))
     ∙ take-append-le (line_width p.kind) (drop p.start text) more (omega (arith, h, length-drop p.start text))
 
-record_stays : (text more : List ℕ) (p : LineStart) → p.start + line_width p.kind ≤ length text → record_at (text ++ more) p ≡ record_at text p
+record_stays : (text more : List ℕ) (p : LineStart) → p.start + line_width p.kind ≤ length text
+    → record_at (text ++ more) p ≡ record_at text p
 record_stays text more p h = ap (record_in p.kind) (line_stays text more p h)
 
 stays : (text more : List ℕ) (p : LineStart) → IsKeptLine text p → IsKeptLine (text ++ more) p
@@ -34,11 +38,13 @@ stays text more p h = record {
   fits = subst IsRecord (sym (record_stays text more p h.within)) h.fits;
 }
 
-all_stay : (text more : List ℕ) (starts : List LineStart) → AllByRecursion (IsKeptLine text) starts → AllByRecursion (IsKeptLine (text ++ more)) starts
+all_stay : (text more : List ℕ) (starts : List LineStart) → AllByRecursion (IsKeptLine text) starts
+    → AllByRecursion (IsKeptLine (text ++ more)) starts
 all_stay text more [] h = tt
 all_stay text more (p ∷ starts) h = (stays text more p h.0, all_stay text more starts h.1)
 
-records_stay : (text more : List ℕ) (starts : List LineStart) → AllByRecursion (IsKeptLine text) starts → kept_records (text ++ more) starts ≡ kept_records text starts
+records_stay : (text more : List ℕ) (starts : List LineStart) → AllByRecursion (IsKeptLine text) starts
+    → kept_records (text ++ more) starts ≡ kept_records text starts
 records_stay text more [] h = refl
 records_stay text more (p ∷ starts) h = ap2 (record_stays text more p h.0.within) (records_stay text more starts h.1)
   where
@@ -48,31 +54,41 @@ records_stay text more (p ∷ starts) h = ap2 (record_stays text more p h.0.with
 -- ---- a line more
 
 -- the line that was added stands at the end
-last_line : (text line : List ℕ) (p : LineStart) → p.start ≡ length text → length line ≡ line_width p.kind → line_at (text ++ line) p ≡ line
+last_line : (text line : List ℕ) (p : LineStart) → p.start ≡ length text → length line ≡ line_width p.kind
+    → line_at (text ++ line) p ≡ line
 last_line text line p at whole =
-    ap (λ (n : ℕ). take (line_width p.kind) (drop n (text ++ line))) at ∙ ap (take (line_width p.kind)) (drop-append_seam text line)
+    ap (λ (n : ℕ). take (line_width p.kind) (drop n (text ++ line))) at
+    ∙ ap (take (line_width p.kind)) (drop-append_seam text line)
     ∙ ap (λ (n : ℕ). take n line) (sym whole) ∙ take-length line
 
-last_record : (text line : List ℕ) (p : LineStart) (r : RecordValue) → p.start ≡ length text → length line ≡ line_width p.kind → r ≡ record_in p.kind line → record_at (text ++ line) p ≡ r
+last_record : (text line : List ℕ) (p : LineStart) (r : RecordValue) → p.start ≡ length text → length line ≡ line_width p.kind
+    → r ≡ record_in p.kind line → record_at (text ++ line) p ≡ r
 last_record text line p r at whole e = ap (record_in p.kind) (last_line text line p at whole) ∙ sym e
 
-last_kept : (text line : List ℕ) (p : LineStart) (r : RecordValue) → p.start ≡ length text → length line ≡ line_width p.kind → r ≡ record_in p.kind line → IsRecord r → IsKeptLine (text ++ line) p
+last_kept : (text line : List ℕ) (p : LineStart) (r : RecordValue) → p.start ≡ length text → length line ≡ line_width p.kind
+    → r ≡ record_in p.kind line → IsRecord r → IsKeptLine (text ++ line) p
 last_kept text line p r at whole e good = record {
   within = omega (arith, at, whole, length-append text line);
   fits = subst IsRecord (sym (last_record text line p r at whole e)) good;
 }
 
-and_last : (text : List ℕ) (starts : List LineStart) (p : LineStart) → AllByRecursion (IsKeptLine text) starts → IsKeptLine text p → AllByRecursion (IsKeptLine text) (starts ++ p ∷ [])
+and_last : (text : List ℕ) (starts : List LineStart) (p : LineStart) → AllByRecursion (IsKeptLine text) starts → IsKeptLine text p
+    → AllByRecursion (IsKeptLine text) (starts ++ p ∷ [])
 and_last text [] p h k = (k, tt)
 and_last text (q ∷ starts) p h k = (h.0, and_last text starts p h.1 k)
 
 -- all are kept with it
-kept_with : (text line : List ℕ) (starts : List LineStart) (p : LineStart) (r : RecordValue) → AllByRecursion (IsKeptLine text) starts → p.start ≡ length text → length line ≡ line_width p.kind → r ≡ record_in p.kind line → IsRecord r
+kept_with : (text line : List ℕ) (starts : List LineStart) (p : LineStart) (r : RecordValue)
+    → AllByRecursion (IsKeptLine text) starts → p.start ≡ length text → length line ≡ line_width p.kind
+    → r ≡ record_in p.kind line → IsRecord r
     → AllByRecursion (IsKeptLine (text ++ line)) (starts ++ p ∷ [])
-kept_with text line starts p r h at whole e good = and_last (text ++ line) starts p (all_stay text line starts h) (last_kept text line p r at whole e good)
+kept_with text line starts p r h at whole e good =
+    and_last (text ++ line) starts p (all_stay text line starts h) (last_kept text line p r at whole e good)
 
 -- and it is one record more
-records_with : (text line : List ℕ) (starts : List LineStart) (p : LineStart) (r : RecordValue) → AllByRecursion (IsKeptLine text) starts → p.start ≡ length text → length line ≡ line_width p.kind → r ≡ record_in p.kind line
+records_with : (text line : List ℕ) (starts : List LineStart) (p : LineStart) (r : RecordValue)
+    → AllByRecursion (IsKeptLine text) starts → p.start ≡ length text → length line ≡ line_width p.kind
+    → r ≡ record_in p.kind line
     → kept_records (text ++ line) (starts ++ p ∷ []) ≡ kept_records text starts ++ r ∷ []
 records_with text line starts p r h at whole e =
     map-append (record_at (text ++ line)) starts (p ∷ [])
@@ -82,7 +98,8 @@ records_with text line starts p r h at whole e =
 -- ---- the list as it is shown
 
 -- its records are in order
-pub in_order : (text : List ℕ) (starts : List LineStart) (records : List RecordValue) → KeepsLines text starts → kept_records text starts ≡ records → AllByRecursion IsRecord records
+pub in_order : (text : List ℕ) (starts : List LineStart) (records : List RecordValue) → KeepsLines text starts
+    → kept_records text starts ≡ records → AllByRecursion IsRecord records
 in_order text starts records h e = subst (AllByRecursion IsRecord) e (all_in_order text starts h.each)
 
 none_after : {X : Type 0} (xs : List X) (i : ℕ) → length xs ≤ i → None ≡ slice_get xs i
@@ -91,11 +108,15 @@ none_after (x ∷ xs) zero h = absurd (omega (arith, h))
 none_after (x ∷ xs) (suc i) h = none_after xs i (omega (arith, h))
 
 -- it has none after its last place
-pub none_there : (text : List ℕ) (starts items : List LineStart) (records : List RecordValue) (i : ℕ) → false ≡ nat_lt i (length items) → items ≡ starts → kept_records text starts ≡ records → None ≡ slice_get records i
-none_there text starts items records i h same e = none_after records i (omega (arith, ltb-false i (length items) (sym h), ap length same, ap length e, length-map starts (record_at text)))
+pub none_there : (text : List ℕ) (starts items : List LineStart) (records : List RecordValue) (i : ℕ)
+    → false ≡ nat_lt i (length items) → items ≡ starts → kept_records text starts ≡ records → None ≡ slice_get records i
+none_there text starts items records i h same e =
+    none_after records i
+    (omega (arith, ltb-false i (length items) (sym h), ap length same, ap length e, length-map starts (record_at text)))
 
 -- with a record more
-pub shows_more : (text line added : List ℕ) (starts more : List LineStart) (p : LineStart) (old : List RecordValue) (r : RecordValue)
+pub shows_more : (text line added : List ℕ) (starts more : List LineStart) (p : LineStart) (old : List RecordValue)
+    (r : RecordValue)
     → KeepsLines text starts → kept_records text starts ≡ old → p.start ≡ length text → length line ≡ line_width p.kind
     → r ≡ record_in p.kind line → added ≡ text ++ line → more ≡ starts ++ p ∷ [] → kept_records added more ≡ old ++ r ∷ []
 shows_more text line added starts more p old r h e at whole carries a b =
@@ -106,7 +127,8 @@ shows_more text line added starts more p old r h e at whole carries a b =
 width_more : (old : List RecordValue) (r : RecordValue) → lines_width (old ++ r ∷ []) ≡ lines_width old + line_width r.kind
 width_more old r = omega (arith, sum_by-append (λ (s : RecordValue). line_width s.kind) old (r ∷ []))
 
-pub keeps_more : (text line added : List ℕ) (starts more : List LineStart) (p : LineStart) (r : RecordValue) → KeepsLines text starts
+pub keeps_more : (text line added : List ℕ) (starts more : List LineStart) (p : LineStart) (r : RecordValue)
+    → KeepsLines text starts
     → p.start ≡ length text → length line ≡ line_width p.kind → r ≡ record_in p.kind line → IsRecord r
     → added ≡ text ++ line → more ≡ starts ++ p ∷ [] → KeepsLines added more
 keeps_more text line added starts more p r h at whole carries good a b = record {

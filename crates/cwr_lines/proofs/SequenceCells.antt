@@ -5,7 +5,8 @@ use Rattle.std.proofs.lemmas.List.{take-take, drop-take, drop-drop}
 use Rattle.cwr_fields.specs.declared.kinds.Kind.{Kind}
 use Rattle.cwr_fields.specs.declared.kinds.Kind.TheVariants.{Hdr, Grh, Grt, Trl}
 use Rattle.cwr_fields.specs.Format.Kinds.{is_in_transaction}
-use Rattle.cwr_fields.specs.Format.Layouts.{FieldLayout, field_with_start, fields_after_type, in_transaction, layout, number, fields_with_starts, record_type}
+use Rattle.cwr_fields.specs.Format.Layouts.{FieldLayout, field_with_start, fields_after_type, in_transaction, layout, number}
+use Rattle.cwr_fields.specs.Format.Layouts.{fields_with_starts, record_type}
 use Rattle.cwr_lines.specs.Steps.Held.{HeldLine, IsFilled, held_cell}
 use Rattle.cwr_lines.proofs.CellParts.{part, held_cell-part}
 
@@ -28,11 +29,14 @@ third : (kind : Kind) → is_in_transaction kind ≡ true → field_with_start k
 third kind e = ap (λ (fields : List FieldLayout). slice_get (fields_with_starts 0 fields) 2) (sequenced kind e).begins
 
 -- both stand in the sixteen bytes after the record type
-pub transaction_cell : (text : List ℕ) (h : HeldLine) (kind : Kind) → IsFilled text (Some kind) h → is_in_transaction kind ≡ true → held_cell h 2 ≡ Some (take 8 (take 16 (drop 3 text)))
+pub transaction_cell : (text : List ℕ) (h : HeldLine) (kind : Kind) → IsFilled text (Some kind) h → is_in_transaction kind ≡ true
+    → held_cell h 2 ≡ Some (take 8 (take 16 (drop 3 text)))
 transaction_cell text h kind k e =
-    held_cell-part text h kind 2 k ∙ ap (option_map (part text)) (second kind e) ∙ ap (λ (x : List ℕ). Some x) (sym (take-take 8 16 (drop 3 text) (lit≤ tt)))
+    held_cell-part text h kind 2 k ∙ ap (option_map (part text)) (second kind e)
+    ∙ ap (λ (x : List ℕ). Some x) (sym (take-take 8 16 (drop 3 text) (lit≤ tt)))
 
-pub record_cell : (text : List ℕ) (h : HeldLine) (kind : Kind) → IsFilled text (Some kind) h → is_in_transaction kind ≡ true → held_cell h 3 ≡ Some (drop 8 (take 16 (drop 3 text)))
+pub record_cell : (text : List ℕ) (h : HeldLine) (kind : Kind) → IsFilled text (Some kind) h → is_in_transaction kind ≡ true
+    → held_cell h 3 ≡ Some (drop 8 (take 16 (drop 3 text)))
 record_cell text h kind k e =
     held_cell-part text h kind 3 k ∙ ap (option_map (part text)) (third kind e)
     ∙ ap (λ (x : List ℕ). Some x) (sym (drop-take 8 8 (drop 3 text) ∙ ap (take 8) (drop-drop 8 3 text)))

@@ -2,13 +2,15 @@
 //! one carriage return directly before that belongs to the line end. The most bytes of a line, and that spaces may be
 //! left out or added at its end, are rules of this profile.
 
-ghost use Rattle.std.specs.Prelude.{◌≡◌, ◌≢◌, ◌≤◌, ◌<◌, ◌+◌, ◌++◌, length, take, drop, slice_index, ◌↔◌, IsFalse, IsNone, IsSome, IsSomeAnd, IsTrue, IfSome, Some, MatchOption, option_map};
+ghost use Rattle.std.specs.Prelude.{◌≡◌, ◌≢◌, ◌≤◌, ◌<◌, ◌+◌, ◌++◌, length, take, drop, slice_index, ◌↔◌, IsFalse, IsNone, IsSome, IsSomeAnd, IsTrue, IfSome};
+ghost use Rattle.std.specs.Prelude.{Some, MatchOption, option_map};
 ghost use Rattle.std.specs.List.{list_any};
 ghost use Rattle.cwr_fields.specs.Format.Bytes.{filled, is_plain};
 ghost use Rattle.cwr_lines.specs.Format.Lines.{is_lf, without_cr, body_kind};
 ghost use Rattle.cwr_fields.specs.Format.Kinds.{is_in_transaction, kind_of};
 ghost use Rattle.cwr_lines.specs.Format.Records.{IsRecord};
-ghost use Rattle.cwr_lines.specs.Steps.Held.{held_record, HeldLine, Takes, IsHeld, empty_line, ended_too_long, held_body, held_kind, held_cell, held_excess, filled_as, return_if};
+ghost use Rattle.cwr_lines.specs.Steps.Held.{held_record, HeldLine, Takes, IsHeld, empty_line, ended_too_long, held_body, held_kind, held_cell, held_excess};
+ghost use Rattle.cwr_lines.specs.Steps.Held.{filled_as, return_if};
 
 use crate::records::RecordRef;
 use arrayvec::ArrayVec;
@@ -47,7 +49,8 @@ pub struct Taken {
 
 /// The place of the first line feed.
 fn line_feed(piece: &[u8]) -> Option<usize>
-    ensures { MatchOption result (IsFalse (list_any is_lf piece.now)) (λ at. (at < length piece.now) × IsFalse (list_any is_lf (take at piece.now)) × (slice_index piece.now at ≡ 10)) }
+    ensures { MatchOption result (IsFalse (list_any is_lf piece.now)) (λ at. (at < length piece.now)
+        × IsFalse (list_any is_lf (take at piece.now)) × (slice_index piece.now at ≡ 10)) }
 {
     memchr(LF, piece)
 }
@@ -384,8 +387,10 @@ impl<'a> CutLine<'a> {
     /// its second and its third cell. `None` of any other line.
     #[inline(always)]
     pub fn sequences(&self) -> Option<&'a [u8]>
-        ensures some { IsSome result ↔ IsSomeAnd (held_kind self.now) (λ kind. IsTrue (is_in_transaction kind)) }
-        ensures transaction { IfSome result (λ cells. held_cell self.now 2 ≡ Some (take 8 cells.now)) }
+        ensures some { IsSome result
+            ↔ IsSomeAnd (held_kind self.now) (λ kind. IsTrue (is_in_transaction kind)) }
+        ensures transaction { IfSome result
+            (λ cells. held_cell self.now 2 ≡ Some (take 8 cells.now)) }
         ensures record { IfSome result (λ cells. held_cell self.now 3 ≡ Some (drop 8 cells.now)) }
         ensures wide { IfSome result (λ cells. length cells.now ≡ 16) }
     {

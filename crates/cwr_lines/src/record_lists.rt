@@ -45,7 +45,8 @@ fn add_line(text: &mut Vec<u8>, room: &mut usize, line: &[u8]) -> Result<(), All
     ensures ok { OnOk result (text.new.items ≡ text.old.items ++ line.now) }
     ensures err { OnErr result (text.new.items ≡ text.old.items) }
     ensures room { IsRoom 2048 room.new (vec_len text.new) (vec_capacity text.new) }
-    ensures asks { OnErr result (Outgrows 2048 (length text.old.items) (length text.old.items + length line.now)) }
+    ensures asks { OnErr result
+        (Outgrows 2048 (length text.old.items) (length text.old.items + length line.now)) }
 {
     *room = make_room(text, *room, FIRST_BYTES, line.len())?;
     text.extend_from_slice(line)
@@ -60,7 +61,8 @@ fn make_start(starts: &mut Vec<LineStart>, room: &mut usize) -> Result<(), Alloc
     ensures len { vec_len starts.new ≡ vec_len starts.old }
     ensures ok { OnOk result (IsRoom 16 room.new (vec_len starts.old + 1) (vec_capacity starts.new)) }
     ensures room { IsRoom 16 room.new (vec_len starts.new) (vec_capacity starts.new) }
-    ensures asks { OnErr result (Outgrows 16 (length starts.old.items) (length starts.old.items + 1)) }
+    ensures asks { OnErr result
+        (Outgrows 16 (length starts.old.items) (length starts.old.items + 1)) }
 {
     *room = make_room(starts, *room, FIRST_STARTS, 1)?;
     Ok(())

@@ -12,13 +12,17 @@ pub some_numbered : (numbered : Bool) (said : Option Said) (x : Said) → said_i
 some_numbered true said x e = refl
 some_numbered false said x e = absurd (cc e)
 
-pub told_with : (asked : Asking) (explained numbered : Bool) (said : Said) (group sequence first : ℕ) (t : List RecordValue) → explained ≡ (asked.explained && numbered) → said_if numbered asked.said ≡ Some said
+pub told_with : (asked : Asking) (explained numbered : Bool) (said : Said) (group sequence first : ℕ) (t : List RecordValue)
+    → explained ≡ (asked.explained && numbered) → said_if numbered asked.said ≡ Some said
     → advised_transaction explained said group sequence first t ≡ told_lines asked numbered group sequence first t
 told_with asked explained numbered said group sequence first t e f =
-    ap₂ (λ (b : Bool) (o : Option Said). transaction_lines b group sequence first t ++ advice_if o group sequence first t) e (sym f)
+    ap₂ (λ (b : Bool) (o : Option Said). transaction_lines b group sequence first t ++ advice_if o group sequence first t) e
+    (sym f)
 
-pub told_without : (asked : Asking) (explained numbered : Bool) (group sequence first : ℕ) (t : List RecordValue) → explained ≡ (asked.explained && numbered) → said_if numbered asked.said ≡ None
+pub told_without : (asked : Asking) (explained numbered : Bool) (group sequence first : ℕ) (t : List RecordValue)
+    → explained ≡ (asked.explained && numbered) → said_if numbered asked.said ≡ None
     → transaction_lines explained group sequence first t ≡ told_lines asked numbered group sequence first t
 told_without asked explained numbered group sequence first t e f =
     sym (append-nil (transaction_lines explained group sequence first t))
-    ∙ ap₂ (λ (b : Bool) (o : Option Said). transaction_lines b group sequence first t ++ advice_if o group sequence first t) e (sym f)
+    ∙ ap₂ (λ (b : Bool) (o : Option Said). transaction_lines b group sequence first t ++ advice_if o group sequence first t) e
+    (sym f)

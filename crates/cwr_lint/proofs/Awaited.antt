@@ -1,10 +1,12 @@
 -- How a sequence goes on where the awaited number is the one that belongs there.
-use Rattle.std.proofs.Common.{◌≡◌, ℕ, ◌+◌, ◌<◌, ◌≤◌, Bool, true, false, cond, true≢false, Option, Some, None, refl, sym, ap, ◌∙◌, arith, inl, inr}
+use Rattle.std.proofs.Common.{◌≡◌, ℕ, ◌+◌, ◌<◌, ◌≤◌, Bool, true, false, cond, true≢false, Option, Some, None, refl, sym, ap, ◌∙◌}
+use Rattle.std.proofs.Common.{arith, inl, inr}
 use Rattle.std.specs.Prelude.{◌⊎◌, ◌==◌, ◌||◌, nat_lt}
 use Rattle.std.proofs.lemmas.Bool.{eqb-true, ltb-true}
 use Rattle.cwr_lint_lines.specs.declared.following.Awaiting.{Awaiting}
 use Rattle.cwr_lint_lines.specs.declared.numbers.Count.{Count}
-use Rattle.cwr_lint_lines.specs.Steps.Following.{after, after_taken, after_wrong, is_number, just, one_more, passing, settled, takes, wanted}
+use Rattle.cwr_lint_lines.specs.Steps.Following.{after, after_taken, after_wrong, is_number, just, one_more, passing, settled}
+use Rattle.cwr_lint_lines.specs.Steps.Following.{takes, wanted}
 use Rattle.cwr_lint_lines.specs.Steps.Numbers.{wanted_count}
 
 pub same_eqb : (n m : ℕ) → n ≡ m → (n == m) ≡ true
@@ -15,7 +17,9 @@ abbrev pub Stands : Awaiting → ℕ → Option ℕ → Type 0
 Stands a n x = (x ≡ Some n) ⊎ (a ≡ just n)
 
 pub takes_expected : (a : Awaiting) (n : ℕ) → a.expected ≡ n → takes a n ≡ true
-takes_expected a n e = ap (λ (b : Bool). (((b || is_number a.first n) || is_number a.second n) || is_number a.third n) || is_number a.fourth n) (same_eqb n a.expected (sym e))
+takes_expected a n e =
+    ap (λ (b : Bool). (((b || is_number a.first n) || is_number a.second n) || is_number a.third n) || is_number a.fourth n)
+    (same_eqb n a.expected (sym e))
 
 -- ---- the number that belongs there
 
@@ -36,10 +40,12 @@ settled_is a n (Some m) e (inr only) = ap (λ (b : Awaiting). settled b (Some m)
     by false t = refl
 
 -- after it the next one is awaited
-pub after_is : (a : Awaiting) (n : ℕ) (x : Option ℕ) → a.expected ≡ n → n ≤ 9999999999 → Stands a n x → (after a x).expected ≡ n + 1
+pub after_is : (a : Awaiting) (n : ℕ) (x : Option ℕ) → a.expected ≡ n → n ≤ 9999999999 → Stands a n x
+    → (after a x).expected ≡ n + 1
 after_is a n x e small (inl is) = ap (λ (y : Option ℕ). (after a y).expected) is ∙ by (takes a n) (takes_expected a n e)
   where
-    on : (b : Bool) → nat_lt n a.expected ≡ b → (cond b (passing (just (one_more n)) (one_more a.expected)) (just (one_more n))).expected ≡ n + 1
+    on : (b : Bool) → nat_lt n a.expected ≡ b
+        → (cond b (passing (just (one_more n)) (one_more a.expected)) (just (one_more n))).expected ≡ n + 1
     on true t = let no : n < a.expected = ltb-true n a.expected t in absurd (omega (arith, no, e))
     on false t = omega (arith, small)
 
@@ -56,7 +62,8 @@ after_is a n (Some m) e small (inr only) = ap (λ (b : Awaiting). (after b (Some
         same_of true p q = eqb-true m n p
         same_of false p q = absurd (true≢false (sym q))
 
-    on : (b : Bool) → nat_lt m n ≡ b → m ≡ n → (cond b (passing (just (one_more m)) (one_more n)) (just (one_more m))).expected ≡ n + 1
+    on : (b : Bool) → nat_lt m n ≡ b → m ≡ n
+        → (cond b (passing (just (one_more m)) (one_more n)) (just (one_more m))).expected ≡ n + 1
     on true t same = let no : m < n = ltb-true m n t in absurd (omega (arith, no, same))
     on false t same = omega (arith, small, same)
 

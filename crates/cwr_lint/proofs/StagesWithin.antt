@@ -57,7 +57,9 @@ goes_inside ty s None = true
 goes_inside ty s (Some to) = is_further ty s && is_inside ty to
 
 abbrev pub further_test : TransactionType → TransactionStep → Symbol → Bool
-further_test ty step s = (is_header_of ty s || is_foot s) || (goes_inside ty s (next_stage (Within ty step) s) && (not (is_some (next_stage (Within ty step) s)) || not (is_before step)))
+further_test ty step s =
+    (is_header_of ty s || is_foot s) || (goes_inside ty s (next_stage (Within ty step) s)
+    && (not (is_some (next_stage (Within ty step) s)) || not (is_before step)))
 
 further_passes : (ty : TransactionType) (step : TransactionStep) (s : Symbol) → further_test ty step s ≡ true
 further_passes Agreement steps.InGroup s = of_each (further_test Agreement steps.InGroup) s refl
@@ -115,7 +117,9 @@ further_passes Acknowledgement steps.Tail s = of_each (further_test Acknowledgem
 
 -- a header comes first in a group, or after a whole transaction
 abbrev pub header_test : TransactionType → TransactionStep → Symbol → Bool
-header_test ty step s = not (is_header_of ty s) || (not (is_some (next_stage (Within ty step) s)) || (is_before step || is_some (next_stage (Within ty step) (Plain kinds.Grt))))
+header_test ty step s =
+    not (is_header_of ty s) || (not (is_some (next_stage (Within ty step) s))
+    || (is_before step || is_some (next_stage (Within ty step) (Plain kinds.Grt))))
 
 header_passes : (ty : TransactionType) (step : TransactionStep) (s : Symbol) → header_test ty step s ≡ true
 header_passes Agreement steps.InGroup s = of_each (header_test Agreement steps.InGroup) s refl
@@ -264,16 +268,27 @@ pub record IsFurther (ty : TransactionType) (step : TransactionStep) (s : Symbol
   pub inside : is_inside ty to ≡ true
   pub begun : is_before step ≡ false
 
-pub further_goes : (ty : TransactionType) (step : TransactionStep) (s : Symbol) (to : Stage) → next_stage (Within ty step) s ≡ Some to → is_header_of ty s ≡ false → is_foot s ≡ false → IsFurther ty step s to
+pub further_goes : (ty : TransactionType) (step : TransactionStep) (s : Symbol) (to : Stage)
+    → next_stage (Within ty step) s ≡ Some to → is_header_of ty s ≡ false → is_foot s ≡ false → IsFurther ty step s to
 further_goes ty step s to e no_header no_foot =
     let none : (is_header_of ty s || is_foot s) ≡ false = ap (λ (b : Bool). b || is_foot s) no_header ∙ no_foot in
-    let both = and_both (goes_inside ty s (next_stage (Within ty step) s)) (not (is_some (next_stage (Within ty step) s)) || not (is_before step)) (or_left (is_header_of ty s || is_foot s) _ (further_passes ty step s) none) in
+    let both =
+    and_both (goes_inside ty s (next_stage (Within ty step) s))
+    (not (is_some (next_stage (Within ty step) s)) || not (is_before step))
+    (or_left (is_header_of ty s || is_foot s) _ (further_passes ty step s) none) in
     let goes : (is_further ty s && is_inside ty to) ≡ true = sym (ap (goes_inside ty s) e) ∙ both.0 in
     let parts = and_both (is_further ty s) (is_inside ty to) goes in
-    record { further = parts.0; inside = parts.1; begun = not_false (is_before step) (or_left (not (is_some (next_stage (Within ty step) s))) (not (is_before step)) both.1 (not_true _ (some_there (Within ty step) to s e))) }
+    record {
+      further = parts.0;
+      inside = parts.1;
+      begun = not_false (is_before step) (or_left
+          (not (is_some (next_stage (Within ty step) s))) (not (is_before step)) both.1
+          (not_true _ (some_there (Within ty step) to s e)));
+    }
 
 -- inside a transaction of the type
-pub inside_is : (ty : TransactionType) (to : Stage) → is_inside ty to ≡ true → (step : TransactionStep) × (to ≡ Within ty step) × (is_before step ≡ false)
+pub inside_is : (ty : TransactionType) (to : Stage) → is_inside ty to ≡ true
+    → (step : TransactionStep) × (to ≡ Within ty step) × (is_before step ≡ false)
 inside_is Agreement (Within Agreement step) h = (step, refl, not_false (is_before step) h)
 inside_is NewWork (Within NewWork step) h = (step, refl, not_false (is_before step) h)
 inside_is RevisedWork (Within RevisedWork step) h = (step, refl, not_false (is_before step) h)
@@ -281,8 +296,13 @@ inside_is Acknowledgement (Within Acknowledgement step) h = (step, refl, not_fal
 inside_is ty to h = absurd (true≢false (sym h))
 
 -- before a header the transaction is whole, if there is one
-pub whole_before : (ty : TransactionType) (step : TransactionStep) (s : Symbol) (to : Stage) → next_stage (Within ty step) s ≡ Some to → is_header_of ty s ≡ true → (is_before step || is_some (next_stage (Within ty step) (Plain kinds.Grt))) ≡ true
-whole_before ty step s to e h = or_left (not (is_some (next_stage (Within ty step) s))) _ (or_left (not (is_header_of ty s)) _ (header_passes ty step s) (not_true _ h)) (not_true _ (some_there (Within ty step) to s e))
+pub whole_before : (ty : TransactionType) (step : TransactionStep) (s : Symbol) (to : Stage)
+    → next_stage (Within ty step) s ≡ Some to → is_header_of ty s ≡ true
+    → (is_before step || is_some (next_stage (Within ty step) (Plain kinds.Grt))) ≡ true
+whole_before ty step s to e h =
+    or_left (not (is_some (next_stage (Within ty step) s))) _
+    (or_left (not (is_header_of ty s)) _ (header_passes ty step s) (not_true _ h))
+    (not_true _ (some_there (Within ty step) to s e))
 
 begun_is : (ty : TransactionType) (to : Stage) → is_begun ty (Some to) ≡ true → to ≡ Within ty (first_step ty)
 begun_is Agreement (Within Agreement steps.Agreed) h = refl
@@ -291,11 +311,14 @@ begun_is RevisedWork (Within RevisedWork steps.Work) h = refl
 begun_is Acknowledgement (Within Acknowledgement steps.Acked) h = refl
 begun_is ty to h = absurd (true≢false (sym h))
 
-pub header_goes : (ty : TransactionType) (step : TransactionStep) (s : Symbol) (to : Stage) → next_stage (Within ty step) s ≡ Some to → is_header_of ty s ≡ true → to ≡ Within ty (first_step ty)
-header_goes ty step s to e h = begun_is ty to (sym (ap (is_begun ty) e) ∙ or_left (not (is_header_of ty s)) _ (begun_passes ty step s) (not_true _ h))
+pub header_goes : (ty : TransactionType) (step : TransactionStep) (s : Symbol) (to : Stage)
+    → next_stage (Within ty step) s ≡ Some to → is_header_of ty s ≡ true → to ≡ Within ty (first_step ty)
+header_goes ty step s to e h =
+    begun_is ty to (sym (ap (is_begun ty) e) ∙ or_left (not (is_header_of ty s)) _ (begun_passes ty step s) (not_true _ h))
 
 -- the header's kind
-pub header_is : (ty : TransactionType) (s : Symbol) → is_header_of ty s ≡ true → (within ty (header_step ty s) ≡ Some (Within ty (first_step ty)))
+pub header_is : (ty : TransactionType) (s : Symbol) → is_header_of ty s ≡ true
+    → (within ty (header_step ty s) ≡ Some (Within ty (first_step ty)))
 header_is Agreement (Plain kinds.Agr) h = refl
 header_is NewWork (Plain kinds.Nwr) h = refl
 header_is RevisedWork (Plain kinds.Rev) h = refl
@@ -308,7 +331,8 @@ is_closed None = true
 is_closed (Some Closed) = true
 is_closed (Some stage) = false
 
-foot_passes : (ty : TransactionType) (step : TransactionStep) → (is_closed (next_stage (Within ty step) (Plain kinds.Grt)) && (not (is_before step) || not (is_some (next_stage (Within ty step) (Plain kinds.Grt))))) ≡ true
+foot_passes : (ty : TransactionType) (step : TransactionStep) → (is_closed (next_stage (Within ty step) (Plain kinds.Grt))
+    && (not (is_before step) || not (is_some (next_stage (Within ty step) (Plain kinds.Grt))))) ≡ true
 foot_passes Agreement steps.InGroup = refl
 foot_passes Agreement steps.Acked = refl
 foot_passes Agreement steps.Agreed = refl
@@ -366,8 +390,11 @@ closed_is : (to : Stage) → is_closed (Some to) ≡ true → to ≡ Closed
 closed_is Closed h = refl
 closed_is to h = absurd (true≢false (sym h))
 
-pub foot_goes : (ty : TransactionType) (step : TransactionStep) (to : Stage) → next_stage (Within ty step) (Plain kinds.Grt) ≡ Some to → to ≡ Closed
-foot_goes ty step to e = closed_is to (sym (ap is_closed e) ∙ (and_both (is_closed (next_stage (Within ty step) (Plain kinds.Grt))) _ (foot_passes ty step)).0)
+pub foot_goes : (ty : TransactionType) (step : TransactionStep) (to : Stage)
+    → next_stage (Within ty step) (Plain kinds.Grt) ≡ Some to → to ≡ Closed
+foot_goes ty step to e =
+    closed_is to
+    (sym (ap is_closed e) ∙ (and_both (is_closed (next_stage (Within ty step) (Plain kinds.Grt))) _ (foot_passes ty step)).0)
 
 pub foot_is : (s : Symbol) → is_foot s ≡ true → s ≡ Plain kinds.Grt
 foot_is (Plain kinds.Grt) h = refl

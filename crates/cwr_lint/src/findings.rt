@@ -93,7 +93,8 @@ fn after_known(
     in_step: bool,
     line: &CutLine<'_>,
 ) -> Result<Option<Transaction>, AllocError>
-    ensures { IfOk result (λ new. AfterCarried known.now.taken in_step begun (held_record line.now) new) }
+    ensures { IfOk result
+        (λ new. AfterCarried known.now.taken in_step begun (held_record line.now) new) }
 {
     match line.record() {
         Some(next) => after_record(alloc, begun, known.taken, in_step, next),
@@ -110,7 +111,8 @@ pub(crate) fn after_line(
     in_step: bool,
     line: &CutLine<'_>,
 ) -> Result<Option<Transaction>, AllocError>
-    ensures { IfOk result (λ new. AfterJudged is_good judged.now in_step begun (held_cut line.now) new) }
+    ensures { IfOk result
+        (λ new. AfterJudged is_good judged.now in_step begun (held_cut line.now) new) }
 {
     match (is_good, judged) {
         (true, Judged::Known(known)) => after_known(alloc, begun, known, in_step, line),
@@ -170,7 +172,8 @@ fn put_told<W: Target>(
 ) -> Result<(), ToolFault>
     requires unfailed { has_failed sink.old ≡ false }
     requires few { numbered ≡ true → first + length transaction.now ≤ 100000000 }
-    ensures { PutsWith (λ _ text. text ≡ told_lines (asking_of asked.now) numbered group sequence first transaction.now) W.contents W.failures result sink.old sink.new }
+    ensures { PutsWith (λ _ text. text ≡ told_lines (asking_of asked.now) numbered group sequence
+        first transaction.now) W.contents W.failures result sink.old sink.new }
 {
     let explained = is_worded(asked.name.is_some(), numbered);
     match said_if(numbered, asked.said) {
@@ -208,7 +211,8 @@ fn put_findings<W: Target>(
     sink: &mut Sink<W>,
 ) -> Result<(), ToolFault>
     requires { has_failed sink.old ≡ false }
-    ensures { PutsWith (λ _ text. text ≡ ended_lines (asking_of asked.now) (ended_in state.now (Some group.now) (Some transaction.now))) W.contents W.failures result sink.old sink.new }
+    ensures { PutsWith (λ _ text. text ≡ ended_lines (asking_of asked.now) (ended_in state.now
+        (Some group.now) (Some transaction.now))) W.contents W.failures result sink.old sink.new }
 {
     let number = group.open_transaction().number;
     let count = transaction.len() as u64;
@@ -234,7 +238,8 @@ fn put_open<W: Target>(
     sink: &mut Sink<W>,
 ) -> Result<(), ToolFault>
     requires { has_failed sink.old ≡ false }
-    ensures { PutsWith (λ _ text. text ≡ ended_lines (asking_of asked.now) (ended_in state.now state.now.group begun.now)) W.contents W.failures result sink.old sink.new }
+    ensures { PutsWith (λ _ text. text ≡ ended_lines (asking_of asked.now) (ended_in state.now
+        state.now.group begun.now)) W.contents W.failures result sink.old sink.new }
 {
     match (&state.group, begun) {
         (Some(group), Some(transaction)) => put_findings(
@@ -260,7 +265,8 @@ pub(crate) fn put_ended<W: Target>(
     sink: &mut Sink<W>,
 ) -> Result<(), ToolFault>
     requires { has_failed sink.old ≡ false }
-    ensures { PutsWith (λ _ text. text ≡ ended_lines (asking_of asked.now) (ended_by judged.now state.now begun.now)) W.contents W.failures result sink.old sink.new }
+    ensures { PutsWith (λ _ text. text ≡ ended_lines (asking_of asked.now)
+        (ended_by judged.now state.now begun.now)) W.contents W.failures result sink.old sink.new }
 {
     if ends_whole(state, judged) {
         put_open(asked, state, begun, told, sink)

@@ -22,7 +22,8 @@ ghost use Rattle.cwr_lint_lines.specs.Steps.Cells.{held_cut};
 ghost use Rattle.cwr_lint.specs.Steps.LinesRead.{IsOfLine, held_raw};
 ghost use Rattle.cwr_lint.specs.Steps.Lints.{EndsRun, Lints, Tells};
 ghost use Rattle.cwr_lint.specs.Steps.Puts.{PutsWith, ReadsAndPutsWith};
-ghost use Rattle.cwr_lint.specs.Steps.Runs.{BeginsAt, TakesAll, TakesFirst, TakesFrom, TakesLine, TakesNextIf, TakesRead, TellsOfLine, TellsRun, TellsSoMany, TellsToEnd, asking_of};
+ghost use Rattle.cwr_lint.specs.Steps.Runs.{BeginsAt, TakesAll, TakesFirst, TakesFrom, TakesLine, TakesNextIf, TakesRead, TellsOfLine, TellsRun, TellsSoMany};
+ghost use Rattle.cwr_lint.specs.Steps.Runs.{TellsToEnd, asking_of};
 
 use crate::findings::{after_line, put_ended};
 use crate::puts::{Asked, Shown, put_end, report_number};
@@ -55,7 +56,9 @@ impl LintRun {
     /// The fault at a field of the line that comes next, if it has one and the field is no earlier than `from`.
     fn fault_at(&self, judged: &Judged, line: &CutLine<'_>, from: u8, field: u8) -> Option<Refusal>
         requires { IsJudged line.now judged.now }
-        ensures { IsFaultFrom (judged_at self.now.state.lines (scope_by self.now.state.group) line.now judged.now) from field result }
+        ensures { IsFaultFrom
+            (judged_at self.now.state.lines (scope_by self.now.state.group) line.now judged.now)
+            from field result }
     {
         if field < from {
             return None;
@@ -91,7 +94,9 @@ impl LintRun {
         requires unfailed { has_failed sink.old ≡ false }
         requires judged { IsJudged line.now judged.now }
         requires first { 1 ≤ from }
-        ensures { PutsWith (TellsSoMany (asking_of asked.now) (judged_at self.now.state.lines (scope_by self.now.state.group) line.now judged.now) from (fields_end (held_kind line.now))) W.contents W.failures result sink.old sink.new }
+        ensures { PutsWith (TellsSoMany (asking_of asked.now)
+            (judged_at self.now.state.lines (scope_by self.now.state.group) line.now judged.now)
+            from (fields_end (held_kind line.now))) W.contents W.failures result sink.old sink.new }
     {
         let mut told: u64 = 0;
         for field in 1..judged.places() {
@@ -121,7 +126,10 @@ impl LintRun {
         requires unfailed { has_failed sink.old ≡ false }
         requires judged { IsJudged line.now judged.now }
         requires first { 1 ≤ from }
-        ensures puts { PutsWith (TellsOfLine (asking_of asked.now) (judged_at self.old.state.lines (scope_by self.old.state.group) line.now judged.now) (ended_by judged.now self.old.state self.old.begun) from) W.contents W.failures result sink.old sink.new }
+        ensures puts { PutsWith (TellsOfLine (asking_of asked.now)
+            (judged_at self.old.state.lines (scope_by self.old.state.group) line.now judged.now)
+            (ended_by judged.now self.old.state self.old.begun)
+            from) W.contents W.failures result sink.old sink.new }
         ensures state { self.new.state ≡ self.old.state }
         ensures begun { self.new.begun ≡ self.old.begun }
         ensures faults { self.new.faults ≡ self.old.faults }
@@ -150,7 +158,8 @@ impl LintRun {
     ) -> Result<(), AllocError>
         requires { is_blank ≡ is_spaces (held_body line.now) }
         ensures state { self.new.state ≡ state_by judged.now self.old.state (held_cut line.now) }
-        ensures begun { OnOk result (AfterJudged is_good judged.now (is_some self.new.state.stage) self.old.begun (held_cut line.now) self.new.begun) }
+        ensures begun { OnOk result (AfterJudged is_good judged.now (is_some self.new.state.stage)
+            self.old.begun (held_cut line.now) self.new.begun) }
         ensures lines { self.new.state.lines ≡ one_more_line self.old.state.lines }
         ensures over { self.new.state.over ≡ ends_by judged.now }
         ensures faults { self.new.faults ≡ self.old.faults }
@@ -181,7 +190,9 @@ impl LintRun {
         requires unfailed { has_failed sink.old ≡ false }
         requires first { 1 ≤ from }
         requires blank { is_blank ≡ is_spaces (held_body line.now) }
-        ensures { PutsWith (λ _. TakesLine (asking_of asked.now) (held_cut line.now) from self.old self.new) W.contents W.failures result sink.old sink.new }
+        ensures { PutsWith
+            (λ _. TakesLine (asking_of asked.now) (held_cut line.now) from self.old self.new)
+            W.contents W.failures result sink.old sink.new }
     {
         let judged = Judged::of(&self.state, line);
         let told = match self.tell_all(asked, &judged, line, from, shown, sink) {
@@ -207,7 +218,8 @@ impl LintRun {
     ) -> Result<bool, ToolFault>
         requires unfailed { has_failed sink.old ≡ false }
         requires line { IsOfLine raw.now }
-        ensures { PutsWith (λ more. TakesRead (asking_of asked.now) (held_cut (held_raw raw.now)) self.old self.new more) W.contents W.failures result sink.old sink.new }
+        ensures { PutsWith (λ more. TakesRead (asking_of asked.now) (held_cut (held_raw raw.now))
+            self.old self.new more) W.contents W.failures result sink.old sink.new }
     {
         raw.cut_into(cut);
         let shown = self.shown(raw, Some(before));
@@ -228,7 +240,10 @@ impl LintRun {
         sink: &mut Sink<W>,
     ) -> Result<bool, ToolFault>
         requires { has_failed sink.old ≡ false }
-        ensures { ReadsAndPutsWith (TakesNextIf (asking_of asked.now) (R.remaining reader.old) (R.remaining reader.new) before.now raw.new self.old self.new) (R.remaining reader.old) (R.remaining reader.new) (R.failures reader.old) (R.failures reader.new) W.contents W.failures result sink.old sink.new }
+        ensures { ReadsAndPutsWith (TakesNextIf (asking_of asked.now) (R.remaining reader.old)
+            (R.remaining reader.new) before.now raw.new self.old self.new) (R.remaining
+            reader.old) (R.remaining reader.new) (R.failures reader.old) (R.failures
+            reader.new) W.contents W.failures result sink.old sink.new }
     {
         if self.state.over || !before.has_ended() {
             return Ok(false);
@@ -250,7 +265,10 @@ impl LintRun {
         sink: &mut Sink<W>,
     ) -> Result<(), ToolFault>
         requires { has_failed sink.old ≡ false }
-        ensures { ReadsAndPutsWith (λ _. TakesAll (asking_of asked.now) (R.remaining reader.old) (R.remaining reader.new) first.ended self.old self.new) (R.remaining reader.old) (R.remaining reader.new) (R.failures reader.old) (R.failures reader.new) W.contents W.failures result sink.old sink.new }
+        ensures { ReadsAndPutsWith (λ _. TakesAll (asking_of asked.now) (R.remaining reader.old)
+            (R.remaining reader.new) first.ended self.old self.new) (R.remaining
+            reader.old) (R.remaining reader.new) (R.failures reader.old) (R.failures
+            reader.new) W.contents W.failures result sink.old sink.new }
     {
         let mut before = first;
         let mut raw = RawLine::new();
@@ -276,7 +294,9 @@ impl LintRun {
     ) -> Result<(), ToolFault>
         requires unfailed { has_failed sink.old ≡ false }
         requires line { IsOfLine raw.now }
-        ensures { PutsWith (λ _. TakesFirst (asking_of asked.now) refusal.now (held_cut (held_raw raw.now)) self.old self.new) W.contents W.failures result sink.old sink.new }
+        ensures { PutsWith (λ _. TakesFirst (asking_of asked.now) refusal.now
+            (held_cut (held_raw raw.now)) self.old
+            self.new) W.contents W.failures result sink.old sink.new }
     {
         raw.cut_into(cut);
         let shown = self.shown(raw, None);
@@ -300,7 +320,10 @@ impl LintRun {
     ) -> Result<(), ToolFault>
         requires unfailed { has_failed sink.old ≡ false }
         requires line { IsOfLine raw }
-        ensures { ReadsAndPutsWith (λ _. TakesFrom (asking_of asked.now) refusal.now (R.remaining reader.old) (R.remaining reader.new) raw self.old self.new) (R.remaining reader.old) (R.remaining reader.new) (R.failures reader.old) (R.failures reader.new) W.contents W.failures result sink.old sink.new }
+        ensures { ReadsAndPutsWith (λ _. TakesFrom (asking_of asked.now) refusal.now
+            (R.remaining reader.old) (R.remaining reader.new) raw self.old self.new) (R.remaining
+            reader.old) (R.remaining reader.new) (R.failures reader.old) (R.failures
+            reader.new) W.contents W.failures result sink.old sink.new }
     {
         let mut cut = LineBuf::new();
         match self.take_first(asked, refusal, &raw, &mut cut, sink) {
@@ -321,7 +344,10 @@ impl LintRun {
         requires unfailed { has_failed sink.old ≡ false }
         requires line { IsOfLine raw }
         requires begins { BeginsAt refusal.now self.old }
-        ensures { ReadsAndPutsWith (λ _. TellsToEnd (asking_of asked.now) self.old.state refusal.now (R.remaining reader.old) (R.remaining reader.new) raw) (R.remaining reader.old) (R.remaining reader.new) (R.failures reader.old) (R.failures reader.new) W.contents W.failures result sink.old sink.new }
+        ensures { ReadsAndPutsWith (λ _. TellsToEnd (asking_of asked.now) self.old.state refusal.now
+            (R.remaining reader.old) (R.remaining reader.new) raw) (R.remaining
+            reader.old) (R.remaining reader.new) (R.failures reader.old) (R.failures
+            reader.new) W.contents W.failures result sink.old sink.new }
     {
         match self.tell_from(asked, refusal, reader, raw, sink) {
             Ok(()) => put_end(
@@ -347,7 +373,10 @@ impl LintRun {
     ) -> Result<(), ToolFault>
         requires unfailed { has_failed sink.old ≡ false }
         requires begins { BeginsAt refusal.now self.old }
-        ensures { ReadsAndPutsWith (λ _. TellsRun (asking_of asked.now) self.old.state refusal.now last.now.bytes (R.remaining reader.old) (R.remaining reader.new)) (R.remaining reader.old) (R.remaining reader.new) (R.failures reader.old) (R.failures reader.new) W.contents W.failures result sink.old sink.new }
+        ensures { ReadsAndPutsWith (λ _. TellsRun (asking_of asked.now) self.old.state refusal.now
+            last.now.bytes (R.remaining reader.old) (R.remaining reader.new)) (R.remaining
+            reader.old) (R.remaining reader.new) (R.failures reader.old) (R.failures
+            reader.new) W.contents W.failures result sink.old sink.new }
     {
         match RawLine::of_last(&last.bytes, reader) {
             Ok(raw) => self.tell_to_end(asked, refusal, reader, raw, sink),
@@ -370,7 +399,8 @@ fn finish<W: Target>(
     sink: Sink<W>,
 ) -> (W, Result<Verdict, ToolFault>)
     ensures kept { Keeps (W.contents (writer_of sink)) (W.contents result.0) }
-    ensures answer { EndsRun refusal told (W.failures (writer_of sink)) (W.failures result.0) result.1 }
+    ensures answer { EndsRun refusal told (W.failures (writer_of sink)) (W.failures result.0)
+        result.1 }
     ensures handed_on { OnOk result.1 (W.handed_on result.0 ≡ true) }
 {
     let written = sink.written();
@@ -403,11 +433,15 @@ fn tell_faults<R: Source, W: Target>(
     reader: &mut R,
     writer: W,
 ) -> (W, Result<Verdict, ToolFault>)
-    ensures told { OnOk result.1 ((text : List ℕ) × TellsRun (asking_of asked.now) (state_at last.now.stage last.now.counts (refusal.rec - 1)) refusal last.now.bytes (R.remaining reader.old) (R.remaining reader.new) text × Appends (W.contents writer) (W.contents result.0) text) }
+    ensures told { OnOk result.1 ((text : List ℕ) × TellsRun (asking_of asked.now)
+        (state_at last.now.stage last.now.counts (refusal.rec - 1)) refusal last.now.bytes
+        (R.remaining reader.old) (R.remaining reader.new) text × Appends (W.contents writer)
+        (W.contents result.0) text) }
     ensures words { AddsWords W.contents writer result.0 }
     ensures taken { TakesMore (R.remaining reader.old) (R.remaining reader.new) }
     ensures answered { IsAnswerTo (Verdict.Refused refusal) result.1 }
-    ensures reader_failures { CountsReaderFault result.1 (R.failures reader.old) (R.failures reader.new) }
+    ensures reader_failures { CountsReaderFault result.1 (R.failures reader.old)
+        (R.failures reader.new) }
     ensures writer_failures { CountsWriterFault result.1 (W.failures writer) (W.failures result.0) }
     ensures handed_on { OnOk result.1 (W.handed_on result.0 ≡ true) }
 {
@@ -433,13 +467,18 @@ fn check_front<R: Source, W: Target + Drop>(
     reader: &mut R,
     writer: W,
 ) -> (W, Result<Verdict, ToolFault>, CheckedFront, Option<Said>)
-    ensures reported { Reports (lines_before_fault advised explained) limits (R.remaining reader.old) (R.remaining reader.new) W.contents writer result.0 result.1 }
+    ensures reported { Reports (lines_before_fault advised explained) limits
+        (R.remaining reader.old) (R.remaining reader.new) W.contents writer result.0 result.1 }
     ensures judged { JudgesText limits (R.remaining reader.old) result.1 }
-    ensures said { IfOk result.1 (StandsAfter (λ given. result.3 ≡ said_when advised (said_in given)) limits (R.remaining reader.old) (R.remaining reader.new)) }
-    ensures reader_failures { CountsReaderFault result.1 (R.failures reader.old) (R.failures reader.new) }
+    ensures said { IfOk result.1 (StandsAfter
+        (λ given. result.3 ≡ said_when advised (said_in given)) limits (R.remaining reader.old)
+        (R.remaining reader.new)) }
+    ensures reader_failures { CountsReaderFault result.1 (R.failures reader.old)
+        (R.failures reader.new) }
     ensures writer_failures { CountsWriterFault result.1 (W.failures writer) (W.failures result.0) }
     ensures handed_on { OnOk result.1 (W.handed_on result.0 ≡ true) }
-    ensures last { IfOk result.1 (λ verdict. IsSomeAnd result.2.last (IsReadLast limits (R.remaining reader.old) (R.remaining reader.new) verdict)) }
+    ensures last { IfOk result.1 (λ verdict. IsSomeAnd result.2.last
+        (IsReadLast limits (R.remaining reader.old) (R.remaining reader.new) verdict)) }
 {
     match advised {
         true => {
@@ -471,12 +510,17 @@ pub fn lint<R: Source, W: Target + Drop>(
     reader: &mut R,
     writer: W,
 ) -> (W, Result<Verdict, ToolFault>)
-    ensures lints { Lints (wanting (is_some name.entry) advised) limits (R.remaining reader.old) (R.remaining reader.new) W.contents writer result.0 result.1 }
-    ensures tells { IfOk result.1 (Tells (wanting (is_some name.entry) advised) limits (R.remaining reader.old) (R.remaining reader.new) W.contents writer result.0) }
+    ensures lints { Lints (wanting (is_some name.entry) advised) limits (R.remaining reader.old)
+        (R.remaining reader.new) W.contents writer result.0 result.1 }
+    ensures tells { IfOk result.1 (Tells (wanting (is_some name.entry) advised) limits
+        (R.remaining reader.old) (R.remaining reader.new) W.contents writer result.0) }
     ensures judged { JudgesText limits (R.remaining reader.old) result.1 }
-    ensures accepted { IfOk result.1 (JudgesAccepted (lines_linted (wanting (is_some name.entry) advised)) limits (R.remaining reader.old) (R.remaining reader.new) W.contents writer result.0) }
+    ensures accepted { IfOk result.1 (JudgesAccepted
+        (lines_linted (wanting (is_some name.entry) advised)) limits (R.remaining reader.old)
+        (R.remaining reader.new) W.contents writer result.0) }
     // No failure is passed over: a device failed only where that is the answer.
-    ensures reader_failures { CountsReaderFault result.1 (R.failures reader.old) (R.failures reader.new) }
+    ensures reader_failures { CountsReaderFault result.1 (R.failures reader.old)
+        (R.failures reader.new) }
     ensures writer_failures { CountsWriterFault result.1 (W.failures writer) (W.failures result.0) }
     // All that was written was handed on.
     ensures handed_on { OnOk result.1 (W.handed_on result.0 ≡ true) }

@@ -81,7 +81,8 @@ fn put_words<W: Target>(words: &[u8], sink: &mut Sink<W>) -> Result<(), ToolFaul
 /// Puts that an input ended too early, after so many lines, unless it is over.
 fn put_truncated<W: Target>(is_over: bool, lines: u64, sink: &mut Sink<W>) -> Result<(), ToolFault>
     requires { has_failed sink.old ≡ false }
-    ensures { PutsAfter W.contents W.failures (truncated_unless is_over lines) result sink.old sink.new }
+    ensures { PutsAfter W.contents W.failures (truncated_unless is_over lines) result sink.old
+        sink.new }
 {
     match is_over {
         true => Ok(()),
@@ -97,7 +98,8 @@ fn put_faults_line<W: Target>(
     sink: &mut Sink<W>,
 ) -> Result<(), ToolFault>
     requires { has_failed sink.old ≡ false }
-    ensures { PutsAfter W.contents W.failures (faults_line faults findings lines) result sink.old sink.new }
+    ensures { PutsAfter W.contents W.failures (faults_line faults findings lines) result sink.old
+        sink.new }
 {
     as_told(faults_line(faults, findings, lines, sink))
 }
@@ -111,7 +113,8 @@ pub(crate) fn put_end<W: Target>(
     sink: &mut Sink<W>,
 ) -> Result<(), ToolFault>
     requires { has_failed sink.old ≡ false }
-    ensures { PutsWith (λ _. IsEndText is_over faults findings lines) W.contents W.failures result sink.old sink.new }
+    ensures { PutsWith (λ _. IsEndText is_over faults findings lines) W.contents W.failures result
+        sink.old sink.new }
 {
     match put_truncated(is_over, lines, sink) {
         Ok(()) => put_faults_line(faults, findings, lines, sink),
@@ -138,7 +141,8 @@ impl Asked<'_> {
         sink: &mut Sink<W>,
     ) -> Result<(), ToolFault>
         requires { has_failed sink.old ≡ false }
-        ensures { PutsWith (λ _. AreWords (is_some self.now.name)) W.contents W.failures result sink.old sink.new }
+        ensures { PutsWith (λ _. AreWords (is_some self.now.name)) W.contents W.failures result
+            sink.old sink.new }
     {
         let Some(name) = self.name else {
             return Ok(());
@@ -169,7 +173,8 @@ impl Asked<'_> {
         sink: &mut Sink<W>,
     ) -> Result<(), ToolFault>
         requires { has_failed sink.old ≡ false }
-        ensures { PutsWith (λ _. IsFaultText (asking_of self.now) fault.now) W.contents W.failures result sink.old sink.new }
+        ensures { PutsWith (λ _. IsFaultText (asking_of self.now) fault.now) W.contents W.failures
+            result sink.old sink.new }
     {
         match put_fault_line(fault, sink) {
             Ok(()) => self.put_explanation(fault, line, is_first, sink),

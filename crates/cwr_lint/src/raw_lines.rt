@@ -1,6 +1,7 @@
 //! The lines that a reader still has.
 
-ghost use Rattle.std.specs.Prelude.{◌≡◌, ◌≢◌, ℕ, ◌+◌, ◌≤◌, ◌<◌, ◌||◌, nat_lt, List, [], ◌∷◌, ◌++◌, length, take, slice_index, true, false, IfOk, IsFalse, MatchOption};
+ghost use Rattle.std.specs.Prelude.{◌≡◌, ◌≢◌, ℕ, ◌+◌, ◌≤◌, ◌<◌, ◌||◌, nat_lt, List, [], ◌∷◌, ◌++◌, length, take, slice_index, true, false, IfOk, IsFalse};
+ghost use Rattle.std.specs.Prelude.{MatchOption};
 ghost use Rattle.std.specs.List.{list_any};
 ghost use Rattle.cwr_sinks.specs.Steps.Sinks.{CountsOn};
 ghost use Rattle.cwr_explain.specs.Format.Explained.{TakesMore};
@@ -20,7 +21,8 @@ const LF: u8 = b'\n';
 
 /// The place of the first line feed.
 fn line_feed(piece: &[u8]) -> Option<usize>
-    ensures { MatchOption result (IsFalse (list_any is_lf piece.now)) (λ at. (at < length piece.now) × IsFalse (list_any is_lf (take at piece.now)) × (slice_index piece.now at ≡ 10)) }
+    ensures { MatchOption result (IsFalse (list_any is_lf piece.now)) (λ at. (at < length piece.now)
+        × IsFalse (list_any is_lf (take at piece.now)) × (slice_index piece.now at ≡ 10)) }
 {
     memchr(LF, piece)
 }
@@ -135,7 +137,8 @@ impl RawLine {
 
     /// Adds bytes of the line.
     fn add(&mut self, bytes: &[u8])
-        ensures held { (line : List ℕ) → IsFalse (list_any is_lf bytes.now) → HoldsRaw line self.old → HoldsRaw (line ++ bytes.now) self.new }
+        ensures held { (line : List ℕ) → IsFalse (list_any is_lf bytes.now) → HoldsRaw line self.old
+            → HoldsRaw (line ++ bytes.now) self.new }
         ensures unended { self.new.ended ≡ self.old.ended }
     {
         let room = LONGEST_LINE - self.bytes.len();
@@ -227,7 +230,8 @@ impl RawLine {
     /// Takes what the reader shows next of an open line. The answer is whether the line or the input has ended with that.
     fn take_piece<R: Source>(&mut self, reader: &mut R) -> Result<bool, DeviceFault>
         requires { self.old.ended ≡ false }
-        ensures read { IfOk result (ReadsPiece (R.remaining reader.old) (R.remaining reader.new) self.old self.new) }
+        ensures read { IfOk result
+            (ReadsPiece (R.remaining reader.old) (R.remaining reader.new) self.old self.new) }
         ensures taken { TakesMore (R.remaining reader.old) (R.remaining reader.new) }
         ensures failures { CountsOn result (R.failures reader.old) (R.failures reader.new) }
     {
@@ -243,7 +247,8 @@ impl RawLine {
     /// Takes what is left of an open line, up to its line feed or the end of the input.
     fn take_rest<R: Source>(&mut self, reader: &mut R) -> Result<(), DeviceFault>
         requires { self.old.ended ≡ false }
-        ensures read { IfOk result (λ _. ReadsRest (R.remaining reader.old) (R.remaining reader.new) self.old self.new) }
+        ensures read { IfOk result
+            (λ _. ReadsRest (R.remaining reader.old) (R.remaining reader.new) self.old self.new) }
         ensures taken { TakesMore (R.remaining reader.old) (R.remaining reader.new) }
         ensures failures { CountsOn result (R.failures reader.old) (R.failures reader.new) }
     {
@@ -274,7 +279,8 @@ impl RawLine {
 
     /// The line that was read last, of which the reader may have more.
     pub fn of_last<R: Source>(last: &LastBytes, reader: &mut R) -> Result<RawLine, DeviceFault>
-        ensures read { IfOk result (ReadsLast (R.remaining reader.old) (R.remaining reader.new) last.now) }
+        ensures read { IfOk result
+            (ReadsLast (R.remaining reader.old) (R.remaining reader.new) last.now) }
         ensures held { IfOk result IsOfLine }
         ensures taken { TakesMore (R.remaining reader.old) (R.remaining reader.new) }
         ensures failures { CountsOn result (R.failures reader.old) (R.failures reader.new) }
@@ -296,7 +302,8 @@ impl RawLine {
 
     /// Reads the line after another one. The answer is whether there is one.
     pub fn read_after<R: Source>(&mut self, end: u64, reader: &mut R) -> Result<bool, DeviceFault>
-        ensures read { IfOk result (ReadsLineIf (R.remaining reader.old) (R.remaining reader.new) self.new) }
+        ensures read { IfOk result
+            (ReadsLineIf (R.remaining reader.old) (R.remaining reader.new) self.new) }
         ensures taken { TakesMore (R.remaining reader.old) (R.remaining reader.new) }
         ensures failures { CountsOn result (R.failures reader.old) (R.failures reader.new) }
     {

@@ -11,7 +11,9 @@ use Rattle.cwr_judge.proofs.NumberCells.{found_in_layout}
 use Rattle.cwr_lint_lines.specs.Steps.CellFaults.{IsFaultAt, IsFaultOf}
 
 -- the field and the cell are those of the line
-pub found_at : (h : HeldLine) (kind : Kind) (j : ℕ) (field : FieldLayout) (cell : List ℕ) (found : Option CellFault) → held_kind h ≡ Some kind → field_at kind j ≡ Some field → held_cell h j ≡ Some cell → IsFaultOf field.ty cell found → IsFaultAt h j found
+pub found_at : (h : HeldLine) (kind : Kind) (j : ℕ) (field : FieldLayout) (cell : List ℕ) (found : Option CellFault)
+    → held_kind h ≡ Some kind → field_at kind j ≡ Some field → held_cell h j ≡ Some cell → IsFaultOf field.ty cell found
+    → IsFaultAt h j found
 found_at h kind j field cell found known at there is this_kind f here known_too at_too there_too =
     let kinds : kind ≡ this_kind = cc (sym known ∙ known_too) in
     let fields : field ≡ f = cc (sym (subst (λ (k : Kind). field_at k j ≡ Some field) kinds at) ∙ at_too) in
@@ -22,7 +24,8 @@ found_at h kind j field cell found known at there is this_kind f here known_too 
 pub no_kind : (h : HeldLine) (j : ℕ) (found : Option CellFault) → held_kind h ≡ None → IsFaultAt h j found
 no_kind h j found none this_kind f here known at there = absurd (cc (sym none ∙ known))
 
-pub no_such : (h : HeldLine) (kind : Kind) (j : ℕ) (found : Option CellFault) → held_kind h ≡ Some kind → field_at kind j ≡ None → IsFaultAt h j found
+pub no_such : (h : HeldLine) (kind : Kind) (j : ℕ) (found : Option CellFault) → held_kind h ≡ Some kind → field_at kind j ≡ None
+    → IsFaultAt h j found
 no_such h kind j found known none this_kind f here known_too at there =
     let kinds : kind ≡ this_kind = cc (sym known ∙ known_too) in
     absurd (cc (sym (subst (λ (k : Kind). field_at k j ≡ None) kinds none) ∙ at))
@@ -31,8 +34,13 @@ pub no_here : (h : HeldLine) (j : ℕ) (found : Option CellFault) → held_cell 
 no_here h j found none this_kind f here known at there = absurd (cc (sym none ∙ there))
 
 -- by the field's place
-pub found_in : (h : HeldLine) (kind : Kind) (j : ℕ) (place : Field) (cell : List ℕ) (found : Option CellFault) → held_kind h ≡ Some kind → Some (field_view place) ≡ field_with_start kind j → Some cell ≡ held_cell h j → IsFaultOf place.ty cell found → IsFaultAt h j found
-found_in h kind j place cell found known p there is = found_at h kind j (field_view place).1 cell found known (found_in_layout kind j place p) (sym there) is
+pub found_in : (h : HeldLine) (kind : Kind) (j : ℕ) (place : Field) (cell : List ℕ) (found : Option CellFault)
+    → held_kind h ≡ Some kind → Some (field_view place) ≡ field_with_start kind j → Some cell ≡ held_cell h j
+    → IsFaultOf place.ty cell found → IsFaultAt h j found
+found_in h kind j place cell found known p there is =
+    found_at h kind j (field_view place).1 cell found known (found_in_layout kind j place p) (sym there) is
 
-pub no_field : (h : HeldLine) (kind : Kind) (j : ℕ) (found : Option CellFault) → held_kind h ≡ Some kind → field_with_start kind j ≡ None → IsFaultAt h j found
-no_field h kind j found known none = no_such h kind j found known (sym (field_at-start kind j) ∙ ap (option_map (λ (p : ℕ × FieldLayout). p.1)) none)
+pub no_field : (h : HeldLine) (kind : Kind) (j : ℕ) (found : Option CellFault) → held_kind h ≡ Some kind
+    → field_with_start kind j ≡ None → IsFaultAt h j found
+no_field h kind j found known none =
+    no_such h kind j found known (sym (field_at-start kind j) ∙ ap (option_map (λ (p : ℕ × FieldLayout). p.1)) none)

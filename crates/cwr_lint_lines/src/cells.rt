@@ -4,7 +4,8 @@ ghost use Rattle.std.specs.Prelude.{◌≡◌, ◌↔◌, ◌≤◌, length, IsS
 ghost use Rattle.cwr_fields.specs.Format.Bytes.{are_digits, number_of};
 ghost use Rattle.cwr_shape.specs.Format.Candidates.{role_in as role_spelled, type_in as type_spelled};
 ghost use Rattle.cwr_lint_lines.specs.Steps.CellFaults.{IsFaultAt};
-ghost use Rattle.cwr_lint_lines.specs.Steps.Cells.{has_version, held_cut, number_at, number_in_cell, role_in, role_or_assignor, symbol_in, type_in, type_of_header};
+ghost use Rattle.cwr_lint_lines.specs.Steps.Cells.{has_version, held_cut, number_at, number_in_cell, role_in, role_or_assignor, symbol_in, type_in};
+ghost use Rattle.cwr_lint_lines.specs.Steps.Cells.{type_of_header};
 
 use cwr_fields::{Cell, CellFault, Kind, Role, TransactionType, Word, field, fits};
 use cwr_lines::CutLine;

@@ -2,7 +2,8 @@
 
 ghost use Rattle.std.specs.Prelude.{◌≡◌, false};
 ghost use Rattle.cwr_shape.specs.declared.stages.Stage.TheVariants.{Within};
-ghost use Rattle.cwr_lint_lines.specs.Steps.Fronts.{group_at, group_before_header, group_with_transaction, state_at, state_inside, state_outside, transaction_at};
+ghost use Rattle.cwr_lint_lines.specs.Steps.Fronts.{group_at, group_before_header, group_with_transaction, state_at, state_inside, state_outside};
+ghost use Rattle.cwr_lint_lines.specs.Steps.Fronts.{transaction_at};
 
 use crate::following::Awaiting;
 use crate::states::{LintState, OpenGroup, OpenTransaction};

@@ -91,7 +91,8 @@ impl Known {
     /// What is told at field `j`, from 1: why, if anything.
     fn reason(&self, line: &CutLine<'_>, j: u8) -> Option<Reason>
         requires { IsKnown line.now self.now }
-        ensures { (n : ℕ) (scope : Scope) → IsToldAt (judged_at n scope line.now (Judged.Known self.now)) j result }
+        ensures { (n : ℕ) (scope : Scope)
+            → IsToldAt (judged_at n scope line.now (Judged.Known self.now)) j result }
     {
         if j == 1 {
             return reason_if(self.misplaced, Reason::Misplaced);
@@ -128,7 +129,8 @@ impl Judged {
     /// What is told at field `j`, from 1: why, if anything.
     pub fn reason(&self, line: &CutLine<'_>, j: u8) -> Option<Reason>
         requires { IsJudged line.now self.now }
-        ensures { (n : ℕ) (scope : Scope) → IsToldAt (judged_at n scope line.now self.now) j result }
+        ensures { (n : ℕ) (scope : Scope)
+            → IsToldAt (judged_at n scope line.now self.now) j result }
     {
         match self {
             Judged::Unknown => Some(Reason::UnknownKind),

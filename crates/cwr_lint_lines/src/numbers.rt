@@ -3,7 +3,10 @@
 ghost use Rattle.std.specs.Prelude.{◌≡◌};
 ghost use Rattle.cwr_lint_lines.specs.Steps.JudgedLines.{number_of};
 ghost use Rattle.cwr_lint_lines.specs.Steps.Cells.{held_cut};
-ghost use Rattle.cwr_lint_lines.specs.Steps.Numbers.{awaited_of, belonging, count_of_all_records, count_of_all_transactions, count_of_group_records, count_of_group_transactions, count_of_groups, first_wrong, is_borne_by, second_wrong, takes_count, third_wrong, wanted_count, wrong_in_foot, wrong_in_further, wrong_in_group, wrong_in_head, wrong_in_header, wrong_in_other, wrong_in_other_in, wrong_in_trailer, wrong_numbers, wrong_of_further};
+ghost use Rattle.cwr_lint_lines.specs.Steps.Numbers.{awaited_of, belonging, count_of_all_records, count_of_all_transactions, count_of_group_records};
+ghost use Rattle.cwr_lint_lines.specs.Steps.Numbers.{count_of_group_transactions, count_of_groups, first_wrong, is_borne_by, second_wrong, takes_count};
+ghost use Rattle.cwr_lint_lines.specs.Steps.Numbers.{third_wrong, wanted_count, wrong_in_foot, wrong_in_further, wrong_in_group, wrong_in_head};
+ghost use Rattle.cwr_lint_lines.specs.Steps.Numbers.{wrong_in_header, wrong_in_other, wrong_in_other_in, wrong_in_trailer, wrong_numbers, wrong_of_further};
 
 use crate::cells::{number_at, type_of_header};
 use crate::following::{Awaiting, is_number};

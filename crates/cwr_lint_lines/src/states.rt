@@ -2,7 +2,9 @@
 
 ghost use Rattle.std.specs.Prelude.{◌≡◌, Some};
 ghost use Rattle.cwr_lint_lines.specs.Steps.JudgedLines.{scope_by};
-ghost use Rattle.cwr_lint_lines.specs.Steps.States.{added_known, all_groups, all_headers, all_lines, all_records, all_transactions, bars, begun, final_number, group_records, is_id, is_of, is_type, is_whole, may_have, next_in, number_or, open_records, open_transaction, open_transactions, records, records_with, standing_id, sum_known, transactions, unheaded};
+ghost use Rattle.cwr_lint_lines.specs.Steps.States.{added_known, all_groups, all_headers, all_lines, all_records, all_transactions, bars, begun, final_number};
+ghost use Rattle.cwr_lint_lines.specs.Steps.States.{group_records, is_id, is_of, is_type, is_whole, may_have, next_in, number_or, open_records};
+ghost use Rattle.cwr_lint_lines.specs.Steps.States.{open_transaction, open_transactions, records, records_with, standing_id, sum_known, transactions, unheaded};
 
 use crate::following::{Awaiting, is_number};
 use cwr_fields::{Kind, TransactionType};

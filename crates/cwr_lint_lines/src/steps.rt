@@ -3,7 +3,13 @@
 ghost use Rattle.std.specs.Prelude.{◌≡◌, false};
 ghost use Rattle.cwr_lint_lines.specs.Format.FaultsAtFields.{one_more_line};
 ghost use Rattle.cwr_lint_lines.specs.Steps.Cells.{held_cut};
-ghost use Rattle.cwr_lint_lines.specs.Steps.NextStates.{after_line, counted_line, ended_by, ended_records_by, group_further, group_other, group_unknown, headed, ids_after, ids_after_foot, is_end, last_after_foot, moved_to, next_beside, next_by, opened_anew, records_left, records_said, run_with, stage_in, stage_of_party, stage_with, state_after, state_with_unknown, transactions_said, type_with, with_belonging, with_foot, with_foot_in, with_further, with_group, with_header, with_header_in, with_header_of, with_line, with_numbers_of, with_other, with_other_in, with_silent, with_stray_foot, with_transaction, with_unknown, with_unknown_of, with_unseen};
+ghost use Rattle.cwr_lint_lines.specs.Steps.NextStates.{after_line, counted_line, ended_by, ended_records_by, group_further, group_other, group_unknown};
+ghost use Rattle.cwr_lint_lines.specs.Steps.NextStates.{headed, ids_after, ids_after_foot, is_end, last_after_foot, moved_to, next_beside, next_by};
+ghost use Rattle.cwr_lint_lines.specs.Steps.NextStates.{opened_anew, records_left, records_said, run_with, stage_in, stage_of_party, stage_with, state_after};
+ghost use Rattle.cwr_lint_lines.specs.Steps.NextStates.{state_with_unknown, transactions_said, type_with, with_belonging, with_foot, with_foot_in};
+ghost use Rattle.cwr_lint_lines.specs.Steps.NextStates.{with_further, with_group, with_header, with_header_in, with_header_of, with_line, with_numbers_of};
+ghost use Rattle.cwr_lint_lines.specs.Steps.NextStates.{with_other, with_other_in, with_silent, with_stray_foot, with_transaction, with_unknown};
+ghost use Rattle.cwr_lint_lines.specs.Steps.NextStates.{with_unknown_of, with_unseen};
 ghost use Rattle.cwr_lint_lines.specs.Steps.States.{open_transaction};
 ghost use Rattle.cwr_shape.specs.Steps.NextStages.{header_step, within};
 ghost use Rattle.cwr_shape.specs.declared.symbols.Symbol.TheVariants.{Plain};

@@ -3,7 +3,9 @@
 ghost use Rattle.std.specs.Prelude.{◌≡◌, true, false};
 ghost use Rattle.cwr_lint_lines.specs.Steps.Cells.{held_cut, type_of_header};
 ghost use Rattle.cwr_lint_lines.specs.Steps.NextStates.{is_end};
-ghost use Rattle.cwr_lint_lines.specs.Steps.Takings.{begins_in, begins_unseen, goes_on, goes_on_in, heads_copy, is_first, is_misplaced, is_misplaced_by, is_misplaced_header, is_other_grh, is_other_grt, is_other_hdr, is_other_trl, taking, taking_inside, taking_of_foot, taking_of_further, taking_of_hdr, taking_of_head, taking_of_header, taking_of_trailer};
+ghost use Rattle.cwr_lint_lines.specs.Steps.Takings.{begins_in, begins_unseen, goes_on, goes_on_in, heads_copy, is_first, is_misplaced, is_misplaced_by};
+ghost use Rattle.cwr_lint_lines.specs.Steps.Takings.{is_misplaced_header, is_other_grh, is_other_grt, is_other_hdr, is_other_trl, taking, taking_inside};
+ghost use Rattle.cwr_lint_lines.specs.Steps.Takings.{taking_of_foot, taking_of_further, taking_of_hdr, taking_of_head, taking_of_header, taking_of_trailer};
 
 use crate::cells::{has_version, number_at, symbol_in, type_in, type_of_header};
 use crate::following::is_number;

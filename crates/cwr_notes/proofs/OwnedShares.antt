@@ -19,12 +19,14 @@ use Rattle.cwr_levels.proofs.OneMore.{take_more}
 use Rattle.cwr_levels.proofs.RuleTests.{cell_of_field}
 use Rattle.cwr_notes.specs.Format.FindingNotes.{right_of}
 
-share_by : (right : String) (r : RecordValue) (b : Bool) → sum_by (share_of right) (cond b (r ∷ []) []) ≡ cond b (share_of right r) 0
+share_by : (right : String) (r : RecordValue) (b : Bool)
+    → sum_by (share_of right) (cond b (r ∷ []) []) ≡ cond b (share_of right r) 0
 share_by right r true = omega arith
 share_by right r false = refl
 
 -- with one record more
-pub owned_more : (right : String) (t : List RecordValue) (i : ℕ) (r : RecordValue) → slice_get t i ≡ Some r → ownership right (take (i + 1) t) ≡ ownership right (take i t) + cond (is_owner r) (share_of right r) 0
+pub owned_more : (right : String) (t : List RecordValue) (i : ℕ) (r : RecordValue) → slice_get t i ≡ Some r
+    → ownership right (take (i + 1) t) ≡ ownership right (take i t) + cond (is_owner r) (share_of right r) 0
 owned_more right t i r e =
     ap (ownership right) (take_more t i r e)
     ∙ ap (sum_by (share_of right)) (filter-append is_owner (take i t) (r ∷ []))
@@ -47,22 +49,28 @@ owner_opu r h = by (is_a kinds.Spu r) (is_a kinds.Opu r) h
     by false b e = ap (λ (x : Bool). or_four false x (is_a kinds.Swr r) (is_a kinds.Owr r)) e
 
 pub owner_swr : (r : RecordValue) → is_a kinds.Swr r ≡ true → is_owner r ≡ true
-owner_swr r h = or_left (is_a kinds.Spu r || is_a kinds.Opu r || is_a kinds.Swr r) (is_a kinds.Owr r) (or_right (is_a kinds.Spu r || is_a kinds.Opu r) (is_a kinds.Swr r) h)
+owner_swr r h =
+    or_left (is_a kinds.Spu r || is_a kinds.Opu r || is_a kinds.Swr r) (is_a kinds.Owr r)
+    (or_right (is_a kinds.Spu r || is_a kinds.Opu r) (is_a kinds.Swr r) h)
 
 pub owner_owr : (r : RecordValue) → is_a kinds.Owr r ≡ true → is_owner r ≡ true
 owner_owr r h = or_right (is_a kinds.Spu r || is_a kinds.Opu r || is_a kinds.Swr r) (is_a kinds.Owr r) h
 
-pub no_owner : (r : RecordValue) → is_a kinds.Spu r ≡ false → is_a kinds.Opu r ≡ false → is_a kinds.Swr r ≡ false → is_a kinds.Owr r ≡ false → is_owner r ≡ false
+pub no_owner : (r : RecordValue) → is_a kinds.Spu r ≡ false → is_a kinds.Opu r ≡ false → is_a kinds.Swr r ≡ false
+    → is_a kinds.Owr r ≡ false → is_owner r ≡ false
 no_owner r spu opu swr owr =
     or_from (is_a kinds.Spu r || is_a kinds.Opu r || is_a kinds.Swr r) (is_a kinds.Owr r)
-    (or_from (is_a kinds.Spu r || is_a kinds.Opu r) (is_a kinds.Swr r) (or_from (is_a kinds.Spu r) (is_a kinds.Opu r) spu opu) swr) owr
+    (or_from (is_a kinds.Spu r || is_a kinds.Opu r) (is_a kinds.Swr r) (or_from (is_a kinds.Spu r) (is_a kinds.Opu r) spu opu)
+    swr) owr
 
 -- ---- the share of one record
 
 -- the share that a field holds is that in the right which it is of
-pub read_share : (right : String) (rule : Rule) (r : RecordValue) (j : ℕ) (cell : List ℕ) (x : ℕ) → cell ≡ cell_of_field r j → IsField right r.kind j 5 → IsRecord r → x ≡ number_of cell → right_of rule ≡ right → x ≡ share_of (right_of rule) r
+pub read_share : (right : String) (rule : Rule) (r : RecordValue) (j : ℕ) (cell : List ℕ) (x : ℕ) → cell ≡ cell_of_field r j
+    → IsField right r.kind j 5 → IsRecord r → x ≡ number_of cell → right_of rule ≡ right → x ≡ share_of (right_of rule) r
 read_share right rule r j cell x e field fits number same =
-    number ∙ ap number_of (e ∙ named_cell right r.kind j 5 r field refl fits) ∙ share_is_number (cell_named right r) ∙ ap (λ (w : String). share_of w r) (sym same)
+    number ∙ ap number_of (e ∙ named_cell right r.kind j 5 r field refl fits) ∙ share_is_number (cell_named right r)
+    ∙ ap (λ (w : String). share_of w r) (sym same)
 
 pub third_right : (rule : Rule) → (rule ≡ V3 → ⊥) → (rule ≡ V4 → ⊥) → right_of rule ≡ "sr share"
 third_right V3 h k = absurd (h refl)

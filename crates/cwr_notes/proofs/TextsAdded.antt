@@ -9,8 +9,10 @@ pub first_added : (before text after : List ℕ) → after ≡ before ++ text �
 first_added before text after h = record { same = h }
 
 -- one more after those added so far
-pub then_added : {before text after : List ℕ} (more other new : List ℕ) → Adds before text after → new ≡ after ++ more → more ≡ other → Adds before (text ++ other) new
-then_added {before = before} {text = text} {after = after} more other new h k e = record { same = k ∙ ap₂ (λ (l m : List ℕ). l ++ m) h.same e ∙ append_assoc before text other }
+pub then_added : {before text after : List ℕ} (more other new : List ℕ) → Adds before text after → new ≡ after ++ more
+    → more ≡ other → Adds before (text ++ other) new
+then_added {before = before} {text = text} {after = after} more other new h k e =
+    record { same = k ∙ ap₂ (λ (l m : List ℕ). l ++ m) h.same e ∙ append_assoc before text other }
 
 -- one more after a text
 pub text_on : (text more other x y : List ℕ) → x ≡ text → y ≡ x ++ more → more ≡ other → y ≡ text ++ other

@@ -52,7 +52,8 @@ fn put_head<W: Target>(
     sink: &mut Sink<W>,
 ) -> Result<(), SinkFault>
     requires { has_failed sink.old ≡ false }
-    ensures puts { Puts W.contents W.failures (head_lines number finding.now shown.now) result sink.old sink.new }
+    ensures puts { Puts W.contents W.failures (head_lines number finding.now shown.now) result
+        sink.old sink.new }
     ensures fault { IfErr result (λ f. f.written ≡ written_of sink.new) }
 {
     lines.set_head(number, finding, shown);
@@ -70,7 +71,8 @@ fn put_noted<W: Target>(
 ) -> Result<(), SinkFault>
     requires unfailed { has_failed sink.old ≡ false }
     requires few { first + length transaction.now ≤ 100000000 }
-    ensures puts { Puts W.contents W.failures (noted_at first transaction.now rule position) result sink.old sink.new }
+    ensures puts { Puts W.contents W.failures (noted_at first transaction.now rule position) result
+        sink.old sink.new }
     ensures fault { IfErr result (λ f. f.written ≡ written_of sink.new) }
 {
     let Some(shown) = transaction.record(position) else {
@@ -91,7 +93,8 @@ fn put_others<W: Target>(
 ) -> Result<(), SinkFault>
     requires unfailed { has_failed sink.old ≡ false }
     requires few { first + length transaction.now ≤ 100000000 }
-    ensures puts { Puts W.contents W.failures (flat_map (noted_at first transaction.now rule) positions.now) result sink.old sink.new }
+    ensures puts { Puts W.contents W.failures
+        (flat_map (noted_at first transaction.now rule) positions.now) result sink.old sink.new }
     ensures fault { IfErr result (λ f. f.written ≡ written_of sink.new) }
 {
     let mut i = 0;
@@ -112,7 +115,8 @@ fn put_tail<W: Target>(
 ) -> Result<(), SinkFault>
     requires unfailed { has_failed sink.old ≡ false }
     requires few { length transaction.now ≤ 100000000 }
-    ensures puts { Puts W.contents W.failures (tail_lines rule count transaction.now) result sink.old sink.new }
+    ensures puts { Puts W.contents W.failures (tail_lines rule count transaction.now) result
+        sink.old sink.new }
     ensures fault { IfErr result (λ f. f.written ≡ written_of sink.new) }
 {
     set_tail(rule, count, transaction, lines);
@@ -145,8 +149,10 @@ fn put_notes_on<W: Target>(
     requires unfailed { has_failed sink.old ≡ false }
     requires few { first + length transaction.now ≤ 100000000 }
     requires there { finding.now.rec < length transaction.now }
-    requires found { AreListed (others finding.now.rule transaction.now finding.now.rec shown.now) found.now }
-    ensures puts { Puts W.contents W.failures (notes_on first transaction.now finding.now shown.now) result sink.old sink.new }
+    requires found { AreListed (others finding.now.rule transaction.now finding.now.rec shown.now)
+        found.now }
+    ensures puts { Puts W.contents W.failures (notes_on first transaction.now finding.now shown.now)
+        result sink.old sink.new }
     ensures fault { IfErr result (λ f. f.written ≡ written_of sink.new) }
 {
     put_head(first + finding.rec as u64, finding, shown, lines, sink)?;
@@ -173,7 +179,8 @@ fn put_notes<W: Target>(
     requires unfailed { has_failed sink.old ≡ false }
     requires few { first + length transaction.now ≤ 100000000 }
     requires passed { HasPassed transaction.now passed.old }
-    ensures puts { Puts W.contents W.failures (finding_notes first transaction.now finding.now) result sink.old sink.new }
+    ensures puts { Puts W.contents W.failures (finding_notes first transaction.now finding.now)
+        result sink.old sink.new }
     ensures fault { IfErr result (λ f. f.written ≡ written_of sink.new) }
     ensures passed { HasPassed transaction.now passed.new }
 {
@@ -199,7 +206,9 @@ fn put_explained<W: Target>(
     requires unfailed { has_failed sink.old ≡ false }
     requires few { first + length transaction.now ≤ 100000000 }
     requires passed { HasPassed transaction.now passed.old }
-    ensures puts { Puts W.contents W.failures (explained_finding group sequence first transaction.now finding.now) result sink.old sink.new }
+    ensures puts { Puts W.contents W.failures
+        (explained_finding group sequence first transaction.now finding.now) result sink.old
+        sink.new }
     ensures fault { IfErr result (λ f. f.written ≡ written_of sink.new) }
     ensures passed { HasPassed transaction.now passed.new }
 {
@@ -218,7 +227,9 @@ pub fn put_all_explained<W: Target>(
 ) -> Result<(), SinkFault>
     requires unfailed { has_failed sink.old ≡ false }
     requires few { first + length transaction.now ≤ 100000000 }
-    ensures puts { Puts W.contents W.failures (flat_map (explained_finding group sequence first transaction.now) found.now) result sink.old sink.new }
+    ensures puts { Puts W.contents W.failures
+        (flat_map (explained_finding group sequence first transaction.now) found.now) result
+        sink.old sink.new }
     ensures fault { IfErr result (λ f. f.written ≡ written_of sink.new) }
 {
     let mut passed = Passed::none();

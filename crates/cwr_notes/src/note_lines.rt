@@ -3,7 +3,8 @@
 ghost use Rattle.std.specs.Prelude.{◌≡◌, ◌+◌, ◌*◌, ◌≤◌, [], ◌++◌, ◌∷◌, Some, length, codes, decimal};
 ghost use Rattle.std.specs.Str.{bytes_eq};
 ghost use Rattle.cwr_fields.specs.Steps.Views.{field_view};
-ghost use Rattle.cwr_notes.specs.Format.FindingNotes.{head_lines, level_words, more_line, named_line, noted_cells, noted_line, number_of_field, rule_words, value_words, where_line};
+ghost use Rattle.cwr_notes.specs.Format.FindingNotes.{head_lines, level_words, more_line, named_line, noted_cells, noted_line, number_of_field, rule_words};
+ghost use Rattle.cwr_notes.specs.Format.FindingNotes.{value_words, where_line};
 
 use crate::record_lines::{LONGEST, Text, push, push_number};
 use arrayvec::ArrayVec;
@@ -98,8 +99,10 @@ fn push_value(text: &mut Text, cell: &[u8])
 /// Appends the line on a cell of a field, in a record of the kind on that line of the file.
 fn push_note(text: &mut Text, number: u64, kind: Kind, place: &Field, cell: &[u8])
     requires { length text.old.items + length place.now.name.now + length cell.now + 60 ≤ LONGEST }
-    ensures value { text.new.items ≡ text.old.items ++ noted_line number kind (Some (field_view place.now).1) (Some cell.now) }
-    ensures len { length text.new.items ≤ length text.old.items + length place.now.name.now + length cell.now + 60 }
+    ensures value { text.new.items
+        ≡ text.old.items ++ noted_line number kind (Some (field_view place.now).1) (Some cell.now) }
+    ensures len { length text.new.items
+        ≤ length text.old.items + length place.now.name.now + length cell.now + 60 }
 {
     push(text, b"  cell      line ");
     push_number(text, number);
@@ -258,7 +261,8 @@ impl NoteLines {
     /// Adds how many components there are.
     pub(crate) fn add_components(&mut self, count: u64)
         requires { length self.old ≤ 60 }
-        ensures { self.new ≡ self.old ++ codes "  total     COM records: " ++ decimal count ++ 10 ∷ [] }
+        ensures { self.new
+            ≡ self.old ++ codes "  total     COM records: " ++ decimal count ++ 10 ∷ [] }
     {
         push(&mut self.text, b"  total     COM records: ");
         push_number(&mut self.text, count);

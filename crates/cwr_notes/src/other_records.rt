@@ -38,7 +38,8 @@ impl OtherRecords {
     /// With one position more.
     pub(crate) fn add(&mut self, position: usize)
         requires { self.old.count < 10 ^ 9 }
-        ensures listed { (all : List ℕ) → AreListed all self.old → AreListed (all ++ position ∷ []) self.new }
+        ensures listed { (all : List ℕ) → AreListed all self.old
+            → AreListed (all ++ position ∷ []) self.new }
         ensures count { self.new.count ≡ self.old.count + 1 }
     {
         let _fits = self.listed.try_push(position);
@@ -48,7 +49,8 @@ impl OtherRecords {
     /// With the position, where it counts.
     fn add_if(&mut self, counts: bool, position: usize)
         requires { self.old.count < 10 ^ 9 }
-        ensures listed { (all : List ℕ) → AreListed all self.old → AreListed (all ++ (if counts then position ∷ [] else [])) self.new }
+        ensures listed { (all : List ℕ) → AreListed all self.old
+            → AreListed (all ++ (if counts then position ∷ [] else [])) self.new }
         ensures count { self.new.count ≤ self.old.count + 1 }
     {
         if counts {
@@ -146,7 +148,8 @@ fn share_from(rule: Rule, shown: &RecordRef<'_>, first: u8) -> u64
 
 /// The share of an owner in the right of the rule; of another record 0.
 fn owned_share(rule: Rule, shown: &RecordRef<'_>) -> u64
-    ensures value { result ≡ (if is_owner shown.now then share_of (right_of rule) shown.now else 0) }
+    ensures value { result
+        ≡ (if is_owner shown.now then share_of (right_of rule) shown.now else 0) }
     ensures small { result < 10 ^ 10 }
 {
     match shown.kind() {

@@ -44,7 +44,8 @@ impl Passed {
         requires counted { self.old.publishers.count ≤ self.old.at }
         requires few { self.old.at < 100000000 }
         ensures at { self.new.at ≡ self.old.at + 1 }
-        ensures passed { (t : List RecordValue) → slice_get t self.old.at ≡ Some shown.now → HasPassed t self.old → HasPassed t self.new }
+        ensures passed { (t : List RecordValue) → slice_get t self.old.at ≡ Some shown.now
+            → HasPassed t self.old → HasPassed t self.new }
     {
         let at = self.at;
         self.at = at + 1;

@@ -47,8 +47,10 @@ pub(crate) fn push_number(text: &mut Text, number: u64)
 #[inline(always)]
 fn push_cell(text: &mut Text, j: u8, place: &Field, cell: &[u8])
     requires { length text.old.items + length place.now.name.now + length cell.now + 26 ≤ LONGEST }
-    ensures value { text.new.items ≡ text.old.items ++ cell_line j (field_view place.now).1 cell.now }
-    ensures len { length text.new.items ≤ length text.old.items + length place.now.name.now + length cell.now + 26 }
+    ensures value { text.new.items
+        ≡ text.old.items ++ cell_line j (field_view place.now).1 cell.now }
+    ensures len { length text.new.items
+        ≤ length text.old.items + length place.now.name.now + length cell.now + 26 }
 {
     if is_spaces(cell) {
         return;

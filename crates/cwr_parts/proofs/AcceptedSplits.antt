@@ -14,12 +14,16 @@ use Rattle.cwr_parts.specs.Format.Splits.{split_of}
 use Rattle.cwr_parts.specs.Format.Splitting.{IsOfSplitDevice, JudgesSplit, SplitsAccepted, split_report}
 use Rattle.cwr_parts.specs.Steps.Splitting.{Splits}
 
-pub splits_accepted : (limits : Limits) (n : ℕ) (before after : Option (List ℕ)) (old new : Option (List (List ℕ))) (result : Result SplitReport ToolFault) → Splits limits n before after old new result → SplitsAccepted limits n before after old new result
+pub splits_accepted : (limits : Limits) (n : ℕ) (before after : Option (List ℕ)) (old new : Option (List (List ℕ)))
+    (result : Result SplitReport ToolFault) → Splits limits n before after old new result → SplitsAccepted limits n before after
+    old new result
 splits_accepted limits n None after old new result h = tt
 splits_accepted limits n (Some text) after old new result h = λ v count a. by result h v count a
   where
-    by : (r : Result SplitReport ToolFault) → Splits limits n (Some text) after old new r → (v : TransmissionValue) (count : ℕ) → IsAccepted limits text v count
-        → MatchResult r (λ report. (report ≡ split_report n v) × (after ≡ Some (drop count text)) × AddsTexts old new (map canonical_text (split_of n v))) IsOfSplitDevice
+    by : (r : Result SplitReport ToolFault) → Splits limits n (Some text) after old new r → (v : TransmissionValue) (count : ℕ)
+        → IsAccepted limits text v count
+        → MatchResult r (λ report. (report ≡ split_report n v) × (after ≡ Some (drop count text))
+        × AddsTexts old new (map canonical_text (split_of n v))) IsOfSplitDevice
     by (Ok report) k v count a =
         let same = accepted_once limits text k.value v (length k.taken.input) count k.taken.front.0 a in (
           k.reported ∙ ap (split_report n) same.0,
@@ -34,7 +38,8 @@ splits_accepted limits n (Some text) after old new result h = λ v count a. by r
     by (Err (Truncated records)) k v count a = absurd (k.1.0.right.ends.unaccepted v count a)
     by (Err (Limit limit)) k v count a = absurd k
 
-pub splits_judged : (limits : Limits) (n : ℕ) (before after : Option (List ℕ)) (old new : Option (List (List ℕ))) (result : Result SplitReport ToolFault) → Splits limits n before after old new result → JudgesSplit limits before after result
+pub splits_judged : (limits : Limits) (n : ℕ) (before after : Option (List ℕ)) (old new : Option (List (List ℕ)))
+    (result : Result SplitReport ToolFault) → Splits limits n before after old new result → JudgesSplit limits before after result
 splits_judged limits n None after old new (Ok report) h = tt
 splits_judged limits n (Some text) after old new (Ok report) h = (h.value, length h.taken.input, h.taken.front.0, h.taken.front.1)
 splits_judged limits n None after old new (Err (Refused refusal)) h = tt

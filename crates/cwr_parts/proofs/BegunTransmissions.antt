@@ -19,31 +19,50 @@ use Rattle.cwr_encode.specs.declared.encoders.EncodeFault.TheVariants.{Limit}
 use Rattle.cwr_encode.specs.Format.Encoders.{JudgesCall}
 
 -- the symbols of its first records begin a transmission
-pub begins : (v : TransmissionValue) (records rest : List RecordValue) → IsTransmission v → records_of v ≡ records ++ rest → Continues Any (map symbol_of records)
-begins v records rest h e = (outline_of v, outline_whole v h, tt, (map symbol_of rest, symbols-outline v h ∙ ap (map symbol_of) e ∙ map-append symbol_of records rest))
+pub begins : (v : TransmissionValue) (records rest : List RecordValue) → IsTransmission v → records_of v ≡ records ++ rest
+    → Continues Any (map symbol_of records)
+begins v records rest h e = (
+  outline_of v,
+  outline_whole v h,
+  tt,
+  (map symbol_of rest, symbols-outline v h ∙ ap (map symbol_of) e ∙ map-append symbol_of records rest),
+)
 
 -- within the limits, if it is
-pub begins_within : (allowed : LimitValues) (v : TransmissionValue) (records rest : List RecordValue) → IsTransmission v → FitsIn allowed v → records_of v ≡ records ++ rest
+pub begins_within : (allowed : LimitValues) (v : TransmissionValue) (records rest : List RecordValue) → IsTransmission v
+    → FitsIn allowed v → records_of v ≡ records ++ rest
     → Continues (IsWithin allowed) (map symbol_of records)
-begins_within allowed v records rest h fits e = (outline_of v, outline_whole v h, fits, (map symbol_of rest, symbols-outline v h ∙ ap (map symbol_of) e ∙ map-append symbol_of records rest))
+begins_within allowed v records rest h fits e = (
+  outline_of v,
+  outline_whole v h,
+  fits,
+  (map symbol_of rest, symbols-outline v h ∙ ap (map symbol_of) e ∙ map-append symbol_of records rest),
+)
 
 -- with these records added to those before
-pub begins_more : (v : TransmissionValue) (records added rest : List RecordValue) → IsTransmission v → records_of v ≡ (records ++ added) ++ rest → Continues Any (map symbol_of records ++ map symbol_of added)
-begins_more v records added rest h e = subst (Continues Any) (map-append symbol_of records added) (begins v (records ++ added) rest h e)
+pub begins_more : (v : TransmissionValue) (records added rest : List RecordValue) → IsTransmission v
+    → records_of v ≡ (records ++ added) ++ rest → Continues Any (map symbol_of records ++ map symbol_of added)
+begins_more v records added rest h e =
+    subst (Continues Any) (map-append symbol_of records added) (begins v (records ++ added) rest h e)
 
-pub begins_more_within : (allowed : LimitValues) (v : TransmissionValue) (records added rest : List RecordValue) → IsTransmission v → FitsIn allowed v → records_of v ≡ (records ++ added) ++ rest
+pub begins_more_within : (allowed : LimitValues) (v : TransmissionValue) (records added rest : List RecordValue)
+    → IsTransmission v → FitsIn allowed v → records_of v ≡ (records ++ added) ++ rest
     → Continues (IsWithin allowed) (map symbol_of records ++ map symbol_of added)
-begins_more_within allowed v records added rest h fits e = subst (Continues (IsWithin allowed)) (map-append symbol_of records added) (begins_within allowed v (records ++ added) rest h fits e)
+begins_more_within allowed v records added rest h fits e =
+    subst (Continues (IsWithin allowed)) (map-append symbol_of records added)
+    (begins_within allowed v (records ++ added) rest h fits e)
 
 -- no limit refuses a call with which a transmission within the limits continues
-pub never_limited : (allowed : LimitValues) (comes right whole : Type 0) (xs added : List Symbol) (limit : LimitKind) → Continues (IsWithin allowed) (xs ++ added)
+pub never_limited : (allowed : LimitValues) (comes right whole : Type 0) (xs added : List Symbol) (limit : LimitKind)
+    → Continues (IsWithin allowed) (xs ++ added)
     → JudgesCall {A = Unit {0}} comes right whole allowed xs added (Err (Limit limit)) → ⊥
 never_limited allowed comes right whole xs added limits.Records g h = h.3.1 (g.0, g.1, g.2.0, g.3)
 never_limited allowed comes right whole xs added limits.Groups g h = h.3.1 (g.0, g.1, g.2.1, g.3)
 never_limited allowed comes right whole xs added limits.Transaction g h = h.3.2 (g.0, g.1, g.2.2, g.3)
 
 -- nor is it barred
-pub never_barred : (allowed : LimitValues) (xs : List Symbol) (limit : LimitKind) → Continues (IsWithin allowed) xs → IsBarredFirst allowed (λ P. Continues P xs) (bars.Limit limit) → ⊥
+pub never_barred : (allowed : LimitValues) (xs : List Symbol) (limit : LimitKind) → Continues (IsWithin allowed) xs
+    → IsBarredFirst allowed (λ P. Continues P xs) (bars.Limit limit) → ⊥
 never_barred allowed xs limits.Records g h = h.1 (g.0, g.1, g.2.0, g.3)
 never_barred allowed xs limits.Groups g h = h.1 (g.0, g.1, g.2.1, g.3)
 never_barred allowed xs limits.Transaction g h = h.2 (g.0, g.1, g.2.2, g.3)

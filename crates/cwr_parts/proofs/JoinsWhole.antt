@@ -18,18 +18,27 @@ use Rattle.cwr_parts.specs.Steps.Joined.{AddsAll, EndsJoin, EndsWithAll, HasJoin
 use Rattle.cwr_parts.proofs.InputsJoined.{taken_many, taken_whole}
 
 -- as many readers as before
-left_many : {R : Type 0} (limits : Limits) (remaining : R → Option (List ℕ)) (failures : R → ℕ) (olds : List R) (vs : List TransmissionValue) (news : List R) → TakeInputs limits remaining failures olds vs news
+left_many : {R : Type 0} (limits : Limits) (remaining : R → Option (List ℕ)) (failures : R → ℕ) (olds : List R)
+    (vs : List TransmissionValue) (news : List R) → TakeInputs limits remaining failures olds vs news
     → length olds ≡ length news
 left_many limits remaining failures [] [] [] h = refl
-left_many limits remaining failures (o ∷ olds) (v ∷ vs) (n ∷ news) h = omega (arith, left_many limits remaining failures olds vs news h.1)
+left_many limits remaining failures (o ∷ olds) (v ∷ vs) (n ∷ news) h =
+    omega (arith, left_many limits remaining failures olds vs news h.1)
 left_many limits remaining failures olds vs news h = absurd h
 
-pub ready_to_end : {R W : Type 0} (limits : Limits) (remaining : R → Option (List ℕ)) (failures : R → ℕ) (contents : W → Option (List ℕ)) (before after : List R) (old j : Joined W)
-    → AreInRange limits → 0 < length before → AddsAll limits remaining failures contents before after old j → HasJoinedAll contents (length after) j
+pub ready_to_end : {R W : Type 0} (limits : Limits) (remaining : R → Option (List ℕ)) (failures : R → ℕ)
+    (contents : W → Option (List ℕ)) (before after : List R) (old j : Joined W)
+    → AreInRange limits → 0 < length before → AddsAll limits remaining failures contents before after old j
+    → HasJoinedAll contents (length after) j
 ready_to_end limits remaining failures contents before after old j range some h = record {
   start = contents (joined_writer old);
   inputs = h.inputs;
-  counted = omega (arith, taken_many limits remaining failures before h.inputs after h.taken, left_many limits remaining failures before h.inputs after h.taken);
+  counted =
+      omega (
+        arith,
+        taken_many limits remaining failures before h.inputs after h.taken,
+        left_many limits remaining failures before h.inputs after h.taken,
+      );
   range = subst AreInRange (sym h.limits_are) range;
   some = omega (arith, some, left_many limits remaining failures before h.inputs after h.taken);
   each = taken_whole limits remaining failures before h.inputs after h.taken;
@@ -38,7 +47,8 @@ ready_to_end limits remaining failures contents before after old j range some h 
 
 -- ---- the last input
 
-record AreTakenToLast {R : Type 0} (limits : Limits) (remaining : R → Option (List ℕ)) (failures : R → ℕ) (olds : List R) (vs : List TransmissionValue) (news : List R) : Type 0 where
+record AreTakenToLast {R : Type 0} (limits : Limits) (remaining : R → Option (List ℕ)) (failures : R → ℕ) (olds : List R)
+    (vs : List TransmissionValue) (news : List R) : Type 0 where
   earlier : List R
   hand : R
   finished : List R
@@ -51,8 +61,10 @@ record AreTakenToLast {R : Type 0} (limits : Limits) (remaining : R → Option (
   taken : TakeInputs limits remaining failures earlier inputs finished
   last_taken : TakesInput limits remaining failures hand last left
 
-to_last : {R : Type 0} (limits : Limits) (remaining : R → Option (List ℕ)) (failures : R → ℕ) (o : R) (olds : List R) (v : TransmissionValue) (vs : List TransmissionValue) (n : R) (news : List R)
-    → TakeInputs limits remaining failures (o ∷ olds) (v ∷ vs) (n ∷ news) → AreTakenToLast limits remaining failures (o ∷ olds) (v ∷ vs) (n ∷ news)
+to_last : {R : Type 0} (limits : Limits) (remaining : R → Option (List ℕ)) (failures : R → ℕ) (o : R) (olds : List R)
+    (v : TransmissionValue) (vs : List TransmissionValue) (n : R) (news : List R)
+    → TakeInputs limits remaining failures (o ∷ olds) (v ∷ vs) (n ∷ news)
+    → AreTakenToLast limits remaining failures (o ∷ olds) (v ∷ vs) (n ∷ news)
 to_last limits remaining failures o [] v [] n [] h = record {
   earlier = [];
   hand = o;
@@ -83,19 +95,25 @@ to_last {R = R} limits remaining failures o (p ∷ olds) v (w ∷ vs) n (m ∷ n
     }
 to_last limits remaining failures o olds v vs n news h = absurd h.1
 
-taken_to_last : {R : Type 0} (limits : Limits) (remaining : R → Option (List ℕ)) (failures : R → ℕ) (olds : List R) (vs : List TransmissionValue) (news : List R) → 0 < length olds → TakeInputs limits remaining failures olds vs news
+taken_to_last : {R : Type 0} (limits : Limits) (remaining : R → Option (List ℕ)) (failures : R → ℕ) (olds : List R)
+    (vs : List TransmissionValue) (news : List R) → 0 < length olds → TakeInputs limits remaining failures olds vs news
     → AreTakenToLast limits remaining failures olds vs news
-taken_to_last limits remaining failures (o ∷ olds) (v ∷ vs) (n ∷ news) some h = to_last limits remaining failures o olds v vs n news h
+taken_to_last limits remaining failures (o ∷ olds) (v ∷ vs) (n ∷ news) some h =
+    to_last limits remaining failures o olds v vs n news h
 taken_to_last limits remaining failures [] [] [] some h = absurd (omega (arith, some))
 taken_to_last limits remaining failures olds vs news some h = absurd h
 
 -- ---- the answers
 
-pub joins_end : {R W : Type 0} (limits : Limits) (remaining : R → Option (List ℕ)) (failures : R → ℕ) (contents : W → Option (List ℕ)) (counts : W → ℕ) (before after : List R) (old j : Joined W) (writer new : W) (result : Result JoinReport JoinFault)
-    → joined_writer old ≡ writer → 0 < length before → AddsAll limits remaining failures contents before after old j → EndsJoin contents counts (length after) j new result
+pub joins_end : {R W : Type 0} (limits : Limits) (remaining : R → Option (List ℕ)) (failures : R → ℕ)
+    (contents : W → Option (List ℕ)) (counts : W → ℕ) (before after : List R) (old j : Joined W) (writer new : W)
+    (result : Result JoinReport JoinFault)
+    → joined_writer old ≡ writer → 0 < length before → AddsAll limits remaining failures contents before after old j
+    → EndsJoin contents counts (length after) j new result
     → Joins limits remaining failures contents before after writer new result
 joins_end {R = R} {W = W} limits remaining failures contents counts before after old j writer new result same some h ends =
-    by result (ends.1 start h.inputs (omega (arith, many, left)) (omega (arith, some, left)) (taken_whole limits remaining failures before h.inputs after h.taken) h.joined)
+    by result (ends.1 start h.inputs (omega (arith, many, left)) (omega (arith, some, left))
+    (taken_whole limits remaining failures before h.inputs after h.taken) h.joined)
   where
     start : Option (List ℕ)
     start = contents (joined_writer old)
@@ -106,7 +124,8 @@ joins_end {R = R} {W = W} limits remaining failures contents counts before after
     many : length before ≡ length h.inputs
     many = taken_many limits remaining failures before h.inputs after h.taken
 
-    by : (answer : Result JoinReport JoinFault) → EndsWithAll contents (length after) start h.inputs j new answer → Joins limits remaining failures contents before after writer new answer
+    by : (answer : Result JoinReport JoinFault) → EndsWithAll contents (length after) start h.inputs j new answer
+        → Joins limits remaining failures contents before after writer new answer
     by (Ok report) e = record {
       inputs = h.inputs;
       taken = h.taken;
@@ -119,7 +138,8 @@ joins_end {R = R} {W = W} limits remaining failures contents counts before after
     }
     by (Err stopped) e =
         let t = taken_to_last limits remaining failures before h.inputs after some h.taken in
-        let fails : FailsToWrite {R = R} limits e.ends.1 contents t.inputs (remaining t.hand) (remaining t.left) [] writer new = record {
+        let fails : FailsToWrite {R = R} limits e.ends.1 contents t.inputs (remaining t.hand) (remaining t.left) [] writer new =
+        record {
           text = canonical_text e.joined;
           text_is = inr (
             record {
@@ -146,6 +166,10 @@ joins_end {R = R} {W = W} limits remaining failures contents counts before after
           number = omega (arith, e.ends.0, left, ap length t.olds_are, length-append t.earlier (t.hand ∷ []));
           inputs = t.inputs;
           taken = t.taken;
-          stops = subst (λ (f : ToolFault). StopsBy {R = R} limits f contents t.inputs (remaining t.hand) (remaining t.left) [] writer new) (sym e.ends.2) fails;
-          counts = subst (λ (f : ToolFault). CountsInputFault f (failures t.hand) (failures t.left)) (sym e.ends.2) t.last_taken.quiet;
+          stops =
+              subst
+              (λ (f : ToolFault). StopsBy {R = R} limits f contents t.inputs (remaining t.hand) (remaining t.left) [] writer new)
+              (sym e.ends.2) fails;
+          counts =
+              subst (λ (f : ToolFault). CountsInputFault f (failures t.hand) (failures t.left)) (sym e.ends.2) t.last_taken.quiet;
         }

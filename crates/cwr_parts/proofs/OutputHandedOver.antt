@@ -22,30 +22,37 @@ use Rattle.cwr_parts.proofs.ItemsAdded.{records_in-append, records_in_value}
 use Rattle.cwr_parts.proofs.JoinsEnded.{closed_end, reached_foot, right_end}
 
 -- the items before the end
-before_end : (v : TransmissionValue) (items : List Item) → value_items v ≡ items ++ Ended ∷ [] → items ≡ Opened v.opening ∷ flat_map group_items v.groups
+before_end : (v : TransmissionValue) (items : List Item) → value_items v ≡ items ++ Ended ∷ []
+    → items ≡ Opened v.opening ∷ flat_map group_items v.groups
 before_end v items e = append_cancel_right items (Opened v.opening ∷ flat_map group_items v.groups) (Ended ∷ []) (sym e)
 
 -- TRL is no mistake
-pub right_last : {W : Type 0} (contents : W → Option (List ℕ)) (out : SplitOutput W) (answer : Result ℕ EncodeFault) → (may : MayHandOver contents out)
+pub right_last : {W : Type 0} (contents : W → Option (List ℕ)) (out : SplitOutput W) (answer : Result ℕ EncodeFault)
+    → (may : MayHandOver contents out)
     → JudgesEnd (encoder_limits out.encoder) (map symbol_of (records_in may.items)) answer → IsNoMistake answer
 right_last contents out answer may judged =
     let v = may.ends.value in
     let whole = may.ends.whole in
     let same = before_end v may.items may.ends.items_are in
-    let foot = reached_foot (flat_map group_items v.groups) (closed_end v.groups whole.each whole.some_group) (Opened v.opening) in
-    right_end (encoder_limits out.encoder) (map symbol_of (records_in may.items)) answer (ap (λ (l : List Item). reached (map symbol_of (records_in l))) same ∙ foot) judged
+    let foot =
+    reached_foot (flat_map group_items v.groups) (closed_end v.groups whole.each whole.some_group) (Opened v.opening) in
+    right_end (encoder_limits out.encoder) (map symbol_of (records_in may.items)) answer
+    (ap (λ (l : List Item). reached (map symbol_of (records_in l))) same ∙ foot) judged
 
 -- the records of a transmission, by its items
-all_records : (w : TransmissionValue) (items : List Item) → value_items w ≡ items ++ Ended ∷ [] → records_of w ≡ records_in items ++ trailer ∷ []
+all_records : (w : TransmissionValue) (items : List Item) → value_items w ≡ items ++ Ended ∷ []
+    → records_of w ≡ records_in items ++ trailer ∷ []
 all_records w items e = sym (records_in_value w) ∙ ap records_in e ∙ records_in-append items (Ended ∷ [])
 
 -- a text after nothing
-known : (start after : Option (List ℕ)) (old new : Option (List (List ℕ))) (text : List ℕ) → IfSome old (λ _. start ≡ Some []) → Appends start after text
+known : (start after : Option (List ℕ)) (old new : Option (List (List ℕ))) (text : List ℕ) → IfSome old (λ _. start ≡ Some [])
+    → Appends start after text
     → IfSome after (AddsText old new) → AddsText old new text
 known start after None new text empty h added = tt
 known start after (Some ts) new text empty h added = known_some start after ts new text empty h added
   where
-    known_some : (start after : Option (List ℕ)) (ts : List (List ℕ)) (new : Option (List (List ℕ))) (text : List ℕ) → start ≡ Some [] → Appends start after text
+    known_some : (start after : Option (List ℕ)) (ts : List (List ℕ)) (new : Option (List (List ℕ))) (text : List ℕ)
+        → start ≡ Some [] → Appends start after text
         → IfSome after (AddsText (Some ts) new) → AddsText (Some ts) new text
     known_some start None ts new text e h added = absurd (subst (λ (s : Option (List ℕ)). Appends s None text) e h)
     known_some start (Some bytes) ts new text e h added =
@@ -53,8 +60,10 @@ known start after (Some ts) new text empty h added = known_some start after ts n
         subst (AddsText (Some ts) new) same added
 
 -- they have the text
-pub handed_over : {O W : Type 0} (told : Told O) (contents : W → Option (List ℕ)) (failures : W → ℕ) (out : SplitOutput W) (writer : W) (n : ℕ) (old new : O) → FinishesWriting contents failures out.encoder writer (Ok n)
-    → told.failures new ≡ told.failures old → told.given_up new ≡ told.given_up old → IfSome (contents writer) (AddsText (told.texts old) (told.texts new)) → TakesOutput told contents out old new
+pub handed_over : {O W : Type 0} (told : Told O) (contents : W → Option (List ℕ)) (failures : W → ℕ) (out : SplitOutput W)
+    (writer : W) (n : ℕ) (old new : O) → FinishesWriting contents failures out.encoder writer (Ok n)
+    → told.failures new ≡ told.failures old → told.given_up new ≡ told.given_up old
+    → IfSome (contents writer) (AddsText (told.texts old) (told.texts new)) → TakesOutput told contents out old new
 handed_over told contents failures out writer n old new finishes failed given_up added = record {
   counts = record { failures = failed; given_up = given_up };
   text = λ start items w encodes whole e empty.

@@ -9,8 +9,10 @@ use Rattle.cwr_values.specs.declared.items.Item.TheVariants.{Ended}
 use Rattle.cwr_encode.specs.Steps.Encoders.{Encodes, is_stopped, encoder_limits, target_of}
 use Rattle.cwr_parts.specs.declared.split_output.SplitOutput.{SplitOutput}
 use Rattle.cwr_parts.specs.declared.splitting.Splitting.{Splitting}
-use Rattle.cwr_parts.specs.Steps.SplitOutputs.{HoldsOutput, IsOutput, IsQuiet, MayEnd, MayHandOver, TakesOutput, Told, end_of, open_count}
-use Rattle.cwr_parts.specs.Steps.SplitSteps.{IsHandedOver, IsOpen, IsOutside, IsOutsideOpen, FinishesOutput, MayEndGroup, MayEndHeld, MayFinish, holding, has_open_group, report_after}
+use Rattle.cwr_parts.specs.Steps.SplitOutputs.{HoldsOutput, IsOutput, IsQuiet, MayEnd, MayHandOver, TakesOutput, Told, end_of}
+use Rattle.cwr_parts.specs.Steps.SplitOutputs.{open_count}
+use Rattle.cwr_parts.specs.Steps.SplitSteps.{IsHandedOver, IsOpen, IsOutside, IsOutsideOpen, FinishesOutput, MayEndGroup}
+use Rattle.cwr_parts.specs.Steps.SplitSteps.{MayEndHeld, MayFinish, holding, has_open_group, report_after}
 
 -- ---- an output is open
 
@@ -22,7 +24,8 @@ pub none_there : {A : Type 0} (o : Option A) → false ≡ is_some o → o ≡ N
 none_there None e = refl
 none_there (Some x) e = absurd (cc)
 
-pub already_open : {O W : Type 0} (told : Told O) (contents : W → Option (List ℕ)) (failures : W → ℕ) (s : Splitting W) (before : O) (out : SplitOutput W) → s.output ≡ Some out → IsOpen told contents failures s s before before
+pub already_open : {O W : Type 0} (told : Told O) (contents : W → Option (List ℕ)) (failures : W → ℕ) (s : Splitting W)
+    (before : O) (out : SplitOutput W) → s.output ≡ Some out → IsOpen told contents failures s s before before
 already_open told contents failures s before out e = record {
   out = out;
   now = ap (holding s) e;
@@ -32,30 +35,36 @@ already_open told contents failures s before out e = record {
   group = sym (ap has_open_group e);
 }
 
-pub newly_open : {O W : Type 0} (told : Told O) (contents : W → Option (List ℕ)) (failures : W → ℕ) (s : Splitting W) (before after : O) (writer : W) (out : SplitOutput W) → s.output ≡ None
-    → IfSome (told.texts before) (λ _. contents writer ≡ Some []) → failures writer ≡ 0 → IsQuiet told before after → Encodes contents (contents writer) [] out.encoder → encoder_limits out.encoder ≡ s.limits → is_stopped out.encoder ≡ false
-    → target_of out.encoder ≡ writer → out.transactions ≡ 0 → out.in_group ≡ false → IsOpen told contents failures s (holding s (Some out)) before after
-newly_open told contents failures s before after writer out e empty quiet same encodes limits unfailed target none outside = record {
-  out = out;
-  now = refl;
-  quiet = same;
-  held = λ items h.
-      let no_items : items ≡ [] = subst (HoldsOutput contents failures s.limits (told.texts before) items) e h in
-      record {
-        start = contents writer;
-        empty = empty;
-        encodes = subst (λ (l : List Item). Encodes contents (contents writer) (records_in l) out.encoder) (sym no_items) encodes;
-        unfailed = unfailed;
-        quiet = ap failures target ∙ quiet;
-        limits_are = limits;
-      };
-  counted = none ∙ sym (ap open_count e);
-  group = outside ∙ sym (ap has_open_group e);
-}
+pub newly_open : {O W : Type 0} (told : Told O) (contents : W → Option (List ℕ)) (failures : W → ℕ) (s : Splitting W)
+    (before after : O) (writer : W) (out : SplitOutput W) → s.output ≡ None
+    → IfSome (told.texts before) (λ _. contents writer ≡ Some []) → failures writer ≡ 0 → IsQuiet told before after
+    → Encodes contents (contents writer) [] out.encoder → encoder_limits out.encoder ≡ s.limits
+    → is_stopped out.encoder ≡ false
+    → target_of out.encoder ≡ writer → out.transactions ≡ 0 → out.in_group ≡ false
+    → IsOpen told contents failures s (holding s (Some out)) before after
+newly_open told contents failures s before after writer out e empty quiet same encodes limits unfailed target none outside =
+    record {
+      out = out;
+      now = refl;
+      quiet = same;
+      held = λ items h.
+          let no_items : items ≡ [] = subst (HoldsOutput contents failures s.limits (told.texts before) items) e h in
+          record {
+            start = contents writer;
+            empty = empty;
+            encodes = subst (λ (l : List Item). Encodes contents (contents writer) (records_in l) out.encoder) (sym no_items) encodes;
+            unfailed = unfailed;
+            quiet = ap failures target ∙ quiet;
+            limits_are = limits;
+          };
+      counted = none ∙ sym (ap open_count e);
+      group = outside ∙ sym (ap has_open_group e);
+    }
 
 -- ---- its group ends
 
-pub was_open : {W : Type 0} (contents : W → Option (List ℕ)) (failures : W → ℕ) (a b : Option (SplitOutput W)) (out : SplitOutput W) → IsOutsideOpen contents failures a b → b ≡ Some out
+pub was_open : {W : Type 0} (contents : W → Option (List ℕ)) (failures : W → ℕ) (a b : Option (SplitOutput W))
+    (out : SplitOutput W) → IsOutsideOpen contents failures a b → b ≡ Some out
     → (old : SplitOutput W) × (a ≡ Some old) × IsOutside contents failures old out
 was_open contents failures None None out h e = absurd (cc)
 was_open contents failures None (Some y) out h e = absurd h
@@ -64,7 +73,8 @@ was_open contents failures (Some x) (Some y) out h e =
     let same : y ≡ out = (cc) in (x, refl, subst (IsOutside contents failures x) same h)
 
 -- it had the items, and what ended its group
-pub ended_output : {W : Type 0} (contents : W → Option (List ℕ)) (failures : W → ℕ) (limits : LimitValues) (had : Option (List (List ℕ))) (items : List Item) (old out : SplitOutput W) → IsOutput contents failures limits had items old
+pub ended_output : {W : Type 0} (contents : W → Option (List ℕ)) (failures : W → ℕ) (limits : LimitValues)
+    (had : Option (List (List ℕ))) (items : List Item) (old out : SplitOutput W) → IsOutput contents failures limits had items old
     → IsOutside contents failures old out → IsOutput contents failures limits had (items ++ end_of old) out
 ended_output contents failures limits had items old out p h = record {
   start = p.start;
@@ -75,7 +85,9 @@ ended_output contents failures limits had items old out p h = record {
   limits_are = h.puts.limits ∙ p.limits_are;
 }
 
-may_end_held : {W : Type 0} (contents : W → Option (List ℕ)) (failures : W → ℕ) (limits : LimitValues) (had : Option (List (List ℕ))) (items : List Item) (a : Option (SplitOutput W)) → HoldsOutput contents failures limits had items a
+may_end_held : {W : Type 0} (contents : W → Option (List ℕ)) (failures : W → ℕ) (limits : LimitValues)
+    (had : Option (List (List ℕ))) (items : List Item) (a : Option (SplitOutput W)) → HoldsOutput contents failures limits had
+    items a
     → MayEndHeld limits items a → MayEndGroup contents a
 may_end_held contents failures limits had items None h ends = tt
 may_end_held contents failures limits had items (Some out) h ends = (
@@ -90,11 +102,14 @@ may_end_held contents failures limits had items (Some out) h ends = (
 )
 
 -- its group may end
-pub may_end_group : {O W : Type 0} (told : Told O) (contents : W → Option (List ℕ)) (failures : W → ℕ) (s : Splitting W) (before : O) → MayFinish told contents failures s before → MayEndGroup contents s.output
-may_end_group told contents failures s before may = may_end_held contents failures s.limits (told.texts before) may.items s.output may.held may.ends
+pub may_end_group : {O W : Type 0} (told : Told O) (contents : W → Option (List ℕ)) (failures : W → ℕ) (s : Splitting W)
+    (before : O) → MayFinish told contents failures s before → MayEndGroup contents s.output
+may_end_group told contents failures s before may =
+    may_end_held contents failures s.limits (told.texts before) may.items s.output may.held may.ends
 
 -- and it may be handed over
-pub may_hand_over : {O W : Type 0} (told : Told O) (contents : W → Option (List ℕ)) (failures : W → ℕ) (s mid : Splitting W) (before : O) (out : SplitOutput W) → MayFinish told contents failures s before
+pub may_hand_over : {O W : Type 0} (told : Told O) (contents : W → Option (List ℕ)) (failures : W → ℕ) (s mid : Splitting W)
+    (before : O) (out : SplitOutput W) → MayFinish told contents failures s before
     → IsOutsideOpen contents failures s.output mid.output → mid.output ≡ Some out → MayHandOver contents out
 may_hand_over told contents failures s mid before out may outside e =
     let was = was_open contents failures s.output mid.output out outside e in
@@ -104,18 +119,28 @@ may_hand_over told contents failures s mid before out may outside e =
       start = ended.start;
       items = may.items ++ end_of was.0;
       encodes = ended.encodes;
-      ends = subst (λ (l : LimitValues). MayEnd l (may.items ++ end_of was.0)) (sym ended.limits_are) (subst (MayEndHeld s.limits may.items) was.1 may.ends);
+      ends =
+          subst (λ (l : LimitValues). MayEnd l (may.items ++ end_of was.0)) (sym ended.limits_are)
+          (subst (MayEndHeld s.limits may.items) was.1 may.ends);
     }
 
 -- ---- it is handed over
 
-pub finished : {O W : Type 0} (told : Told O) (contents : W → Option (List ℕ)) (failures : W → ℕ) (s mid : Splitting W) (before after : O) (out : SplitOutput W) (left : Option (SplitOutput W)) → mid ≡ holding s mid.output
-    → IsOutsideOpen contents failures s.output mid.output → mid.output ≡ Some out → left ≡ None → TakesOutput told contents out before after
-    → FinishesOutput told contents failures (Ok tt) s (record mid { output = left; report = record { outputs = mid.report.outputs + 1; transactions = mid.report.transactions } }) before after
+pub finished : {O W : Type 0} (told : Told O) (contents : W → Option (List ℕ)) (failures : W → ℕ) (s mid : Splitting W)
+    (before after : O) (out : SplitOutput W) (left : Option (SplitOutput W)) → mid ≡ holding s mid.output
+    → IsOutsideOpen contents failures s.output mid.output → mid.output ≡ Some out → left ≡ None
+    → TakesOutput told contents out before after
+    → FinishesOutput told contents failures (Ok tt) s (record mid {
+      output = left;
+      report = record { outputs = mid.report.outputs + 1; transactions = mid.report.transactions };
+    }) before after
 finished {W = W} told contents failures s mid before after out left same outside e gone taken =
     let was = was_open contents failures s.output mid.output out outside e in
-    let ended : Splitting W → Option (SplitOutput W) → Splitting W = λ m o. record m { output = o; report = record { outputs = m.report.outputs + 1; transactions = m.report.transactions } } in (
-      ap (ended mid) gone ∙ ap (λ (m : Splitting W). ended m None) same ∙ ap (λ (o : Option (SplitOutput W)). record s { output = None; report = report_after s.report o }) (sym was.1),
+    let ended : Splitting W → Option (SplitOutput W) → Splitting W =
+    λ m o. record m
+    { output = o; report = record { outputs = m.report.outputs + 1; transactions = m.report.transactions } } in (
+      ap (ended mid) gone ∙ ap (λ (m : Splitting W). ended m None) same
+          ∙ ap (λ (o : Option (SplitOutput W)). record s { output = None; report = report_after s.report o }) (sym was.1),
       subst (λ (o : Option (SplitOutput W)). IsHandedOver told contents failures s.limits o before after) (sym was.1) (
         taken.counts,
         λ items w h whole w_items.

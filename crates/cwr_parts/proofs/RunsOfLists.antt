@@ -1,5 +1,6 @@
 -- A list in runs: a first run, and those of the rest.
-use Rattle.std.proofs.Common.{◌≡◌, ℕ, zero, suc, ◌+◌, ◌-◌, ◌*◌, ◌/◌, ◌%◌, ◌<◌, ◌≤◌, List, [], ◌∷◌, ◌++◌, length, map, take, drop, refl, sym, ap, ap₂, ◌∙◌, arith, take_all}
+use Rattle.std.proofs.Common.{◌≡◌, ℕ, zero, suc, ◌+◌, ◌-◌, ◌*◌, ◌/◌, ◌%◌, ◌<◌, ◌≤◌, List, [], ◌∷◌, ◌++◌, length, map, take, drop}
+use Rattle.std.proofs.Common.{refl, sym, ap, ap₂, ◌∙◌, arith, take_all}
 use Rattle.std.specs.List.{range_with_len}
 use Rattle.std.proofs.Math.Seq.{take-append_seam, drop-append-add}
 use Rattle.std.proofs.lemmas.List.{length-append}
@@ -17,7 +18,8 @@ one_more n m some =
     let more : suc q * n + r ≡ n + m + n - 1 = omega (arith, whole, some) in
     ap (λ (k : ℕ). k / n) (sym more) ∙ div-mul-add (suc q) n r small
 
-shifted : {X : Type 0} (f g : ℕ → X) (a b count : ℕ) → ((i : ℕ) → f (i + 1) ≡ g i) → a ≡ b + 1 → map f (range_with_len a count) ≡ map g (range_with_len b count)
+shifted : {X : Type 0} (f g : ℕ → X) (a b count : ℕ) → ((i : ℕ) → f (i + 1) ≡ g i) → a ≡ b + 1
+    → map f (range_with_len a count) ≡ map g (range_with_len b count)
 shifted f g a b zero same e = refl
 shifted f g a b (suc count) same e = ap₂ (λ x xs. x ∷ xs) (ap f e ∙ same b) (shifted f g (a + 1) (b + 1) count same (omega arith))
 
@@ -32,20 +34,24 @@ runs_more {X = X} n xs ys some e =
     let at : n * (i + 1) ≡ length xs + n * i = omega (arith, e) in
     ap (take n) (ap (λ (k : ℕ). drop k (xs ++ ys)) at ∙ drop-append-add xs ys (n * i)) in
     let zero_at : n * 0 ≡ 0 = omega arith in
-    let first : f 0 ≡ xs = ap (λ (k : ℕ). take n (drop k (xs ++ ys))) zero_at ∙ ap (λ (k : ℕ). take k (xs ++ ys)) (sym e) ∙ take-append_seam xs ys in
-    ap (λ (k : ℕ). map f (range_with_len 0 k)) count ∙ ap₂ (λ (x : List X) (l : List (List X)). x ∷ l) first (shifted f g 1 0 ((length ys + n - 1) / n) next refl)
+    let first : f 0 ≡ xs =
+    ap (λ (k : ℕ). take n (drop k (xs ++ ys))) zero_at ∙ ap (λ (k : ℕ). take k (xs ++ ys)) (sym e) ∙ take-append_seam xs ys in
+    ap (λ (k : ℕ). map f (range_with_len 0 k)) count
+    ∙ ap₂ (λ (x : List X) (l : List (List X)). x ∷ l) first (shifted f g 1 0 ((length ys + n - 1) / n) next refl)
 
 -- none of nothing
 pub runs_none : {X : Type 0} (n : ℕ) → 0 < n → runs {X = X} n [] ≡ []
 runs_none {X = X} n some =
-    let none : (0 + n - 1) / n ≡ 0 = ap (λ (k : ℕ). k / n) (omega (arith, some)) ∙ div-mul-add 0 n (n - 1) (omega (arith, some)) in
+    let none : (0 + n - 1) / n ≡ 0 =
+    ap (λ (k : ℕ). k / n) (omega (arith, some)) ∙ div-mul-add 0 n (n - 1) (omega (arith, some)) in
     ap (λ (k : ℕ). map (λ i. take n (drop (n * i) [])) (range_with_len 0 k)) none
 
 -- a run that isn't full is the last
 pub runs_last : {X : Type 0} (n : ℕ) (x : X) (xs : List X) → length (x ∷ xs) ≤ n → runs n (x ∷ xs) ≡ (x ∷ xs) ∷ []
 runs_last {X = X} n x xs few =
     let zs : List X = x ∷ xs in
-    let one : (length zs + n - 1) / n ≡ 1 = ap (λ (k : ℕ). k / n) (omega (arith, few)) ∙ div-mul-add 1 n (length xs) (omega (arith, few)) in
+    let one : (length zs + n - 1) / n ≡ 1 =
+    ap (λ (k : ℕ). k / n) (omega (arith, few)) ∙ div-mul-add 1 n (length xs) (omega (arith, few)) in
     let zero_at : n * 0 ≡ 0 = omega arith in
     ap (λ (k : ℕ). map (λ i. take n (drop (n * i) zs)) (range_with_len 0 k)) one
     ∙ ap (λ (k : ℕ). take n (drop k zs) ∷ []) zero_at ∙ ap (λ (l : List X). l ∷ []) (take_all n zs few)
@@ -77,5 +83,6 @@ pub runs_mapped : {X Y : Type 0} (f : X → Y) (n : ℕ) (xs : List X) → runs 
 runs_mapped f n xs =
     let count : ℕ = (length xs + n - 1) / n in
     ap (λ (k : ℕ). map (λ i. take n (drop (n * i) (map f xs))) (range_with_len 0 ((k + n - 1) / n))) (map_length f xs)
-    ∙ map_same (λ i. take n (drop (n * i) (map f xs))) (λ i. map f (take n (drop (n * i) xs))) (range_with_len 0 count) (λ i. ap (take n) (map_drop f (n * i) xs) ∙ map_take f n (drop (n * i) xs))
+    ∙ map_same (λ i. take n (drop (n * i) (map f xs))) (λ i. map f (take n (drop (n * i) xs))) (range_with_len 0 count)
+    (λ i. ap (take n) (map_drop f (n * i) xs) ∙ map_take f n (drop (n * i) xs))
     ∙ sym (map_twice (map f) (λ i. take n (drop (n * i) xs)) (range_with_len 0 count))

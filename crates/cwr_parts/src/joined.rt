@@ -24,7 +24,8 @@ pub(crate) fn put_item<W: Target>(encoder: &mut Encoder<W>, item: &Item) -> Resu
     requires not_ended { item.now ≢ Item.Ended }
     ensures judged { (start : Option (List ℕ)) (records : List RecordValue) → Encodes W.contents start records encoder.old
         → JudgesItem (encoder_limits encoder.old) item.now (map symbol_of records) result }
-    ensures adds { AddsRecords W.contents W.failures (item_records item.now) result encoder.old encoder.new }
+    ensures adds { AddsRecords W.contents W.failures (item_records item.now) result encoder.old
+        encoder.new }
     ensures limits { encoder_limits encoder.new ≡ encoder_limits encoder.old }
 {
     match item {
@@ -130,7 +131,8 @@ impl<W: Target> Joined<W> {
     pub(crate) fn add(&mut self, first: bool, item: &Item) -> Result<(), ToolFault>
         requires unfailed { is_stopped self.old.encoder ≡ false }
         requires may { MayAdd W.contents (filter (is_joined first) (item.now ∷ [])) self.old }
-        ensures { AddsItems W.contents W.failures (filter (is_joined first) (item.now ∷ [])) result self.old self.new }
+        ensures { AddsItems W.contents W.failures (filter (is_joined first) (item.now ∷ [])) result
+            self.old self.new }
     {
         if is_joined(first, item) {
             self.put(item)

@@ -36,7 +36,8 @@ fn add_input<R: Source, W: Target>(
     requires unfailed { is_stopped joined.old.encoder ≡ false }
     requires limits { encoder_limits joined.old.encoder ≡ limits }
     requires between { IsBetweenInputs W.contents first joined.old }
-    ensures adds { AddsInput limits W.contents W.failures first (R.remaining reader.old) (R.remaining reader.new) result joined.old joined.new }
+    ensures adds { AddsInput limits W.contents W.failures first (R.remaining reader.old)
+        (R.remaining reader.new) result joined.old joined.new }
     ensures failures { CountsAddFault result (R.failures reader.old) (R.failures reader.new) }
 {
     let mut reading = Reading::new(alloc, limits, reader);
@@ -63,8 +64,10 @@ fn add_inputs<R: Source, W: Target>(
     requires unfailed { is_stopped joined.old.encoder ≡ false }
     requires limits { encoder_limits joined.old.encoder ≡ limits }
     requires empty { HasJoined W.contents (W.contents (joined_writer joined.old)) [] joined.old }
-    ensures joins { AddsInputs limits R.remaining R.failures W.contents readers.old readers.new result joined.old joined.new }
-    ensures writer_failures { CountsJoinWriter result (W.failures (joined_writer joined.old)) (W.failures (joined_writer joined.new)) }
+    ensures joins { AddsInputs limits R.remaining R.failures W.contents readers.old readers.new
+        result joined.old joined.new }
+    ensures writer_failures { CountsJoinWriter result (W.failures (joined_writer joined.old))
+        (W.failures (joined_writer joined.new)) }
 {
     let mut i = 0;
     'inputs: while i < readers.len() {
@@ -99,12 +102,14 @@ pub fn join<R: Source, W: Target + Drop>(
     writer: W,
 ) -> (W, Result<JoinReport, JoinFault>)
     requires { 0 < length readers.old }
-    ensures joins { Joins limits R.remaining R.failures W.contents readers.old readers.new writer result.0 result.1 }
+    ensures joins { Joins limits R.remaining R.failures W.contents readers.old readers.new writer
+        result.0 result.1 }
     // No failure is passed over: the writer failed only where that is the answer.
     ensures writer_failures { CountsJoinWriter result.1 (W.failures writer) (W.failures result.0) }
     // All that was written was handed on.
     ensures handed_on { OnOk result.1 (W.handed_on result.0 ≡ true) }
-    ensures accepted { JoinsAccepted limits R.remaining W.contents readers.old writer result.0 result.1 }
+    ensures accepted { JoinsAccepted limits R.remaining W.contents readers.old writer result.0
+        result.1 }
 {
     let mut joined = Joined::new(writer, limits);
     match add_inputs(alloc, limits, readers, &mut joined) {

@@ -34,7 +34,8 @@ pub trait Outputs {
     /// The writer of a new output. It hasn't failed, and where the texts are known it has no bytes.
     fn next(&mut self) -> Result<Self::W, OutputFault>
         ensures unfailed { IfOk result (λ writer. Self.W.failures writer ≡ 0) }
-        ensures empty { IfSome (texts self.old) (λ _. IfOk result (λ writer. Self.W.contents writer ≡ Some [])) }
+        ensures empty { IfSome (texts self.old)
+            (λ _. IfOk result (λ writer. Self.W.contents writer ≡ Some [])) }
         ensures kept { texts self.new ≡ texts self.old }
         ensures failures { CountsFailure result (failures self.old) (failures self.new) }
         ensures given_up { given_up self.new ≡ given_up self.old }
@@ -45,7 +46,8 @@ pub trait Outputs {
     fn done(&mut self, writer: Self::W) -> Result<(), OutputFault>
         requires unfailed { Self.W.failures writer ≡ 0 }
         requires handed_on { Self.W.handed_on writer ≡ true }
-        ensures added { OnOk result (IfSome (Self.W.contents writer) (AddsText (texts self.old) (texts self.new))) }
+        ensures added { OnOk result
+            (IfSome (Self.W.contents writer) (AddsText (texts self.old) (texts self.new))) }
         ensures kept { OnErr result (texts self.new ≡ texts self.old) }
         ensures failures { CountsFailure result (failures self.old) (failures self.new) }
         ensures given_up { given_up self.new ≡ given_up self.old }
@@ -55,7 +57,8 @@ pub trait Outputs {
     fn give_up(&mut self, writer: Self::W)
         ensures kept { texts self.new ≡ texts self.old }
         ensures failures { failures self.new ≡ failures self.old }
-        ensures given_up { given_up self.new ≡ given_up_with (Self.W.failures writer) (given_up self.old) }
+        ensures given_up { given_up self.new
+            ≡ given_up_with (Self.W.failures writer) (given_up self.old) }
         ensures had { IfSome (texts self.old) (λ _. had self.new ≡ Self.W.contents writer) }
         ensures lent { lent self.new ≡ lent self.old - 1 };
 }

@@ -80,7 +80,8 @@ impl<W: Target> SplitOutput<W> {
         requires unfailed { is_stopped self.old.encoder ≡ false }
         requires not_ended { opening.now ≢ Item.Ended }
         requires may { MayPut W.contents (opening_of opening.now self.old) self.old.encoder }
-        ensures puts { PutsItems W.contents W.failures (opening_of opening.now self.old) result self.old.encoder self.new.encoder }
+        ensures puts { PutsItems W.contents W.failures (opening_of opening.now self.old) result
+            self.old.encoder self.new.encoder }
         ensures written { CountsBytes W.contents result self.old.encoder self.new.encoder }
         ensures counted { self.new.transactions ≡ self.old.transactions }
         ensures group { self.new.in_group ≡ self.old.in_group }
@@ -96,7 +97,8 @@ impl<W: Target> SplitOutput<W> {
         requires unfailed { is_stopped self.old.encoder ≡ false }
         requires not_ended { head.now ≢ Item.Ended }
         requires may { MayPut W.contents (head_of head.now self.old) self.old.encoder }
-        ensures puts { PutsItems W.contents W.failures (head_of head.now self.old) result self.old.encoder self.new.encoder }
+        ensures puts { PutsItems W.contents W.failures (head_of head.now self.old) result
+            self.old.encoder self.new.encoder }
         ensures written { CountsBytes W.contents result self.old.encoder self.new.encoder }
         ensures counted { self.new.transactions ≡ self.old.transactions }
         ensures group { OnOk result (self.new.in_group ≡ true) }
@@ -121,8 +123,11 @@ impl<W: Target> SplitOutput<W> {
         requires head { head.now ≢ Item.Ended }
         requires transaction { transaction.now ≢ Item.Ended }
         requires few { self.old.transactions < 199999999 }
-        requires may { MayPut W.contents (front_of opening.now head.now self.old ++ transaction.now ∷ []) self.old.encoder }
-        ensures puts { PutsItems W.contents W.failures (front_of opening.now head.now self.old ++ transaction.now ∷ []) result self.old.encoder self.new.encoder }
+        requires may { MayPut W.contents
+            (front_of opening.now head.now self.old ++ transaction.now ∷ []) self.old.encoder }
+        ensures puts { PutsItems W.contents W.failures
+            (front_of opening.now head.now self.old ++ transaction.now ∷ []) result self.old.encoder
+            self.new.encoder }
         ensures written { CountsBytes W.contents result self.old.encoder self.new.encoder }
         ensures counted { OnOk result (self.new.transactions ≡ self.old.transactions + 1) }
         ensures group { OnOk result (self.new.in_group ≡ true) }
@@ -138,7 +143,8 @@ impl<W: Target> SplitOutput<W> {
     pub(crate) fn end_group(&mut self) -> Result<(), ToolFault>
         requires unfailed { is_stopped self.old.encoder ≡ false }
         requires may { MayPut W.contents (end_of self.old) self.old.encoder }
-        ensures puts { PutsItems W.contents W.failures (end_of self.old) result self.old.encoder self.new.encoder }
+        ensures puts { PutsItems W.contents W.failures (end_of self.old) result self.old.encoder
+            self.new.encoder }
         ensures written { CountsBytes W.contents result self.old.encoder self.new.encoder }
         ensures counted { self.new.transactions ≡ self.old.transactions }
         ensures group { OnOk result (self.new.in_group ≡ false) }
@@ -167,9 +173,11 @@ pub(crate) fn hand_over<O: Outputs>(
     requires unfailed { is_stopped output.encoder ≡ false }
     requires quiet { O.W.failures (target_of output.encoder) ≡ 0 }
     requires may { MayHandOver O.W.contents output }
-    ensures hands_over { HandsOver (told_by O.texts O.failures O.given_up) O.W.contents output result outputs.old outputs.new }
+    ensures hands_over { HandsOver (told_by O.texts O.failures O.given_up) O.W.contents output
+        result outputs.old outputs.new }
     ensures lent { O.lent outputs.new ≡ O.lent outputs.old - 1 }
-    ensures written { IfSome (O.texts outputs.old) (λ _. BeganEmpty O.W.contents output.encoder → TellsWritten result (O.had outputs.new)) }
+    ensures written { IfSome (O.texts outputs.old)
+        (λ _. BeganEmpty O.W.contents output.encoder → TellsWritten result (O.had outputs.new)) }
 {
     let (writer, outcome) = output.encoder.finish();
     match outcome {

@@ -7,7 +7,8 @@ ghost use Rattle.cwr_parts.specs.Steps.SplitOutputs.{open_failures, told_by};
 ghost use Rattle.cwr_parts.specs.Steps.SplitItems.{MayTake, SplitsItems, TakesItem};
 ghost use Rattle.cwr_parts.specs.Format.Splitting.{CountsSplitOutput, CountsSplitReader, CountsSplitWriter, JudgesSplit, SplitsAccepted, TellsWritten};
 ghost use Rattle.cwr_parts.specs.Steps.Splitting.{Splits};
-ghost use Rattle.cwr_parts.specs.Steps.SplitSteps.{AddsTransaction, EndsGroup, FinishesOutput, GivesUp, MayAddTransaction, MayEndGroup, MayFinish, KeepsLent, MayWrite, OpensOutput, Writes, has_all, is_new, open_outputs};
+ghost use Rattle.cwr_parts.specs.Steps.SplitSteps.{AddsTransaction, EndsGroup, FinishesOutput, GivesUp, MayAddTransaction, MayEndGroup, MayFinish, KeepsLent};
+ghost use Rattle.cwr_parts.specs.Steps.SplitSteps.{MayWrite, OpensOutput, Writes, has_all, is_new, open_outputs};
 ghost use Rattle.cwr_parts.specs.Steps.SplitWriters.{CountsOpen, CountsWritten, had_after};
 
 use crate::joining::reading_fault;
@@ -61,7 +62,8 @@ impl<W: Target> Splitting<W> {
         requires may { MayWrite W.contents transaction.now self.old }
         ensures writes { Writes W.contents W.failures transaction.now result self.old self.new }
         ensures output { open_outputs self.new.output ≡ open_outputs self.old.output }
-        ensures written { (had : Option (List ℕ)) → CountsOpen W.contents result self.old.output self.new.output had }
+        ensures written { (had : Option (List ℕ))
+            → CountsOpen W.contents result self.old.output self.new.output had }
     {
         let Some(opening) = &self.opening else {
             unreachable!();
@@ -92,7 +94,8 @@ impl<W: Target> Splitting<W> {
         requires { MayEndGroup W.contents self.old.output }
         ensures ends { EndsGroup W.contents W.failures result self.old self.new }
         ensures output { open_outputs self.new.output ≡ open_outputs self.old.output }
-        ensures written { (had : Option (List ℕ)) → CountsOpen W.contents result self.old.output self.new.output had }
+        ensures written { (had : Option (List ℕ))
+            → CountsOpen W.contents result self.old.output self.new.output had }
     {
         match &mut self.output {
             Some(output) => output.end_group(),
@@ -106,9 +109,12 @@ fn open_output<O: Outputs>(
     splitting: &mut Splitting<O::W>,
     outputs: &mut O,
 ) -> Result<(), ToolFault>
-    ensures opens { OpensOutput (told_by O.texts O.failures O.given_up) O.W.contents O.W.failures result splitting.old splitting.new outputs.old outputs.new }
-    ensures lent { KeepsLent (O.lent outputs.old) splitting.old.output (O.lent outputs.new) splitting.new.output }
-    ensures written { CountsWritten O.W.contents (O.texts outputs.old) result splitting.old.output splitting.new.output (O.had outputs.new) }
+    ensures opens { OpensOutput (told_by O.texts O.failures O.given_up) O.W.contents O.W.failures
+        result splitting.old splitting.new outputs.old outputs.new }
+    ensures lent { KeepsLent (O.lent outputs.old) splitting.old.output (O.lent outputs.new)
+        splitting.new.output }
+    ensures written { CountsWritten O.W.contents (O.texts outputs.old) result splitting.old.output
+        splitting.new.output (O.had outputs.new) }
 {
     if splitting.output.is_some() {
         return Ok(());
@@ -128,10 +134,14 @@ fn finish_output<O: Outputs>(
     outputs: &mut O,
 ) -> Result<(), ToolFault>
     requires room { splitting.old.report.outputs < 199999999 }
-    requires may { MayFinish (told_by O.texts O.failures O.given_up) O.W.contents O.W.failures splitting.old outputs.old }
-    ensures finishes { FinishesOutput (told_by O.texts O.failures O.given_up) O.W.contents O.W.failures result splitting.old splitting.new outputs.old outputs.new }
-    ensures lent { KeepsLent (O.lent outputs.old) splitting.old.output (O.lent outputs.new) splitting.new.output }
-    ensures written { CountsWritten O.W.contents (O.texts outputs.old) result splitting.old.output splitting.new.output (O.had outputs.new) }
+    requires may { MayFinish (told_by O.texts O.failures O.given_up) O.W.contents O.W.failures
+        splitting.old outputs.old }
+    ensures finishes { FinishesOutput (told_by O.texts O.failures O.given_up) O.W.contents
+        O.W.failures result splitting.old splitting.new outputs.old outputs.new }
+    ensures lent { KeepsLent (O.lent outputs.old) splitting.old.output (O.lent outputs.new)
+        splitting.new.output }
+    ensures written { CountsWritten O.W.contents (O.texts outputs.old) result splitting.old.output
+        splitting.new.output (O.had outputs.new) }
 {
     splitting.end_group()?;
     match splitting.output.take() {
@@ -151,10 +161,14 @@ fn add_transaction<O: Outputs>(
     outputs: &mut O,
 ) -> Result<(), ToolFault>
     requires not_ended { transaction.now ≢ Item.Ended }
-    requires may { MayAddTransaction (told_by O.texts O.failures O.given_up) O.W.contents O.W.failures transaction.now splitting.old outputs.old }
-    ensures adds { AddsTransaction (told_by O.texts O.failures O.given_up) O.W.contents O.W.failures transaction.now result splitting.old splitting.new outputs.old outputs.new }
-    ensures lent { KeepsLent (O.lent outputs.old) splitting.old.output (O.lent outputs.new) splitting.new.output }
-    ensures written { CountsWritten O.W.contents (O.texts outputs.old) result splitting.old.output splitting.new.output (O.had outputs.new) }
+    requires may { MayAddTransaction (told_by O.texts O.failures O.given_up) O.W.contents
+        O.W.failures transaction.now splitting.old outputs.old }
+    ensures adds { AddsTransaction (told_by O.texts O.failures O.given_up) O.W.contents O.W.failures
+        transaction.now result splitting.old splitting.new outputs.old outputs.new }
+    ensures lent { KeepsLent (O.lent outputs.old) splitting.old.output (O.lent outputs.new)
+        splitting.new.output }
+    ensures written { CountsWritten O.W.contents (O.texts outputs.old) result splitting.old.output
+        splitting.new.output (O.had outputs.new) }
 {
     open_output(splitting, outputs)?;
     splitting.put(transaction)?;
@@ -170,10 +184,14 @@ fn take_item<O: Outputs>(
     item: Item,
     outputs: &mut O,
 ) -> Result<(), ToolFault>
-    requires { MayTake (told_by O.texts O.failures O.given_up) O.W.contents O.W.failures item splitting.old outputs.old }
-    ensures takes { TakesItem (told_by O.texts O.failures O.given_up) O.W.contents O.W.failures item result splitting.old splitting.new outputs.old outputs.new }
-    ensures lent { KeepsLent (O.lent outputs.old) splitting.old.output (O.lent outputs.new) splitting.new.output }
-    ensures written { CountsWritten O.W.contents (O.texts outputs.old) result splitting.old.output splitting.new.output (O.had outputs.new) }
+    requires { MayTake (told_by O.texts O.failures O.given_up) O.W.contents O.W.failures item
+        splitting.old outputs.old }
+    ensures takes { TakesItem (told_by O.texts O.failures O.given_up) O.W.contents O.W.failures item
+        result splitting.old splitting.new outputs.old outputs.new }
+    ensures lent { KeepsLent (O.lent outputs.old) splitting.old.output (O.lent outputs.new)
+        splitting.new.output }
+    ensures written { CountsWritten O.W.contents (O.texts outputs.old) result splitting.old.output
+        splitting.new.output (O.had outputs.new) }
 {
     match &item {
         Item::Opened(_) => {
@@ -192,9 +210,12 @@ fn take_item<O: Outputs>(
 
 /// Gives the writer of an open output up, if there is one.
 fn give_up<O: Outputs>(output: Option<SplitOutput<O::W>>, outputs: &mut O)
-    ensures gives_up { GivesUp (told_by O.texts O.failures O.given_up) O.W.failures output outputs.old outputs.new }
-    ensures lent { (others : ℕ) → O.lent outputs.old ≡ others + open_outputs output → O.lent outputs.new ≡ others }
-    ensures written { IfSome (O.texts outputs.old) (λ _. O.had outputs.new ≡ had_after O.W.contents output (O.had outputs.old)) }
+    ensures gives_up { GivesUp (told_by O.texts O.failures O.given_up) O.W.failures output
+        outputs.old outputs.new }
+    ensures lent { (others : ℕ) → O.lent outputs.old ≡ others + open_outputs output
+        → O.lent outputs.new ≡ others }
+    ensures written { IfSome (O.texts outputs.old)
+        (λ _. O.had outputs.new ≡ had_after O.W.contents output (O.had outputs.old)) }
 {
     if let Some(output) = output {
         outputs.give_up(output.abandon());
@@ -211,13 +232,19 @@ fn split_items<R: Source, O: Outputs>(
 ) -> Result<(), ToolFault>
     requires some { 0 < splitting.old.size }
     requires fresh { splitting.old ≡ is_new limits splitting.old.size }
-    ensures splits { SplitsItems limits splitting.old.size (R.remaining reader.old) (R.remaining reader.new) (O.texts outputs.old) (O.texts outputs.new) splitting.new.report result }
+    ensures splits { SplitsItems limits splitting.old.size (R.remaining reader.old)
+        (R.remaining reader.new) (O.texts outputs.old) (O.texts outputs.new) splitting.new.report
+        result }
     ensures ended { OnOk result (splitting.new.output ≡ None) }
-    ensures lent { KeepsLent (O.lent outputs.old) splitting.old.output (O.lent outputs.new) splitting.new.output }
-    ensures written { CountsWritten O.W.contents (O.texts outputs.old) result splitting.old.output splitting.new.output (O.had outputs.new) }
-    ensures reader_failures { CountsSplitReader result (R.failures reader.old) (R.failures reader.new) }
+    ensures lent { KeepsLent (O.lent outputs.old) splitting.old.output (O.lent outputs.new)
+        splitting.new.output }
+    ensures written { CountsWritten O.W.contents (O.texts outputs.old) result splitting.old.output
+        splitting.new.output (O.had outputs.new) }
+    ensures reader_failures { CountsSplitReader result (R.failures reader.old)
+        (R.failures reader.new) }
     ensures failures { CountsSplitOutput result (O.failures outputs.old) (O.failures outputs.new) }
-    ensures given_up { CountsSplitWriter result (O.given_up outputs.old) (given_up_with (open_failures O.W.failures splitting.new.output) (O.given_up outputs.new)) }
+    ensures given_up { CountsSplitWriter result (O.given_up outputs.old)
+        (given_up_with (open_failures O.W.failures splitting.new.output) (O.given_up outputs.new)) }
 {
     let mut reading = Reading::new(alloc, limits, reader);
     let mut handed_out: u64 = 0;
@@ -255,9 +282,11 @@ pub fn split<R: Source, O: Outputs>(
     outputs: &mut O,
 ) -> Result<SplitReport, ToolFault>
     requires { 0 < n }
-    ensures splits { Splits limits n (R.remaining reader.old) (R.remaining reader.new) (O.texts outputs.old) (O.texts outputs.new) result }
+    ensures splits { Splits limits n (R.remaining reader.old) (R.remaining reader.new)
+        (O.texts outputs.old) (O.texts outputs.new) result }
     // No failure is passed over: a reader, an output or a writer failed only where that is the answer.
-    ensures reader_failures { CountsSplitReader result (R.failures reader.old) (R.failures reader.new) }
+    ensures reader_failures { CountsSplitReader result (R.failures reader.old)
+        (R.failures reader.new) }
     ensures failures { CountsSplitOutput result (O.failures outputs.old) (O.failures outputs.new) }
     ensures given_up { CountsSplitWriter result (O.given_up outputs.old) (O.given_up outputs.new) }
     // No writer is lost: each that was given came back, done or given up.
@@ -266,7 +295,8 @@ pub fn split<R: Source, O: Outputs>(
     ensures judged { JudgesSplit limits (R.remaining reader.old) (R.remaining reader.new) result }
     // A writer's fault tells how many bytes that writer had.
     ensures written { IfSome (O.texts outputs.old) (λ _. TellsWritten result (O.had outputs.new)) }
-    ensures accepted { SplitsAccepted limits n (R.remaining reader.old) (R.remaining reader.new) (O.texts outputs.old) (O.texts outputs.new) result }
+    ensures accepted { SplitsAccepted limits n (R.remaining reader.old) (R.remaining reader.new)
+        (O.texts outputs.old) (O.texts outputs.new) result }
 {
     let mut splitting = Splitting::new(limits, n);
     match split_items(alloc, limits, reader, &mut splitting, outputs) {

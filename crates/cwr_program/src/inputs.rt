@@ -88,7 +88,9 @@ pub(crate) fn open_input<'a, R: Files, I: Read, P: Pace + Drop>(
     standard: &mut Option<I>,
     mut pace: P,
 ) -> Result<Input<'a, R::File, I, P>, Fault<'a>>
-    ensures standard { is_standard (option_map (λ n. n.now) name.entry) ≡ true → IfSome standard.old (λ input. IsOkAnd result (λ opened. remaining_of R.File.remaining I.remaining opened ≡ I.remaining input)) }
+    ensures standard { is_standard (option_map (λ n. n.now) name.entry) ≡ true
+        → IfSome standard.old (λ input. IsOkAnd result
+        (λ opened. remaining_of R.File.remaining I.remaining opened ≡ I.remaining input)) }
 {
     match name {
         Some(word) if word != DASH => match File::open(rt, word) {

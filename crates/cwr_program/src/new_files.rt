@@ -241,7 +241,8 @@ impl<'r, 'a, R: Files> NumberedFiles<'r, 'a, R> {
 
     /// Counts a call that failed.
     fn count_failure(&mut self, fault: Fault<'a>) -> OutputFault
-        ensures failed_calls { failed_calls_of self.new ≡ one_more_failure (failed_calls_of self.old) }
+        ensures failed_calls { failed_calls_of self.new
+            ≡ one_more_failure (failed_calls_of self.old) }
         ensures given_up { given_up_of self.new ≡ given_up_of self.old }
         ensures lent { lent_of self.new ≡ lent_of self.old }
     {

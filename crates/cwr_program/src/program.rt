@@ -161,7 +161,8 @@ fn report_file<'a, R: Files, I: Read + Drop, P: Pace, O: Write + Drop, E: Write>
     error: &mut E,
 ) -> Result<Status, Fault<'a>>
     requires { tells_findings telling ≡ false → asked.now.wanted.fail_on ≡ None }
-    ensures { is_standard (option_map (λ n. n.now) name.entry) ≡ true → EndsOnInput asked.now.limits asked.now.wanted (I.remaining standard) result }
+    ensures { is_standard (option_map (λ n. n.now) name.entry) ≡ true
+        → EndsOnInput asked.now.limits asked.now.wanted (I.remaining standard) result }
 {
     let input = open_input(rt, name, &mut Some(standard), pace)?;
     report_input(asked, telling, input, output, error)
@@ -197,7 +198,8 @@ fn judge<'a, R: Files + AllocGlobal, I: Read + Drop, P: Pace, O: Write + Drop, E
     error: &mut E,
 ) -> Result<Status, Fault<'a>>
     requires { (asked.now.faults || asked.now.advised) ≡ true → asked.now.wanted.fail_on ≡ None }
-    ensures { are_standard (map (λ name. name.now) names.now) ≡ true → EndsOnInput asked.now.limits asked.now.wanted (I.remaining standard) result }
+    ensures { are_standard (map (λ name. name.now) names.now) ≡ true
+        → EndsOnInput asked.now.limits asked.now.wanted (I.remaining standard) result }
 {
     if names.len() > 1 {
         return report_several(rt, asked, explained, names, standard, pace, output, error);
@@ -226,7 +228,8 @@ fn carry_out<'a, R: Files + AllocGlobal, I: Read + Drop, P: Pace, O: Write + Dro
     output: O,
     error: &mut E,
 ) -> Status
-    ensures { IsOfInput task.now.work → StatusOnInput task.now.limits (wanted_in task.now.whole task.now.work) (I.remaining standard) result }
+    ensures { IsOfInput task.now.work → StatusOnInput task.now.limits
+        (wanted_in task.now.whole task.now.work) (I.remaining standard) result }
 {
     match perform(rt, task, standard, pace, output, error) {
         Ok(status) => status,
@@ -243,7 +246,8 @@ fn perform<'a, R: Files + AllocGlobal, I: Read + Drop, P: Pace, O: Write + Drop,
     output: O,
     error: &mut E,
 ) -> Result<Status, Fault<'a>>
-    ensures { IsOfInput task.now.work → EndsOnInput task.now.limits (wanted_in task.now.whole task.now.work) (I.remaining standard) result }
+    ensures { IsOfInput task.now.work → EndsOnInput task.now.limits
+        (wanted_in task.now.whole task.now.work) (I.remaining standard) result }
 {
     let mut asked = Asked {
         alloc: rt.alloc(),

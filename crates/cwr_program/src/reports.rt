@@ -145,10 +145,12 @@ fn tell<R: Source, W: Target + Drop>(
     ensures seen { OnOk result.1 (SeesAccepted limits (R.remaining reader.old) watch.old watch.new) }
     ensures looks { OnOk result.1 (LooksAfter limits (R.remaining reader.old) result.2) }
     // What is asked for was written, and handed on.
-    ensures told { TellsText telling.entry limits (R.remaining reader.old) W.contents writer result.0 result.1 }
+    ensures told { TellsText telling.entry limits (R.remaining reader.old) W.contents writer
+        result.0 result.1 }
     ensures handed_on { OnOk result.1 (W.handed_on result.0 ≡ true) }
     // No failure is passed over, and none is answered that didn't come.
-    ensures reader_failures { CountsReading result.1 result.2 (R.failures reader.old) (R.failures reader.new) }
+    ensures reader_failures { CountsReading result.1 result.2 (R.failures reader.old)
+        (R.failures reader.new) }
     ensures writer_failures { CountsWriterFault result.1 (W.failures writer) (W.failures result.0) }
 {
     match telling {
@@ -226,7 +228,8 @@ fn judge_source<R: Source, W: Target + Drop>(
 ) -> (W, Result<Judgement, ToolFault>)
     requires { tells_findings telling ≡ false → asked.now.wanted.fail_on ≡ None }
     ensures judges { JudgesOn asked.now.limits asked.now.wanted (R.remaining reader.old) result.1 }
-    ensures told { IfOk result.1 (λ judgement. TellsText telling.entry asked.now.limits (R.remaining reader.old) W.contents writer result.0 (Ok judgement.verdict)) }
+    ensures told { IfOk result.1 (λ judgement. TellsText telling.entry asked.now.limits
+        (R.remaining reader.old) W.contents writer result.0 (Ok judgement.verdict)) }
     ensures handed_on { OnOk result.1 (W.handed_on result.0 ≡ true) }
     // A fault of a device is answered only where that device counted one more failure.
     ensures reader_failures { CountsInput result.1 (R.failures reader.old) (R.failures reader.new) }
@@ -253,8 +256,11 @@ pub(crate) fn judge_input<'a, F: Read + Drop, I: Read + Drop, P: Pace + Drop, W:
     writer: W,
 ) -> (W, Result<Judgement, ToolFault>, Told<'a>)
     requires { tells_findings telling ≡ false → asked.now.wanted.fail_on ≡ None }
-    ensures judges { JudgesOn asked.now.limits asked.now.wanted (remaining_of F.remaining I.remaining input.entry) result.1 }
-    ensures told { IfOk result.1 (λ judgement. TellsText telling.entry asked.now.limits (remaining_of F.remaining I.remaining input.entry) W.contents writer result.0 (Ok judgement.verdict)) }
+    ensures judges { JudgesOn asked.now.limits asked.now.wanted
+        (remaining_of F.remaining I.remaining input.entry) result.1 }
+    ensures told { IfOk result.1 (λ judgement. TellsText telling.entry asked.now.limits
+        (remaining_of F.remaining I.remaining input.entry) W.contents writer result.0
+        (Ok judgement.verdict)) }
     ensures handed_on { OnOk result.1 (W.handed_on result.0 ≡ true) }
     ensures writer_failures { CountsWriting result.1 (W.failures writer) (W.failures result.0) }
 {
@@ -340,7 +346,8 @@ fn lines_on<'a, F: Read + Drop, I: Read + Drop, P: Pace + Drop, O: Write + Drop>
     lines: Gathered<'a, O>,
 ) -> (Gathered<'a, O>, Result<Judgement, ToolFault>, Told<'a>)
     requires { tells_findings telling ≡ false → asked.now.wanted.fail_on ≡ None }
-    ensures { JudgesOn asked.now.limits asked.now.wanted (remaining_of F.remaining I.remaining input.entry) result.1 }
+    ensures { JudgesOn asked.now.limits asked.now.wanted
+        (remaining_of F.remaining I.remaining input.entry) result.1 }
 {
     if asked.quiet {
         let lines = FileLines::new(lines, None, true);
@@ -367,7 +374,8 @@ pub(crate) fn report_input<
     error: &mut E,
 ) -> Result<Status, Fault<'a>>
     requires { tells_findings telling ≡ false → asked.now.wanted.fail_on ≡ None }
-    ensures { EndsOnInput asked.now.limits asked.now.wanted (remaining_of F.remaining I.remaining input.entry) result }
+    ensures { EndsOnInput asked.now.limits asked.now.wanted
+        (remaining_of F.remaining I.remaining input.entry) result }
 {
     let lines = match gathered(asked.alloc, output, Name::StandardOutput) {
         Ok(lines) => lines,

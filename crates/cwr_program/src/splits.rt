@@ -95,7 +95,8 @@ pub(crate) fn split_file<
     output: O,
     error: &mut E,
 ) -> Result<Status, Fault<'a>>
-    ensures { EndsAsSplit cut.now.limits cut.now.whole (remaining_of R.File.remaining I.remaining input.entry) result }
+    ensures { EndsAsSplit cut.now.limits cut.now.whole
+        (remaining_of R.File.remaining I.remaining input.entry) result }
 {
     let alloc = rt.alloc();
     let own = identity_of_input(rt, cut.file);

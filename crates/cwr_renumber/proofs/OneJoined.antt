@@ -1,5 +1,6 @@
 -- A join of one input is that input.
-use Rattle.std.proofs.Common.{◌≡◌, ℕ, List, [], ◌∷◌, ◌++◌, length, drop, Option, Some, None, sym, ap, subst, ◌∙◌, arith, append-nil}
+use Rattle.std.proofs.Common.{◌≡◌, ℕ, List, [], ◌∷◌, ◌++◌, length, drop, Option, Some, None, sym, ap, subst, ◌∙◌, arith}
+use Rattle.std.proofs.Common.{append-nil}
 use Rattle.std.specs.Prelude.{Result, Ok, Err, IfSome, MatchResult, option_map}
 use Rattle.std.specs.Io.KnownBytes.{Appends}
 use Rattle.std.proofs.lemmas.List.{length-append}
@@ -11,7 +12,8 @@ use Rattle.cwr_tools.specs.declared.verdicts.JoinFault.{JoinFault}
 use Rattle.cwr_tools.specs.declared.verdicts.JoinReport.{JoinReport}
 use Rattle.cwr_tools.specs.declared.verdicts.ToolFault.{ToolFault}
 use Rattle.cwr_tools.specs.declared.verdicts.ToolFault.TheVariants as faults
-use Rattle.cwr_parts.specs.Format.Joins.{AreJoined, CountsJoinWriter, IsOfDevice, JoinsAccepted, JoinsAll, TakeInputs, join_report}
+use Rattle.cwr_parts.specs.Format.Joins.{AreJoined, CountsJoinWriter, IsOfDevice, JoinsAccepted, JoinsAll, TakeInputs}
+use Rattle.cwr_parts.specs.Format.Joins.{join_report}
 use Rattle.cwr_parts.specs.Format.Splits.{join_of}
 use Rattle.cwr_parts.specs.Steps.Joins.{Joins, StopsBy, StopsJoin}
 use Rattle.cwr_renumber.specs.Steps.Renumbered.{renumbered_text}
@@ -24,26 +26,34 @@ same_value v = ap (λ (gs : List GroupValue). record { opening = v.opening; grou
 
 -- the text is accepted, and written
 abbrev IsWritten : Limits → Option (List ℕ) → Option (List ℕ) → JoinReport → List ℕ → Type 0
-IsWritten limits before now report text = (v : TransmissionValue) × (n : ℕ) × IsAccepted limits text v n × Appends before now (canonical_text v) × (report ≡ join_report 1 v)
+IsWritten limits before now report text =
+    (v : TransmissionValue) × (n : ℕ) × IsAccepted limits text v n × Appends before now (canonical_text v)
+    × (report ≡ join_report 1 v)
 
-written_by : (limits : Limits) (o after before now : Option (List ℕ)) (v u : TransmissionValue) (n : ℕ) (report : JoinReport) → IfSome o (λ text. IsAccepted limits text v n × (after ≡ Some (drop n text)))
+written_by : (limits : Limits) (o after before now : Option (List ℕ)) (v u : TransmissionValue) (n : ℕ) (report : JoinReport)
+    → IfSome o (λ text. IsAccepted limits text v n × (after ≡ Some (drop n text)))
     → u ≡ v → Appends before now (canonical_text u) → report ≡ join_report 1 u → IfSome o (IsWritten limits before now report)
 written_by limits None after before now v u n report k same w r = tt
 written_by limits (Some text) after before now v u n report k same w r =
     (v, n, k.0, subst (λ (x : TransmissionValue). Appends before now (canonical_text x)) same w, r ∙ ap (join_report 1) same)
 
-all_of_one : {R W : Type 0} (limits : Limits) (remaining : R → Option (List ℕ)) (failures : R → ℕ) (contents : W → Option (List ℕ)) (old : R) (after : List R) (before now : W) (report : JoinReport)
-    → JoinsAll limits remaining failures contents (old ∷ []) after before now report → IfSome (remaining old) (IsWritten limits (contents before) (contents now) report)
-all_of_one {R = R} {W = W} limits remaining failures contents old after before now report h = by h.inputs after h.taken h.joined_of
+all_of_one : {R W : Type 0} (limits : Limits) (remaining : R → Option (List ℕ)) (failures : R → ℕ)
+    (contents : W → Option (List ℕ)) (old : R) (after : List R) (before now : W) (report : JoinReport)
+    → JoinsAll limits remaining failures contents (old ∷ []) after before now report
+    → IfSome (remaining old) (IsWritten limits (contents before) (contents now) report)
+all_of_one {R = R} {W = W} limits remaining failures contents old after before now report h =
+    by h.inputs after h.taken h.joined_of
   where
-    by : (inputs : List TransmissionValue) (after : List R) → TakeInputs limits remaining failures (old ∷ []) inputs after → AreJoined inputs h.joined → IfSome (remaining old) (IsWritten limits (contents before) (contents now) report)
+    by : (inputs : List TransmissionValue) (after : List R) → TakeInputs limits remaining failures (old ∷ []) inputs after
+        → AreJoined inputs h.joined → IfSome (remaining old) (IsWritten limits (contents before) (contents now) report)
     by [] after t j = absurd j
     by (v ∷ []) [] t j = absurd t
     by (v ∷ w ∷ inputs) [] t j = absurd t
     by (v ∷ w ∷ inputs) (new ∷ news) t j = absurd t.1
     by (v ∷ []) (new ∷ m ∷ news) t j = absurd t.1
     by (v ∷ []) (new ∷ []) t j =
-        written_by limits (remaining old) (remaining new) (contents before) (contents now) v h.joined (length t.0.takes.input) report t.0.takes.front (j ∙ same_value v) h.written h.reported
+        written_by limits (remaining old) (remaining new) (contents before) (contents now) v h.joined (length t.0.takes.input)
+        report t.0.takes.front (j ∙ same_value v) h.written h.reported
 
 -- ---- why one input isn't written
 
@@ -54,7 +64,8 @@ FaultOn limits o (faults.Truncated records) = IfSome o (λ text. IsTruncated lim
 FaultOn limits o faults.Output = ⊥
 FaultOn limits o fault = Unit {0}
 
-stops_on : {R W : Type 0} (limits : Limits) (fault : ToolFault) (contents : W → Option (List ℕ)) (inputs : List TransmissionValue) (o after : Option (List ℕ)) (later : List R) (before now : W)
+stops_on : {R W : Type 0} (limits : Limits) (fault : ToolFault) (contents : W → Option (List ℕ)) (inputs : List TransmissionValue)
+    (o after : Option (List ℕ)) (later : List R) (before now : W)
     → StopsBy limits fault contents inputs o after later before now → FaultOn limits o fault
 stops_on limits (faults.Refused refusal) contents inputs None after later before now h = tt
 stops_on limits (faults.Refused refusal) contents inputs (Some text) after later before now h = h.stops.0.right.ends
@@ -70,19 +81,23 @@ hand_is : {R : Type 0} (earlier : List R) (hand : R) (later : List R) (old : R) 
 hand_is [] hand later old e = cc e
 hand_is (x ∷ earlier) hand later old e = absurd (omega (arith, ap length e, length-append earlier (hand ∷ later)))
 
-fault_of_one : {R W : Type 0} (limits : Limits) (remaining : R → Option (List ℕ)) (failures : R → ℕ) (contents : W → Option (List ℕ)) (old : R) (after : List R) (before now : W) (stopped : JoinFault)
-    → StopsJoin limits remaining failures contents (old ∷ []) after before now stopped → FaultOn limits (remaining old) stopped.fault
+fault_of_one : {R W : Type 0} (limits : Limits) (remaining : R → Option (List ℕ)) (failures : R → ℕ)
+    (contents : W → Option (List ℕ)) (old : R) (after : List R) (before now : W) (stopped : JoinFault)
+    → StopsJoin limits remaining failures contents (old ∷ []) after before now stopped
+    → FaultOn limits (remaining old) stopped.fault
 fault_of_one limits remaining failures contents old after before now stopped h =
     subst (λ (r : _). FaultOn limits (remaining r) stopped.fault) (hand_is h.earlier h.hand h.later old h.before_are)
     (stops_on limits stopped.fault contents h.inputs (remaining h.hand) (remaining h.left) h.later before now h.stops)
 
 -- ---- the same of a source with its numbers put right
 
-of_text : (o : Option (List ℕ)) (P : List ℕ → Type 0) → IfSome (option_map renumbered_text o) P → IfSome o (λ text. P (renumbered_text text))
+of_text : (o : Option (List ℕ)) (P : List ℕ → Type 0) → IfSome (option_map renumbered_text o) P
+    → IfSome o (λ text. P (renumbered_text text))
 of_text None P h = tt
 of_text (Some text) P h = h
 
-fault_of_text : {W : Type 0} (limits : Limits) (o : Option (List ℕ)) (contents : W → Option (List ℕ)) (before now : W) (fault : ToolFault) → FaultOn limits (option_map renumbered_text o) fault → Renumbers limits o contents before now (Err fault)
+fault_of_text : {W : Type 0} (limits : Limits) (o : Option (List ℕ)) (contents : W → Option (List ℕ)) (before now : W)
+    (fault : ToolFault) → FaultOn limits (option_map renumbered_text o) fault → Renumbers limits o contents before now (Err fault)
 fault_of_text limits o contents before now (faults.Refused refusal) h = of_text o (λ text. IsRefused limits text refusal) h
 fault_of_text limits o contents before now (faults.Truncated records) h = of_text o (λ text. IsTruncated limits text records) h
 fault_of_text limits o contents before now faults.Reader h = tt
@@ -91,44 +106,64 @@ fault_of_text limits o contents before now faults.Memory h = tt
 fault_of_text limits o contents before now faults.Output h = absurd h
 fault_of_text limits o contents before now (faults.Limit limit) h = tt
 
-renumbers_by : {R W : Type 0} (limits : Limits) (remaining : R → Option (List ℕ)) (failures : R → ℕ) (contents : W → Option (List ℕ)) (old : R) (after : List R) (before now : W) (o : Option (List ℕ)) (joined : Result JoinReport JoinFault)
-    → remaining old ≡ option_map renumbered_text o → Joins limits remaining failures contents (old ∷ []) after before now joined → Renumbers limits o contents before now (of_one joined)
+renumbers_by : {R W : Type 0} (limits : Limits) (remaining : R → Option (List ℕ)) (failures : R → ℕ)
+    (contents : W → Option (List ℕ)) (old : R) (after : List R) (before now : W) (o : Option (List ℕ))
+    (joined : Result JoinReport JoinFault)
+    → remaining old ≡ option_map renumbered_text o → Joins limits remaining failures contents (old ∷ []) after before now joined
+    → Renumbers limits o contents before now (of_one joined)
 renumbers_by limits remaining failures contents old after before now o (Ok report) same h =
     of_text o (IsWritten limits (contents before) (contents now) report)
-    (subst (λ (x : Option (List ℕ)). IfSome x (IsWritten limits (contents before) (contents now) report)) same (all_of_one limits remaining failures contents old after before now report h))
+    (subst (λ (x : Option (List ℕ)). IfSome x (IsWritten limits (contents before) (contents now) report)) same
+    (all_of_one limits remaining failures contents old after before now report h))
 renumbers_by limits remaining failures contents old after before now o (Err stopped) same h =
     fault_of_text limits o contents before now stopped.fault
-    (subst (λ (x : Option (List ℕ)). FaultOn limits x stopped.fault) same (fault_of_one limits remaining failures contents old after before now stopped h))
+    (subst (λ (x : Option (List ℕ)). FaultOn limits x stopped.fault) same
+    (fault_of_one limits remaining failures contents old after before now stopped h))
 
 -- what is written of a text whose numbers are put right
-pub renumbers_one : {R W : Type 0} (limits : Limits) (remaining : R → Option (List ℕ)) (failures : R → ℕ) (contents : W → Option (List ℕ)) (old : R) (olds after : List R) (before now : W) (o : Option (List ℕ))
-    → (joined : Result JoinReport JoinFault) (result : Result JoinReport ToolFault) → olds ≡ old ∷ [] → remaining old ≡ option_map renumbered_text o → result ≡ of_one joined
+pub renumbers_one : {R W : Type 0} (limits : Limits) (remaining : R → Option (List ℕ)) (failures : R → ℕ)
+    (contents : W → Option (List ℕ)) (old : R) (olds after : List R) (before now : W) (o : Option (List ℕ))
+    → (joined : Result JoinReport JoinFault) (result : Result JoinReport ToolFault) → olds ≡ old ∷ []
+    → remaining old ≡ option_map renumbered_text o → result ≡ of_one joined
     → Joins limits remaining failures contents olds after before now joined → Renumbers limits o contents before now result
 renumbers_one limits remaining failures contents old olds after before now o joined result one same answer h =
     subst (λ (r : Result JoinReport ToolFault). Renumbers limits o contents before now r) (sym answer)
-    (renumbers_by limits remaining failures contents old after before now o joined same (subst (λ (rs : List _). Joins limits remaining failures contents rs after before now joined) one h))
+    (renumbers_by limits remaining failures contents old after before now o joined same
+    (subst (λ (rs : List _). Joins limits remaining failures contents rs after before now joined) one h))
 
-accepted_by : {W : Type 0} (contents : W → Option (List ℕ)) (before now : W) (v : TransmissionValue) (joined : Result JoinReport JoinFault)
-    → MatchResult joined (λ report. (report ≡ join_report 1 v) × Appends (contents before) (contents now) (canonical_text v)) (λ stopped. IsOfDevice stopped.fault)
-    → MatchResult (of_one joined) (λ report. (report ≡ join_report 1 v) × Appends (contents before) (contents now) (canonical_text v)) IsOfDevice
+accepted_by : {W : Type 0} (contents : W → Option (List ℕ)) (before now : W) (v : TransmissionValue)
+    (joined : Result JoinReport JoinFault)
+    → MatchResult joined (λ report. (report ≡ join_report 1 v) × Appends (contents before) (contents now) (canonical_text v))
+    (λ stopped. IsOfDevice stopped.fault)
+    → MatchResult (of_one joined)
+    (λ report. (report ≡ join_report 1 v) × Appends (contents before) (contents now) (canonical_text v)) IsOfDevice
 accepted_by contents before now v (Ok report) h = h
 accepted_by contents before now v (Err stopped) h = h
 
 -- and where that one is accepted
-pub accepted_one : {R W : Type 0} (limits : Limits) (remaining : R → Option (List ℕ)) (contents : W → Option (List ℕ)) (old : R) (olds : List R) (before now : W) (o : Option (List ℕ))
-    → (joined : Result JoinReport JoinFault) (result : Result JoinReport ToolFault) → olds ≡ old ∷ [] → remaining old ≡ option_map renumbered_text o → result ≡ of_one joined
+pub accepted_one : {R W : Type 0} (limits : Limits) (remaining : R → Option (List ℕ)) (contents : W → Option (List ℕ)) (old : R)
+    (olds : List R) (before now : W) (o : Option (List ℕ))
+    → (joined : Result JoinReport JoinFault) (result : Result JoinReport ToolFault) → olds ≡ old ∷ []
+    → remaining old ≡ option_map renumbered_text o → result ≡ of_one joined
     → JoinsAccepted limits remaining contents olds before now joined → RenumbersAccepted limits o contents before now result
 accepted_one limits remaining contents old olds before now None joined result one same answer h = tt
 accepted_one {R = R} limits remaining contents old olds before now (Some text) joined result one same answer h = λ v n a.
-    let all : JoinsAccepted limits remaining contents (old ∷ []) before now joined = subst (λ (rs : List R). JoinsAccepted limits remaining contents rs before now joined) one h in
-    subst (λ (r : Result JoinReport ToolFault). MatchResult r (λ report. (report ≡ join_report 1 v) × Appends (contents before) (contents now) (canonical_text v)) IsOfDevice) (sym answer)
-    (accepted_by contents before now v joined (all (v ∷ []) v ((renumbered_text text, n, same, a), tt) (sym (same_value v)) a.within))
+    let all : JoinsAccepted limits remaining contents (old ∷ []) before now joined =
+    subst (λ (rs : List R). JoinsAccepted limits remaining contents rs before now joined) one h in
+    subst (λ (r : Result JoinReport ToolFault). MatchResult r
+    (λ report. (report ≡ join_report 1 v) × Appends (contents before) (contents now) (canonical_text v)) IsOfDevice) (sym
+    answer)
+    (accepted_by contents before now v joined
+    (all (v ∷ []) v ((renumbered_text text, n, same, a), tt) (sym (same_value v)) a.within))
 
 -- ---- the writer's failures
 
-writer_by : (joined : Result JoinReport JoinFault) (old new : ℕ) → CountsJoinWriter joined old new → CountsWriter (of_one joined) old new
+writer_by : (joined : Result JoinReport JoinFault) (old new : ℕ) → CountsJoinWriter joined old new
+    → CountsWriter (of_one joined) old new
 writer_by (Ok report) old new h = h
 writer_by (Err stopped) old new h = h
 
-pub writer_one : (joined : Result JoinReport JoinFault) (result : Result JoinReport ToolFault) (old new : ℕ) → result ≡ of_one joined → CountsJoinWriter joined old new → CountsWriter result old new
-writer_one joined result old new answer h = subst (λ (r : Result JoinReport ToolFault). CountsWriter r old new) (sym answer) (writer_by joined old new h)
+pub writer_one : (joined : Result JoinReport JoinFault) (result : Result JoinReport ToolFault) (old new : ℕ)
+    → result ≡ of_one joined → CountsJoinWriter joined old new → CountsWriter result old new
+writer_one joined result old new answer h =
+    subst (λ (r : Result JoinReport ToolFault). CountsWriter r old new) (sym answer) (writer_by joined old new h)

@@ -17,7 +17,8 @@ pub fn put_renumber_outcome<W: Target>(
     sink: &mut Sink<W>,
 ) -> Result<(), SinkFault>
     requires unfailed { has_failed sink.old ≡ false }
-    ensures puts { Puts W.contents W.failures (renumber_outcome outcome.now) result sink.old sink.new }
+    ensures puts { Puts W.contents W.failures (renumber_outcome outcome.now) result sink.old
+        sink.new }
     ensures fault { IfErr result (λ f. f.written ≡ written_of sink.new) }
 {
     match outcome {

@@ -36,8 +36,10 @@ pub fn renumber<R: Source, W: Target + Drop>(
     reader: &mut R,
     writer: W,
 ) -> (W, Result<JoinReport, ToolFault>)
-    ensures renumbers { Renumbers limits (R.remaining reader.old) W.contents writer result.0 result.1 }
-    ensures accepted { RenumbersAccepted limits (R.remaining reader.old) W.contents writer result.0 result.1 }
+    ensures renumbers { Renumbers limits (R.remaining reader.old) W.contents writer result.0
+        result.1 }
+    ensures accepted { RenumbersAccepted limits (R.remaining reader.old) W.contents writer result.0
+        result.1 }
     // No failure is passed over: the writer failed only where that is the answer.
     ensures writer_failures { CountsWriter result.1 (W.failures writer) (W.failures result.0) }
     // All that was written was handed on.

@@ -66,7 +66,8 @@ impl<'a, R: Source> Renumbered<'a, R> {
     /// The source with its numbers put right, from its first line on.
     pub(crate) fn new(inner: &'a mut R) -> Renumbered<'a, R>
         ensures inner { inner_of result ≡ inner.old }
-        ensures left { left_of result (R.remaining inner.old) ≡ option_map renumbered_text (R.remaining inner.old) }
+        ensures left { left_of result (R.remaining inner.old)
+            ≡ option_map renumbered_text (R.remaining inner.old) }
     {
         Renumbered {
             inner,
@@ -84,10 +85,13 @@ impl<'a, R: Source> Renumbered<'a, R> {
     fn load_line(&mut self) -> Result<(), DeviceFault>
         requires used { self.old.at ≡ self.old.end }
         requires more { self.old.is_over ≡ false }
-        ensures bytes { Keeps (left_of self.old (R.remaining (inner_of self.old))) (left_of self.new (R.remaining (inner_of self.new))) }
-        ensures end { IfOk result (λ _. self.new.at ≡ self.new.end → IfSome (left_of self.old (R.remaining (inner_of self.old))) (λ left. left ≡ [])) }
+        ensures bytes { Keeps (left_of self.old (R.remaining (inner_of self.old)))
+            (left_of self.new (R.remaining (inner_of self.new))) }
+        ensures end { IfOk result (λ _. self.new.at ≡ self.new.end
+            → IfSome (left_of self.old (R.remaining (inner_of self.old))) (λ left. left ≡ [])) }
         ensures shown { self.new.shown ≡ self.old.shown }
-        ensures failures { CountsFailure result (R.failures (inner_of self.old)) (R.failures (inner_of self.new)) }
+        ensures failures { CountsFailure result (R.failures (inner_of self.old))
+            (R.failures (inner_of self.new)) }
     {
         let ended = take_line(&mut *self.inner, &mut self.line)?;
         if let LineEnd::Open = ended {
@@ -103,11 +107,14 @@ impl<'a, R: Source> Renumbered<'a, R> {
 
     /// Takes a line where nothing is left of the one that is handed out, and shows what is left of it.
     fn load(&mut self) -> Result<(), DeviceFault>
-        ensures bytes { Keeps (left_of self.old (R.remaining (inner_of self.old))) (left_of self.new (R.remaining (inner_of self.new))) }
+        ensures bytes { Keeps (left_of self.old (R.remaining (inner_of self.old)))
+            (left_of self.new (R.remaining (inner_of self.new))) }
         ensures shown { IfOk result (λ _. self.new.at + self.new.shown ≡ self.new.end) }
-        ensures end { IfOk result (λ _. self.new.shown ≡ 0 → IfSome (left_of self.old (R.remaining (inner_of self.old))) (λ left. left ≡ [])) }
+        ensures end { IfOk result (λ _. self.new.shown ≡ 0
+            → IfSome (left_of self.old (R.remaining (inner_of self.old))) (λ left. left ≡ [])) }
         ensures none { OnErr result (self.new.shown ≡ 0) }
-        ensures failures { CountsFailure result (R.failures (inner_of self.old)) (R.failures (inner_of self.new)) }
+        ensures failures { CountsFailure result (R.failures (inner_of self.old))
+            (R.failures (inner_of self.new)) }
     {
         self.shown = 0;
         self.inner.fill()?;

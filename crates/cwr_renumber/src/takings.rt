@@ -16,7 +16,8 @@ pub(crate) fn take_line<R: Source>(
     line: &mut LineBuf,
 ) -> Result<LineEnd, DeviceFault>
     requires { line.old.ended ≡ Open }
-    ensures takes { TakesLine (R.remaining inner.old) (R.remaining inner.new) line.old line.new result }
+    ensures takes { TakesLine (R.remaining inner.old) (R.remaining inner.new) line.old line.new
+        result }
     ensures held { IfOk result (λ _. IsHeld line.new) }
     ensures failures { CountsFailure result (R.failures inner.old) (R.failures inner.new) }
 {

@@ -20,11 +20,15 @@ pub fn read_sent<R: Source>(
     limits: Limits,
     reader: &mut R,
 ) -> Result<Sent, ReadFault>
-    ensures takes { IfOk result (λ sent. (v : TransmissionValue) × TakesFront limits (R.remaining reader.old) v (R.remaining reader.new) × (rows sent ≡ fresh_rows (facts_in v))) }
+    ensures takes { IfOk result (λ sent. (v : TransmissionValue)
+        × TakesFront limits (R.remaining reader.old) v (R.remaining reader.new)
+        × (rows sent ≡ fresh_rows (facts_in v))) }
     // None of them is answered.
     ensures fresh { IfOk result (λ sent. rows sent ≡ fresh_rows (facts_in_rows (rows sent))) }
-    ensures stops { IfErr result (λ fault. StopsReading limits fault (R.remaining reader.old) (R.remaining reader.new)) }
-    ensures failures { MatchResult result (λ _. R.failures reader.new ≡ R.failures reader.old) (λ fault. CountsFault fault (R.failures reader.old) (R.failures reader.new)) }
+    ensures stops { IfErr result
+        (λ fault. StopsReading limits fault (R.remaining reader.old) (R.remaining reader.new)) }
+    ensures failures { MatchResult result (λ _. R.failures reader.new ≡ R.failures reader.old)
+        (λ fault. CountsFault fault (R.failures reader.old) (R.failures reader.new)) }
 {
     let mut reading = Reading::new(alloc, limits, reader);
     let mut sent = Sent::new(alloc);

@@ -41,7 +41,8 @@ impl Sent {
 
     /// Closes the open group.
     fn close(&mut self) -> Result<(), AllocError>
-        ensures closed { OnOk result ((filled_in self.new).closed ≡ (filled_in self.old).closed ++ (filled_in self.old).open_one ∷ []) }
+        ensures closed { OnOk result ((filled_in self.new).closed
+            ≡ (filled_in self.old).closed ++ (filled_in self.old).open_one ∷ []) }
         ensures none { OnOk result ((filled_in self.new).open_one ≡ []) }
     {
         let group = mem::replace(&mut self.pending, Vec::new(self.alloc));

@@ -11,10 +11,14 @@ use Rattle.cwr_shape.proofs.PrefixFree.{among_passes}
 -- every symbol
 abbrev pub all_symbols : List Symbol
 all_symbols =
-    Plain kinds.Hdr ∷ Plain kinds.Grh ∷ Plain kinds.Grt ∷ Plain kinds.Trl ∷ Plain kinds.Agr ∷ Plain kinds.Ter ∷ Plain kinds.Ipa ∷ Plain kinds.Nwr ∷ Plain kinds.Rev ∷
-    Plain kinds.Spu ∷ Plain kinds.Opu ∷ Plain kinds.Spt ∷ Plain kinds.Swr ∷ Plain kinds.Owr ∷ Plain kinds.Swt ∷ Plain kinds.Pwr ∷ Plain kinds.Alt ∷ Plain kinds.Ewt ∷
+    Plain kinds.Hdr ∷ Plain kinds.Grh ∷ Plain kinds.Grt ∷ Plain kinds.Trl ∷ Plain kinds.Agr ∷ Plain kinds.Ter ∷ Plain kinds.Ipa
+    ∷ Plain kinds.Nwr ∷ Plain kinds.Rev ∷
+    Plain kinds.Spu ∷ Plain kinds.Opu ∷ Plain kinds.Spt ∷ Plain kinds.Swr ∷ Plain kinds.Owr ∷ Plain kinds.Swt ∷ Plain kinds.Pwr
+    ∷ Plain kinds.Alt ∷ Plain kinds.Ewt ∷
     Plain kinds.Ver ∷ Plain kinds.Per ∷ Plain kinds.Rec ∷ Plain kinds.Orn ∷ Plain kinds.Com ∷ Plain kinds.Ack ∷ Plain kinds.Msg ∷
-    Plain kinds.Opt ∷ Plain kinds.Owt ∷ Plain kinds.Npn ∷ Plain kinds.Npr ∷ Plain kinds.Nwn ∷ Plain kinds.Npa ∷ Plain kinds.Net ∷ Plain kinds.Now ∷ Plain kinds.Nct ∷ Plain kinds.Nvt ∷ Plain kinds.Nat ∷ Plain kinds.Ins ∷ Plain kinds.Ind ∷ Plain kinds.Ari ∷ Plain kinds.Xrf ∷
+    Plain kinds.Opt ∷ Plain kinds.Owt ∷ Plain kinds.Npn ∷ Plain kinds.Npr ∷ Plain kinds.Nwn ∷ Plain kinds.Npa ∷ Plain kinds.Net
+    ∷ Plain kinds.Now ∷ Plain kinds.Nct ∷ Plain kinds.Nvt ∷ Plain kinds.Nat ∷ Plain kinds.Ins ∷ Plain kinds.Ind
+    ∷ Plain kinds.Ari ∷ Plain kinds.Xrf ∷
     Ipa Assignor ∷ Ipa Acquirer ∷ Grh Agreement ∷ Grh NewWork ∷ Grh RevisedWork ∷ Grh Acknowledgement ∷ []
 
 -- a test of every symbol is one of each

@@ -31,7 +31,8 @@ is_tally_at : (limits : LimitValues) (xs : List Symbol) → Continues (IsWithin 
 is_tally_at limits xs g = record { stands = record { begins = goes_any xs g; named = refl }; counted = refl; within = g }
 
 -- the symbol may come, or what bars it
-pub answer_one : (limits : LimitValues) (xs : List Symbol) (s : Symbol) → 1 ≤ limits.transaction → Continues (IsWithin limits) xs → (answer : Result (Unit {0}) Bar) × Answers limits xs s answer
+pub answer_one : (limits : LimitValues) (xs : List Symbol) (s : Symbol) → 1 ≤ limits.transaction → Continues (IsWithin limits) xs
+    → (answer : Result (Unit {0}) Bar) × Answers limits xs s answer
 answer_one limits xs s one g = by (next_stage (stage_after xs) s) refl
   where
     t : TallyValue
@@ -45,14 +46,23 @@ answer_one limits xs s one g = by (next_stage (stage_after xs) s) refl
     by (Some next) e = within (passed_limit_at limits next (counts_of (xs ++ s ∷ []))) refl
       where
         n : Next t xs s next (counts_of (xs ++ s ∷ []))
-        n = record { before = st; on = next_stands xs (stage_after xs) s (Some next) e st.stands; same = refl; one = one; kept = kept_within limits xs g }
+        n =
+            record {
+              before = st;
+              on = next_stands xs (stage_after xs) s (Some next) e st.stands;
+              same = refl;
+              one = one;
+              kept = kept_within limits xs g;
+            }
 
-        within : (p : Option LimitKind) → p ≡ passed_limit_at limits next (counts_of (xs ++ s ∷ [])) → (answer : Result (Unit {0}) Bar) × Answers limits xs s answer
+        within : (p : Option LimitKind) → p ≡ passed_limit_at limits next (counts_of (xs ++ s ∷ []))
+            → (answer : Result (Unit {0}) Bar) × Answers limits xs s answer
         within None f = (Ok tt, may_come t xs s next (counts_of (xs ++ s ∷ [])) None n f refl)
         within (Some limit) f = (Err (Limit limit), is_barred t xs s next (counts_of (xs ++ s ∷ [])) (Some limit) limit n f refl)
 
 -- some record of the kind may come, or what bars them all
-pub answer_kind : (limits : LimitValues) (xs : List Symbol) (kind : Kind) → 1 ≤ limits.transaction → Continues (IsWithin limits) xs → (answer : Result (Unit {0}) Bar) × AnswersKind limits xs kind answer
+pub answer_kind : (limits : LimitValues) (xs : List Symbol) (kind : Kind) → 1 ≤ limits.transaction
+    → Continues (IsWithin limits) xs → (answer : Result (Unit {0}) Bar) × AnswersKind limits xs kind answer
 answer_kind limits xs kinds.Ipa one g =
     let t = tally_at limits xs in
     let a = answer_one limits xs (Ipa (wanted_role t.stage)) one g in

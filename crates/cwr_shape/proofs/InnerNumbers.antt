@@ -13,7 +13,8 @@ use Rattle.cwr_shape.specs.Format.ExpectedNumbers.{expected_numbers, expected_in
 use Rattle.cwr_shape.specs.Steps.Counting.{number_inside}
 
 -- of two numbers the one of the field
-one_of_two : (p q : Bool) (a b : ℕ) → option_map (λ (f : ℕ × ℕ). f.1) (cond p (Some (2, a)) (cond q (Some (3, b)) None)) ≡ cond p (Some a) (cond q (Some b) None)
+one_of_two : (p q : Bool) (a b : ℕ)
+    → option_map (λ (f : ℕ × ℕ). f.1) (cond p (Some (2, a)) (cond q (Some (3, b)) None)) ≡ cond p (Some a) (cond q (Some b) None)
 one_of_two true q a b = refl
 one_of_two false true a b = refl
 one_of_two false false a b = refl
@@ -22,7 +23,8 @@ one_of_two false false a b = refl
 abbrev pub IsInside : Kind → Type 0
 IsInside kind = (kind ≡ kinds.Hdr → ⊥) × (kind ≡ kinds.Grh → ⊥) × (kind ≡ kinds.Grt → ⊥) × (kind ≡ kinds.Trl → ⊥)
 
-number_by : (kind : Kind) (b : Bool) (c : Counts) (j : ℕ) → IsInside kind → number_in kind j (expected_inside b c) ≡ number_inside b c j
+number_by : (kind : Kind) (b : Bool) (c : Counts) (j : ℕ) → IsInside kind
+    → number_in kind j (expected_inside b c) ≡ number_inside b c j
 number_by kinds.Hdr b c j h = absurd (h.0 refl)
 number_by kinds.Grh b c j h = absurd (h.1 refl)
 number_by kinds.Grt b c j h = absurd (h.2 refl)
@@ -30,12 +32,15 @@ number_by kinds.Trl b c j h = absurd (h.3 refl)
 number_by kind true c j h = one_of_two (2 == j) (3 == j) _ _
 number_by kind false c j h = one_of_two (2 == j) (3 == j) _ _
 
-expected_by : (ty : TransactionType) (c : Counts) (kind : Kind) → IsInside kind → expected_numbers ty c kind ≡ expected_inside (is_header_of ty (Plain kind)) c
+expected_by : (ty : TransactionType) (c : Counts) (kind : Kind) → IsInside kind
+    → expected_numbers ty c kind ≡ expected_inside (is_header_of ty (Plain kind)) c
 expected_by ty c kinds.Hdr h = absurd (h.0 refl)
 expected_by ty c kinds.Grh h = absurd (h.1 refl)
 expected_by ty c kinds.Grt h = absurd (h.2 refl)
 expected_by ty c kinds.Trl h = absurd (h.3 refl)
 expected_by ty c kind h = refl
 
-pub inside_number : (ty : TransactionType) (c : Counts) (kind : Kind) (j : ℕ) → IsInside kind → number_in kind j (expected_numbers ty c kind) ≡ number_inside (is_header_of ty (Plain kind)) c j
-inside_number ty c kind j h = ap (number_in kind j) (expected_by ty c kind h) ∙ number_by kind (is_header_of ty (Plain kind)) c j h
+pub inside_number : (ty : TransactionType) (c : Counts) (kind : Kind) (j : ℕ) → IsInside kind
+    → number_in kind j (expected_numbers ty c kind) ≡ number_inside (is_header_of ty (Plain kind)) c j
+inside_number ty c kind j h =
+    ap (number_in kind j) (expected_by ty c kind h) ∙ number_by kind (is_header_of ty (Plain kind)) c j h

@@ -1,5 +1,6 @@
 -- From each stage no way to end has a lower number than the table.
-use Rattle.std.proofs.Common.{◌≡◌, ℕ, ◌+◌, ◌≤◌, Bool, true, false, cond, ◌&&◌, List, [], ◌∷◌, length, Option, Some, None, refl, sym, ap, subst, ◌∙◌, arith, true≢false, leb-true, eqb-true}
+use Rattle.std.proofs.Common.{◌≡◌, ℕ, ◌+◌, ◌≤◌, Bool, true, false, cond, ◌&&◌, List, [], ◌∷◌, length, Option, Some, None, refl}
+use Rattle.std.proofs.Common.{sym, ap, subst, ◌∙◌, arith, true≢false, leb-true, eqb-true}
 use Rattle.std.specs.Prelude.{nat_le, ◌==◌}
 use Rattle.std.specs.List.{list_all, count_by}
 use Rattle.std.specs.Str.{bytes_eq}
@@ -44,7 +45,8 @@ goes_down ty n to = false
 -- an open transaction continues with a later record, or needs nothing more; where none is open, a header opens one
 unfoldable pub lowers_transaction : Stage → Symbol → Stage → Bool
 lowers_transaction (stages.Within ty step) s to =
-    cond (is_inside step) (cond (is_later_of ty s) (goes_down ty (need ty step) to) (need ty step == 0)) (is_header_of ty s && goes_down ty (need ty step) to)
+    cond (is_inside step) (cond (is_later_of ty s) (goes_down ty (need ty step) to) (need ty step == 0))
+    (is_header_of ty s && goes_down ty (need ty step) to)
 lowers_transaction stage s to = true
 
 -- a symbol lowers each need by what it is, at most
@@ -102,7 +104,8 @@ record Lowers (stage : Stage) (s : Symbol) (to : Stage) : Type 0 where
   groups : (needs_at stage).groups ≤ cond (is_grh s) 1 0 + (needs_at to).groups
   transaction : lowers_transaction stage s to ≡ true
 
-lowered_by : (stage : Stage) (s : Symbol) (to : Stage) (o : Option Stage) → o ≡ Some to → lowers_to stage s o ≡ true → Lowers stage s to
+lowered_by : (stage : Stage) (s : Symbol) (to : Stage) (o : Option Stage) → o ≡ Some to → lowers_to stage s o ≡ true
+    → Lowers stage s to
 unfolding lowers_to
 lowered_by stage s to None e h = absurd (cc e)
 lowered_by stage s to (Some other) e h =
@@ -118,19 +121,30 @@ lowered stage s to real e = lowered_by stage s to (next_stage stage s) e (of_eac
 one_stage : (x y : Stage) → Some x ≡ Some y → x ≡ y
 one_stage x y e = cc e
 
-pub least_records : (stage : Stage) (rest : List Symbol) → is_stage stage ≡ true → run stage rest ≡ Some stages.Ended → (needs_at stage).records ≤ length rest
+pub least_records : (stage : Stage) (rest : List Symbol) → is_stage stage ≡ true → run stage rest ≡ Some stages.Ended
+    → (needs_at stage).records ≤ length rest
 unfolding run
 least_records stage [] real e = omega (arith, ap (λ (t : Stage). (needs_at t).records) (one_stage stage stages.Ended e))
 least_records stage (s ∷ rest) real e =
     let first = run_first stage s rest stages.Ended e in
-    omega (arith, (lowered stage s first.0 real first.1).records, least_records first.0 rest (next_is_stage stage s first.0 real first.1) first.2)
+    omega (
+      arith,
+      (lowered stage s first.0 real first.1).records,
+      least_records first.0 rest (next_is_stage stage s first.0 real first.1) first.2,
+    )
 
-pub least_groups : (stage : Stage) (rest : List Symbol) → is_stage stage ≡ true → run stage rest ≡ Some stages.Ended → (needs_at stage).groups ≤ count_by is_grh rest
+pub least_groups : (stage : Stage) (rest : List Symbol) → is_stage stage ≡ true → run stage rest ≡ Some stages.Ended
+    → (needs_at stage).groups ≤ count_by is_grh rest
 unfolding run
 least_groups stage [] real e = omega (arith, ap (λ (t : Stage). (needs_at t).groups) (one_stage stage stages.Ended e))
 least_groups stage (s ∷ rest) real e =
     let first = run_first stage s rest stages.Ended e in
-    omega (arith, (lowered stage s first.0 real first.1).groups, least_groups first.0 rest (next_is_stage stage s first.0 real first.1) first.2, sum_by-cons (λ x. cond (is_grh x) 1 0) s rest)
+    omega (
+      arith,
+      (lowered stage s first.0 real first.1).groups,
+      least_groups first.0 rest (next_is_stage stage s first.0 real first.1) first.2,
+      sum_by-cons (λ x. cond (is_grh x) 1 0) s rest,
+    )
 
 record GoesDown (ty : TransactionType) (n : ℕ) (to : Stage) : Type 0 where
   step : TransactionStep
@@ -146,8 +160,10 @@ unfolding goes_down
 went_down ty n (stages.Within u step) h =
     let a = and_parts (same_type_text ty u) (is_inside step && nat_le n (1 + need u step)) h in
     let b = and_parts (is_inside step) (nat_le n (1 + need u step)) a.1 in
-    let same : ty ≡ u = one_type ty u (same_text (Grh ty) (Grh u) ((bytes_eq-Decides (symbol_text (Grh ty)) (symbol_text (Grh u))).0 a.0)) in
-    subst (λ (t : TransactionType). GoesDown t n (stages.Within u step)) (sym same) (record { step = step; is = refl; inside = b.0; low = leb-true _ _ b.1 })
+    let same : ty ≡ u =
+    one_type ty u (same_text (Grh ty) (Grh u) ((bytes_eq-Decides (symbol_text (Grh ty)) (symbol_text (Grh u))).0 a.0)) in
+    subst (λ (t : TransactionType). GoesDown t n (stages.Within u step)) (sym same)
+    (record { step = step; is = refl; inside = b.0; low = leb-true _ _ b.1 })
 went_down ty n to h = absurd (true≢false (sym h))
 
 no_end : (ty : TransactionType) (step : TransactionStep) → Some (stages.Within ty step) ≡ Some stages.Ended → ⊥
@@ -157,43 +173,61 @@ no_end ty step e = differ (one_stage (stages.Within ty step) stages.Ended e)
     differ k = cc k
 
 -- inside a transaction
-least_later : (ty : TransactionType) (step : TransactionStep) (rest : List Symbol) → is_stage (stages.Within ty step) ≡ true → is_inside step ≡ true → run (stages.Within ty step) rest ≡ Some stages.Ended
+least_later : (ty : TransactionType) (step : TransactionStep) (rest : List Symbol) → is_stage (stages.Within ty step) ≡ true
+    → is_inside step ≡ true → run (stages.Within ty step) rest ≡ Some stages.Ended
     → need ty step ≤ later_records ty rest
 unfolding run lowers_transaction
 least_later ty step [] real inside e = absurd (no_end ty step e)
 least_later ty step (s ∷ rest) real inside e =
     let first = run_first (stages.Within ty step) s rest stages.Ended e in
-    let low : cond true (cond (is_later_of ty s) (goes_down ty (need ty step) first.0) (need ty step == 0)) (is_header_of ty s && goes_down ty (need ty step) first.0) ≡ true
-    = ap (λ (b : Bool). cond b (cond (is_later_of ty s) (goes_down ty (need ty step) first.0) (need ty step == 0)) (is_header_of ty s && goes_down ty (need ty step) first.0)) (sym inside)
+    let low : cond true (cond (is_later_of ty s) (goes_down ty (need ty step) first.0) (need ty step == 0))
+    (is_header_of ty s && goes_down ty (need ty step) first.0) ≡ true
+    = ap (λ (b : Bool). cond b (cond (is_later_of ty s) (goes_down ty (need ty step) first.0) (need ty step == 0))
+    (is_header_of ty s && goes_down ty (need ty step) first.0)) (sym inside)
     ∙ (lowered (stages.Within ty step) s first.0 real first.1).transaction in
-    by_later (is_later_of ty s) first.0 low (next_is_stage (stages.Within ty step) s first.0 real first.1) first.2 (λ st r i k. least_later ty st rest r i k)
+    by_later (is_later_of ty s) first.0 low (next_is_stage (stages.Within ty step) s first.0 real first.1) first.2
+    (λ st r i k. least_later ty st rest r i k)
   where
-    by_later : (b : Bool) (to : Stage) → cond b (goes_down ty (need ty step) to) (need ty step == 0) ≡ true → is_stage to ≡ true → run to rest ≡ Some stages.Ended
-        → ((st : TransactionStep) → is_stage (stages.Within ty st) ≡ true → is_inside st ≡ true → run (stages.Within ty st) rest ≡ Some stages.Ended → need ty st ≤ later_records ty rest)
+    by_later : (b : Bool) (to : Stage) → cond b (goes_down ty (need ty step) to) (need ty step == 0) ≡ true → is_stage to ≡ true
+        → run to rest ≡ Some stages.Ended
+        → ((st : TransactionStep) → is_stage (stages.Within ty st) ≡ true → is_inside st ≡ true
+        → run (stages.Within ty st) rest ≡ Some stages.Ended → need ty st ≤ later_records ty rest)
         → need ty step ≤ cond b (1 + later_records ty rest) 0
     by_later false to h r k f = omega (arith, eqb-true (need ty step) 0 h)
     by_later true to h r k f =
         let down = went_down ty (need ty step) to h in
-        omega (arith, down.low, f down.step (subst (λ (t : Stage). is_stage t ≡ true) down.is r) down.inside (subst (λ (t : Stage). run t rest ≡ Some stages.Ended) down.is k))
+        omega (
+          arith,
+          down.low,
+          f down.step (subst (λ (t : Stage). is_stage t ≡ true) down.is r) down.inside
+              (subst (λ (t : Stage). run t rest ≡ Some stages.Ended) down.is k),
+        )
 
 -- before a transaction: the header opens one
-least_first : (ty : TransactionType) (rest : List Symbol) → run (stages.Within ty steps.InGroup) rest ≡ Some stages.Ended → need ty steps.InGroup ≤ first_transaction ty rest
+least_first : (ty : TransactionType) (rest : List Symbol) → run (stages.Within ty steps.InGroup) rest ≡ Some stages.Ended
+    → need ty steps.InGroup ≤ first_transaction ty rest
 unfolding run lowers_transaction
 least_first ty [] e = absurd (no_end ty steps.InGroup e)
 least_first ty (s ∷ rest) e =
     let first = run_first (stages.Within ty steps.InGroup) s rest stages.Ended e in
-    let h = and_parts (is_header_of ty s) (goes_down ty (need ty steps.InGroup) first.0) (lowered (stages.Within ty steps.InGroup) s first.0 refl first.1).transaction in
+    let h =
+    and_parts (is_header_of ty s) (goes_down ty (need ty steps.InGroup) first.0)
+    (lowered (stages.Within ty steps.InGroup) s first.0 refl first.1).transaction in
     let down = went_down ty (need ty steps.InGroup) first.0 h.1 in
     let real = next_is_stage (stages.Within ty steps.InGroup) s first.0 refl first.1 in
-    let later = least_later ty down.step rest (subst (λ (t : Stage). is_stage t ≡ true) down.is real) down.inside (subst (λ (t : Stage). run t rest ≡ Some stages.Ended) down.is first.2) in
+    let later =
+    least_later ty down.step rest (subst (λ (t : Stage). is_stage t ≡ true) down.is real) down.inside
+    (subst (λ (t : Stage). run t rest ≡ Some stages.Ended) down.is first.2) in
     by_header (is_header_of ty s) h.0 (omega (arith, down.low, later))
   where
-    by_header : (b : Bool) → b ≡ true → need ty steps.InGroup ≤ 1 + later_records ty rest → need ty steps.InGroup ≤ cond b (1 + later_records ty rest) (first_transaction (type_after ty s) rest)
+    by_header : (b : Bool) → b ≡ true → need ty steps.InGroup ≤ 1 + later_records ty rest
+        → need ty steps.InGroup ≤ cond b (1 + later_records ty rest) (first_transaction (type_after ty s) rest)
     by_header true h k = k
     by_header false h k = absurd (true≢false (sym h))
 
 -- before a group
-some_transaction : (ty : TransactionType) (rest : List Symbol) → run (stages.Within ty steps.InGroup) rest ≡ Some stages.Ended → 1 ≤ first_transaction ty rest
+some_transaction : (ty : TransactionType) (rest : List Symbol) → run (stages.Within ty steps.InGroup) rest ≡ Some stages.Ended
+    → 1 ≤ first_transaction ty rest
 some_transaction Agreement rest e = omega (arith, least_first Agreement rest e)
 some_transaction NewWork rest e = omega (arith, least_first NewWork rest e)
 some_transaction RevisedWork rest e = omega (arith, least_first RevisedWork rest e)
@@ -220,7 +254,8 @@ least_start [] e = absurd (differ (one_stage stages.Start stages.Ended e))
 least_start (Plain kinds.Hdr ∷ rest) e = least_opened rest e
 least_start (s ∷ rest) e = absurd (none_on stages.Ended e)
 
-pub least_transaction : (stage : Stage) (rest : List Symbol) → is_stage stage ≡ true → run stage rest ≡ Some stages.Ended → (needs_at stage).transaction ≤ transaction_to_come stage rest
+pub least_transaction : (stage : Stage) (rest : List Symbol) → is_stage stage ≡ true → run stage rest ≡ Some stages.Ended
+    → (needs_at stage).transaction ≤ transaction_to_come stage rest
 least_transaction stages.Start rest real e = least_start rest e
 least_transaction stages.Opened rest real e = least_opened rest e
 least_transaction stages.Closed rest real e = omega arith
@@ -249,6 +284,12 @@ are_needs xs stage st =
           record {
             records = omega (arith, e.records_more, least_records stage rest here.real on);
             groups = omega (arith, e.groups_more, least_groups stage rest here.real on);
-            transaction = omega (arith, e.transaction_more, ap (λ (t : Stage). transaction_to_come t rest) st.named, least_transaction stage rest here.real on);
+            transaction =
+                omega (
+                  arith,
+                  e.transaction_more,
+                  ap (λ (t : Stage). transaction_to_come t rest) st.named,
+                  least_transaction stage rest here.real on,
+                );
           };
     }

@@ -1,5 +1,6 @@
 -- A numbering with one record more, and what it has counted of records in whatever order.
-use Rattle.std.proofs.Common.{◌≡◌, ℕ, ◌+◌, ◌<◌, ◌≤◌, Bool, true, false, cond, List, [], ◌∷◌, ◌++◌, length, nat_lt, refl, sym, ap, ap₂, subst, ◌∙◌, arith}
+use Rattle.std.proofs.Common.{◌≡◌, ℕ, ◌+◌, ◌<◌, ◌≤◌, Bool, true, false, cond, List, [], ◌∷◌, ◌++◌, length, nat_lt, refl, sym, ap}
+use Rattle.std.proofs.Common.{ap₂, subst, ◌∙◌, arith}
 use Rattle.std.proofs.lemmas.List.{length-append}
 use Rattle.cwr_fields.specs.declared.codes.TransactionType.{TransactionType}
 use Rattle.cwr_shape.specs.declared.symbols.Symbol.{Symbol}
@@ -9,7 +10,8 @@ use Rattle.cwr_shape.specs.Format.NextSymbols.{is_header_of}
 use Rattle.cwr_shape.specs.Steps.Counting.{counts_with, counts_with_header, counts_with_other}
 use Rattle.cwr_shape.specs.Steps.Numberings.{KeepsNumbering}
 
-kept_inside : (b : Bool) (c : Counts) → KeepsNumbering c → c.records < 999999999 → KeepsNumbering (cond b (counts_with_header c) (counts_with_other c))
+kept_inside : (b : Bool) (c : Counts) → KeepsNumbering c → c.records < 999999999
+    → KeepsNumbering (cond b (counts_with_header c) (counts_with_other c))
 kept_inside true c k h = record {
   records = omega (arith, h);
   groups = omega (arith, k.groups);
@@ -28,7 +30,8 @@ kept_inside false c k h = record {
 }
 
 -- one record more is counted
-pub kept_with : (ty : TransactionType) (c : Counts) (s : Symbol) → KeepsNumbering c → c.records < 999999999 → KeepsNumbering (counts_with ty c s)
+pub kept_with : (ty : TransactionType) (c : Counts) (s : Symbol) → KeepsNumbering c → c.records < 999999999
+    → KeepsNumbering (counts_with ty c s)
 kept_with ty c (Grh t) k h = record {
   records = omega (arith, h);
   groups = omega (arith, k.groups);

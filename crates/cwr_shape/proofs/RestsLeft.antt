@@ -42,7 +42,8 @@ left_ended = ([], accepts_sound _ (left stages.Ended) refl)
 
 left_within_newwork_ingroup : Left (stages.Within NewWork steps.InGroup)
 unfolding nullable after after_all
-left_within_newwork_ingroup = (p kinds.Nwr ∷ p kinds.Swr ∷ ending, accepts_sound _ (left (stages.Within NewWork steps.InGroup)) refl)
+left_within_newwork_ingroup =
+    (p kinds.Nwr ∷ p kinds.Swr ∷ ending, accepts_sound _ (left (stages.Within NewWork steps.InGroup)) refl)
 
 left_within_newwork_work : Left (stages.Within NewWork steps.Work)
 unfolding nullable after after_all
@@ -70,7 +71,8 @@ left_within_newwork_tail = (ending, accepts_sound _ (left (stages.Within NewWork
 
 left_within_revisedwork_ingroup : Left (stages.Within RevisedWork steps.InGroup)
 unfolding nullable after after_all
-left_within_revisedwork_ingroup = (p kinds.Rev ∷ p kinds.Swr ∷ ending, accepts_sound _ (left (stages.Within RevisedWork steps.InGroup)) refl)
+left_within_revisedwork_ingroup =
+    (p kinds.Rev ∷ p kinds.Swr ∷ ending, accepts_sound _ (left (stages.Within RevisedWork steps.InGroup)) refl)
 
 left_within_revisedwork_work : Left (stages.Within RevisedWork steps.Work)
 unfolding nullable after after_all
@@ -78,7 +80,8 @@ left_within_revisedwork_work = (p kinds.Swr ∷ ending, accepts_sound _ (left (s
 
 left_within_revisedwork_controlled : Left (stages.Within RevisedWork steps.Controlled)
 unfolding nullable after after_all
-left_within_revisedwork_controlled = (p kinds.Swr ∷ ending, accepts_sound _ (left (stages.Within RevisedWork steps.Controlled)) refl)
+left_within_revisedwork_controlled =
+    (p kinds.Swr ∷ ending, accepts_sound _ (left (stages.Within RevisedWork steps.Controlled)) refl)
 
 left_within_revisedwork_other : Left (stages.Within RevisedWork steps.Other)
 unfolding nullable after after_all
@@ -98,23 +101,30 @@ left_within_revisedwork_tail = (ending, accepts_sound _ (left (stages.Within Rev
 
 left_within_agreement_ingroup : Left (stages.Within Agreement steps.InGroup)
 unfolding nullable after after_all
-left_within_agreement_ingroup = (p kinds.Agr ∷ p kinds.Ter ∷ Ipa Assignor ∷ Ipa Acquirer ∷ ending, accepts_sound _ (left (stages.Within Agreement steps.InGroup)) refl)
+left_within_agreement_ingroup = (
+  p kinds.Agr ∷ p kinds.Ter ∷ Ipa Assignor ∷ Ipa Acquirer ∷ ending,
+  accepts_sound _ (left (stages.Within Agreement steps.InGroup)) refl,
+)
 
 left_within_agreement_agreed : Left (stages.Within Agreement steps.Agreed)
 unfolding nullable after after_all
-left_within_agreement_agreed = (p kinds.Ter ∷ Ipa Assignor ∷ Ipa Acquirer ∷ ending, accepts_sound _ (left (stages.Within Agreement steps.Agreed)) refl)
+left_within_agreement_agreed =
+    (p kinds.Ter ∷ Ipa Assignor ∷ Ipa Acquirer ∷ ending, accepts_sound _ (left (stages.Within Agreement steps.Agreed)) refl)
 
 left_within_agreement_territories : Left (stages.Within Agreement steps.Territories)
 unfolding nullable after after_all
-left_within_agreement_territories = (Ipa Assignor ∷ Ipa Acquirer ∷ ending, accepts_sound _ (left (stages.Within Agreement steps.Territories)) refl)
+left_within_agreement_territories =
+    (Ipa Assignor ∷ Ipa Acquirer ∷ ending, accepts_sound _ (left (stages.Within Agreement steps.Territories)) refl)
 
 left_within_agreement_oneside_assignor : Left (stages.Within Agreement (steps.OneSide Assignor))
 unfolding nullable after after_all
-left_within_agreement_oneside_assignor = (Ipa Acquirer ∷ ending, accepts_sound _ (left (stages.Within Agreement (steps.OneSide Assignor))) refl)
+left_within_agreement_oneside_assignor =
+    (Ipa Acquirer ∷ ending, accepts_sound _ (left (stages.Within Agreement (steps.OneSide Assignor))) refl)
 
 left_within_agreement_oneside_acquirer : Left (stages.Within Agreement (steps.OneSide Acquirer))
 unfolding nullable after after_all
-left_within_agreement_oneside_acquirer = (Ipa Assignor ∷ ending, accepts_sound _ (left (stages.Within Agreement (steps.OneSide Acquirer))) refl)
+left_within_agreement_oneside_acquirer =
+    (Ipa Assignor ∷ ending, accepts_sound _ (left (stages.Within Agreement (steps.OneSide Acquirer))) refl)
 
 left_within_agreement_both : Left (stages.Within Agreement steps.Both)
 unfolding nullable after after_all
@@ -122,7 +132,8 @@ left_within_agreement_both = (ending, accepts_sound _ (left (stages.Within Agree
 
 left_within_acknowledgement_ingroup : Left (stages.Within Acknowledgement steps.InGroup)
 unfolding nullable after after_all
-left_within_acknowledgement_ingroup = (p kinds.Ack ∷ ending, accepts_sound _ (left (stages.Within Acknowledgement steps.InGroup)) refl)
+left_within_acknowledgement_ingroup =
+    (p kinds.Ack ∷ ending, accepts_sound _ (left (stages.Within Acknowledgement steps.InGroup)) refl)
 
 left_within_acknowledgement_acked : Left (stages.Within Acknowledgement steps.Acked)
 unfolding nullable after after_all
@@ -134,11 +145,13 @@ left_within_acknowledgement_work = (p kinds.Swr ∷ ending, accepts_sound _ (lef
 
 left_within_acknowledgement_controlled : Left (stages.Within Acknowledgement steps.Controlled)
 unfolding nullable after after_all
-left_within_acknowledgement_controlled = (p kinds.Swr ∷ ending, accepts_sound _ (left (stages.Within Acknowledgement steps.Controlled)) refl)
+left_within_acknowledgement_controlled =
+    (p kinds.Swr ∷ ending, accepts_sound _ (left (stages.Within Acknowledgement steps.Controlled)) refl)
 
 left_within_acknowledgement_other : Left (stages.Within Acknowledgement steps.Other)
 unfolding nullable after after_all
-left_within_acknowledgement_other = (p kinds.Swr ∷ ending, accepts_sound _ (left (stages.Within Acknowledgement steps.Other)) refl)
+left_within_acknowledgement_other =
+    (p kinds.Swr ∷ ending, accepts_sound _ (left (stages.Within Acknowledgement steps.Other)) refl)
 
 left_within_acknowledgement_writer : Left (stages.Within Acknowledgement steps.Writer)
 unfolding nullable after after_all
@@ -154,19 +167,23 @@ left_within_acknowledgement_tail = (ending, accepts_sound _ (left (stages.Within
 
 left_within_acknowledgement_agreed : Left (stages.Within Acknowledgement steps.Agreed)
 unfolding nullable after after_all
-left_within_acknowledgement_agreed = (p kinds.Ter ∷ Ipa Assignor ∷ Ipa Acquirer ∷ ending, accepts_sound _ (left (stages.Within Acknowledgement steps.Agreed)) refl)
+left_within_acknowledgement_agreed =
+    (p kinds.Ter ∷ Ipa Assignor ∷ Ipa Acquirer ∷ ending, accepts_sound _ (left (stages.Within Acknowledgement steps.Agreed)) refl)
 
 left_within_acknowledgement_territories : Left (stages.Within Acknowledgement steps.Territories)
 unfolding nullable after after_all
-left_within_acknowledgement_territories = (Ipa Assignor ∷ Ipa Acquirer ∷ ending, accepts_sound _ (left (stages.Within Acknowledgement steps.Territories)) refl)
+left_within_acknowledgement_territories =
+    (Ipa Assignor ∷ Ipa Acquirer ∷ ending, accepts_sound _ (left (stages.Within Acknowledgement steps.Territories)) refl)
 
 left_within_acknowledgement_oneside_assignor : Left (stages.Within Acknowledgement (steps.OneSide Assignor))
 unfolding nullable after after_all
-left_within_acknowledgement_oneside_assignor = (Ipa Acquirer ∷ ending, accepts_sound _ (left (stages.Within Acknowledgement (steps.OneSide Assignor))) refl)
+left_within_acknowledgement_oneside_assignor =
+    (Ipa Acquirer ∷ ending, accepts_sound _ (left (stages.Within Acknowledgement (steps.OneSide Assignor))) refl)
 
 left_within_acknowledgement_oneside_acquirer : Left (stages.Within Acknowledgement (steps.OneSide Acquirer))
 unfolding nullable after after_all
-left_within_acknowledgement_oneside_acquirer = (Ipa Assignor ∷ ending, accepts_sound _ (left (stages.Within Acknowledgement (steps.OneSide Acquirer))) refl)
+left_within_acknowledgement_oneside_acquirer =
+    (Ipa Assignor ∷ ending, accepts_sound _ (left (stages.Within Acknowledgement (steps.OneSide Acquirer))) refl)
 
 left_within_acknowledgement_both : Left (stages.Within Acknowledgement steps.Both)
 unfolding nullable after after_all

@@ -1,5 +1,6 @@
 -- What is open at a stage is what the last symbol says.
-use Rattle.std.proofs.Common.{◌≡◌, Bool, true, false, cond, not, List, [], ◌∷◌, ◌++◌, Option, Some, None, refl, sym, ap, subst, ◌∙◌, inl, inr, true≢false, append_assoc, append-nil}
+use Rattle.std.proofs.Common.{◌≡◌, Bool, true, false, cond, not, List, [], ◌∷◌, ◌++◌, Option, Some, None, refl, sym, ap, subst}
+use Rattle.std.proofs.Common.{◌∙◌, inl, inr, true≢false, append_assoc, append-nil}
 use Rattle.std.specs.Prelude.{◌⊎◌, is_some}
 use Rattle.std.specs.List.{list_all, list_any, last_or, after_last}
 use Rattle.cwr_fields.specs.declared.codes.TransactionType.TheVariants.{Agreement, NewWork, RevisedWork, Acknowledgement}
@@ -38,7 +39,8 @@ scope_named (Some (Plain kinds.Pwr)) xs = by_writer (latest is_writer xs)
     by_writer w = refl
 scope_named (Some (Ipa role)) xs = by_side (list_any (is_ipa_of (other_role role)) (after_last (λ s. not (is_ipa s)) xs))
   where
-    by_side : (b : Bool) → scope_at (stages.Within (group_of (latest is_grh xs)) (cond b steps.Both (steps.OneSide role))) ≡ scopes.Transaction
+    by_side : (b : Bool)
+        → scope_at (stages.Within (group_of (latest is_grh xs)) (cond b steps.Both (steps.OneSide role))) ≡ scopes.Transaction
     by_side true = refl
     by_side false = refl
 scope_named (Some s) xs = refl
@@ -53,10 +55,16 @@ last_so_far : (o p : Option Symbol) (xs : List Symbol) → AreLast o p → AreLa
 last_so_far o p [] h = h
 last_so_far o p (s ∷ xs) h = by (is_carried_symbol s) refl (last_so_far (Some s) p xs) (last_so_far (Some s) (Some s) xs)
   where
-    by : (b : Bool) → is_carried_symbol s ≡ b → (AreLast (Some s) p → AreLast (last_or (Some s) xs) (last_or p (without_carried xs)))
-        → (AreLast (Some s) (Some s) → AreLast (last_or (Some s) xs) (last_or (Some s) (without_carried xs))) → AreLast (last_or (Some s) xs) (last_or p (without_carried (s ∷ xs)))
-    by true e f g = subst (λ (ys : List Symbol). AreLast (last_or (Some s) xs) (last_or p ys)) (sym (without-cons s xs true e)) (f (inr (s, refl, e)))
-    by false e f g = subst (λ (ys : List Symbol). AreLast (last_or (Some s) xs) (last_or p ys)) (sym (without-cons s xs false e)) (g (inl refl))
+    by : (b : Bool) → is_carried_symbol s ≡ b
+        → (AreLast (Some s) p → AreLast (last_or (Some s) xs) (last_or p (without_carried xs)))
+        → (AreLast (Some s) (Some s) → AreLast (last_or (Some s) xs) (last_or (Some s) (without_carried xs)))
+        → AreLast (last_or (Some s) xs) (last_or p (without_carried (s ∷ xs)))
+    by true e f g =
+        subst (λ (ys : List Symbol). AreLast (last_or (Some s) xs) (last_or p ys)) (sym (without-cons s xs true e))
+        (f (inr (s, refl, e)))
+    by false e f g =
+        subst (λ (ys : List Symbol). AreLast (last_or (Some s) xs) (last_or p ys)) (sym (without-cons s xs false e))
+        (g (inl refl))
 
 pub last_without : (xs : List Symbol) → AreLast (last_or None xs) (last_or None (without_carried xs))
 last_without xs = last_so_far None None xs (inl refl)
@@ -68,17 +76,22 @@ abbrev Bars : Stage → Type 0
 Bars stage = list_all (λ t. not (is_some (next_stage stage t))) carried_symbols ≡ true
 
 barred : (stage : Stage) (s : Symbol) (to : Stage) → Bars stage → is_carried_symbol s ≡ true → next_stage stage s ≡ Some to → ⊥
-barred stage s to none e on = true≢false (sym (sym (ap (λ (o : Option Stage). not (is_some o)) on) ∙ carried_passes (λ t. not (is_some (next_stage stage t))) s none e))
+barred stage s to none e on =
+    true≢false (sym
+    (sym (ap (λ (o : Option Stage). not (is_some o)) on) ∙ carried_passes (λ t. not (is_some (next_stage stage t))) s none e))
 
-inside : (stage : Stage) (s : Symbol) (to : Stage) → is_carried_symbol s ≡ true → next_stage stage s ≡ Some to → scope_at stage ≡ scopes.Transaction
+inside : (stage : Stage) (s : Symbol) (to : Stage) → is_carried_symbol s ≡ true → next_stage stage s ≡ Some to
+    → scope_at stage ≡ scopes.Transaction
 inside stages.Start s to e on = absurd (barred stages.Start s to refl e on)
 inside stages.Opened s to e on = absurd (barred stages.Opened s to refl e on)
 inside stages.Closed s to e on = absurd (barred stages.Closed s to refl e on)
 inside stages.Ended s to e on = absurd (barred stages.Ended s to refl e on)
 inside (stages.Within Agreement steps.InGroup) s to e on = absurd (barred (stages.Within Agreement steps.InGroup) s to refl e on)
 inside (stages.Within NewWork steps.InGroup) s to e on = absurd (barred (stages.Within NewWork steps.InGroup) s to refl e on)
-inside (stages.Within RevisedWork steps.InGroup) s to e on = absurd (barred (stages.Within RevisedWork steps.InGroup) s to refl e on)
-inside (stages.Within Acknowledgement steps.InGroup) s to e on = absurd (barred (stages.Within Acknowledgement steps.InGroup) s to refl e on)
+inside (stages.Within RevisedWork steps.InGroup) s to e on =
+    absurd (barred (stages.Within RevisedWork steps.InGroup) s to refl e on)
+inside (stages.Within Acknowledgement steps.InGroup) s to e on =
+    absurd (barred (stages.Within Acknowledgement steps.InGroup) s to refl e on)
 inside (stages.Within ty step) s to e on = refl
 
 opens : (p : Scope) → has_open_transaction p ≡ true → p ≡ scopes.Transaction
@@ -90,24 +103,29 @@ carried_opens s e = opens (scope_by (Some s)) (carried_passes (λ t. has_open_tr
 
 -- ---- the stages of the table
 
-scope_next : (xs : List Symbol) (s : Symbol) (mid to : Stage) (b : Bool) → is_carried_symbol s ≡ b → run stages.Start xs ≡ Some mid → next_stage mid s ≡ Some to → scope_at to ≡ scope_by (Some s)
+scope_next : (xs : List Symbol) (s : Symbol) (mid to : Stage) (b : Bool) → is_carried_symbol s ≡ b
+    → run stages.Start xs ≡ Some mid → next_stage mid s ≡ Some to → scope_at to ≡ scope_by (Some s)
 scope_next xs s mid to true e at on =
-    ap scope_at (carried_stays mid s to (run_is_stage stages.Start xs mid refl at) e on) ∙ inside mid s to e on ∙ sym (carried_opens s e)
+    ap scope_at (carried_stays mid s to (run_is_stage stages.Start xs mid refl at) e on) ∙ inside mid s to e on
+    ∙ sym (carried_opens s e)
 scope_next xs s mid to false e at on =
     let there : run stages.Start (xs ++ s ∷ []) ≡ Some to = run_more stages.Start xs (s ∷ []) mid at ∙ run_one mid s to on in
     let ws : List Symbol = without_carried xs ++ s ∷ [] in
     let named : to ≡ stage_of ws = run_names (xs ++ s ∷ []) to there ∙ ap stage_of (without-snoc xs s false e) in
     ap scope_at named ∙ scope_named (last_or None ws) ws ∙ ap scope_by (last_or-snoc None (without_carried xs) s)
 
-scope_walk : (front xs : List Symbol) (stage to : Stage) → run stages.Start front ≡ Some stage → scope_at stage ≡ scope_after front → run stage xs ≡ Some to → scope_at to ≡ scope_after (front ++ xs)
+scope_walk : (front xs : List Symbol) (stage to : Stage) → run stages.Start front ≡ Some stage
+    → scope_at stage ≡ scope_after front → run stage xs ≡ Some to → scope_at to ≡ scope_after (front ++ xs)
 unfolding run
 scope_walk front [] stage to at named on =
     let same : stage ≡ to = cc on in
     sym (ap scope_at same) ∙ named ∙ ap scope_after (sym (append-nil front))
 scope_walk front (s ∷ xs) stage to at named on =
     let first = run_first stage s xs to on in
-    let next : scope_at first.0 ≡ scope_after (front ++ s ∷ []) = scope_next front s stage first.0 (is_carried_symbol s) refl at first.1 ∙ ap scope_by (sym (last_or-snoc None front s)) in
-    scope_walk (front ++ s ∷ []) xs first.0 to (run_more stages.Start front (s ∷ []) stage at ∙ run_one stage s first.0 first.1) next first.2
+    let next : scope_at first.0 ≡ scope_after (front ++ s ∷ []) =
+    scope_next front s stage first.0 (is_carried_symbol s) refl at first.1 ∙ ap scope_by (sym (last_or-snoc None front s)) in
+    scope_walk (front ++ s ∷ []) xs first.0 to (run_more stages.Start front (s ∷ []) stage at ∙ run_one stage s first.0 first.1)
+    next first.2
     ∙ ap scope_after (append_assoc front (s ∷ []) xs)
 
 -- what is open at the stage where symbols stand is what the last of them says

@@ -13,7 +13,8 @@ use Rattle.cwr_shape.specs.Steps.NextStages.{next_stage}
 use Rattle.cwr_shape.specs.Steps.Left.{is_stage, left}
 use Rattle.cwr_shape.proofs.AllSymbols.{all_symbols, of_each}
 use Rattle.cwr_shape.proofs.Matcher.{nullable, after, is_dead, dead_sound}
-use Rattle.cwr_shape.proofs.NormalForms.{same_list, same, same_sound, seq, contains, insert, alt, both, carry, norm, norm_alike, follows}
+use Rattle.cwr_shape.proofs.NormalForms.{same_list, same, same_sound, seq, contains, insert, alt, both, carry, norm, norm_alike}
+use Rattle.cwr_shape.proofs.NormalForms.{follows}
 
 -- what the pattern leaves is what is left at the stage; no stage, and nothing is
 unfoldable pub leads : Option Stage → Pattern → Bool
@@ -222,23 +223,28 @@ pub record Goes (stage : Stage) (s : Symbol) (xs : List Symbol) : Type 0 where
   pub real : is_stage to ≡ true
   pub left_there : Matches (left to) xs
 
-goes_by : (stage : Stage) (s : Symbol) (xs : List Symbol) (o : Option Stage) → next_stage stage s ≡ o → leads o (norm (after s (left stage))) ≡ true → Matches (norm (after s (left stage))) xs → Goes stage s xs
+goes_by : (stage : Stage) (s : Symbol) (xs : List Symbol) (o : Option Stage) → next_stage stage s ≡ o
+    → leads o (norm (after s (left stage))) ≡ true → Matches (norm (after s (left stage))) xs → Goes stage s xs
 unfolding leads
 goes_by stage s xs None e h m = absurd (dead_sound (norm (after s (left stage))) xs h m)
 goes_by stage s xs (Some to) e h m =
     let b = and_parts (same (norm (after s (left stage))) (norm (left to))) (is_stage to) h in
     let form : norm (after s (left stage)) ≡ norm (left to) = same_sound _ _ b.0 in
-    record { to = to; is = e; real = b.1; left_there = (norm_alike (left to) xs).0 (subst (λ (p : Pattern). Matches p xs) form m) }
+    record
+    { to = to; is = e; real = b.1; left_there = (norm_alike (left to) xs).0 (subst (λ (p : Pattern). Matches p xs) form m) }
 
 followed : (stage : Stage) (s : Symbol) → is_stage stage ≡ true → leads (next_stage stage s) (norm (after s (left stage))) ≡ true
 unfolding follows_table
 followed stage s real = of_each (follows_table stage) s (all_follow stage real)
 
 -- where a transmission continues with a symbol, the table does, and the rest is left there
-pub table_continues : (stage : Stage) (s : Symbol) (xs : List Symbol) → is_stage stage ≡ true → Matches (left stage) (s ∷ xs) → Goes stage s xs
-table_continues stage s xs real m = goes_by stage s xs (next_stage stage s) refl (followed stage s real) ((follows s (left stage) xs).1 m)
+pub table_continues : (stage : Stage) (s : Symbol) (xs : List Symbol) → is_stage stage ≡ true → Matches (left stage) (s ∷ xs)
+    → Goes stage s xs
+table_continues stage s xs real m =
+    goes_by stage s xs (next_stage stage s) refl (followed stage s real) ((follows s (left stage) xs).1 m)
 
-goes_back_by : (stage : Stage) (s : Symbol) (to : Stage) (xs : List Symbol) (o : Option Stage) → o ≡ Some to → leads o (norm (after s (left stage))) ≡ true → Matches (left to) xs → Matches (norm (after s (left stage))) xs
+goes_back_by : (stage : Stage) (s : Symbol) (to : Stage) (xs : List Symbol) (o : Option Stage) → o ≡ Some to
+    → leads o (norm (after s (left stage))) ≡ true → Matches (left to) xs → Matches (norm (after s (left stage))) xs
 unfolding leads
 goes_back_by stage s to xs None e h m = absurd (none_is_some to e)
   where
@@ -248,11 +254,14 @@ goes_back_by stage s to xs (Some other) e h m =
     let b = and_parts (same (norm (after s (left stage))) (norm (left other))) (is_stage other) h in
     let form : norm (after s (left stage)) ≡ norm (left other) = same_sound _ _ b.0 in
     let there : other ≡ to = cc e in
-    subst (λ (p : Pattern). Matches p xs) (sym form) ((norm_alike (left other) xs).1 (subst (λ (t : Stage). Matches (left t) xs) (sym there) m))
+    subst (λ (p : Pattern). Matches p xs) (sym form)
+    ((norm_alike (left other) xs).1 (subst (λ (t : Stage). Matches (left t) xs) (sym there) m))
 
 -- and where the table continues, what is left there is left after the symbol
-pub goes_back : (stage : Stage) (s : Symbol) (to : Stage) (xs : List Symbol) → is_stage stage ≡ true → next_stage stage s ≡ Some to → Matches (left to) xs → Matches (left stage) (s ∷ xs)
-goes_back stage s to xs real e m = (follows s (left stage) xs).0 (goes_back_by stage s to xs (next_stage stage s) e (followed stage s real) m)
+pub goes_back : (stage : Stage) (s : Symbol) (to : Stage) (xs : List Symbol) → is_stage stage ≡ true
+    → next_stage stage s ≡ Some to → Matches (left to) xs → Matches (left stage) (s ∷ xs)
+goes_back stage s to xs real e m =
+    (follows s (left stage) xs).0 (goes_back_by stage s to xs (next_stage stage s) e (followed stage s real) m)
 
 real_by : (p : Pattern) (to : Stage) (o : Option Stage) → o ≡ Some to → leads o p ≡ true → is_stage to ≡ true
 unfolding leads
@@ -264,5 +273,6 @@ real_by p to (Some other) e h =
     let there : other ≡ to = cc e in
     subst (λ (t : Stage). is_stage t ≡ true) there (and_parts (same p (norm (left other))) (is_stage other) h).1
 
-pub next_is_stage : (stage : Stage) (s : Symbol) (to : Stage) → is_stage stage ≡ true → next_stage stage s ≡ Some to → is_stage to ≡ true
+pub next_is_stage : (stage : Stage) (s : Symbol) (to : Stage) → is_stage stage ≡ true → next_stage stage s ≡ Some to
+    → is_stage to ≡ true
 next_is_stage stage s to real e = real_by (norm (after s (left stage))) to (next_stage stage s) e (followed stage s real)

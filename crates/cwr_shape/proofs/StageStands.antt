@@ -50,10 +50,14 @@ unfolding run
 run_one stage s to e = ap (option_and_then (λ t. run t [])) e
 
 -- one more symbol comes where the table continues, and stands where it goes
-pub next_exact : (xs : List Symbol) (stage : Stage) (s : Symbol) (o : Option Stage) → o ≡ next_stage stage s → StandsAt xs stage → IsSome o ↔ Continues Any (xs ++ s ∷ [])
-next_exact xs stage s o e st = subst (λ (x : Option Stage). IsSome x ↔ Continues Any (xs ++ s ∷ [])) (sym e) (leaves_next xs stage s (stands_leaves xs stage st))
+pub next_exact : (xs : List Symbol) (stage : Stage) (s : Symbol) (o : Option Stage) → o ≡ next_stage stage s → StandsAt xs stage
+    → IsSome o ↔ Continues Any (xs ++ s ∷ [])
+next_exact xs stage s o e st =
+    subst (λ (x : Option Stage). IsSome x ↔ Continues Any (xs ++ s ∷ [])) (sym e)
+    (leaves_next xs stage s (stands_leaves xs stage st))
 
-pub next_stands : (xs : List Symbol) (stage : Stage) (s : Symbol) (o : Option Stage) → o ≡ next_stage stage s → StandsAt xs stage → IfSome o (StandsAt (xs ++ s ∷ []))
+pub next_stands : (xs : List Symbol) (stage : Stage) (s : Symbol) (o : Option Stage) → o ≡ next_stage stage s → StandsAt xs stage
+    → IfSome o (StandsAt (xs ++ s ∷ []))
 next_stands xs stage s None e st = tt
 next_stands xs stage s (Some to) e st =
     run_stands (xs ++ s ∷ []) to (run_more stages.Start xs (s ∷ []) stage (stands_run xs stage st) ∙ run_one stage s to (sym e))

@@ -14,7 +14,8 @@ use Rattle.cwr_shape.specs.Steps.NextStages.{next_stage}
 use Rattle.cwr_shape.specs.Steps.Left.{is_stage}
 use Rattle.cwr_shape.specs.Format.Shapes.{is_carried_symbol}
 use Rattle.cwr_shape.proofs.AllSymbols.{all_symbols}
-use Rattle.cwr_shape.proofs.SymbolsNameStages.{same_type, same_step, same_stage, same_bool, name_of, type_next, writer_next, side_next}
+use Rattle.cwr_shape.proofs.SymbolsNameStages.{same_type, same_step, same_stage, same_bool, name_of, type_next, writer_next}
+use Rattle.cwr_shape.proofs.SymbolsNameStages.{side_next}
 
 -- ---- what a stage says of the symbols that stand there, without the carried ones
 
@@ -36,7 +37,8 @@ fits stage ty o = true
 -- the stage that the table comes to, and what it says
 unfoldable pub agrees : Option Stage → Symbol → TransactionType → Bool → Bool → Bool → Bool
 agrees None s ty o a b = true
-agrees (Some to) s ty o a b = same_stage to (name_of s ty o a b) && fits to ty o && same_bool a (side_of Assignor to) && same_bool b (side_of Acquirer to)
+agrees (Some to) s ty o a b =
+    same_stage to (name_of s ty o a b) && fits to ty o && same_bool a (side_of Assignor to) && same_bool b (side_of Acquirer to)
 
 -- the table stays at the stage, or has no stage
 unfoldable pub stays : Stage → Option Stage → Bool
@@ -47,7 +49,8 @@ unfoldable pub keeps : Stage → TransactionType → Bool → Symbol → Bool
 keeps stage ty o s =
     cond (is_carried_symbol s) (stays stage (next_stage stage s)) (
     not (fits stage ty o)
-    || agrees (next_stage stage s) s (type_next s ty) (writer_next s o) (side_next Assignor s (side_of Assignor stage)) (side_next Acquirer s (side_of Acquirer stage))
+    || agrees (next_stage stage s) s (type_next s ty) (writer_next s o) (side_next Assignor s (side_of Assignor stage))
+    (side_next Acquirer s (side_of Acquirer stage))
     )
 
 -- for both last writers

@@ -19,22 +19,27 @@ use Rattle.cwr_shape.proofs.StageNames.{run_names}
 use Rattle.cwr_shape.proofs.StageStands.{next_stands}
 
 -- the table goes through both headers, and on by a record after them
-run_in_group : (ty : TransactionType) (s : Symbol) (to : Stage) → next_stage (stages.Within ty steps.InGroup) s ≡ Some to → run stages.Start (in_group ty (s ∷ [])) ≡ Some to
+run_in_group : (ty : TransactionType) (s : Symbol) (to : Stage) → next_stage (stages.Within ty steps.InGroup) s ≡ Some to
+    → run stages.Start (in_group ty (s ∷ [])) ≡ Some to
 unfolding run
 run_in_group ty s to e = ap (option_and_then (λ t. run t [])) e
 
 -- the first record of a transaction names its step
-pub first_named : (ty : TransactionType) (s : Symbol) (to : TransactionStep) → header_step ty s ≡ Some to → stages.Within ty to ≡ stage_after (in_group ty (s ∷ []))
-first_named ty s to e = run_names (in_group ty (s ∷ [])) (stages.Within ty to) (run_in_group ty s (stages.Within ty to) (ap (within ty) e))
+pub first_named : (ty : TransactionType) (s : Symbol) (to : TransactionStep) → header_step ty s ≡ Some to
+    → stages.Within ty to ≡ stage_after (in_group ty (s ∷ []))
+first_named ty s to e =
+    run_names (in_group ty (s ∷ [])) (stages.Within ty to) (run_in_group ty s (stages.Within ty to) (ap (within ty) e))
 
 -- the transmission of one transaction
 abbrev only_one : TransactionType → List Symbol → List GroupOutline
 only_one ty t = record { ty = ty; transactions = t ∷ [] } ∷ []
 
-symbols_of-only_one : (ty : TransactionType) (t : List Symbol) → symbols_of (only_one ty t) ≡ in_group ty (t ++ Plain kinds.Grt ∷ Plain kinds.Trl ∷ [])
+symbols_of-only_one : (ty : TransactionType) (t : List Symbol)
+    → symbols_of (only_one ty t) ≡ in_group ty (t ++ Plain kinds.Grt ∷ Plain kinds.Trl ∷ [])
 symbols_of-only_one ty t =
     ap (in_group ty) (ap (λ (x : List Symbol). x ++ Plain kinds.Trl ∷ []) (append-nil ((t ++ []) ++ Plain kinds.Grt ∷ []))
-    ∙ append_assoc (t ++ []) (Plain kinds.Grt ∷ []) (Plain kinds.Trl ∷ []) ∙ ap (λ (x : List Symbol). x ++ Plain kinds.Grt ∷ Plain kinds.Trl ∷ []) (append-nil t))
+    ∙ append_assoc (t ++ []) (Plain kinds.Grt ∷ []) (Plain kinds.Trl ∷ [])
+    ∙ ap (λ (x : List Symbol). x ++ Plain kinds.Grt ∷ Plain kinds.Trl ∷ []) (append-nil t))
 
 -- what begins a transaction begins a transmission after the headers
 goes_in_group : (ty : TransactionType) (xs : List Symbol) → ContinuesIn ty xs → Continues Any (in_group ty xs)
@@ -42,11 +47,16 @@ goes_in_group ty xs g = (
   only_one ty (xs ++ g.0),
   (lit< tt, ((lit< tt, (g.1, tt)), tt)),
   tt,
-  (g.0 ++ Plain kinds.Grt ∷ Plain kinds.Trl ∷ [], symbols_of-only_one ty (xs ++ g.0) ∙ ap (in_group ty) (append_assoc xs g.0 (Plain kinds.Grt ∷ Plain kinds.Trl ∷ []))),
+  (
+    g.0 ++ Plain kinds.Grt ∷ Plain kinds.Trl ∷ [],
+    symbols_of-only_one ty (xs ++ g.0)
+        ∙ ap (in_group ty) (append_assoc xs g.0 (Plain kinds.Grt ∷ Plain kinds.Trl ∷ [])),
+  ),
 )
 
 -- a record of the open transaction is the table's next stage
-next_on : (ty : TransactionType) (step : TransactionStep) (s : Symbol) (to : TransactionStep) → is_inside step ≡ true → step_on step s ≡ Some to → next_stage (stages.Within ty step) s ≡ Some (stages.Within ty to)
+next_on : (ty : TransactionType) (step : TransactionStep) (s : Symbol) (to : TransactionStep) → is_inside step ≡ true
+    → step_on step s ≡ Some to → next_stage (stages.Within ty step) s ≡ Some (stages.Within ty to)
 next_on ty steps.InGroup s to inside e = absurd (true≢false (sym inside))
 next_on ty steps.Acked s to inside e = ap (λ o. on_or_next ty o s) e
 next_on ty steps.Agreed s to inside e = ap (within ty) e
@@ -61,8 +71,10 @@ next_on ty steps.OtherWriter s to inside e = ap (λ o. on_or_next ty o s) e
 next_on ty steps.Tail s to inside e = ap (λ o. on_or_next ty o s) e
 
 -- and one more names the next
-pub on_named : (ty : TransactionType) (xs : List Symbol) (step : TransactionStep) (s : Symbol) (to : TransactionStep) → ContinuesIn ty xs → stages.Within ty step ≡ stage_after (in_group ty xs) → is_inside step ≡ true
+pub on_named : (ty : TransactionType) (xs : List Symbol) (step : TransactionStep) (s : Symbol) (to : TransactionStep)
+    → ContinuesIn ty xs → stages.Within ty step ≡ stage_after (in_group ty xs) → is_inside step ≡ true
     → step_on step s ≡ Some to → stages.Within ty to ≡ stage_after (in_group ty (xs ++ s ∷ []))
 on_named ty xs step s to g named inside e =
     let at : StandsAt (in_group ty xs) (stages.Within ty step) = record { begins = goes_in_group ty xs g; named = named } in
-    (next_stands (in_group ty xs) (stages.Within ty step) s (Some (stages.Within ty to)) (sym (next_on ty step s to inside e)) at).named
+    (next_stands (in_group ty xs) (stages.Within ty step) s (Some (stages.Within ty to)) (sym (next_on ty step s to inside e))
+    at).named

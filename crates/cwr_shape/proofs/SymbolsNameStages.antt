@@ -1,5 +1,6 @@
 -- What the last symbols say of their stage, and what one more symbol changes in that.
-use Rattle.std.proofs.Common.{◌≡◌, Bool, true, false, cond, not, ◌&&◌, ◌||◌, List, [], ◌∷◌, ◌++◌, Option, Some, refl, sym, ap, ◌∙◌, true≢false}
+use Rattle.std.proofs.Common.{◌≡◌, Bool, true, false, cond, not, ◌&&◌, ◌||◌, List, [], ◌∷◌, ◌++◌, Option, Some, refl, sym, ap}
+use Rattle.std.proofs.Common.{◌∙◌, true≢false}
 use Rattle.std.specs.List.{list_any, after_last}
 use Rattle.std.proofs.lemmas.Bool.{and_parts}
 use Rattle.std.proofs.lemmas.List.Folds.{list_any-append}
@@ -127,7 +128,8 @@ pwr_by (Some (Plain kinds.Owr)) = refl
 pwr_by w = refl
 
 pub named : (s : Symbol) (ys : List Symbol)
-    → stage_by (Some s) ys ≡ name_of s (group_of (latest is_grh ys)) (other_writer (latest is_writer ys)) (side Assignor ys) (side Acquirer ys)
+    → stage_by (Some s) ys
+    ≡ name_of s (group_of (latest is_grh ys)) (other_writer (latest is_writer ys)) (side Assignor ys) (side Acquirer ys)
 unfolding name_of
 named (Plain kinds.Pwr) ys = ap (stages.Within (group_of (latest is_grh ys))) (pwr_by (latest is_writer ys))
 named (Ipa Assignor) ys = refl
@@ -165,9 +167,12 @@ writer_more s w = refl
 abbrev is_other : Symbol → Bool
 is_other s = not (is_ipa s)
 
-side_by : (role : Role) (xs : List Symbol) (s : Symbol) (b : Bool) → after_last is_other (xs ++ s ∷ []) ≡ cond (not b) [] (after_last is_other xs ++ s ∷ [])
+side_by : (role : Role) (xs : List Symbol) (s : Symbol) (b : Bool)
+    → after_last is_other (xs ++ s ∷ []) ≡ cond (not b) [] (after_last is_other xs ++ s ∷ [])
     → side role (xs ++ s ∷ []) ≡ cond b (side role xs || is_ipa_of role s) false
-side_by role xs s true e = ap (list_any (is_ipa_of role)) e ∙ list_any-append (is_ipa_of role) (after_last is_other xs) (s ∷ []) ∙ ap (λ (b : Bool). side role xs || b) (or_false (is_ipa_of role s))
+side_by role xs s true e =
+    ap (list_any (is_ipa_of role)) e ∙ list_any-append (is_ipa_of role) (after_last is_other xs) (s ∷ [])
+    ∙ ap (λ (b : Bool). side role xs || b) (or_false (is_ipa_of role s))
   where
     or_false : (b : Bool) → (b || false) ≡ b
     or_false true = refl

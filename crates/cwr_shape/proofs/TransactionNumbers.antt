@@ -1,5 +1,6 @@
 -- The numbers of a transaction, record by record: counters give the same as its place in the group and its length.
-use Rattle.std.proofs.Common.{◌≡◌, ℕ, suc, ◌+◌, ◌-◌, Bool, true, false, cond, not, List, [], ◌∷◌, ◌++◌, length, map, refl, sym, ap, ap₂, subst, ◌∙◌, arith, true≢false, append_assoc}
+use Rattle.std.proofs.Common.{◌≡◌, ℕ, suc, ◌+◌, ◌-◌, Bool, true, false, cond, not, List, [], ◌∷◌, ◌++◌, length, map, refl, sym}
+use Rattle.std.proofs.Common.{ap, ap₂, subst, ◌∙◌, arith, true≢false, append_assoc}
 use Rattle.std.specs.Prelude.{slice_index_or}
 use Rattle.std.specs.List.{list_all, range_with_len}
 use Rattle.std.proofs.lemmas.Bool.{and_parts}
@@ -9,7 +10,8 @@ use Rattle.cwr_fields.specs.declared.kinds.Kind.TheVariants as kinds
 use Rattle.cwr_shape.specs.declared.symbols.Symbol.{Symbol}
 use Rattle.cwr_shape.specs.declared.symbols.Symbol.TheVariants.{Plain, Ipa, Grh}
 use Rattle.cwr_shape.specs.declared.tallies.Counts.{Counts}
-use Rattle.cwr_shape.specs.Format.Shapes.{Pattern, one_of, ◌then◌, many, carrying, Matches, IsShape, a, some, block, publisher, writer, tail_record, copy}
+use Rattle.cwr_shape.specs.Format.Shapes.{Pattern, one_of, ◌then◌, many, carrying, Matches, IsShape, a, some, block, publisher}
+use Rattle.cwr_shape.specs.Format.Shapes.{writer, tail_record, copy}
 use Rattle.cwr_shape.specs.Format.Numbers.{transaction_numbers, symbol_kind}
 use Rattle.cwr_shape.specs.Format.NextSymbols.{is_header_of, type_after, open_type, counts_of}
 use Rattle.cwr_shape.specs.Format.ExpectedNumbers.{expected_numbers, expected_inside}
@@ -30,20 +32,26 @@ abbrev pub counts_after : TransactionType → Counts → List Symbol → Counts
 counts_after ty c [] = c
 counts_after ty c (s ∷ xs) = counts_after (type_after ty s) (counts_with ty c s) xs
 
-pub walk-append : (ty : TransactionType) (c : Counts) (xs ys : List Symbol) → walk ty c (xs ++ ys) ≡ walk ty c xs ++ walk (types_after ty xs) (counts_after ty c xs) ys
+pub walk-append : (ty : TransactionType) (c : Counts) (xs ys : List Symbol)
+    → walk ty c (xs ++ ys) ≡ walk ty c xs ++ walk (types_after ty xs) (counts_after ty c xs) ys
 walk-append ty c [] ys = refl
-walk-append ty c (s ∷ xs) ys = ap (λ (l : List (List ℕ)). expected_numbers ty c (symbol_kind s) ∷ l) (walk-append (type_after ty s) (counts_with ty c s) xs ys)
+walk-append ty c (s ∷ xs) ys =
+    ap (λ (l : List (List ℕ)). expected_numbers ty c (symbol_kind s) ∷ l)
+    (walk-append (type_after ty s) (counts_with ty c s) xs ys)
 
-pub counts_after-append : (ty : TransactionType) (c : Counts) (xs ys : List Symbol) → counts_after ty c (xs ++ ys) ≡ counts_after (types_after ty xs) (counts_after ty c xs) ys
+pub counts_after-append : (ty : TransactionType) (c : Counts) (xs ys : List Symbol)
+    → counts_after ty c (xs ++ ys) ≡ counts_after (types_after ty xs) (counts_after ty c xs) ys
 counts_after-append ty c [] ys = refl
 counts_after-append ty c (s ∷ xs) ys = counts_after-append (type_after ty s) (counts_with ty c s) xs ys
 
-pub types_after-append : (ty : TransactionType) (xs ys : List Symbol) → types_after ty (xs ++ ys) ≡ types_after (types_after ty xs) ys
+pub types_after-append : (ty : TransactionType) (xs ys : List Symbol)
+    → types_after ty (xs ++ ys) ≡ types_after (types_after ty xs) ys
 types_after-append ty [] ys = refl
 types_after-append ty (s ∷ xs) ys = types_after-append (type_after ty s) xs ys
 
 pub walk_at : (ty : TransactionType) (c : Counts) (xs : List Symbol) (s : Symbol) (rest : List Symbol)
-    → slice_index_or (walk ty c (xs ++ s ∷ rest)) (length xs) [] ≡ expected_numbers (types_after ty xs) (counts_after ty c xs) (symbol_kind s)
+    → slice_index_or (walk ty c (xs ++ s ∷ rest)) (length xs) []
+    ≡ expected_numbers (types_after ty xs) (counts_after ty c xs) (symbol_kind s)
 walk_at ty c [] s rest = refl
 walk_at ty c (x ∷ xs) s rest = walk_at (type_after ty x) (counts_with ty c x) xs s rest
 
@@ -91,18 +99,33 @@ pub record Headed (ty : TransactionType) (xs : List Symbol) : Type 0 where
   pub same_type : type_after ty head ≡ ty
   pub inner : list_all (is_inner ty) rest ≡ true
 
-headed : (ty : TransactionType) (s : Symbol) (p : Pattern) (xs : List Symbol) → ((c : Counts) → expected_numbers ty c (symbol_kind s) ≡ c.in_group ∷ 0 ∷ [])
-    → ((c : Counts) → counts_with ty c s ≡ counts_with_header c) → type_after ty s ≡ ty → only (is_inner ty) p ≡ true → Matches (one_of (s ∷ []) then p) xs → Headed ty xs
+headed : (ty : TransactionType) (s : Symbol) (p : Pattern) (xs : List Symbol)
+    → ((c : Counts) → expected_numbers ty c (symbol_kind s) ≡ c.in_group ∷ 0 ∷ [])
+    → ((c : Counts) → counts_with ty c s ≡ counts_with_header c) → type_after ty s ≡ ty → only (is_inner ty) p ≡ true
+    → Matches (one_of (s ∷ []) then p) xs → Headed ty xs
 headed ty s p xs f g h k m =
     let b = rest_after_head s p xs m in
-    record { head = s; rest = b.0; whole = b.1; first = f; counts = g; same_type = h; inner = matched_pass (is_inner ty) p k b.0 b.2 }
+    record {
+      head = s;
+      rest = b.0;
+      whole = b.1;
+      first = f;
+      counts = g;
+      same_type = h;
+      inner = matched_pass (is_inner ty) p k b.0 b.2;
+    }
 
 pub headed_shape : (ty : TransactionType) (xs : List Symbol) → IsShape ty xs → Headed ty xs
 unfolding only
 headed_shape Agreement xs m = headed Agreement (Plain kinds.Agr) (carrying (some block)) xs (λ c. refl) (λ c. refl) refl refl m
-headed_shape NewWork xs m = headed NewWork (Plain kinds.Nwr) (carrying (many publisher then some writer then many tail_record)) xs (λ c. refl) (λ c. refl) refl refl m
-headed_shape RevisedWork xs m = headed RevisedWork (Plain kinds.Rev) (carrying (many publisher then some writer then many tail_record)) xs (λ c. refl) (λ c. refl) refl refl m
-headed_shape Acknowledgement xs m = headed Acknowledgement (Plain kinds.Ack) (many (a kinds.Msg) then copy) xs (λ c. refl) (λ c. refl) refl refl m
+headed_shape NewWork xs m =
+    headed NewWork (Plain kinds.Nwr) (carrying (many publisher then some writer then many tail_record)) xs (λ c. refl) (λ c. refl)
+    refl refl m
+headed_shape RevisedWork xs m =
+    headed RevisedWork (Plain kinds.Rev) (carrying (many publisher then some writer then many tail_record)) xs (λ c. refl)
+    (λ c. refl) refl refl m
+headed_shape Acknowledgement xs m =
+    headed Acknowledgement (Plain kinds.Ack) (many (a kinds.Msg) then copy) xs (λ c. refl) (λ c. refl) refl refl m
 
 not_true : (b : Bool) → not b ≡ true → b ≡ false
 not_true true h = absurd (true≢false (sym h))
@@ -142,20 +165,32 @@ record WalksInner (ty : TransactionType) (c : Counts) (j : ℕ) (xs : List Symbo
   moved : Moved c (counts_after ty c xs) (length xs) 0
   same_type : types_after ty xs ≡ ty
 
-walks_inner : (ty : TransactionType) (c : Counts) (j : ℕ) (xs : List Symbol) → c.in_group ≡ j + 1 → list_all (is_inner ty) xs ≡ true → WalksInner ty c j xs
+walks_inner : (ty : TransactionType) (c : Counts) (j : ℕ) (xs : List Symbol) → c.in_group ≡ j + 1
+    → list_all (is_inner ty) xs ≡ true → WalksInner ty c j xs
 walks_inner ty c j [] e h = record {
   numbers = refl;
-  moved = record { records_more = omega arith; groups_same = refl; transactions_more = omega arith; in_group_more = omega arith; after_more = omega arith };
+  moved =
+      record {
+        records_more = omega arith;
+        groups_same = refl;
+        transactions_more = omega arith;
+        in_group_more = omega arith;
+        after_more = omega arith;
+      };
   same_type = refl;
 }
 walks_inner ty c j (s ∷ xs) e h =
     let parts = and_parts (is_inner ty s) (list_all (is_inner ty) xs) h in
     let here = inner_symbol ty c s parts.0 in
     let rest = walks_inner ty (counts_with_other c) j xs e parts.1 in
-    let numbers : expected_numbers ty c (symbol_kind s) ≡ j ∷ (c.after_header + 1) ∷ [] = here.numbers ∙ ap (λ (n : ℕ). n ∷ (c.after_header + 1) ∷ []) (omega (arith, e)) in
-    let on : counts_after (type_after ty s) (counts_with ty c s) xs ≡ counts_after ty (counts_with_other c) xs = ap₂ (λ (t : TransactionType) (b : Counts). counts_after t b xs) here.same_type here.counts in
+    let numbers : expected_numbers ty c (symbol_kind s) ≡ j ∷ (c.after_header + 1) ∷ [] =
+    here.numbers ∙ ap (λ (n : ℕ). n ∷ (c.after_header + 1) ∷ []) (omega (arith, e)) in
+    let on : counts_after (type_after ty s) (counts_with ty c s) xs ≡ counts_after ty (counts_with_other c) xs =
+    ap₂ (λ (t : TransactionType) (b : Counts). counts_after t b xs) here.same_type here.counts in
     record {
-      numbers = ap₂ (λ (n : List ℕ) (l : List (List ℕ)). n ∷ l) numbers (ap₂ (λ (t : TransactionType) (b : Counts). walk t b xs) here.same_type here.counts ∙ rest.numbers);
+      numbers =
+          ap₂ (λ (n : List ℕ) (l : List (List ℕ)). n ∷ l) numbers
+          (ap₂ (λ (t : TransactionType) (b : Counts). walk t b xs) here.same_type here.counts ∙ rest.numbers);
       moved = subst (λ (b : Counts). Moved c b (suc (length xs)) 0) (sym on) (record {
         records_more = omega (arith, rest.moved.records_more);
         groups_same = rest.moved.groups_same;
@@ -172,13 +207,17 @@ pub record WalksTransaction (ty : TransactionType) (c : Counts) (xs : List Symbo
   pub moved : Moved c (counts_after ty c xs) (length xs) 1
   pub same_type : types_after ty xs ≡ ty
 
-walks_headed : (ty : TransactionType) (c : Counts) (s : Symbol) (xs : List Symbol) → expected_numbers ty c (symbol_kind s) ≡ c.in_group ∷ 0 ∷ [] → counts_with ty c s ≡ counts_with_header c
+walks_headed : (ty : TransactionType) (c : Counts) (s : Symbol) (xs : List Symbol)
+    → expected_numbers ty c (symbol_kind s) ≡ c.in_group ∷ 0 ∷ [] → counts_with ty c s ≡ counts_with_header c
     → type_after ty s ≡ ty → list_all (is_inner ty) xs ≡ true → WalksTransaction ty c (s ∷ xs)
 walks_headed ty c s xs first counts same inner =
     let rest = walks_inner ty (counts_with_header c) c.in_group xs refl inner in
-    let on : counts_after (type_after ty s) (counts_with ty c s) xs ≡ counts_after ty (counts_with_header c) xs = ap₂ (λ (t : TransactionType) (b : Counts). counts_after t b xs) same counts in
+    let on : counts_after (type_after ty s) (counts_with ty c s) xs ≡ counts_after ty (counts_with_header c) xs =
+    ap₂ (λ (t : TransactionType) (b : Counts). counts_after t b xs) same counts in
     record {
-      numbers = ap₂ (λ (n : List ℕ) (l : List (List ℕ)). n ∷ l) first (ap₂ (λ (t : TransactionType) (b : Counts). walk t b xs) same counts ∙ rest.numbers);
+      numbers =
+          ap₂ (λ (n : List ℕ) (l : List (List ℕ)). n ∷ l) first
+          (ap₂ (λ (t : TransactionType) (b : Counts). walk t b xs) same counts ∙ rest.numbers);
       moved = subst (λ (b : Counts). Moved c b (suc (length xs)) 1) (sym on) (record {
         records_more = omega (arith, rest.moved.records_more);
         groups_same = rest.moved.groups_same;

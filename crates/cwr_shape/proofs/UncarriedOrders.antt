@@ -1,5 +1,6 @@
 -- Orders of records without carried ones are those that they were before these were taken.
-use Rattle.std.proofs.Common.{◌≡◌, Bool, true, false, not, ◌&&◌, cond, List, [], ◌∷◌, ◌++◌, refl, sym, ap, ap₂, subst, ◌∙◌, inl, inr, true≢false, append_assoc, append-nil}
+use Rattle.std.proofs.Common.{◌≡◌, Bool, true, false, not, ◌&&◌, cond, List, [], ◌∷◌, ◌++◌, refl, sym, ap, ap₂, subst, ◌∙◌, inl}
+use Rattle.std.proofs.Common.{inr, true≢false, append_assoc, append-nil}
 use Rattle.std.specs.Prelude.{◌↔◌}
 use Rattle.std.specs.List.{AllByRecursion, list_all}
 use Rattle.std.proofs.lemmas.Bool.{and_parts}
@@ -9,8 +10,11 @@ use Rattle.cwr_fields.specs.declared.codes.TransactionType.TheVariants.{Agreemen
 use Rattle.cwr_fields.specs.declared.kinds.Kind.TheVariants as kinds
 use Rattle.cwr_shape.specs.declared.symbols.Symbol.{Symbol}
 use Rattle.cwr_shape.specs.declared.symbols.Symbol.TheVariants.{Plain}
-use Rattle.cwr_shape.specs.Format.Shapes.{Pattern, one_of, ◌then◌, many, carrying, Matches, is_carried_symbol, without_carried, IsShape, a, some, block, publisher, writer, tail_record, copy}
-use Rattle.cwr_shape.specs.Format.UncarriedOrder.{IsUncarriedShape, IsUncarriedGroup, IsUncarriedWhole, AreFormer, is_former, uncarried_pattern, IsUncopiedShape, IsUncopiedGroup, IsUncopiedWhole, AreUncopied, is_uncopied, uncopied_pattern}
+use Rattle.cwr_shape.specs.Format.Shapes.{Pattern, one_of, ◌then◌, many, carrying, Matches, is_carried_symbol, without_carried}
+use Rattle.cwr_shape.specs.Format.Shapes.{IsShape, a, some, block, publisher, writer, tail_record, copy}
+use Rattle.cwr_shape.specs.Format.UncarriedOrder.{IsUncarriedShape, IsUncarriedGroup, IsUncarriedWhole, AreFormer, is_former}
+use Rattle.cwr_shape.specs.Format.UncarriedOrder.{uncarried_pattern, IsUncopiedShape, IsUncopiedGroup, IsUncopiedWhole}
+use Rattle.cwr_shape.specs.Format.UncarriedOrder.{AreUncopied, is_uncopied, uncopied_pattern}
 use Rattle.cwr_shape.specs.Format.Outlines.{GroupOutline, IsGroupOutline, IsWhole}
 use Rattle.cwr_shape.proofs.Matcher.{without-cons, empty_only}
 use Rattle.cwr_shape.proofs.HeadFirst.{rest_after_head}
@@ -35,17 +39,21 @@ none_out (s ∷ xs) h =
     without-cons s xs false (not_carried (is_carried_symbol s) parts.0) ∙ ap (λ (ys : List Symbol). s ∷ ys) (none_out xs parts.1)
 
 -- a header and a pattern, with carried records among it or without
-with_carried : (head p : Pattern) (xs : List Symbol) → only is_ordered p ≡ true → Matches (head then p) xs → Matches (head then carrying p) xs
-with_carried head p xs h m = (m.0, m.1, m.2, m.3, subst (Matches p) (sym (none_out m.1 (matched_pass is_ordered p h m.1 m.4))) m.4)
+with_carried : (head p : Pattern) (xs : List Symbol) → only is_ordered p ≡ true → Matches (head then p) xs
+    → Matches (head then carrying p) xs
+with_carried head p xs h m =
+    (m.0, m.1, m.2, m.3, subst (Matches p) (sym (none_out m.1 (matched_pass is_ordered p h m.1 m.4))) m.4)
 
 without : (head p : Pattern) (xs : List Symbol) → HasNoCarried xs → Matches (head then carrying p) xs → Matches (head then p) xs
 without head p xs h m =
     let all : list_all is_ordered (m.0 ++ m.1) ≡ true = ap (list_all is_ordered) (sym m.2) ∙ h in
-    let rest : HasNoCarried m.1 = (and_parts (list_all is_ordered m.0) (list_all is_ordered m.1) (sym (list_all-append is_ordered m.0 m.1) ∙ all)).1 in
+    let rest : HasNoCarried m.1 =
+    (and_parts (list_all is_ordered m.0) (list_all is_ordered m.1) (sym (list_all-append is_ordered m.0 m.1) ∙ all)).1 in
     (m.0, m.1, m.2, m.3, subst (Matches p) (none_out m.1 rest) m.4)
 
 -- an acknowledgement without a copy
-no_copy : (xs : List Symbol) → Matches (a kinds.Ack then many (a kinds.Msg)) xs → Matches (a kinds.Ack then many (a kinds.Msg) then copy) xs
+no_copy : (xs : List Symbol) → Matches (a kinds.Ack then many (a kinds.Msg)) xs
+    → Matches (a kinds.Ack then many (a kinds.Msg) then copy) xs
 no_copy xs m = (m.0, m.1, m.2, m.3, (m.1, [], sym (append-nil m.1), m.4, inl ([], refl, tt)))
 
 -- a header of a copy isn't one of the symbols that pass
@@ -69,9 +77,11 @@ copy_none pass none_passes front more (inl m) h = empty_only more m
 copy_none pass none_passes front more (inr (inl m)) h =
     absurd (begins_copy pass (Plain kinds.Agr) (carrying (some block)) front more none_passes.agreement m h)
 copy_none pass none_passes front more (inr (inr (inl m))) h =
-    absurd (begins_copy pass (Plain kinds.Nwr) (carrying (many publisher then some writer then many tail_record)) front more none_passes.new_work m h)
+    absurd (begins_copy pass (Plain kinds.Nwr) (carrying (many publisher then some writer then many tail_record)) front more
+    none_passes.new_work m h)
 copy_none pass none_passes front more (inr (inr (inr m))) h =
-    absurd (begins_copy pass (Plain kinds.Rev) (carrying (many publisher then some writer then many tail_record)) front more none_passes.revised_work m h)
+    absurd (begins_copy pass (Plain kinds.Rev) (carrying (many publisher then some writer then many tail_record)) front more
+    none_passes.revised_work m h)
 
 without_copy : (pass : Symbol → Bool) → PassesNoCopy pass → (xs : List Symbol) → list_all pass xs ≡ true
     → Matches (a kinds.Ack then many (a kinds.Msg) then copy) xs → Matches (a kinds.Ack then many (a kinds.Msg)) xs
@@ -111,12 +121,14 @@ uncarried_exact ty xs = (
 )
 
 -- what each of a list has, each has that follows from it
-pub all_follow : {X : Type 0} (P Q : X → Type 0) → ((x : X) → P x → Q x) → (xs : List X) → AllByRecursion P xs → AllByRecursion Q xs
+pub all_follow : {X : Type 0} (P Q : X → Type 0) → ((x : X) → P x → Q x) → (xs : List X) → AllByRecursion P xs
+    → AllByRecursion Q xs
 all_follow P Q f [] h = h
 all_follow P Q f (x ∷ xs) h = (f x h.0, all_follow P Q f xs h.1)
 
 group_kept : (g : GroupOutline) → IsUncarriedGroup g → IsGroupOutline g
-group_kept g h = (h.0, all_follow (IsUncarriedShape g.ty) (IsShape g.ty) (λ t m. ((uncarried_exact g.ty t).0 m).0) g.transactions h.1)
+group_kept g h =
+    (h.0, all_follow (IsUncarriedShape g.ty) (IsShape g.ty) (λ t m. ((uncarried_exact g.ty t).0 m).0) g.transactions h.1)
 
 pub whole_kept : (xs : List Symbol) → IsUncarriedWhole xs → IsWhole xs
 whole_kept xs h = (h.0, (h.1, all_follow IsUncarriedGroup IsGroupOutline group_kept h.0 h.2), h.3)
@@ -143,7 +155,8 @@ are_uncopied : (ty : TransactionType) (xs : List Symbol) → IsUncopiedShape ty 
 are_uncopied Agreement xs m = all_pass (is_uncopied Agreement) (λ s. refl) xs
 are_uncopied NewWork xs m = all_pass (is_uncopied NewWork) (λ s. refl) xs
 are_uncopied RevisedWork xs m = all_pass (is_uncopied RevisedWork) (λ s. refl) xs
-are_uncopied Acknowledgement xs m = matched_pass (is_uncopied Acknowledgement) (a kinds.Ack then many (a kinds.Msg)) messages_pass xs m
+are_uncopied Acknowledgement xs m =
+    matched_pass (is_uncopied Acknowledgement) (a kinds.Ack then many (a kinds.Msg)) messages_pass xs m
 
 uncopied_back : (ty : TransactionType) (xs : List Symbol) → AreUncopied ty xs → IsShape ty xs → IsUncopiedShape ty xs
 unfolding only

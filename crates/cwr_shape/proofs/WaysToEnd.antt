@@ -130,8 +130,10 @@ way_out_has (stages.Within Acknowledgement steps.InGroup) h = record { records =
 way_out_has (stages.Within Acknowledgement steps.Acked) h = record { records = refl; groups = refl; transaction = refl }
 way_out_has (stages.Within Acknowledgement steps.Agreed) h = record { records = refl; groups = refl; transaction = refl }
 way_out_has (stages.Within Acknowledgement steps.Territories) h = record { records = refl; groups = refl; transaction = refl }
-way_out_has (stages.Within Acknowledgement (steps.OneSide Assignor)) h = record { records = refl; groups = refl; transaction = refl }
-way_out_has (stages.Within Acknowledgement (steps.OneSide Acquirer)) h = record { records = refl; groups = refl; transaction = refl }
+way_out_has (stages.Within Acknowledgement (steps.OneSide Assignor)) h =
+    record { records = refl; groups = refl; transaction = refl }
+way_out_has (stages.Within Acknowledgement (steps.OneSide Acquirer)) h =
+    record { records = refl; groups = refl; transaction = refl }
 way_out_has (stages.Within Acknowledgement steps.Both) h = record { records = refl; groups = refl; transaction = refl }
 way_out_has (stages.Within Acknowledgement steps.Work) h = record { records = refl; groups = refl; transaction = refl }
 way_out_has (stages.Within Acknowledgement steps.Controlled) h = record { records = refl; groups = refl; transaction = refl }
@@ -143,7 +145,8 @@ way_out_has stage h = absurd (true≢false (sym h))
 
 -- ---- runs to the end are what makes symbols whole
 
-pub runs_whole : (xs rest : List Symbol) (stage : Stage) → StandsAt xs stage → run stage rest ≡ Some stages.Ended → IsWhole (xs ++ rest)
+pub runs_whole : (xs rest : List Symbol) (stage : Stage) → StandsAt xs stage → run stage rest ≡ Some stages.Ended
+    → IsWhole (xs ++ rest)
 runs_whole xs rest stage st e =
     let here = stands_leaves xs stage st in
     let matched : Matches (left stage) (rest ++ []) = comes_back stage rest [] stages.Ended here.real e ([], refl, tt) in
@@ -156,10 +159,12 @@ ended_only stages.Start h = absurd (true≢false (sym h))
 ended_only stages.Opened h = absurd (true≢false (sym h))
 ended_only stages.Closed h = absurd (true≢false (sym h))
 ended_only stages.Ended h = refl
-ended_only (stages.Within ty steps.InGroup) h = absurd (true≢false (sym (and_parts (nullable (pattern_of ty)) (nullable (rest_of ty)) h).1))
+ended_only (stages.Within ty steps.InGroup) h =
+    absurd (true≢false (sym (and_parts (nullable (pattern_of ty)) (nullable (rest_of ty)) h).1))
 ended_only (stages.Within ty step) h = absurd (true≢false (sym (and_parts (nullable (left_of step)) (nullable (rest_of ty)) h).1))
 
-pub whole_runs : (xs rest : List Symbol) (stage : Stage) → StandsAt xs stage → IsWhole (xs ++ rest) → run stage rest ≡ Some stages.Ended
+pub whole_runs : (xs rest : List Symbol) (stage : Stage) → StandsAt xs stage → IsWhole (xs ++ rest)
+    → run stage rest ≡ Some stages.Ended
 whole_runs xs rest stage st w =
     let here = stands_leaves xs stage st in
     let come = comes_to stage rest [] here.real (subst (Matches (left stage)) (sym (append-nil rest)) ((here.leaves rest).0 w)) in

@@ -18,7 +18,8 @@ pub comes_any : (limits : LimitValues) (xs : List Symbol) (s : Symbol) → MayCo
 comes_any limits xs s m = goes_any (xs ++ s ∷ []) m
 
 -- and what is barred may not come
-pub comes_unbarred : (limits : LimitValues) (xs : List Symbol) (s : Symbol) (bar : Bar) → IsBarred limits xs s bar → ¬ MayCome limits xs s
+pub comes_unbarred : (limits : LimitValues) (xs : List Symbol) (s : Symbol) (bar : Bar) → IsBarred limits xs s bar
+    → ¬ MayCome limits xs s
 comes_unbarred limits xs s Misplaced b m = b (comes_any limits xs s m)
 comes_unbarred limits xs s (Limit Records) b m = b.1 (m.0, m.1, m.2.0, m.3)
 comes_unbarred limits xs s (Limit Groups) b m = b.1 (m.0, m.1, m.2.1, m.3)

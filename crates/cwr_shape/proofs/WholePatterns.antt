@@ -20,7 +20,8 @@ is_alone : (s : Symbol) (xs : List Symbol) → Matches (one_of (s ∷ [])) xs �
 is_alone s xs m = m.2 ∙ ap (λ (u : Symbol). u ∷ []) (among_one s m.0 m.1.0 m.1.1.0 m.1.1.1)
 
 -- one or more transactions
-transactions_match : (ty : TransactionType) (ts : List (List Symbol)) → 0 < length ts → AllByRecursion (IsShape ty) ts → Matches (some (pattern_of ty)) (flat_map (λ t. t) ts)
+transactions_match : (ty : TransactionType) (ts : List (List Symbol)) → 0 < length ts → AllByRecursion (IsShape ty) ts
+    → Matches (some (pattern_of ty)) (flat_map (λ t. t) ts)
 transactions_match ty [] some h = absurd (omega arith)
 transactions_match ty (t ∷ ts) some h = (t, flat_map (λ u. u) ts, refl, h.0, (ts, refl, h.1))
 
@@ -30,7 +31,13 @@ group_matches g h = (
   flat_map (λ t. t) g.transactions ++ Plain kinds.Grt ∷ [],
   refl,
   alone (Grh g.ty),
-  (flat_map (λ t. t) g.transactions, Plain kinds.Grt ∷ [], refl, transactions_match g.ty g.transactions h.0 h.1, alone (Plain kinds.Grt)),
+  (
+    flat_map (λ t. t) g.transactions,
+    Plain kinds.Grt ∷ [],
+    refl,
+    transactions_match g.ty g.transactions h.0 h.1,
+    alone (Plain kinds.Grt),
+  ),
 )
 
 -- a group of some type
@@ -40,16 +47,25 @@ of_some_type NewWork xs m = inr (inl m)
 of_some_type RevisedWork xs m = inr (inr (inl m))
 of_some_type Acknowledgement xs m = inr (inr (inr m))
 
-groups_match : (groups : List GroupOutline) → AllByRecursion IsGroupOutline groups → Matches (many any_group) (flat_map group_symbols groups)
+groups_match : (groups : List GroupOutline) → AllByRecursion IsGroupOutline groups
+    → Matches (many any_group) (flat_map group_symbols groups)
 groups_match [] h = ([], refl, tt)
 groups_match (g ∷ groups) h =
-    let rest = groups_match groups h.1 in
-    (group_symbols g ∷ rest.0, ap (λ (xs : List Symbol). group_symbols g ++ xs) rest.1, (of_some_type g.ty (group_symbols g) (group_matches g h.0), rest.2))
+    let rest = groups_match groups h.1 in (
+      group_symbols g ∷ rest.0,
+      ap (λ (xs : List Symbol). group_symbols g ++ xs) rest.1,
+      (of_some_type g.ty (group_symbols g) (group_matches g h.0), rest.2),
+    )
 
 some_groups_match : (groups : List GroupOutline) → IsOutline groups → Matches (some any_group) (flat_map group_symbols groups)
 some_groups_match [] h = absurd (omega (arith, h.0))
-some_groups_match (g ∷ groups) h =
-    (group_symbols g, flat_map group_symbols groups, refl, of_some_type g.ty (group_symbols g) (group_matches g h.1.0), groups_match groups h.1.1)
+some_groups_match (g ∷ groups) h = (
+  group_symbols g,
+  flat_map group_symbols groups,
+  refl,
+  of_some_type g.ty (group_symbols g) (group_matches g h.1.0),
+  groups_match groups h.1.1,
+)
 
 -- what a whole transmission is
 pub whole_matches : (groups : List GroupOutline) → IsOutline groups → Matches (left stages.Start) (symbols_of groups)
@@ -72,7 +88,8 @@ group_back ty xs m =
     let b = rest_after_head (Grh ty) (some (pattern_of ty) then a kinds.Grt) xs m in
     let foot : b.2.1 ≡ Plain kinds.Grt ∷ [] = is_alone (Plain kinds.Grt) b.2.1 b.2.4 in
     let shapes = b.2.3 in
-    let inside : b.2.0 ≡ flat_map (λ t. t) (shapes.0 ∷ shapes.4.0) = shapes.2 ∙ ap (λ (ys : List Symbol). shapes.0 ++ ys) shapes.4.1 in (
+    let inside : b.2.0 ≡ flat_map (λ t. t) (shapes.0 ∷ shapes.4.0) =
+    shapes.2 ∙ ap (λ (ys : List Symbol). shapes.0 ++ ys) shapes.4.1 in (
       record { ty = ty; transactions = shapes.0 ∷ shapes.4.0 },
       (omega arith, (shapes.3, shapes.4.2)),
       b.1 ∙ ap (λ (ys : List Symbol). Grh ty ∷ ys) (b.2.2 ∙ ap₂ (λ (ys zs : List Symbol). ys ++ zs) inside foot),
@@ -85,7 +102,8 @@ any_group_back xs (inr (inr (inl m))) = group_back RevisedWork xs m
 any_group_back xs (inr (inr (inr m))) = group_back Acknowledgement xs m
 
 groups_back : (parts : List (List Symbol)) → AllByRecursion (Matches any_group) parts
-    → (groups : List GroupOutline) × AllByRecursion IsGroupOutline groups × (flat_map (λ part. part) parts ≡ flat_map group_symbols groups)
+    → (groups : List GroupOutline) × AllByRecursion IsGroupOutline groups
+    × (flat_map (λ part. part) parts ≡ flat_map group_symbols groups)
 groups_back [] h = ([], tt, refl)
 groups_back (x ∷ parts) h =
     let g = any_group_back x h.0 in
@@ -98,7 +116,8 @@ matches_whole xs m =
     let foot : b.2.1 ≡ Plain kinds.Trl ∷ [] = is_alone (Plain kinds.Trl) b.2.1 b.2.4 in
     let first = any_group_back b.2.3.0 b.2.3.3 in
     let rest = groups_back b.2.3.4.0 b.2.3.4.2 in
-    let inside : b.2.0 ≡ flat_map group_symbols (first.0 ∷ rest.0) = b.2.3.2 ∙ ap₂ (λ (ys zs : List Symbol). ys ++ zs) first.2 (b.2.3.4.1 ∙ rest.2) in (
+    let inside : b.2.0 ≡ flat_map group_symbols (first.0 ∷ rest.0) =
+    b.2.3.2 ∙ ap₂ (λ (ys zs : List Symbol). ys ++ zs) first.2 (b.2.3.4.1 ∙ rest.2) in (
       first.0 ∷ rest.0,
       (omega arith, (first.1, rest.1)),
       b.1 ∙ ap (λ (ys : List Symbol). Plain kinds.Hdr ∷ ys) (b.2.2 ∙ ap₂ (λ (ys zs : List Symbol). ys ++ zs) inside foot),

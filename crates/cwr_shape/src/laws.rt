@@ -32,7 +32,8 @@ pub fn numbers_depend_on_records_before()
 /// Carried records and copies change no order without them: the records of a transaction among which none is carried,
 /// and of an acknowledgement without a copy, are whole exactly where they are in the order that knows neither.
 pub fn orders_without_carried_records_are_kept()
-    ensures { (ty : TransactionType) (xs : List Symbol) → IsUncarriedShape ty xs ↔ (IsShape ty xs × AreFormer ty xs) }
+    ensures { (ty : TransactionType) (xs : List Symbol) → IsUncarriedShape ty xs
+        ↔ (IsShape ty xs × AreFormer ty xs) }
 {}
 
 /// Each transmission without carried records and copies that was whole in the order that knows neither still is.
@@ -43,7 +44,8 @@ pub fn transmissions_without_carried_records_are_kept()
 /// Copies change no order without them, with carried records or without: the records of an acknowledgement in which no copy
 /// begins are whole exactly where they are in the order that knows no copies, and any other transaction's are in both.
 pub fn orders_without_copies_are_kept()
-    ensures { (ty : TransactionType) (xs : List Symbol) → IsUncopiedShape ty xs ↔ (IsShape ty xs × AreUncopied ty xs) }
+    ensures { (ty : TransactionType) (xs : List Symbol) → IsUncopiedShape ty xs
+        ↔ (IsShape ty xs × AreUncopied ty xs) }
 {}
 
 /// Each transmission without copies that was whole in the order that knows none, with carried records or without, still is.

@@ -8,7 +8,8 @@ ghost use Rattle.cwr_shape.specs.Steps.Left.{StandsAt, ContinuesIn, StandsAtStep
 ghost use Rattle.cwr_shape.specs.Format.Shapes.{IsShape};
 ghost use Rattle.cwr_fields.specs.declared.codes.TransactionType.{TransactionType};
 ghost use Rattle.cwr_shape.specs.Steps.Needs.{needs_at, AreNeeds};
-ghost use Rattle.cwr_shape.specs.Steps.NextStages.{header_step, party_step, tail_step, party_of_work, after_writer, ordered_step, carried_step, step_on, may_end, next_stage};
+ghost use Rattle.cwr_shape.specs.Steps.NextStages.{header_step, party_step, tail_step, party_of_work, after_writer, ordered_step, carried_step, step_on};
+ghost use Rattle.cwr_shape.specs.Steps.NextStages.{may_end, next_stage};
 
 use crate::symbols::Symbol;
 use cwr_fields::{Kind, Role, TransactionType};
@@ -299,8 +300,10 @@ impl TransactionStep {
     /// continues so, for all records that stand at this step in a transaction of some type, and where none has begun.
     #[inline(always)]
     pub fn next(self, symbol: Symbol) -> Option<TransactionStep>
-        ensures some { (ty : TransactionType) (xs : List Symbol) → StandsAtStep ty xs self → IsSome result ↔ ContinuesIn ty (xs ++ symbol ∷ []) }
-        ensures value { (ty : TransactionType) (xs : List Symbol) → StandsAtStep ty xs self → IfSome result (StandsAtStep ty (xs ++ symbol ∷ [])) }
+        ensures some { (ty : TransactionType) (xs : List Symbol) → StandsAtStep ty xs self
+            → IsSome result ↔ ContinuesIn ty (xs ++ symbol ∷ []) }
+        ensures value { (ty : TransactionType) (xs : List Symbol) → StandsAtStep ty xs self
+            → IfSome result (StandsAtStep ty (xs ++ symbol ∷ [])) }
         ensures unbegun { self ≡ TransactionStep.InGroup → result ≡ None }
         ensures exact { result ≡ step_on self symbol }
     {
@@ -310,7 +313,8 @@ impl TransactionStep {
     /// Whether the records that stand at this step in a transaction of some type are a whole one. `false` where none has
     /// begun.
     pub fn is_whole(self) -> bool
-        ensures whole { (ty : TransactionType) (xs : List Symbol) → StandsAtStep ty xs self → IsTrue result ↔ IsShape ty xs }
+        ensures whole { (ty : TransactionType) (xs : List Symbol) → StandsAtStep ty xs self
+            → IsTrue result ↔ IsShape ty xs }
         ensures unbegun { self ≡ TransactionStep.InGroup → IsFalse result }
         ensures exact { result ≡ may_end self }
     {
@@ -330,8 +334,10 @@ impl Stage {
     /// stage, and whatever came before them.
     #[inline(always)]
     pub fn next(self, symbol: Symbol) -> Option<Stage>
-        ensures some { (xs : List Symbol) → StandsAt xs self → IsSome result ↔ Continues Any (xs ++ symbol ∷ []) }
-        ensures value { (xs : List Symbol) → StandsAt xs self → IfSome result (StandsAt (xs ++ symbol ∷ [])) }
+        ensures some { (xs : List Symbol) → StandsAt xs self → IsSome result
+            ↔ Continues Any (xs ++ symbol ∷ []) }
+        ensures value { (xs : List Symbol) → StandsAt xs self
+            → IfSome result (StandsAt (xs ++ symbol ∷ [])) }
         ensures exact { result ≡ next_stage self symbol }
     {
         next(self, symbol)

@@ -299,7 +299,8 @@ impl Tally {
     /// How many transactions have begun in all groups.
     pub fn transactions(&self) -> u32
         ensures value { result ≡ self.now.counts.transactions }
-        ensures counted { (xs : List Symbol) → IsTallyOf self.now xs → result ≡ transactions_begun Acknowledgement xs }
+        ensures counted { (xs : List Symbol) → IsTallyOf self.now xs
+            → result ≡ transactions_begun Acknowledgement xs }
         ensures kept { KeepsTally self.now }
     {
         self.counts.transactions
@@ -319,7 +320,8 @@ impl Tally {
     /// limit that it passes.
     #[inline(always)]
     pub fn admits(&self, symbol: Symbol) -> Result<(), Bar>
-        ensures answer { (xs : List Symbol) → IsTallyOf self.now xs → Answers self.now.limits xs symbol result }
+        ensures answer { (xs : List Symbol) → IsTallyOf self.now xs
+            → Answers self.now.limits xs symbol result }
         ensures admitted { OnOk result (IsAdmitted self.now symbol) }
     {
         let Some(stage) = self.stage.next(symbol) else {
@@ -336,9 +338,11 @@ impl Tally {
     /// nothing, and then nothing changes.
     #[inline(always)]
     pub fn admit(&mut self, symbol: Symbol) -> bool
-        ensures may_come { IsTrue result → (xs : List Symbol) → IsTallyOf self.old xs → MayCome self.old.limits xs symbol }
+        ensures may_come { IsTrue result → (xs : List Symbol) → IsTallyOf self.old xs
+            → MayCome self.old.limits xs symbol }
         ensures limits { self.new.limits ≡ self.old.limits }
-        ensures stands { IsTrue result → (xs : List Symbol) → IsTallyOf self.old xs → IsTallyOf self.new (xs ++ symbol ∷ []) }
+        ensures stands { IsTrue result → (xs : List Symbol) → IsTallyOf self.old xs
+            → IsTallyOf self.new (xs ++ symbol ∷ []) }
         ensures kept { IsFalse result → self.new ≡ self.old }
     {
         let Some(stage) = self.stage.next(symbol) else {
@@ -357,7 +361,8 @@ impl Tally {
 
     /// Whether some record of the kind may come next: else the first bar that one of them gets.
     pub fn admits_kind(&self, kind: Kind) -> Result<(), Bar>
-        ensures { (xs : List Symbol) → IsTallyOf self.now xs → AnswersKind self.now.limits xs kind result }
+        ensures { (xs : List Symbol) → IsTallyOf self.now xs
+            → AnswersKind self.now.limits xs kind result }
     {
         match kind {
             Kind::Ipa => self.admits(Symbol::Ipa(wanted_role(self.stage))),
@@ -371,7 +376,8 @@ impl Tally {
     pub fn step(&mut self, symbol: Symbol)
         requires { IsAdmitted self.old symbol }
         ensures limits { self.new.limits ≡ self.old.limits }
-        ensures stands { (xs : List Symbol) → IsTallyOf self.old xs → IsTallyOf self.new (xs ++ symbol ∷ []) }
+        ensures stands { (xs : List Symbol) → IsTallyOf self.old xs
+            → IsTallyOf self.new (xs ++ symbol ∷ []) }
     {
         self.counts = self.counts.with(type_at(self.stage), symbol);
         if let Some(stage) = self.stage.next(symbol) {

@@ -5,7 +5,8 @@ use Rattle.cwr_fields.specs.declared.codes.Role.TheVariants.{Assignor, Acquirer}
 use Rattle.cwr_fields.specs.declared.codes.TransactionType.{TransactionType}
 use Rattle.cwr_fields.specs.declared.codes.TransactionType.TheVariants.{Agreement, NewWork, RevisedWork, Acknowledgement}
 use Rattle.cwr_fields.specs.declared.kinds.Kind.{Kind}
-use Rattle.cwr_fields.specs.declared.kinds.Kind.TheVariants.{Hdr, Grt, Trl, Agr, Ter, Nwr, Rev, Spu, Opu, Spt, Swr, Owr, Swt, Pwr, Alt, Ewt, Per, Rec, Ack, Msg, Npa, Ind, Ari}
+use Rattle.cwr_fields.specs.declared.kinds.Kind.TheVariants.{Hdr, Grt, Trl, Agr, Ter, Nwr, Rev, Spu, Opu, Spt, Swr, Owr, Swt, Pwr}
+use Rattle.cwr_fields.specs.declared.kinds.Kind.TheVariants.{Alt, Ewt, Per, Rec, Ack, Msg, Npa, Ind, Ari}
 use Rattle.cwr_shape.specs.declared.symbols.Symbol.{Symbol}
 use Rattle.cwr_shape.specs.declared.symbols.Symbol.TheVariants.{Plain, Ipa, Grh}
 use Rattle.cwr_shape.specs.Format.Shapes.{IsShape, pattern_of, BeginsShape}
@@ -136,12 +137,17 @@ unfolding nullable after after_all is_dead
 revised_among_new ([], w, q, b) = absurd (omega (arith, w.0))
 revised_among_new (g ∷ groups, w, q, b) = by g.ty g.transactions w.1.0.0 w.1.0.1 (cc (b.1)) (cc (b.1))
   where
-    inside : (ts : List (List Symbol)) (rest : List Symbol) (more : List Symbol) → 0 < length ts → AllByRecursion (IsShape NewWork) ts → (flat_map (λ t. t) ts ++ more) ≡ p Rev ∷ rest → ⊥
+    inside : (ts : List (List Symbol)) (rest : List Symbol) (more : List Symbol) → 0 < length ts
+        → AllByRecursion (IsShape NewWork) ts → (flat_map (λ t. t) ts ++ more) ≡ p Rev ∷ rest → ⊥
     inside [] rest more h k e = absurd (omega arith)
     inside ([] ∷ ts) rest more h k e = no_match [] (pattern_of NewWork) refl k.0
     inside ((s ∷ t) ∷ ts) rest more h k e =
         let same : s ≡ p Rev = cc e in
         no_begin (p Rev ∷ []) t (pattern_of NewWork) refl (subst (λ (x : Symbol). IsShape NewWork (x ∷ t)) same k.0)
 
-    by : (ty : TransactionType) (ts : List (List Symbol)) → 0 < length ts → AllByRecursion (IsShape ty) ts → ty ≡ NewWork → (((flat_map (λ t. t) ts ++ p Grt ∷ []) ++ flat_map group_symbols groups) ++ p Trl ∷ []) ≡ p Rev ∷ b.0 → ⊥
-    by ty ts h k e f = inside ts b.0 (p Grt ∷ (flat_map group_symbols groups ++ p Trl ∷ [])) h (subst (λ (u : TransactionType). AllByRecursion (IsShape u) ts) e k) (sym (append_assoc (flat_map (λ t. t) ts ++ p Grt ∷ []) (flat_map group_symbols groups) (p Trl ∷ []) ∙ append_assoc (flat_map (λ t. t) ts) (p Grt ∷ []) (flat_map group_symbols groups ++ p Trl ∷ [])) ∙ f)
+    by : (ty : TransactionType) (ts : List (List Symbol)) → 0 < length ts → AllByRecursion (IsShape ty) ts → ty ≡ NewWork
+        → (((flat_map (λ t. t) ts ++ p Grt ∷ []) ++ flat_map group_symbols groups) ++ p Trl ∷ []) ≡ p Rev ∷ b.0 → ⊥
+    by ty ts h k e f =
+        inside ts b.0 (p Grt ∷ (flat_map group_symbols groups ++ p Trl ∷ [])) h (subst (λ (u : TransactionType). AllByRecursion
+        (IsShape u) ts) e k) (sym (append_assoc (flat_map (λ t. t) ts ++ p Grt ∷ []) (flat_map group_symbols groups) (p Trl ∷ [])
+        ∙ append_assoc (flat_map (λ t. t) ts) (p Grt ∷ []) (flat_map group_symbols groups ++ p Trl ∷ [])) ∙ f)

@@ -38,8 +38,10 @@ pub struct Sink<W: Target> {
 /// Writes a text until it is taken whole. Where the writer fails, the error is how many of its bytes were written.
 fn write_whole<W: Target>(writer: &mut W, text: &[u8]) -> Result<(), usize>
     ensures whole { OnOk result (Appends (W.contents writer.old) (W.contents writer.new) text.now) }
-    ensures part { IfErr result (λ written. (written ≤ length text.now) × Appends (W.contents writer.old) (W.contents writer.new) (take written text.now)) }
-    ensures failures { OnErr result (CountsFailure result (W.failures writer.old) (W.failures writer.new)) }
+    ensures part { IfErr result (λ written. (written ≤ length text.now)
+        × Appends (W.contents writer.old) (W.contents writer.new) (take written text.now)) }
+    ensures failures { OnErr result
+        (CountsFailure result (W.failures writer.old) (W.failures writer.new)) }
     ensures unfailed { OnOk result (W.failures writer.new ≡ W.failures writer.old) }
 {
     let mut written = 0;
@@ -71,13 +73,17 @@ impl<W: Target> Sink<W> {
     /// on each call answers the same fault and writes nothing.
     pub fn put(&mut self, text: &[u8]) -> Result<(), SinkFault>
         // Whatever text was put so far, that text followed by this one is now put: it is written whole, or after a fault its first bytes are.
-        ensures written { (start : Option (List ℕ)) (before : List ℕ) → HasWritten W.contents start before self.old → HasWritten W.contents start (before ++ text.now) self.new }
+        ensures written { (start : Option (List ℕ)) (before : List ℕ)
+            → HasWritten W.contents start before self.old
+            → HasWritten W.contents start (before ++ text.now) self.new }
         // Of an unfailed sink whose past isn't known: this call only appends, and counts what it appends.
-        ensures grows { has_failed self.old ≡ false → GrowsBy W.contents text.now result self.old self.new }
+        ensures grows { has_failed self.old ≡ false
+            → GrowsBy W.contents text.now result self.old self.new }
         ensures fault { IfErr result (λ f. f.written ≡ written_of self.new) }
         ensures failed { has_failed self.new ≡ is_err result }
         // A fault is reported only where the writer failed in this call, or in an earlier one.
-        ensures failures { has_failed self.old ≡ false → CountsOn result (W.failures (writer_of self.old)) (W.failures (writer_of self.new)) }
+        ensures failures { has_failed self.old ≡ false
+            → CountsOn result (W.failures (writer_of self.old)) (W.failures (writer_of self.new)) }
         ensures again { has_failed self.old ≡ true → IsErr result × (self.new ≡ self.old) }
     {
         if self.failed {

@@ -7,7 +7,8 @@ use Rattle.cwr_tables.specs.Format.Tables.{calls_for_quotes, cell_text, doubled}
 abbrev by_test : List ℕ → Bool → List ℕ
 by_test cell b = cond b (codes "\"" ++ flat_map doubled cell ++ codes "\"") cell
 
-pub cell_quoted : (cell : List ℕ) → list_any calls_for_quotes cell ≡ true → cell_text cell ≡ codes "\"" ++ flat_map doubled cell ++ codes "\""
+pub cell_quoted : (cell : List ℕ) → list_any calls_for_quotes cell ≡ true
+    → cell_text cell ≡ codes "\"" ++ flat_map doubled cell ++ codes "\""
 unfolding cell_text
 cell_quoted cell h = ap (by_test cell) h
 

@@ -1,5 +1,6 @@
 -- The cells of a row, field by field.
-use Rattle.std.proofs.Common.{◌≡◌, ℕ, zero, suc, ◌+◌, ◌-◌, ◌<◌, ◌≤◌, Bool, true, false, not, cond, List, [], ◌∷◌, ◌++◌, length, take, filter, map, get_or, Option, Some, None, refl, sym, ap, subst, ◌∙◌, arith, append-nil}
+use Rattle.std.proofs.Common.{◌≡◌, ℕ, zero, suc, ◌+◌, ◌-◌, ◌<◌, ◌≤◌, Bool, true, false, not, cond, List, [], ◌∷◌, ◌++◌, length}
+use Rattle.std.proofs.Common.{take, filter, map, get_or, Option, Some, None, refl, sym, ap, subst, ◌∙◌, arith, append-nil}
 use Rattle.std.specs.Prelude.{slice_get}
 use Rattle.std.specs.List.{AllZip}
 use Rattle.std.specs.Option.{option_and_then}
@@ -14,7 +15,8 @@ use Rattle.cwr_lines.specs.Format.Carried.{carried_at}
 use Rattle.cwr_lines.proofs.CarriedCells.{carried_count}
 use Rattle.cwr_json.specs.Format.Forms.{key_of}
 use Rattle.cwr_tables.specs.Format.RecordTables.{shown_cell}
-use Rattle.cwr_tables.specs.Steps.RowTexts.{column_of, field_cell, name_of, named_columns, next_cell, next_cells, shown_cells, shown_of}
+use Rattle.cwr_tables.specs.Steps.RowTexts.{column_of, field_cell, name_of, named_columns, next_cell, next_cells, shown_cells}
+use Rattle.cwr_tables.specs.Steps.RowTexts.{shown_of}
 
 abbrev carried : List FieldLayout → List FieldLayout
 carried fields = filter (λ f. not f.derived) fields
@@ -34,23 +36,28 @@ suc_is : (i : ℕ) → suc i ≡ i + 1
 suc_is i = omega arith
 
 -- with one field more
-pub columns_more : (this_kind : Kind) (i : ℕ) → i < length (layout this_kind) → columns_before this_kind (i + 1) ≡ columns_before this_kind i ++ column_of this_kind (i + 1)
+pub columns_more : (this_kind : Kind) (i : ℕ) → i < length (layout this_kind)
+    → columns_before this_kind (i + 1) ≡ columns_before this_kind i ++ column_of this_kind (i + 1)
 columns_more this_kind i h =
     let fields : List FieldLayout = layout this_kind in
     let f : FieldLayout = get_or fields i record_type in
     let found : Some f ≡ slice_get fields i = sym (slice_get-get_or fields i record_type h) in
     let named : name_of (cond f.derived None (Some f)) ≡ column_of this_kind (i + 1)
-    = subst (λ (n : ℕ). name_of (cond f.derived None (Some f)) ≡ column_of this_kind n) (suc_is i) (ap (λ (o : Option FieldLayout). name_of (option_and_then (λ (g : FieldLayout). cond g.derived None (Some g)) o)) found) in
+    = subst (λ (n : ℕ). name_of (cond f.derived None (Some f)) ≡ column_of this_kind n) (suc_is i) (ap
+    (λ (o : Option FieldLayout). name_of (option_and_then (λ (g : FieldLayout). cond g.derived None (Some g)) o)) found) in
     ap (λ (l : List FieldLayout). next_cells (map key (carried l))) (take_more fields i record_type h)
-    ∙ ap (λ (l : List FieldLayout). next_cells (map key l)) (filter-append (λ (g : FieldLayout). not g.derived) (take i fields) (f ∷ []))
+    ∙ ap (λ (l : List FieldLayout). next_cells (map key l))
+    (filter-append (λ (g : FieldLayout). not g.derived) (take i fields) (f ∷ []))
     ∙ ap next_cells (map-append key (carried (take i fields)) (carried (f ∷ [])))
     ∙ flat_map-append next_cell (map key (carried (take i fields))) (map key (carried (f ∷ [])))
     ∙ ap (λ (l : List ℕ). columns_before this_kind i ++ l) (column_alone f.derived f ∙ named)
 
 -- with all of them
-pub columns_whole : (this_kind : Kind) (i : ℕ) → length (layout this_kind) ≤ i → columns_before this_kind i ≡ named_columns this_kind
+pub columns_whole : (this_kind : Kind) (i : ℕ) → length (layout this_kind) ≤ i
+    → columns_before this_kind i ≡ named_columns this_kind
 unfolding named_columns
-columns_whole this_kind i h = ap (λ (fields : List FieldLayout). next_cells (map key (carried fields))) (take_all i (layout this_kind) h)
+columns_whole this_kind i h =
+    ap (λ (fields : List FieldLayout). next_cells (map key (carried fields))) (take_all i (layout this_kind) h)
 
 -- ---- the cells of a record
 
@@ -78,7 +85,8 @@ cells_one : (b : Bool) (f : FieldLayout) (n : ℕ) (cells : List (List ℕ))
     ≡ next_cells (map shown_cell (take n cells)) ++ shown_of (option_and_then (λ _. slice_get cells n) (cond b None (Some f)))
 cells_one true f n cells =
     let same : n + 0 ≡ n = omega arith in
-    ap (λ (m : ℕ). next_cells (map shown_cell (take m cells))) same ∙ sym (append-nil (next_cells (map shown_cell (take n cells))))
+    ap (λ (m : ℕ). next_cells (map shown_cell (take m cells))) same
+    ∙ sym (append-nil (next_cells (map shown_cell (take n cells))))
 cells_one false f n cells =
     ap (λ (m : ℕ). next_cells (map shown_cell (take m cells))) (sym (suc_is n))
     ∙ ap (λ (l : List (List ℕ)). next_cells (map shown_cell l)) (take_next cells n)
@@ -87,7 +95,8 @@ cells_one false f n cells =
     ∙ ap (λ (l : List ℕ). next_cells (map shown_cell (take n cells)) ++ l) (shown_found (slice_get cells n))
 
 -- with one field more
-pub cells_more : (r : RecordValue) (i : ℕ) → i < length (layout r.kind) → cells_before r (i + 1) ≡ cells_before r i ++ field_cell r (i + 1)
+pub cells_more : (r : RecordValue) (i : ℕ) → i < length (layout r.kind)
+    → cells_before r (i + 1) ≡ cells_before r i ++ field_cell r (i + 1)
 cells_more r i h =
     let fields : List FieldLayout = layout r.kind in
     let f : FieldLayout = get_or fields i record_type in
@@ -99,8 +108,10 @@ cells_more r i h =
     ∙ length-append (carried (take i fields)) (carried (f ∷ [])) in
     let before : suc i - 1 ≡ i = omega arith in
     let cell : shown_of (option_and_then (λ _. slice_get r.cells n) (cond f.derived None (Some f))) ≡ field_cell r (suc i)
-    = ap (λ (o : Option FieldLayout). shown_of (option_and_then (λ _. slice_get r.cells n) (option_and_then (λ (g : FieldLayout). cond g.derived None (Some g)) o))) found
-    ∙ ap (λ (m : ℕ). shown_of (option_and_then (λ _. slice_get r.cells (carried_count (take m fields))) (carried_at r.kind (suc i)))) (sym before) in
+    = ap (λ (o : Option FieldLayout). shown_of (option_and_then (λ _. slice_get r.cells n)
+    (option_and_then (λ (g : FieldLayout). cond g.derived None (Some g)) o))) found
+    ∙ ap (λ (m : ℕ). shown_of
+    (option_and_then (λ _. slice_get r.cells (carried_count (take m fields))) (carried_at r.kind (suc i)))) (sym before) in
     ap (λ (m : ℕ). next_cells (map shown_cell (take m r.cells))) count
     ∙ cells_one f.derived f n r.cells
     ∙ ap (λ (l : List ℕ). cells_before r i ++ l) (cell ∙ ap (field_cell r) (suc_is i))
@@ -116,5 +127,7 @@ pub cells_whole : (r : RecordValue) (i : ℕ) → IsRecord r → length (layout 
 unfolding shown_cells
 cells_whole r i fits h =
     let many : length r.cells ≡ length (carried_fields r.kind) = cells_many (carried_fields r.kind) r.cells fits in
-    ap (λ (fields : List FieldLayout). next_cells (map shown_cell (take (carried_count fields) r.cells))) (take_all i (layout r.kind) h)
-    ∙ ap (λ (l : List (List ℕ)). next_cells (map shown_cell l)) (take_all (length (carried_fields r.kind)) r.cells (omega (arith, many)))
+    ap (λ (fields : List FieldLayout). next_cells (map shown_cell (take (carried_count fields) r.cells)))
+    (take_all i (layout r.kind) h)
+    ∙ ap (λ (l : List (List ℕ)). next_cells (map shown_cell l))
+    (take_all (length (carried_fields r.kind)) r.cells (omega (arith, many)))

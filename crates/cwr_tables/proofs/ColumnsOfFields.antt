@@ -12,14 +12,17 @@ use Rattle.cwr_tables.specs.Steps.RowTexts.{column_of, name_of, next_cell}
 abbrev column_at : Option FieldLayout → List ℕ
 column_at o = name_of (option_and_then (λ (f : FieldLayout). cond f.derived None (Some f)) o)
 
-at : (this_kind : Kind) (j : ℕ) (o : Option (ℕ × FieldLayout)) → o ≡ field_with_start this_kind j → column_of this_kind j ≡ column_at (option_map (λ (q : ℕ × FieldLayout). q.1) o)
+at : (this_kind : Kind) (j : ℕ) (o : Option (ℕ × FieldLayout)) → o ≡ field_with_start this_kind j
+    → column_of this_kind j ≡ column_at (option_map (λ (q : ℕ × FieldLayout). q.1) o)
 at this_kind j o e = ap column_at (sym (field_at-start this_kind j) ∙ ap (option_map (λ (q : ℕ × FieldLayout). q.1)) (sym e))
 
 pub column-none : (this_kind : Kind) (j : ℕ) → None ≡ field_with_start this_kind j → column_of this_kind j ≡ []
 column-none this_kind j e = at this_kind j None e
 
-pub column-derived : (this_kind : Kind) (j : ℕ) (p : ℕ × FieldLayout) → Some p ≡ field_with_start this_kind j → p.1.derived ≡ true → column_of this_kind j ≡ []
+pub column-derived : (this_kind : Kind) (j : ℕ) (p : ℕ × FieldLayout) → Some p ≡ field_with_start this_kind j → p.1.derived ≡ true
+    → column_of this_kind j ≡ []
 column-derived this_kind j p e d = at this_kind j (Some p) e ∙ ap (λ (b : _). name_of (cond b None (Some p.1))) d
 
-pub column-named : (this_kind : Kind) (j : ℕ) (p : ℕ × FieldLayout) → Some p ≡ field_with_start this_kind j → p.1.derived ≡ false → column_of this_kind j ≡ next_cell (key_of p.1.name)
+pub column-named : (this_kind : Kind) (j : ℕ) (p : ℕ × FieldLayout) → Some p ≡ field_with_start this_kind j → p.1.derived ≡ false
+    → column_of this_kind j ≡ next_cell (key_of p.1.name)
 column-named this_kind j p e d = at this_kind j (Some p) e ∙ ap (λ (b : _). name_of (cond b None (Some p.1))) d

@@ -6,8 +6,10 @@ use Rattle.cwr_levels.specs.Format.Findings.{is_a}
 use Rattle.cwr_tables.specs.declared.places.RowNumbers.{RowNumbers}
 use Rattle.cwr_tables.specs.Format.RecordTables.{record_row, row_of_kind}
 
-pub row_of_it : (this_kind : Kind) (numbers : RowNumbers) (r : RecordValue) → is_a this_kind r ≡ true → record_row numbers r ≡ row_of_kind this_kind numbers r
+pub row_of_it : (this_kind : Kind) (numbers : RowNumbers) (r : RecordValue) → is_a this_kind r ≡ true
+    → record_row numbers r ≡ row_of_kind this_kind numbers r
 row_of_it this_kind numbers r e = ap (λ (b : Bool). cond b (record_row numbers r) []) (sym e)
 
-pub row_of_other : (this_kind : Kind) (numbers : RowNumbers) (r : RecordValue) → is_a this_kind r ≡ false → row_of_kind this_kind numbers r ≡ []
+pub row_of_other : (this_kind : Kind) (numbers : RowNumbers) (r : RecordValue) → is_a this_kind r ≡ false
+    → row_of_kind this_kind numbers r ≡ []
 row_of_other this_kind numbers r e = ap (λ (b : Bool). cond b (record_row numbers r) []) e

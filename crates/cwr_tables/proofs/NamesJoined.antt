@@ -1,5 +1,6 @@
 -- The names of the owners among the first records, with one record more.
-use Rattle.std.proofs.Common.{◌≡◌, ℕ, ◌+◌, Bool, true, false, cond, List, [], ◌∷◌, ◌++◌, take, drop, refl, sym, ap, ◌∙◌, append_assoc, append-nil}
+use Rattle.std.proofs.Common.{◌≡◌, ℕ, ◌+◌, Bool, true, false, cond, List, [], ◌∷◌, ◌++◌, take, drop, refl, sym, ap, ◌∙◌}
+use Rattle.std.proofs.Common.{append_assoc, append-nil}
 use Rattle.std.specs.Prelude.{Some, slice_get, codes, ◌||◌}
 use Rattle.std.specs.List.{flat_map, join_by, list_any}
 use Rattle.std.proofs.lemmas.Grind.{flat_map-append}
@@ -21,14 +22,16 @@ abbrev has_some : {X : Type 0} → List X → Bool
 has_some [] = false
 has_some (x ∷ xs) = true
 
-join_more : {X : Type 0} (f : X → List ℕ) (xs : List X) (x : X) → join_by f semicolon (xs ++ x ∷ []) ≡ join_by f semicolon xs ++ (between (has_some xs) ++ f x)
+join_more : {X : Type 0} (f : X → List ℕ) (xs : List X) (x : X)
+    → join_by f semicolon (xs ++ x ∷ []) ≡ join_by f semicolon xs ++ (between (has_some xs) ++ f x)
 join_more f [] x = append-nil (f x)
 join_more f (y ∷ ys) x =
     let g : _ → List ℕ = λ z. semicolon ++ f z in
     ap (λ (l : List ℕ). f y ++ l) (flat_map-append g ys (x ∷ []) ∙ ap (λ (l : List ℕ). flat_map g ys ++ l) (append-nil (g x)))
     ∙ sym (append_assoc (f y) (flat_map g ys) (g x))
 
-join_longer : {X : Type 0} (f : X → List ℕ) (xs ys : List X) → (rest : List ℕ) × (join_by f semicolon (xs ++ ys) ≡ join_by f semicolon xs ++ rest)
+join_longer : {X : Type 0} (f : X → List ℕ) (xs ys : List X)
+    → (rest : List ℕ) × (join_by f semicolon (xs ++ ys) ≡ join_by f semicolon xs ++ rest)
 join_longer f [] ys = (join_by f semicolon ys, refl)
 join_longer f (x ∷ xs) ys =
     let g : _ → List ℕ = λ z. semicolon ++ f z in (
@@ -58,7 +61,8 @@ some_owners side (r ∷ t) = some_if (is_on side r) r (owners side t) (has_owner
 
 text_more : (side : Side) (quoted : Bool) (r : RecordValue) (before : List RecordValue) (later b : Bool) → has_some before ≡ later
     → within quoted (join_by (name_of_owner side) semicolon (before ++ cond b (r ∷ []) []))
-    ≡ within quoted (join_by (name_of_owner side) semicolon before) ++ cond b (between later ++ within quoted (name_of_owner side r)) []
+    ≡ within quoted (join_by (name_of_owner side) semicolon before)
+    ++ cond b (between later ++ within quoted (name_of_owner side r)) []
 text_more side quoted r before later true h =
     ap (within quoted) (join_more (name_of_owner side) before r)
     ∙ within-append quoted (join_by (name_of_owner side) semicolon before) (between (has_some before) ++ name_of_owner side r)
@@ -66,9 +70,11 @@ text_more side quoted r before later true h =
     (within-append quoted (between (has_some before)) (name_of_owner side r)
     ∙ ap (λ (l : List ℕ). l ++ within quoted (name_of_owner side r)) (within_between quoted (has_some before) ∙ ap between h))
 text_more side quoted r before later false h =
-    ap (λ (l : List RecordValue). within quoted (join_by (name_of_owner side) semicolon l)) (append-nil before) ∙ sym (append-nil (within quoted (join_by (name_of_owner side) semicolon before)))
+    ap (λ (l : List RecordValue). within quoted (join_by (name_of_owner side) semicolon l)) (append-nil before)
+    ∙ sym (append-nil (within quoted (join_by (name_of_owner side) semicolon before)))
 
-pub names_more : (side : Side) (quoted later : Bool) (t : List RecordValue) (i : ℕ) (r : RecordValue) → Some r ≡ slice_get t i → later ≡ has_owners side (take i t)
+pub names_more : (side : Side) (quoted later : Bool) (t : List RecordValue) (i : ℕ) (r : RecordValue) → Some r ≡ slice_get t i
+    → later ≡ has_owners side (take i t)
     → within quoted (names side (take (i + 1) t)) ≡ within quoted (names side (take i t)) ++ owner_text side quoted later r
 names_more side quoted later t i r e h =
     ap (λ (l : List RecordValue). within quoted (join_by (name_of_owner side) semicolon l)) (owners_more side t i r e)
@@ -78,12 +84,15 @@ or_false : (a : Bool) → (a || false) ≡ a
 or_false true = refl
 or_false false = refl
 
-pub has_owners_more : (side : Side) (t : List RecordValue) (i : ℕ) (r : RecordValue) → Some r ≡ slice_get t i → has_owners side (take (i + 1) t) ≡ (has_owners side (take i t) || is_on side r)
+pub has_owners_more : (side : Side) (t : List RecordValue) (i : ℕ) (r : RecordValue) → Some r ≡ slice_get t i
+    → has_owners side (take (i + 1) t) ≡ (has_owners side (take i t) || is_on side r)
 has_owners_more side t i r e =
-    ap (list_any (is_on side)) (take_more t i r (sym e)) ∙ list_any-append (is_on side) (take i t) (r ∷ []) ∙ ap (λ (b : Bool). has_owners side (take i t) || b) (or_false (is_on side r))
+    ap (list_any (is_on side)) (take_more t i r (sym e)) ∙ list_any-append (is_on side) (take i t) (r ∷ [])
+    ∙ ap (λ (b : Bool). has_owners side (take i t) || b) (or_false (is_on side r))
 
 -- and with those of all records
-pub names_longer : (side : Side) (quoted : Bool) (t : List RecordValue) (n : ℕ) → (rest : List ℕ) × (within quoted (names side t) ≡ within quoted (names side (take n t)) ++ rest)
+pub names_longer : (side : Side) (quoted : Bool) (t : List RecordValue) (n : ℕ)
+    → (rest : List ℕ) × (within quoted (names side t) ≡ within quoted (names side (take n t)) ++ rest)
 names_longer side quoted t n =
     let split : owners side t ≡ owners side (take n t) ++ owners side (drop n t)
     = ap (owners side) (sym (take-append-drop n t)) ∙ filter-append (is_on side) (take n t) (drop n t) in

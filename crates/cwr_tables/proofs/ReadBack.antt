@@ -1,5 +1,6 @@
 -- Rows are read back as their cells.
-use Rattle.std.proofs.Common.{◌≡◌, ℕ, zero, suc, ◌+◌, ◌≤◌, Bool, true, false, cond, List, [], ◌∷◌, ◌++◌, length, Some, refl, sym, ap, ap₂, ◌∙◌, inl, inr, arith, append_assoc}
+use Rattle.std.proofs.Common.{◌≡◌, ℕ, zero, suc, ◌+◌, ◌≤◌, Bool, true, false, cond, List, [], ◌∷◌, ◌++◌, length, Some, refl, sym}
+use Rattle.std.proofs.Common.{ap, ap₂, ◌∙◌, inl, inr, arith, append_assoc}
 use Rattle.std.specs.Prelude.{◌==◌, ◌||◌}
 use Rattle.std.specs.List.{AllByRecursion, flat_map, list_any}
 use Rattle.std.proofs.lemmas.Bool.{cases_Bool, eqb-true}
@@ -66,24 +67,28 @@ head_plain (z ∷ zs) = refl
 
 -- a cell, from its start
 cell_read : (fields : List (List ℕ)) (cell : List ℕ) (cells : List (List ℕ)) (tail : List ℕ)
-    → next_record default_config st.StartField fields [] (cell_text cell ++ (next_cells cells ++ ended tail)) ≡ next_record default_config st.InField fields cell (next_cells cells ++ ended tail)
+    → next_record default_config st.StartField fields [] (cell_text cell ++ (next_cells cells ++ ended tail))
+    ≡ next_record default_config st.InField fields cell (next_cells cells ++ ended tail)
 cell_read fields cell cells tail =
     ap₂ (λ (l m : List ℕ). next_record default_config st.StartField fields [] (l ++ m)) (cell_same cell) (text_head cells tail)
     ∙ field-run fields cell (head_of cells) (tail_of cells tail) (head_plain cells)
     ∙ ap (next_record default_config st.InField fields cell) (sym (text_head cells tail))
 
-comma_read : (fields : List (List ℕ)) (cell text : List ℕ) → next_record default_config st.InField fields cell (44 ∷ text) ≡ next_record default_config st.StartField (fields ++ cell ∷ []) [] text
+comma_read : (fields : List (List ℕ)) (cell text : List ℕ) → next_record default_config st.InField fields cell (44 ∷ text)
+    ≡ next_record default_config st.StartField (fields ++ cell ∷ []) [] text
 unfolding next_record
 comma_read fields cell text = refl
 
 -- the rest of a row, after a cell
 rest_read : (fields : List (List ℕ)) (cell : List ℕ) (cells : List (List ℕ)) (tail : List ℕ)
-    → next_record default_config st.InField fields cell (next_cells cells ++ ended tail) ≡ Some (fields ++ cell ∷ cells, st.AfterCr, 10 ∷ tail)
+    → next_record default_config st.InField fields cell (next_cells cells ++ ended tail)
+    ≡ Some (fields ++ cell ∷ cells, st.AfterCr, 10 ∷ tail)
 unfolding next_record
 rest_read fields cell [] tail = refl
 rest_read fields cell (z ∷ zs) tail =
     comma_read fields cell ((cell_text z ++ next_cells zs) ++ ended tail)
-    ∙ ap (next_record default_config st.StartField (fields ++ cell ∷ []) []) (append_assoc (cell_text z) (next_cells zs) (ended tail))
+    ∙ ap (next_record default_config st.StartField (fields ++ cell ∷ []) [])
+    (append_assoc (cell_text z) (next_cells zs) (ended tail))
     ∙ cell_read (fields ++ cell ∷ []) z zs tail
     ∙ rest_read (fields ++ cell ∷ []) z zs tail
     ∙ ap (λ (l : List (List ℕ)). Some (l, st.AfterCr, 10 ∷ tail)) (append_assoc fields (cell ∷ []) (z ∷ zs))
@@ -100,43 +105,52 @@ or_right true b e = cc e
 
 -- a cell before a comma starts a row as it starts a field
 first_by : (cell : List ℕ) (b : Bool) (text : List ℕ) → list_any calls_for_quotes cell ≡ b
-    → next_record default_config st.StartRecord [] [] (cond b (34 ∷ (flat_map doubled cell ++ 34 ∷ [])) cell ++ (44 ∷ text)) ≡ next_record default_config st.StartField [] [] (cond b (34 ∷ (flat_map doubled cell ++ 34 ∷ [])) cell ++ (44 ∷ text))
+    → next_record default_config st.StartRecord [] [] (cond b (34 ∷ (flat_map doubled cell ++ 34 ∷ [])) cell ++ (44 ∷ text))
+    ≡ next_record default_config st.StartField [] [] (cond b (34 ∷ (flat_map doubled cell ++ 34 ∷ [])) cell ++ (44 ∷ text))
 first_by cell true text e = record-same [] [] 34 ((flat_map doubled cell ++ 34 ∷ []) ++ (44 ∷ text)) refl refl
 first_by [] false text e = record-same [] [] 44 text refl refl
 first_by (c ∷ cell) false text e =
     let calls : calls_for_quotes c ≡ false = or_left (calls_for_quotes c) (list_any calls_for_quotes cell) e in
-    record-same [] [] c (cell ++ (44 ∷ text)) (or_right ((c == 44) || (c == 34)) (c == 13) (or_left ((c == 44) || (c == 34) || (c == 13)) (c == 10) calls)) (or_right ((c == 44) || (c == 34) || (c == 13)) (c == 10) calls)
+    record-same [] [] c (cell ++ (44 ∷ text))
+    (or_right ((c == 44) || (c == 34)) (c == 13) (or_left ((c == 44) || (c == 34) || (c == 13)) (c == 10) calls))
+    (or_right ((c == 44) || (c == 34) || (c == 13)) (c == 10) calls)
 
-first_read : (cell text : List ℕ) → next_record default_config st.StartRecord [] [] (cell_text cell ++ (44 ∷ text)) ≡ next_record default_config st.StartField [] [] (cell_text cell ++ (44 ∷ text))
+first_read : (cell text : List ℕ) → next_record default_config st.StartRecord [] [] (cell_text cell ++ (44 ∷ text))
+    ≡ next_record default_config st.StartField [] [] (cell_text cell ++ (44 ∷ text))
 unfolding cell_text
 first_read cell text = first_by cell (list_any calls_for_quotes cell) text refl
 
-row_read : (row : List (List ℕ)) (tail : List ℕ) → HasTwo row → next_record default_config st.StartRecord [] [] (row_text row ++ tail) ≡ Some (row, st.AfterCr, 10 ∷ tail)
+row_read : (row : List (List ℕ)) (tail : List ℕ) → HasTwo row
+    → next_record default_config st.StartRecord [] [] (row_text row ++ tail) ≡ Some (row, st.AfterCr, 10 ∷ tail)
 unfolding row_text
 row_read [] tail h = absurd (omega (arith, h))
 row_read (x ∷ []) tail h = absurd (omega (arith, h))
 row_read (x ∷ y ∷ cells) tail h =
     let others : List ℕ = next_cells (y ∷ cells) in
-    ap (next_record default_config st.StartRecord [] []) (append_assoc (cell_text x ++ others) (13 ∷ 10 ∷ []) tail ∙ append_assoc (cell_text x) others (ended tail))
+    ap (next_record default_config st.StartRecord [] [])
+    (append_assoc (cell_text x ++ others) (13 ∷ 10 ∷ []) tail ∙ append_assoc (cell_text x) others (ended tail))
     ∙ first_read x ((cell_text y ++ next_cells cells) ++ ended tail)
     ∙ cell_read [] x (y ∷ cells) tail
     ∙ rest_read [] x (y ∷ cells) tail
 
 -- ---- rows
 
-cr_skipped : (n : ℕ) (tail : List ℕ) → records_from default_config n st.AfterCr (10 ∷ tail) ≡ records_from default_config n st.StartRecord tail
+cr_skipped : (n : ℕ) (tail : List ℕ)
+    → records_from default_config n st.AfterCr (10 ∷ tail) ≡ records_from default_config n st.StartRecord tail
 unfolding records_from next_record
 cr_skipped zero tail = refl
 cr_skipped (suc n) tail = refl
 
-rows_read : (rows : List (List (List ℕ))) (n : ℕ) → AllByRecursion HasTwo rows → length rows ≤ n → records_from default_config n st.StartRecord (flat_map row_text rows) ≡ rows
+rows_read : (rows : List (List (List ℕ))) (n : ℕ) → AllByRecursion HasTwo rows → length rows ≤ n
+    → records_from default_config n st.StartRecord (flat_map row_text rows) ≡ rows
 unfolding records_from next_record
 rows_read [] zero h few = refl
 rows_read [] (suc n) h few = refl
 rows_read (row ∷ rows) zero h few = absurd (omega (arith, few))
 rows_read (row ∷ rows) (suc n) h few =
     ap (records_next (records_from default_config n)) (row_read row (flat_map row_text rows) h.0)
-    ∙ ap (λ (l : List (List (List ℕ))). row ∷ l) (cr_skipped n (flat_map row_text rows) ∙ rows_read rows n h.1 (omega (arith, few)))
+    ∙ ap (λ (l : List (List (List ℕ))). row ∷ l)
+    (cr_skipped n (flat_map row_text rows) ∙ rows_read rows n h.1 (omega (arith, few)))
 
 row_long : (row : List (List ℕ)) → 1 ≤ length (row_text row)
 unfolding row_text

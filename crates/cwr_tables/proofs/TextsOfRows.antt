@@ -10,17 +10,21 @@ use Rattle.cwr_tables.specs.Format.Tables.{cell_text, row_text}
 use Rattle.cwr_tables.specs.Format.RecordTables.{heading, number_cells, record_row, shown_cell}
 use Rattle.cwr_tables.specs.Steps.RowTexts.{named_columns, next_cell, next_cells, numbers_heading, numbers_text, shown_cells}
 
-ends : (numbers : RowNumbers) (cells : List (List ℕ)) → row_text (number_cells numbers ++ cells) ≡ (numbers_text numbers ++ next_cells cells) ++ codes "\r\n"
+ends : (numbers : RowNumbers) (cells : List (List ℕ))
+    → row_text (number_cells numbers ++ cells) ≡ (numbers_text numbers ++ next_cells cells) ++ codes "\r\n"
 unfolding row_text cell_text
 ends Outside cells = refl
-ends (InGroup group) cells = ap (λ (l : List ℕ). l ++ codes "\r\n") (sym (append_assoc (cell_text (decimal group)) (codes ",,") (next_cells cells)))
+ends (InGroup group) cells =
+    ap (λ (l : List ℕ). l ++ codes "\r\n") (sym (append_assoc (cell_text (decimal group)) (codes ",,") (next_cells cells)))
 ends (InTransaction group transaction sequence) cells =
     let one : List ℕ = cell_text (decimal group) in
     let two : List ℕ = next_cell (decimal transaction) in
     let three : List ℕ = next_cell (decimal sequence) in
-    ap (λ (l : List ℕ). l ++ codes "\r\n") (sym (append_assoc one two (three ++ next_cells cells)) ∙ sym (append_assoc (one ++ two) three (next_cells cells)))
+    ap (λ (l : List ℕ). l ++ codes "\r\n")
+    (sym (append_assoc one two (three ++ next_cells cells)) ∙ sym (append_assoc (one ++ two) three (next_cells cells)))
 
-pub row_is : (numbers : RowNumbers) (r : RecordValue) → (numbers_text numbers ++ shown_cells r) ++ codes "\r\n" ≡ record_row numbers r
+pub row_is : (numbers : RowNumbers) (r : RecordValue)
+    → (numbers_text numbers ++ shown_cells r) ++ codes "\r\n" ≡ record_row numbers r
 unfolding shown_cells
 row_is numbers r = sym (ends numbers (map shown_cell r.cells))
 

@@ -29,19 +29,31 @@ pub shares_of_publisher : (r : RecordValue) → is_on Publishers r ≡ true → 
 shares_of_publisher r h = of_either (λ k. HasSharesFrom k 13) kinds.Spu kinds.Opu r h shares_of_spu shares_of_opu
 
 pub last_name : (r : RecordValue) → is_on Writers r ≡ true → IsField "last name" r.kind 5 45
-last_name r h = of_either (λ k. IsField "last name" k 5 45) kinds.Swr kinds.Owr r h (record { carried = refl; place = refl; width = refl }) (record { carried = refl; place = refl; width = refl })
+last_name r h =
+    of_either (λ k. IsField "last name" k 5 45) kinds.Swr kinds.Owr r h (record { carried = refl; place = refl; width = refl })
+    (record { carried = refl; place = refl; width = refl })
 
 pub first_name : (r : RecordValue) → is_on Writers r ≡ true → IsField "first name" r.kind 6 30
-first_name r h = of_either (λ k. IsField "first name" k 6 30) kinds.Swr kinds.Owr r h (record { carried = refl; place = refl; width = refl }) (record { carried = refl; place = refl; width = refl })
+first_name r h =
+    of_either (λ k. IsField "first name" k 6 30) kinds.Swr kinds.Owr r h (record { carried = refl; place = refl; width = refl })
+    (record { carried = refl; place = refl; width = refl })
 
 pub publisher_name : (r : RecordValue) → is_on Publishers r ≡ true → IsField "publisher name" r.kind 6 45
-publisher_name r h = of_either (λ k. IsField "publisher name" k 6 45) kinds.Spu kinds.Opu r h (record { carried = refl; place = refl; width = refl }) (record { carried = refl; place = refl; width = refl })
+publisher_name r h =
+    of_either (λ k. IsField "publisher name" k 6 45) kinds.Spu kinds.Opu r h
+    (record { carried = refl; place = refl; width = refl }) (record { carried = refl; place = refl; width = refl })
 
 pub title : (r : RecordValue) → is_header r ≡ true → IsField "title" r.kind 4 60
-title r h = of_either (λ k. IsField "title" k 4 60) kinds.Nwr kinds.Rev r h (record { carried = refl; place = refl; width = refl }) (record { carried = refl; place = refl; width = refl })
+title r h =
+    of_either (λ k. IsField "title" k 4 60) kinds.Nwr kinds.Rev r h (record { carried = refl; place = refl; width = refl })
+    (record { carried = refl; place = refl; width = refl })
 
 pub work_number : (r : RecordValue) → is_header r ≡ true → IsField "submitter work number" r.kind 6 14
-work_number r h = of_either (λ k. IsField "submitter work number" k 6 14) kinds.Nwr kinds.Rev r h (record { carried = refl; place = refl; width = refl }) (record { carried = refl; place = refl; width = refl })
+work_number r h =
+    of_either (λ k. IsField "submitter work number" k 6 14) kinds.Nwr kinds.Rev r h
+    (record { carried = refl; place = refl; width = refl }) (record { carried = refl; place = refl; width = refl })
 
 pub iswc : (r : RecordValue) → is_header r ≡ true → IsField "iswc" r.kind 7 11
-iswc r h = of_either (λ k. IsField "iswc" k 7 11) kinds.Nwr kinds.Rev r h (record { carried = refl; place = refl; width = refl }) (record { carried = refl; place = refl; width = refl })
+iswc r h =
+    of_either (λ k. IsField "iswc" k 7 11) kinds.Nwr kinds.Rev r h (record { carried = refl; place = refl; width = refl })
+    (record { carried = refl; place = refl; width = refl })

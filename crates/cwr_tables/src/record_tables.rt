@@ -46,7 +46,8 @@ fn put_row<W: Target>(
     sink: &mut Sink<W>,
 ) -> Result<(), SinkFault>
     requires { has_failed sink.old ≡ false }
-    ensures puts { Puts W.contents W.failures (row_of_kind kind numbers shown.now) result sink.old sink.new }
+    ensures puts { Puts W.contents W.failures (row_of_kind kind numbers shown.now) result sink.old
+        sink.new }
     ensures fault { IfErr result (λ f. f.written ≡ written_of sink.new) }
 {
     if !is_of(shown, kind) {
@@ -63,7 +64,8 @@ fn put_trailer<W: Target>(
     sink: &mut Sink<W>,
 ) -> Result<(), SinkFault>
     requires { has_failed sink.old ≡ false }
-    ensures puts { Puts W.contents W.failures (row_of_kind kind Outside trailer) result sink.old sink.new }
+    ensures puts { Puts W.contents W.failures (row_of_kind kind Outside trailer) result sink.old
+        sink.new }
     ensures fault { IfErr result (λ f. f.written ≡ written_of sink.new) }
 {
     if kind != Kind::Trl {
@@ -82,7 +84,8 @@ fn put_transaction<W: Target>(
     sink: &mut Sink<W>,
 ) -> Result<(), SinkFault>
     requires { has_failed sink.old ≡ false }
-    ensures puts { Puts W.contents W.failures (transaction_rows kind place transaction.now) result sink.old sink.new }
+    ensures puts { Puts W.contents W.failures (transaction_rows kind place transaction.now) result
+        sink.old sink.new }
     ensures fault { IfErr result (λ f. f.written ≡ written_of sink.new) }
 {
     let count = transaction.len();
@@ -109,7 +112,8 @@ pub fn put_rows<W: Target>(
     sink: &mut Sink<W>,
 ) -> Result<(), SinkFault>
     requires { has_failed sink.old ≡ false }
-    ensures puts { Puts W.contents W.failures (item_rows kind place item.now) result sink.old sink.new }
+    ensures puts { Puts W.contents W.failures (item_rows kind place item.now) result sink.old
+        sink.new }
     ensures fault { IfErr result (λ f. f.written ≡ written_of sink.new) }
 {
     match item {

@@ -38,7 +38,8 @@ fn put_name<W: Target>(
     sink: &mut Sink<W>,
 ) -> Result<(), SinkFault>
     requires { has_failed sink.old ≡ false }
-    ensures puts { Puts W.contents W.failures (owner_text side quoted later shown.now) result sink.old sink.new }
+    ensures puts { Puts W.contents W.failures (owner_text side quoted later shown.now) result
+        sink.old sink.new }
     ensures fault { IfErr result (λ f. f.written ≡ written_of sink.new) }
 {
     if !is_on(side, shown) {
@@ -57,7 +58,8 @@ fn put_names<W: Target>(
     sink: &mut Sink<W>,
 ) -> Result<(), SinkFault>
     requires { has_failed sink.old ≡ false }
-    ensures puts { Puts W.contents W.failures (within quoted (names side transaction.now)) result sink.old sink.new }
+    ensures puts { Puts W.contents W.failures (within quoted (names side transaction.now)) result
+        sink.old sink.new }
     ensures fault { IfErr result (λ f. f.written ≡ written_of sink.new) }
 {
     let count = transaction.len();
@@ -109,7 +111,9 @@ fn put_begun<W: Target>(
     sink: &mut Sink<W>,
 ) -> Result<(), SinkFault>
     requires { has_failed sink.old ≡ false }
-    ensures puts { Puts W.contents W.failures ((codes "," ++ edge quoted) ++ within quoted (names side transaction.now)) result sink.old sink.new }
+    ensures puts { Puts W.contents W.failures
+        ((codes "," ++ edge quoted) ++ within quoted (names side transaction.now)) result sink.old
+        sink.new }
     ensures fault { IfErr result (λ f. f.written ≡ written_of sink.new) }
 {
     put_opening(quoted, text, sink)?;
@@ -124,7 +128,8 @@ fn put_owners<W: Target>(
     sink: &mut Sink<W>,
 ) -> Result<(), SinkFault>
     requires { has_failed sink.old ≡ false }
-    ensures puts { Puts W.contents W.failures (next_cell (names side transaction.now)) result sink.old sink.new }
+    ensures puts { Puts W.contents W.failures (next_cell (names side transaction.now)) result
+        sink.old sink.new }
     ensures fault { IfErr result (λ f. f.written ≡ written_of sink.new) }
 {
     let quoted = need_quotes(side, transaction);
@@ -158,7 +163,9 @@ fn put_to_writers<W: Target>(
 ) -> Result<(), SinkFault>
     requires unfailed { has_failed sink.old ≡ false }
     requires header { is_header head.now ≡ true }
-    ensures puts { Puts W.contents W.failures (front_text place head.now ++ next_cell (names Writers transaction.now)) result sink.old sink.new }
+    ensures puts { Puts W.contents W.failures
+        (front_text place head.now ++ next_cell (names Writers transaction.now)) result sink.old
+        sink.new }
     ensures fault { IfErr result (λ f. f.written ≡ written_of sink.new) }
 {
     put_front(place, head, text, sink)?;
@@ -175,7 +182,9 @@ fn put_to_publishers<W: Target>(
 ) -> Result<(), SinkFault>
     requires unfailed { has_failed sink.old ≡ false }
     requires header { is_header head.now ≡ true }
-    ensures puts { Puts W.contents W.failures ((front_text place head.now ++ next_cell (names Writers transaction.now)) ++ next_cell (names Publishers transaction.now)) result sink.old sink.new }
+    ensures puts { Puts W.contents W.failures ((front_text place head.now ++ next_cell
+        (names Writers transaction.now)) ++ next_cell (names Publishers
+        transaction.now)) result sink.old sink.new }
     ensures fault { IfErr result (λ f. f.written ≡ written_of sink.new) }
 {
     put_to_writers(place, head, transaction, text, sink)?;
@@ -190,7 +199,9 @@ fn put_tail<W: Target>(
 ) -> Result<(), SinkFault>
     requires unfailed { has_failed sink.old ≡ false }
     requires few { length transaction.now ≤ 100000000 }
-    ensures puts { Puts W.contents W.failures (tail_text (sums Writers transaction.now) (sums Publishers transaction.now)) result sink.old sink.new }
+    ensures puts { Puts W.contents W.failures
+        (tail_text (sums Writers transaction.now) (sums Publishers transaction.now)) result sink.old
+        sink.new }
     ensures fault { IfErr result (λ f. f.written ≡ written_of sink.new) }
 {
     let writers = add_up(Side::Writers, transaction);
@@ -211,7 +222,8 @@ fn put_work<W: Target>(
     requires few { length transaction.now ≤ 100000000 }
     requires header { is_header head.now ≡ true }
     requires first { Some head.now ≡ slice_get transaction.now 0 }
-    ensures puts { Puts W.contents W.failures (transaction_row place transaction.now) result sink.old sink.new }
+    ensures puts { Puts W.contents W.failures (transaction_row place transaction.now) result
+        sink.old sink.new }
     ensures fault { IfErr result (λ f. f.written ≡ written_of sink.new) }
 {
     put_to_publishers(place, head, transaction, text, sink)?;
@@ -234,7 +246,8 @@ fn put_if_work<W: Target>(
 ) -> Result<(), SinkFault>
     requires unfailed { has_failed sink.old ≡ false }
     requires few { length transaction.now ≤ 100000000 }
-    ensures puts { Puts W.contents W.failures (transaction_row place transaction.now) result sink.old sink.new }
+    ensures puts { Puts W.contents W.failures (transaction_row place transaction.now) result
+        sink.old sink.new }
     ensures fault { IfErr result (λ f. f.written ≡ written_of sink.new) }
 {
     let Some(head) = transaction.record(0) else {

@@ -47,7 +47,8 @@ impl Sums {
         requires synchronization { self.synchronization + more.synchronization ≤ u64.MAX }
         ensures performing { result.performing ≡ self.performing + more.performing }
         ensures mechanical { result.mechanical ≡ self.mechanical + more.mechanical }
-        ensures synchronization { result.synchronization ≡ self.synchronization + more.synchronization }
+        ensures synchronization { result.synchronization
+            ≡ self.synchronization + more.synchronization }
     {
         Sums {
             performing: self.performing + more.performing,

@@ -1,5 +1,6 @@
 -- The lines of items are those of all but the last, and then those of the last.
-use Rattle.std.proofs.Common.{◌≡◌, ℕ, ◌+◌, ◌<◌, Bool, true, false, cond, inl, inr, ◌⊎◌, List, [], ◌∷◌, ◌++◌, length, take, Option, Some, refl, sym, ap, ap₂, ◌∙◌, arith, append_assoc, append-nil}
+use Rattle.std.proofs.Common.{◌≡◌, ℕ, ◌+◌, ◌<◌, Bool, true, false, cond, inl, inr, ◌⊎◌, List, [], ◌∷◌, ◌++◌, length, take, Option}
+use Rattle.std.proofs.Common.{Some, refl, sym, ap, ap₂, ◌∙◌, arith, append_assoc, append-nil}
 use Rattle.std.specs.Prelude.{count_by}
 use Rattle.std.specs.List.{after_last, enumerate_from, flat_map}
 use Rattle.std.proofs.Math.Seq.{take-append_seam}
@@ -25,11 +26,13 @@ use Rattle.cwr_tools.specs.Steps.Reports.{findings_at, lines_told, notes_at}
 
 -- ---- records
 
-pub numbered_records-append : (n : ℕ) (records more : List RecordValue) → numbered_records n (records ++ more) ≡ numbered_records n records ++ numbered_records (n + length records) more
+pub numbered_records-append : (n : ℕ) (records more : List RecordValue)
+    → numbered_records n (records ++ more) ≡ numbered_records n records ++ numbered_records (n + length records) more
 numbered_records-append n [] more = ap (λ (m : ℕ). numbered_records m more) (omega arith)
 numbered_records-append n (r ∷ records) more =
     ap (λ (l : List ℕ). record_lines n r ++ l)
-    (numbered_records-append (n + 1) records more ∙ ap (λ (m : ℕ). numbered_records (n + 1) records ++ numbered_records m more) (omega arith))
+    (numbered_records-append (n + 1) records more
+    ∙ ap (λ (m : ℕ). numbered_records (n + 1) records ++ numbered_records m more) (omega arith))
     ∙ sym (append_assoc (record_lines n r) (numbered_records (n + 1) records) (numbered_records (n + length (r ∷ records)) more))
 
 -- ---- findings
@@ -39,17 +42,22 @@ abbrev pub lines_from : (List Item → Item → List ℕ) → List Item → ℕ 
 lines_from line all n items = flat_map (λ p. line (take p.0 all) p.1) (enumerate_from n items)
 
 -- go by the items before them
-same_fronts : (line : List Item → Item → List ℕ) (items : List Item) (n : ℕ) (all more : List Item) → ((k : ℕ) → k < n + length items → take k all ≡ take k more) → lines_from line all n items ≡ lines_from line more n items
+same_fronts : (line : List Item → Item → List ℕ) (items : List Item) (n : ℕ) (all more : List Item)
+    → ((k : ℕ) → k < n + length items → take k all ≡ take k more) → lines_from line all n items ≡ lines_from line more n items
 same_fronts line [] n all more h = refl
 same_fronts line (item ∷ items) n all more h =
-    ap₂ (λ (before : List Item) (l : List ℕ). line before item ++ l) (h n (omega arith)) (same_fronts line items (n + 1) all more (λ k lt. h k (omega (arith, lt))))
+    ap₂ (λ (before : List Item) (l : List ℕ). line before item ++ l) (h n (omega arith))
+    (same_fronts line items (n + 1) all more (λ k lt. h k (omega (arith, lt))))
 
-enumerate_from-snoc : {X : Type 0} (n : ℕ) (xs : List X) (x : X) → enumerate_from n (xs ++ x ∷ []) ≡ enumerate_from n xs ++ (n + length xs, x) ∷ []
+enumerate_from-snoc : {X : Type 0} (n : ℕ) (xs : List X) (x : X)
+    → enumerate_from n (xs ++ x ∷ []) ≡ enumerate_from n xs ++ (n + length xs, x) ∷ []
 enumerate_from-snoc {X = X} n [] x = ap (λ (m : ℕ). (m, x) ∷ []) (omega arith)
 enumerate_from-snoc {X = X} n (y ∷ xs) x =
-    ap (λ (l : List (ℕ × X)). (n, y) ∷ l) (enumerate_from-snoc (n + 1) xs x ∙ ap (λ (m : ℕ). enumerate_from (n + 1) xs ++ (m, x) ∷ []) (omega arith))
+    ap (λ (l : List (ℕ × X)). (n, y) ∷ l)
+    (enumerate_from-snoc (n + 1) xs x ∙ ap (λ (m : ℕ). enumerate_from (n + 1) xs ++ (m, x) ∷ []) (omega arith))
 
-pub lines_from-snoc : (line : List Item → Item → List ℕ) (given : List Item) (item : Item) → lines_from line (given ++ item ∷ []) 0 (given ++ item ∷ []) ≡ lines_from line given 0 given ++ line given item
+pub lines_from-snoc : (line : List Item → Item → List ℕ) (given : List Item) (item : Item)
+    → lines_from line (given ++ item ∷ []) 0 (given ++ item ∷ []) ≡ lines_from line given 0 given ++ line given item
 lines_from-snoc line given item =
     let all : List Item = given ++ item ∷ [] in
     let one : (ℕ × Item) → List ℕ = λ p. line (take p.0 all) p.1 in
@@ -58,13 +66,16 @@ lines_from-snoc line given item =
     ∙ ap₂ (λ (xs ys : List ℕ). xs ++ ys)
     (same_fronts line given 0 all given (λ k lt. take-append-le k given (item ∷ []) (omega (arith, lt))))
     (append-nil (line (take (0 + length given) all) item)
-    ∙ ap (λ (before : List Item). line before item) (ap (λ (n : ℕ). take n all) (omega arith) ∙ take-append_seam given (item ∷ [])))
+    ∙ ap (λ (before : List Item). line before item)
+    (ap (λ (n : ℕ). take n all) (omega arith) ∙ take-append_seam given (item ∷ [])))
 
-check_lines-snoc : (given : List Item) (item : Item) → check_lines (given ++ item ∷ []) ≡ check_lines given ++ finding_lines given item
+check_lines-snoc : (given : List Item) (item : Item)
+    → check_lines (given ++ item ∷ []) ≡ check_lines given ++ finding_lines given item
 unfolding check_lines
 check_lines-snoc given item = lines_from-snoc finding_lines given item
 
-explained_lines-snoc : (given : List Item) (item : Item) → explained_lines (given ++ item ∷ []) ≡ explained_lines given ++ explained_findings given item
+explained_lines-snoc : (given : List Item) (item : Item)
+    → explained_lines (given ++ item ∷ []) ≡ explained_lines given ++ explained_findings given item
 unfolding explained_lines
 explained_lines-snoc given item = lines_from-snoc explained_findings given item
 
@@ -73,17 +84,21 @@ explained_lines-snoc given item = lines_from-snoc explained_findings given item
 abbrev data_line : Encoding → Bool → List Item → Item → List ℕ
 data_line enc noted before item = item_line enc (notes_if noted before item) item
 
-data_lines-snoc : (enc : Encoding) (noted : Bool) (given : List Item) (item : Item) → data_lines enc noted (given ++ item ∷ []) ≡ data_lines enc noted given ++ data_line enc noted given item
+data_lines-snoc : (enc : Encoding) (noted : Bool) (given : List Item) (item : Item)
+    → data_lines enc noted (given ++ item ∷ []) ≡ data_lines enc noted given ++ data_line enc noted given item
 unfolding data_lines
 data_lines-snoc enc noted given item = lines_from-snoc (data_line enc noted) given item
 
 -- the notes are those that are counted
-counted_notes : (noted : Bool) (c : Totals) (given : List Item) (item : Item) → IsCount c given → notes_if noted given item ≡ notes_at noted c item
+counted_notes : (noted : Bool) (c : Totals) (given : List Item) (item : Item) → IsCount c given
+    → notes_if noted given item ≡ notes_at noted c item
 counted_notes false c given item k = refl
 counted_notes true c given item k =
     let opened : ℕ = cond (opens_group item) 1 0 in
-    let at : ℕ → ℕ → ℕ → Notes = λ groups in_group records. record { group = groups + opened; transaction = in_group; line = records + 1 } in
-    ap (λ (n : ℕ). Some (at n (count_by is_transaction (after_last opens_group given)) (length (records_in given)))) (sym k.groups)
+    let at : ℕ → ℕ → ℕ → Notes =
+    λ groups in_group records. record { group = groups + opened; transaction = in_group; line = records + 1 } in
+    ap (λ (n : ℕ). Some (at n (count_by is_transaction (after_last opens_group given)) (length (records_in given))))
+    (sym k.groups)
     ∙ ap₂ (λ (n m : ℕ). Some (at c.groups n m)) (sym k.in_group) (sym k.records)
 
 -- ---- all of them
@@ -96,50 +111,63 @@ told_none false true = refl
 told_none true false = refl
 told_none true true = refl
 
-findings_more : (explained : Bool) (c : Totals) (given : List Item) (item : Item) → IsCount c given → (lines_checked explained).lines (given ++ item ∷ []) ≡ (lines_checked explained).lines given ++ findings_at explained c item
+findings_more : (explained : Bool) (c : Totals) (given : List Item) (item : Item) → IsCount c given
+    → (lines_checked explained).lines (given ++ item ∷ []) ≡ (lines_checked explained).lines given ++ findings_at explained c item
 findings_more false c given item k =
     check_lines-snoc given item
     ∙ ap₂ (λ (group sequence : ℕ). check_lines given ++ finding_lines_in group sequence item) (sym k.groups) (sym k.in_group)
 findings_more true c given item k =
     explained_lines-snoc given item
-    ∙ ap₂ (λ (group sequence : ℕ). explained_lines given ++ explained_in group sequence (length (records_in given) + 1) item) (sym k.groups) (sym k.in_group)
+    ∙ ap₂ (λ (group sequence : ℕ). explained_lines given ++ explained_in group sequence (length (records_in given) + 1) item)
+    (sym k.groups) (sym k.in_group)
     ∙ ap (λ (n : ℕ). explained_lines given ++ explained_in c.groups c.in_group (n + 1) item) (sym k.records)
 
 pub told_more : (explained up_to_fault : Bool) (c : Totals) (given : List Item) (item : Item) → IsCount c given
-    → (lines_told explained up_to_fault).lines (given ++ item ∷ []) ≡ (lines_told explained up_to_fault).lines given ++ findings_at explained c item
+    → (lines_told explained up_to_fault).lines (given ++ item ∷ [])
+    ≡ (lines_told explained up_to_fault).lines given ++ findings_at explained c item
 told_more explained false c given item k = findings_more explained c given item k
 told_more explained true c given item k = findings_more explained c given item k
 
 -- a transaction without findings has no lines
-told_clean : (explained : Bool) (given : List Item) (t : List RecordValue) → findings t ≡ [] → (lines_checked explained).lines (given ++ items.Transaction t ∷ []) ≡ (lines_checked explained).lines given
+told_clean : (explained : Bool) (given : List Item) (t : List RecordValue) → findings t ≡ []
+    → (lines_checked explained).lines (given ++ items.Transaction t ∷ []) ≡ (lines_checked explained).lines given
 told_clean false given t none =
     check_lines-snoc given (items.Transaction t)
-    ∙ ap (λ (found : List Finding). check_lines given ++ flat_map (finding_line (count_by opens_group given) (count_by is_transaction (after_last opens_group given))) found) none
+    ∙ ap (λ (found : List Finding). check_lines given ++ flat_map
+    (finding_line (count_by opens_group given) (count_by is_transaction (after_last opens_group given))) found) none
     ∙ append-nil (check_lines given)
 told_clean true given t none =
     explained_lines-snoc given (items.Transaction t)
-    ∙ ap (λ (found : List Finding). explained_lines given ++ flat_map (explained_finding (count_by opens_group given) (count_by is_transaction (after_last opens_group given)) (length (records_in given) + 1) t) found) none
+    ∙ ap (λ (found : List Finding). explained_lines given ++ flat_map (explained_finding (count_by opens_group given)
+    (count_by is_transaction (after_last opens_group given)) (length (records_in given) + 1) t) found) none
     ∙ append-nil (explained_lines given)
 
 pub told_passed : (explained up_to_fault : Bool) (given : List Item) (t : List RecordValue) → findings t ≡ []
-    → (lines_told explained up_to_fault).lines (given ++ items.Transaction t ∷ []) ≡ (lines_told explained up_to_fault).lines given
+    → (lines_told explained up_to_fault).lines (given ++ items.Transaction t ∷ [])
+    ≡ (lines_told explained up_to_fault).lines given
 told_passed explained false given t none = told_clean explained given t none
 told_passed explained true given t none = told_clean explained given t none
 
 -- with a transaction more, which begins after so many records
-pub told_transaction : (explained up_to_fault : Bool) (c : Totals) (given : List Item) (item : Item) (t : List RecordValue) (before : ℕ) → IsCount c given → item ≡ items.Transaction t → before ≡ c.records
-    → (lines_told explained up_to_fault).lines (given ++ item ∷ []) ≡ (lines_told explained up_to_fault).lines given ++ transaction_lines explained c.groups c.in_group (before + 1) t
+pub told_transaction : (explained up_to_fault : Bool) (c : Totals) (given : List Item) (item : Item) (t : List RecordValue)
+    (before : ℕ) → IsCount c given → item ≡ items.Transaction t → before ≡ c.records
+    → (lines_told explained up_to_fault).lines (given ++ item ∷ [])
+    ≡ (lines_told explained up_to_fault).lines given ++ transaction_lines explained c.groups c.in_group (before + 1) t
 told_transaction explained up_to_fault c given item t before k is e =
-    told_more explained up_to_fault c given item k ∙ ap (λ (l : List ℕ). (lines_told explained up_to_fault).lines given ++ l) (by explained)
+    told_more explained up_to_fault c given item k
+    ∙ ap (λ (l : List ℕ). (lines_told explained up_to_fault).lines given ++ l) (by explained)
   where
     by : (with_notes : Bool) → findings_at with_notes c item ≡ transaction_lines with_notes c.groups c.in_group (before + 1) t
     by false = ap (finding_lines_in c.groups c.in_group) is
     by true = ap₂ (λ (n : ℕ) (it : Item). explained_in c.groups c.in_group (n + 1) it) (sym e) is
 
 -- with any other item, which has no findings
-pub told_other : (explained up_to_fault : Bool) (c : Totals) (given : List Item) (item : Item) → IsCount c given → is_transaction item ≡ false → (lines_told explained up_to_fault).lines (given ++ item ∷ []) ≡ (lines_told explained up_to_fault).lines given ++ []
+pub told_other : (explained up_to_fault : Bool) (c : Totals) (given : List Item) (item : Item) → IsCount c given
+    → is_transaction item ≡ false
+    → (lines_told explained up_to_fault).lines (given ++ item ∷ []) ≡ (lines_told explained up_to_fault).lines given ++ []
 told_other explained up_to_fault c given item k other =
-    told_more explained up_to_fault c given item k ∙ ap (λ (l : List ℕ). (lines_told explained up_to_fault).lines given ++ l) (by explained item other)
+    told_more explained up_to_fault c given item k
+    ∙ ap (λ (l : List ℕ). (lines_told explained up_to_fault).lines given ++ l) (by explained item other)
   where
     by : (with_notes : Bool) (it : Item) → is_transaction it ≡ false → findings_at with_notes c it ≡ []
     by false (items.Transaction t) e = absurd (cc e)
@@ -154,14 +182,17 @@ told_other explained up_to_fault c given item k other =
     by true items.Ended e = refl
 
 -- which items are none
-pub no_transaction : (item : Item) → ((r : RecordValue) × (item ≡ items.Opened r)) ⊎ (((r : RecordValue) × (item ≡ items.GroupOpened r)) ⊎ (((r : RecordValue) × (item ≡ items.GroupClosed r)) ⊎ (item ≡ items.Ended))) → is_transaction item ≡ false
+pub no_transaction : (item : Item) → ((r : RecordValue) × (item ≡ items.Opened r))
+    ⊎ (((r : RecordValue) × (item ≡ items.GroupOpened r))
+    ⊎ (((r : RecordValue) × (item ≡ items.GroupClosed r)) ⊎ (item ≡ items.Ended))) → is_transaction item ≡ false
 no_transaction item (inl (r, e)) = ap is_transaction e
 no_transaction item (inr (inl (r, e))) = ap is_transaction e
 no_transaction item (inr (inr (inl (r, e)))) = ap is_transaction e
 no_transaction item (inr (inr (inr e))) = ap is_transaction e
 
 -- memory is taken for a transaction with findings
-pub told_memory : (explained up_to_fault : Bool) (item : Item) (t : List RecordValue) → item ≡ items.Transaction t → has_findings (items.Transaction t) ≡ (lines_told explained up_to_fault).take_memory item
+pub told_memory : (explained up_to_fault : Bool) (item : Item) (t : List RecordValue) → item ≡ items.Transaction t
+    → has_findings (items.Transaction t) ≡ (lines_told explained up_to_fault).take_memory item
 told_memory false false item t is = ap has_findings (sym is)
 told_memory true false item t is = ap has_findings (sym is)
 told_memory false true item t is = ap has_findings (sym is)
@@ -178,21 +209,27 @@ data_none enc noted = refl
 data_more : (enc : Encoding) (noted : Bool) (c : Totals) (given : List Item) (item : Item) → IsCount c given
     → data_lines enc noted (given ++ item ∷ []) ≡ data_lines enc noted given ++ item_line enc (notes_at noted c item) item
 data_more enc noted c given item k =
-    data_lines-snoc enc noted given item ∙ ap (λ (n : Option Notes). data_lines enc noted given ++ item_line enc n item) (counted_notes noted c given item k)
+    data_lines-snoc enc noted given item
+    ∙ ap (λ (n : Option Notes). data_lines enc noted given ++ item_line enc n item) (counted_notes noted c given item k)
 
 -- the same with these notes
-pub noted_more : (enc : Encoding) (noted : Bool) (c : Totals) (given : List Item) (item : Item) (notes : Option Notes) → IsCount c given → notes ≡ notes_at noted c item
+pub noted_more : (enc : Encoding) (noted : Bool) (c : Totals) (given : List Item) (item : Item) (notes : Option Notes)
+    → IsCount c given → notes ≡ notes_at noted c item
     → data_lines enc noted (given ++ item ∷ []) ≡ data_lines enc noted given ++ item_line enc notes item
-noted_more enc noted c given item notes k e = data_more enc noted c given item k ∙ ap (λ (n : Option Notes). data_lines enc noted given ++ item_line enc n item) (sym e)
+noted_more enc noted c given item notes k e =
+    data_more enc noted c given item k ∙ ap (λ (n : Option Notes). data_lines enc noted given ++ item_line enc n item) (sym e)
 
 records_more : (c : Totals) (given : List Item) (item : Item) → IsCount c given
     → show_lines (given ++ item ∷ []) ≡ show_lines given ++ numbered_records (c.records + 1) (item_records item)
 unfolding show_lines
 records_more c given item k =
-    ap (numbered_records 1) (flat_map-append item_records given (item ∷ []) ∙ ap (λ (l : List RecordValue). records_in given ++ l) (append-nil (item_records item)))
+    ap (numbered_records 1) (flat_map-append item_records given (item ∷ [])
+    ∙ ap (λ (l : List RecordValue). records_in given ++ l) (append-nil (item_records item)))
     ∙ numbered_records-append 1 (records_in given) (item_records item)
     ∙ ap (λ (n : ℕ). numbered_records 1 (records_in given) ++ numbered_records n (item_records item)) (omega (arith, k.records))
 
 -- the same from this number
-pub records_from : (c : Totals) (given : List Item) (item : Item) (before : ℕ) → IsCount c given → before ≡ c.records → show_lines (given ++ item ∷ []) ≡ show_lines given ++ numbered_records (before + 1) (item_records item)
-records_from c given item before k e = records_more c given item k ∙ ap (λ (n : ℕ). show_lines given ++ numbered_records (n + 1) (item_records item)) (sym e)
+pub records_from : (c : Totals) (given : List Item) (item : Item) (before : ℕ) → IsCount c given → before ≡ c.records
+    → show_lines (given ++ item ∷ []) ≡ show_lines given ++ numbered_records (before + 1) (item_records item)
+records_from c given item before k e =
+    records_more c given item k ∙ ap (λ (n : ℕ). show_lines given ++ numbered_records (n + 1) (item_records item)) (sym e)

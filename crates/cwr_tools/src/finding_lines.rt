@@ -40,7 +40,8 @@ fn put_found<W: Target>(
     sink: &mut Sink<W>,
 ) -> Result<(), SinkFault>
     requires { has_failed sink.old ≡ false }
-    ensures puts { Puts W.contents W.failures (flat_map (finding_line group sequence) found.now) result sink.old sink.new }
+    ensures puts { Puts W.contents W.failures (flat_map (finding_line group sequence) found.now)
+        result sink.old sink.new }
     ensures fault { IfErr result (λ f. f.written ≡ written_of sink.new) }
 {
     let mut i = 0;
@@ -65,8 +66,10 @@ fn put_findings_in<W: Target>(
 ) -> Result<(), ToolFault>
     requires unfailed { has_failed sink.old ≡ false }
     requires few { explained ≡ true → first + length transaction.now ≤ 100000000 }
-    ensures puts { PutsLines W.contents W.failures (has_findings (Item.Transaction transaction.now)) (transaction_lines explained group sequence first transaction.now) result sink.old sink.new }
-    ensures seen { OnOk result (Sees told.old.worst told.new.worst (Item.Transaction transaction.now ∷ [])) }
+    ensures puts { PutsLines W.contents W.failures (has_findings (Item.Transaction transaction.now))
+        (transaction_lines explained group sequence first transaction.now) result sink.old sink.new }
+    ensures seen { OnOk result
+        (Sees told.old.worst told.new.worst (Item.Transaction transaction.now ∷ [])) }
 {
     let Ok(found) = findings(alloc, transaction) else {
         return Err(ToolFault::Memory);
@@ -96,7 +99,8 @@ pub fn put_transaction_findings<W: Target>(
 ) -> Result<(), ToolFault>
     requires unfailed { has_failed sink.old ≡ false }
     requires few { explained ≡ true → first + length transaction.now ≤ 100000000 }
-    ensures { PutsLines W.contents W.failures (has_findings (Item.Transaction transaction.now)) (transaction_lines explained group sequence first transaction.now) result sink.old sink.new }
+    ensures { PutsLines W.contents W.failures (has_findings (Item.Transaction transaction.now))
+        (transaction_lines explained group sequence first transaction.now) result sink.old sink.new }
 {
     let mut told = Told::new();
     let put = put_findings_in(

@@ -60,9 +60,13 @@ pub(crate) fn read_on<K: Keeper, R: Source>(
     counts: &mut Totals,
 ) -> Result<Option<Item>, ReadFault>
     ensures same_reference { reading.new.reader.ghost_name ≡ reading.old.reader.ghost_name }
-    ensures told { ReadsTold (IsPassed passes K.are_clean) reading.old.decoder (R.remaining reading.old.reader.now) counts.old result reading.new.decoder (R.remaining reading.new.reader.now) counts.new }
-    ensures failures { CountsReader result (R.failures reading.old.reader.now) (R.failures reading.new.reader.now) }
-    ensures last { ReadsLast (R.remaining reading.old.reader.now) (R.remaining reading.new.reader.now) reading.old.last reading.new.last }
+    ensures told { ReadsTold (IsPassed passes K.are_clean) reading.old.decoder
+        (R.remaining reading.old.reader.now) counts.old result reading.new.decoder
+        (R.remaining reading.new.reader.now) counts.new }
+    ensures failures { CountsReader result (R.failures reading.old.reader.now)
+        (R.failures reading.new.reader.now) }
+    ensures last { ReadsLast (R.remaining reading.old.reader.now)
+        (R.remaining reading.new.reader.now) reading.old.last reading.new.last }
 {
     if !passes || works.pauses() {
         return reading.next_item();

@@ -108,10 +108,14 @@ fn put_items<L: Report, R: Source, W: Target>(
     requires stands { (of : ItemLines) × L.stands lines.old of [] }
     requires unfailed { has_failed sink.old ≡ false }
     requires empty { HasWritten W.contents (W.contents (writer_of sink.old)) [] sink.old }
-    ensures puts { (of : ItemLines) → L.stands lines.old of [] → PutsReport of (λ verdict. []) limits (R.remaining reader.old) (R.remaining reader.new) W.contents W.failures result sink.old sink.new }
+    ensures puts { (of : ItemLines) → L.stands lines.old of [] → PutsReport of (λ verdict. [])
+        limits (R.remaining reader.old) (R.remaining reader.new) W.contents W.failures result
+        sink.old sink.new }
     ensures failures { CountsReaderFault result (R.failures reader.old) (R.failures reader.new) }
-    ensures stands { (of : ItemLines) → L.stands lines.old of [] → IfOk result (StandsAfter (L.stands lines.new of) limits (R.remaining reader.old) (R.remaining reader.new)) }
-    ensures last { holds_last ≡ true → IfOk result (λ verdict. IsSomeAnd front.new.last (IsReadLast limits (R.remaining reader.old) (R.remaining reader.new) verdict)) }
+    ensures stands { (of : ItemLines) → L.stands lines.old of [] → IfOk result (StandsAfter
+        (L.stands lines.new of) limits (R.remaining reader.old) (R.remaining reader.new)) }
+    ensures last { holds_last ≡ true → IfOk result (λ verdict. IsSomeAnd front.new.last
+        (IsReadLast limits (R.remaining reader.old) (R.remaining reader.new) verdict)) }
 {
     let mut reading = begin_reading(holds_last, alloc, limits, reader);
     let mut counts = Totals::new();
@@ -150,10 +154,14 @@ fn put_report<L: Report, R: Source, W: Target>(
     requires stands { (of : ItemLines) × L.stands lines.old of [] }
     requires unfailed { has_failed sink.old ≡ false }
     requires empty { HasWritten W.contents (W.contents (writer_of sink.old)) [] sink.old }
-    ensures puts { (of : ItemLines) → L.stands lines.old of [] → PutsReport of of.last limits (R.remaining reader.old) (R.remaining reader.new) W.contents W.failures result sink.old sink.new }
+    ensures puts { (of : ItemLines) → L.stands lines.old of [] → PutsReport of of.last limits
+        (R.remaining reader.old) (R.remaining reader.new) W.contents W.failures result sink.old
+        sink.new }
     ensures failures { CountsReaderFault result (R.failures reader.old) (R.failures reader.new) }
-    ensures stands { (of : ItemLines) → L.stands lines.old of [] → IfOk result (StandsAfter (L.stands lines.new of) limits (R.remaining reader.old) (R.remaining reader.new)) }
-    ensures last { holds_last ≡ true → IfOk result (λ verdict. IsSomeAnd front.new.last (IsReadLast limits (R.remaining reader.old) (R.remaining reader.new) verdict)) }
+    ensures stands { (of : ItemLines) → L.stands lines.old of [] → IfOk result (StandsAfter
+        (L.stands lines.new of) limits (R.remaining reader.old) (R.remaining reader.new)) }
+    ensures last { holds_last ≡ true → IfOk result (λ verdict. IsSomeAnd front.new.last
+        (IsReadLast limits (R.remaining reader.old) (R.remaining reader.new) verdict)) }
 {
     let verdict = put_items(lines, holds_last, alloc, limits, reader, front, sink)?;
     match lines.put_verdict(&verdict, sink) {
@@ -177,15 +185,19 @@ pub fn write_report<L: Report, R: Source, W: Target>(
     writer: W,
 ) -> (W, Result<Verdict, ToolFault>, Front)
     requires { (of : ItemLines) × L.stands lines.old of [] }
-    ensures reported { (of : ItemLines) → L.stands lines.old of [] → Reports of limits (R.remaining reader.old) (R.remaining reader.new) W.contents writer result.0 result.1 }
+    ensures reported { (of : ItemLines) → L.stands lines.old of [] → Reports of limits
+        (R.remaining reader.old) (R.remaining reader.new) W.contents writer result.0 result.1 }
     // It is as the items leave it that were handed out before the verdict.
-    ensures stands { (of : ItemLines) → L.stands lines.old of [] → IfOk result.1 (StandsAfter (L.stands lines.new of) limits (R.remaining reader.old) (R.remaining reader.new)) }
+    ensures stands { (of : ItemLines) → L.stands lines.old of [] → IfOk result.1 (StandsAfter
+        (L.stands lines.new of) limits (R.remaining reader.old) (R.remaining reader.new)) }
     // No failure is passed over: a device failed only where that is the answer.
-    ensures reader_failures { CountsReaderFault result.1 (R.failures reader.old) (R.failures reader.new) }
+    ensures reader_failures { CountsReaderFault result.1 (R.failures reader.old)
+        (R.failures reader.new) }
     ensures writer_failures { CountsWriterFault result.1 (W.failures writer) (W.failures result.0) }
     // All that was written was handed on.
     ensures handed_on { OnOk result.1 (W.handed_on result.0 ≡ true) }
-    ensures last { holds_last ≡ true → IfOk result.1 (λ verdict. IsSomeAnd result.2.last (IsReadLast limits (R.remaining reader.old) (R.remaining reader.new) verdict)) }
+    ensures last { holds_last ≡ true → IfOk result.1 (λ verdict. IsSomeAnd result.2.last
+        (IsReadLast limits (R.remaining reader.old) (R.remaining reader.new) verdict)) }
 {
     let mut front = Front {
         last: None,

@@ -32,14 +32,17 @@ pub trait Report {
 
     /// Whether transactions that are clean may be passed over.
     fn passes(&self) -> bool
-        ensures { IsTrue result → (of : ItemLines) → PassesOver Self.Works.are_clean of (stands self.now of) };
+        ensures { IsTrue result → (of : ItemLines)
+            → PassesOver Self.Works.are_clean of (stands self.now of) };
 
     /// Puts what stands before the items.
     fn put_first<W: Target>(&mut self, sink: &mut Sink<W>) -> Result<(), ToolFault>
         requires unfailed { has_failed sink.old ≡ false }
         requires stands { (of : ItemLines) × stands self.old of [] }
-        ensures puts { (of : ItemLines) → stands self.old of [] → PutsLines W.contents W.failures false (of.lines []) result sink.old sink.new }
-        ensures stands { (of : ItemLines) → stands self.old of [] → OnOk result (stands self.new of []) };
+        ensures puts { (of : ItemLines) → stands self.old of []
+            → PutsLines W.contents W.failures false (of.lines []) result sink.old sink.new }
+        ensures stands { (of : ItemLines) → stands self.old of []
+            → OnOk result (stands self.new of []) };
 
     /// Puts the lines of an item that comes after items with these numbers.
     fn put_item<W: Target>(
@@ -53,13 +56,18 @@ pub trait Report {
         requires room { HasRoomToCount counts.now }
         requires few { counts.now.records + length (item_records item.now) ≤ 99999999 }
         requires stands { StandsCounted (stands self.old) counts.now }
-        ensures puts { (of : ItemLines) (given : List Item) → IsCount counts.now given → stands self.old of given → PutsNext W.contents W.failures of given item.now result sink.old sink.new }
-        ensures stands { (of : ItemLines) (given : List Item) → IsCount counts.now given → stands self.old of given → OnOk result (stands self.new of (given ++ item.now ∷ [])) };
+        ensures puts { (of : ItemLines) (given : List Item) → IsCount counts.now given
+            → stands self.old of given
+            → PutsNext W.contents W.failures of given item.now result sink.old sink.new }
+        ensures stands { (of : ItemLines) (given : List Item) → IsCount counts.now given
+            → stands self.old of given
+            → OnOk result (stands self.new of (given ++ item.now ∷ [])) };
 
     /// Puts what stands for the verdict.
     fn put_verdict<W: Target>(&self, verdict: &Verdict, sink: &mut Sink<W>) -> Result<(), SinkFault>
         requires { has_failed sink.old ≡ false }
-        ensures { (of : ItemLines) (given : List Item) → stands self.now of given → PutsText W.contents W.failures (of.last verdict.now) result sink.old sink.new };
+        ensures { (of : ItemLines) (given : List Item) → stands self.now of given
+            → PutsText W.contents W.failures (of.last verdict.now) result sink.old sink.new };
 }
 
 /// Keeps nothing of any transaction: none is passed over.

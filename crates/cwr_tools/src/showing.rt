@@ -25,12 +25,16 @@ pub fn show<R: Source, W: Target + Drop>(
     reader: &mut R,
     writer: W,
 ) -> (W, Result<Verdict, ToolFault>)
-    ensures reported { Reports lines_of_records limits (R.remaining reader.old) (R.remaining reader.new) W.contents writer result.0 result.1 }
+    ensures reported { Reports lines_of_records limits (R.remaining reader.old)
+        (R.remaining reader.new) W.contents writer result.0 result.1 }
     ensures judged { JudgesText limits (R.remaining reader.old) result.1 }
-    ensures accepted { IfOk result.1 (JudgesAccepted lines_of_records limits (R.remaining reader.old) (R.remaining reader.new) W.contents writer result.0) }
-    ensures canonical { IfOk result.1 (JudgesCanonical lines_of_records limits (R.remaining reader.old) (R.remaining reader.new) W.contents writer result.0) }
+    ensures accepted { IfOk result.1 (JudgesAccepted lines_of_records limits
+        (R.remaining reader.old) (R.remaining reader.new) W.contents writer result.0) }
+    ensures canonical { IfOk result.1 (JudgesCanonical lines_of_records limits
+        (R.remaining reader.old) (R.remaining reader.new) W.contents writer result.0) }
     // No failure is passed over: a device failed only where that is the answer.
-    ensures reader_failures { CountsReaderFault result.1 (R.failures reader.old) (R.failures reader.new) }
+    ensures reader_failures { CountsReaderFault result.1 (R.failures reader.old)
+        (R.failures reader.new) }
     ensures writer_failures { CountsWriterFault result.1 (W.failures writer) (W.failures result.0) }
     // All that was written was handed on.
     ensures handed_on { OnOk result.1 (W.handed_on result.0 ≡ true) }

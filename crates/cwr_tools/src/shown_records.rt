@@ -26,7 +26,8 @@ fn put_record<W: Target>(
     sink: &mut Sink<W>,
 ) -> Result<(), SinkFault>
     requires { has_failed sink.old ≡ false }
-    ensures puts { Puts W.contents W.failures (record_lines number shown.now) result sink.old sink.new }
+    ensures puts { Puts W.contents W.failures (record_lines number shown.now) result sink.old
+        sink.new }
     ensures fault { IfErr result (λ f. f.written ≡ written_of sink.new) }
 {
     lines.set(number, shown);
@@ -56,7 +57,8 @@ fn put_transaction<W: Target>(
 ) -> Result<(), SinkFault>
     requires unfailed { has_failed sink.old ≡ false }
     requires few { first + length transaction.now ≤ 100000000 }
-    ensures puts { Puts W.contents W.failures (numbered_records first transaction.now) result sink.old sink.new }
+    ensures puts { Puts W.contents W.failures (numbered_records first transaction.now) result
+        sink.old sink.new }
     ensures fault { IfErr result (λ f. f.written ≡ written_of sink.new) }
 {
     let mut i = 0;
@@ -76,7 +78,8 @@ fn put_records<W: Target>(
 ) -> Result<(), SinkFault>
     requires unfailed { has_failed sink.old ≡ false }
     requires few { first + length (item_records item.now) ≤ 100000000 }
-    ensures puts { Puts W.contents W.failures (numbered_records first (item_records item.now)) result sink.old sink.new }
+    ensures puts { Puts W.contents W.failures (numbered_records first (item_records item.now))
+        result sink.old sink.new }
     ensures fault { IfErr result (λ f. f.written ≡ written_of sink.new) }
 {
     match item {

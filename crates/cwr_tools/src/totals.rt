@@ -36,7 +36,8 @@ pub struct Totals {
 impl Totals {
     /// Nothing was handed out.
     pub fn new() -> Self
-        ensures { result ≡ record { groups = 0; transactions = 0; in_group = 0; before_group = 0; records = 0 } }
+        ensures { result
+            ≡ record { groups = 0; transactions = 0; in_group = 0; before_group = 0; records = 0 } }
     {
         Totals {
             groups: 0,

@@ -40,7 +40,8 @@ impl Watch {
 
     /// Findings came of which this is the worst level.
     pub(crate) fn see(&mut self, worst: Option<Level>)
-        ensures { self.new ≡ record self.old { found = self.old.found || is_reached self.old.from worst } }
+        ensures { self.new
+            ≡ record self.old { found = self.old.found || is_reached self.old.from worst } }
     {
         if let (Some(from), Some(worst)) = (self.from, worst) {
             self.found = self.found || reach(from) <= reach(worst);
@@ -50,7 +51,8 @@ impl Watch {
 
 /// The worse one of two levels.
 fn worse(worst: Option<Level>, level: Level) -> Level
-    ensures { (asked : Option Level) → is_reached asked (Some result) ≡ (is_reached asked worst || is_reached_by asked level) }
+    ensures { (asked : Option Level)
+        → is_reached asked (Some result) ≡ (is_reached asked worst || is_reached_by asked level) }
 {
     match worst {
         Some(worst) if reach(level) <= reach(worst) => worst,
@@ -80,7 +82,8 @@ impl Told {
 
     /// These are.
     pub(crate) fn add(&mut self, found: &[Finding])
-        ensures { (asked : Option Level) → is_reached asked self.new.worst ≡ (is_reached asked self.old.worst || has_from asked found.now) }
+        ensures { (asked : Option Level) → is_reached asked self.new.worst
+            ≡ (is_reached asked self.old.worst || has_from asked found.now) }
     {
         self.findings = self.findings.saturating_add(found.len() as u64);
         let mut i = 0;

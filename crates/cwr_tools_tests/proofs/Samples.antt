@@ -4,17 +4,21 @@ use Rattle.std.specs.Prelude.{ℕ, ◌==◌, not, List, [], ◌∷◌, ◌++◌,
 use Rattle.std.specs.List.{enumerate_from}
 use Rattle.cwr_fields.specs.Format.Bytes.{filled}
 use Rattle.cwr_fields.specs.declared.kinds.Kind.{Kind}
-use Rattle.cwr_fields.specs.declared.kinds.Kind.TheVariants.{Hdr, Grh, Grt, Agr, Ter, Ipa, Nwr, Rev, Spu, Opu, Spt, Swr, Owr, Swt, Pwr, Alt, Ewt, Per, Rec, Ack, Msg}
+use Rattle.cwr_fields.specs.declared.kinds.Kind.TheVariants.{Hdr, Grh, Grt, Agr, Ter, Ipa, Nwr, Rev, Spu, Opu, Spt, Swr, Owr, Swt}
+use Rattle.cwr_fields.specs.declared.kinds.Kind.TheVariants.{Pwr, Alt, Ewt, Per, Rec, Ack, Msg}
 use Rattle.cwr_fields.specs.Format.Layouts.{FieldLayout, layout}
 use Rattle.cwr_lines.specs.Format.Records.{RecordValue, blank_cell, blank_record}
 use Rattle.cwr_values.specs.Format.Values.{GroupValue, TransmissionValue}
 
 abbrev pub cell_with : List (ℕ × String) → ℕ → FieldLayout → List ℕ
-cell_with sets j f = unwrap_or (option_map (λ p. filled f.width (codes p.1)) (find (λ p. p.0 == j) sets)) (blank_cell f.ty f.width)
+cell_with sets j f =
+    unwrap_or (option_map (λ p. filled f.width (codes p.1)) (find (λ p. p.0 == j) sets)) (blank_cell f.ty f.width)
 
 -- a record with texts in some fields, by their numbers
 abbrev pub with_cells : Kind → List (ℕ × String) → RecordValue
-with_cells kind sets = record { kind = kind; cells = map (λ q. cell_with sets q.0 q.1) (filter (λ q. not q.1.derived) (enumerate_from 1 (layout kind))) }
+with_cells kind sets =
+    record
+    { kind = kind; cells = map (λ q. cell_with sets q.0 q.1) (filter (λ q. not q.1.derived) (enumerate_from 1 (layout kind))) }
 
 abbrev pub h : RecordValue
 h = with_cells Hdr ((2, "PB") ∷ (3, "123456789") ∷ (4, "MUSIC HOUSE") ∷ (6, "20240102") ∷ (7, "101500") ∷ (8, "20240103") ∷ [])
@@ -23,7 +27,9 @@ abbrev pub gr : String → RecordValue
 gr ty = with_cells Grh ((2, ty) ∷ (5, "0000000001") ∷ [])
 
 abbrev pub a1 : RecordValue
-a1 = with_cells Ack ((4, "20240102") ∷ (5, "101500") ∷ (6, "00001") ∷ (7, "00000000") ∷ (8, "NWR") ∷ (9, "BLUE RIVER") ∷ (10, "W0001") ∷ (12, "20240110") ∷ (13, "AS") ∷ [])
+a1 =
+    with_cells Ack ((4, "20240102") ∷ (5, "101500") ∷ (6, "00001") ∷ (7, "00000000") ∷ (8, "NWR") ∷ (9, "BLUE RIVER")
+    ∷ (10, "W0001") ∷ (12, "20240110") ∷ (13, "AS") ∷ [])
 
 abbrev pub ms1 : RecordValue
 ms1 = with_cells Msg ((4, "F") ∷ (7, "F") ∷ (9, "TITLE CHANGED") ∷ [])

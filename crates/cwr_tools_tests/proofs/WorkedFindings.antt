@@ -33,12 +33,16 @@ abbrev finding : ℕ → ℕ → Rule → Level → Finding
 finding r j rule level = record { rec = r; field = j; rule = rule; level = level }
 
 abbrev with_shares : List (ℕ × String) → List RecordValue
-with_shares sets = Samples.w1 ∷ Samples.with_cells kinds.Spu sets ∷ Samples.pt1 ∷ Samples.o1 ∷ Samples.s2 ∷ Samples.st1 ∷ Samples.pw1 ∷ Samples.ow1 ∷ Samples.al1 ∷ Samples.pe1 ∷ Samples.re1 ∷ []
+with_shares sets =
+    Samples.w1 ∷ Samples.with_cells kinds.Spu sets ∷ Samples.pt1 ∷ Samples.o1 ∷ Samples.s2 ∷ Samples.st1 ∷ Samples.pw1
+    ∷ Samples.ow1 ∷ Samples.al1 ∷ Samples.pe1 ∷ Samples.re1 ∷ []
 
 abbrev spu_with : List (ℕ × String) → List (ℕ × String)
 spu_with last = (4, "01") ∷ (5, "P1") ∷ (6, "MUSIC HOUSE") ∷ (8, "E") ∷ (13, "02500") ∷ last
 
-wrong_writer : alone (Samples.w1 ∷ Samples.p1 ∷ Samples.pt1 ∷ Samples.o1 ∷ Samples.s2 ∷ Samples.with_cells kinds.Swt ((4, "W9") ∷ (5, "05000") ∷ (8, "I") ∷ (9, "2136") ∷ (11, "001") ∷ []) ∷ drop 6 Samples.long_work) ≡ finding 5 4 V2 R ∷ []
+wrong_writer : alone (Samples.w1 ∷ Samples.p1 ∷ Samples.pt1 ∷ Samples.o1 ∷ Samples.s2
+    ∷ Samples.with_cells kinds.Swt ((4, "W9") ∷ (5, "05000") ∷ (8, "I") ∷ (9, "2136") ∷ (11, "001") ∷ [])
+    ∷ drop 6 Samples.long_work) ≡ finding 5 4 V2 R ∷ []
 unfolding findings findings_after
 wrong_writer = refl
 
@@ -54,11 +58,14 @@ synchronisation_near : alone (with_shares (spu_with ((15, "05000") ∷ (17, "050
 unfolding findings findings_after
 synchronisation_near = refl
 
-no_author : alone (Samples.w1 ∷ Samples.with_cells kinds.Swr ((4, "W1") ∷ (5, "SMITH") ∷ (6, "ANNA") ∷ (8, "AR") ∷ []) ∷ []) ≡ finding 0 1 V6 T ∷ []
+no_author : alone (Samples.w1 ∷ Samples.with_cells kinds.Swr ((4, "W1") ∷ (5, "SMITH") ∷ (6, "ANNA") ∷ (8, "AR") ∷ []) ∷ [])
+    ≡ finding 0 1 V6 T ∷ []
 unfolding findings findings_after
 no_author = refl
 
-wrong_publisher : alone (take 6 Samples.long_work ++ Samples.with_cells kinds.Pwr ((4, "P9") ∷ (5, "MUSIC HOUSE") ∷ (8, "W1") ∷ []) ∷ drop 7 Samples.long_work) ≡ finding 6 4 V7 R ∷ []
+wrong_publisher : alone (take 6 Samples.long_work
+    ++ Samples.with_cells kinds.Pwr ((4, "P9") ∷ (5, "MUSIC HOUSE") ∷ (8, "W1") ∷ [])
+    ∷ drop 7 Samples.long_work) ≡ finding 6 4 V7 R ∷ []
 unfolding findings findings_after
 wrong_publisher = refl
 
@@ -77,11 +84,14 @@ no_components = refl
 abbrev ipa_share : String → String → RecordValue
 ipa_share role amount = Samples.with_cells kinds.Ipa ((4, role) ∷ (8, "SMITH") ∷ (11, amount) ∷ [])
 
-block_over : alone (Samples.ag1 ∷ Samples.te1 ∷ ipa_share "AS" "06000" ∷ ipa_share "AS" "04007" ∷ Samples.ipa_ac ∷ []) ≡ finding 1 1 V11 T ∷ []
+block_over : alone (Samples.ag1 ∷ Samples.te1 ∷ ipa_share "AS" "06000" ∷ ipa_share "AS" "04007" ∷ Samples.ipa_ac ∷ [])
+    ≡ finding 1 1 V11 T ∷ []
 unfolding findings findings_after
 block_over = refl
 
-iswc_and_author : alone (Samples.with_cells kinds.Nwr (Samples.w1_sets ++ (7, "T0345246802") ∷ []) ∷ Samples.with_cells kinds.Swr ((4, "W1") ∷ (5, "SMITH") ∷ (6, "ANNA") ∷ (8, "AR") ∷ []) ∷ []) ≡ finding 0 7 V1 F ∷ finding 0 1 V6 T ∷ []
+iswc_and_author : alone (Samples.with_cells kinds.Nwr (Samples.w1_sets ++ (7, "T0345246802") ∷ [])
+    ∷ Samples.with_cells kinds.Swr ((4, "W1") ∷ (5, "SMITH") ∷ (6, "ANNA") ∷ (8, "AR") ∷ [])
+    ∷ []) ≡ finding 0 7 V1 F ∷ finding 0 1 V6 T ∷ []
 unfolding findings findings_after
 iswc_and_author = refl
 
@@ -89,7 +99,8 @@ iswc_right : alone (Samples.with_cells kinds.Nwr (Samples.w1_sets ++ (7, "T03452
 unfolding findings findings_after
 iswc_right = refl
 
-performing : alone (Samples.w1 ∷ Samples.with_cells kinds.Swr (Samples.s1_sets ++ (12, "09993") ∷ []) ∷ []) ≡ finding 0 1 V3 T ∷ []
+performing : alone (Samples.w1 ∷ Samples.with_cells kinds.Swr (Samples.s1_sets ++ (12, "09993") ∷ []) ∷ [])
+    ≡ finding 0 1 V3 T ∷ []
 unfolding findings findings_after
 performing = refl
 
@@ -97,7 +108,8 @@ performing_near : alone (Samples.w1 ∷ Samples.with_cells kinds.Swr (Samples.s1
 unfolding findings findings_after
 performing_near = refl
 
-end_first : alone (Samples.with_cells kinds.Agr (Samples.ag1_sets ++ (7, "20240101") ∷ (8, "20231231") ∷ []) ∷ []) ≡ finding 0 8 V10 F ∷ []
+end_first : alone (Samples.with_cells kinds.Agr (Samples.ag1_sets ++ (7, "20240101") ∷ (8, "20231231") ∷ []) ∷ [])
+    ≡ finding 0 8 V10 F ∷ []
 unfolding findings findings_after
 end_first = refl
 
@@ -107,9 +119,13 @@ bare_acknowledgement = refl
 
 -- the finding's line, in the first transaction of the first group
 abbrev two_groups_with_finding : TransmissionValue
-two_groups_with_finding = Samples.transmission (Samples.group_with "NWR" ((Samples.with_cells kinds.Nwr (Samples.w1_sets ++ (7, "T0345246802") ∷ []) ∷ Samples.s1 ∷ []) ∷ []) ∷ Samples.group_with "REV" ((Samples.v1 ∷ Samples.s1 ∷ []) ∷ (Samples.v2 ∷ Samples.s1 ∷ []) ∷ []) ∷ [])
+two_groups_with_finding =
+    Samples.transmission (Samples.group_with "NWR"
+    ((Samples.with_cells kinds.Nwr (Samples.w1_sets ++ (7, "T0345246802") ∷ []) ∷ Samples.s1 ∷ []) ∷ []) ∷ Samples.group_with
+    "REV" ((Samples.v1 ∷ Samples.s1 ∷ []) ∷ (Samples.v2 ∷ Samples.s1 ∷ []) ∷ []) ∷ [])
 
-two_groups_with_finding_check : check_text (items (rows two_groups_with_finding)) (good_verdict two_groups_with_finding) ≡ codes "FINDING group 1 transaction 0 record 0 field 7 level F rule V1\nGOOD groups 2 transactions 3 records 12\n"
+two_groups_with_finding_check : check_text (items (rows two_groups_with_finding)) (good_verdict two_groups_with_finding)
+    ≡ codes "FINDING group 1 transaction 0 record 0 field 7 level F rule V1\nGOOD groups 2 transactions 3 records 12\n"
 unfolding digits plain_digits rows items_after check_lines findings findings_after
 two_groups_with_finding_check = refl
 
@@ -131,10 +147,16 @@ second_input = refl
 refused : ℕ → ℕ → Level → Reason → List ℕ
 refused r j level reason = refusal_line (record { rec = r; field = j; level = level; reason = reason })
 
-reason_words : map (λ reason. refused 3 1 T reason) (reasons.UnknownKind ∷ reasons.Misplaced ∷ reasons.Cell cell_faults.Blank ∷ reasons.Cell cell_faults.Control ∷ reasons.Cell cell_faults.NotDigits ∷ reasons.Cell cell_faults.NotADate ∷ reasons.Cell cell_faults.NotATime
-    ∷ reasons.Cell cell_faults.OverShare ∷ reasons.Cell cell_faults.NotACode ∷ reasons.Cell cell_faults.NotConstant ∷ reasons.Number 3 ∷ reasons.Limit limit_kinds.Records ∷ reasons.Limit limit_kinds.Groups ∷ reasons.Limit limit_kinds.Transaction ∷ reasons.Excess ∷ [])
-    ≡ map (λ words. codes "REFUSED record 3 field 1 level T " ++ words ++ 10 ∷ []) (codes "unknown kind" ∷ codes "misplaced" ∷ codes "cell blank" ∷ codes "cell control" ∷ codes "cell not digits" ∷ codes "cell not a date" ∷ codes "cell not a time"
-    ∷ codes "cell over share" ∷ codes "cell not a code" ∷ codes "cell not constant" ∷ codes "number expected 3" ∷ codes "limit records" ∷ codes "limit groups" ∷ codes "limit transaction" ∷ codes "excess" ∷ [])
+reason_words : map (λ reason. refused 3 1 T reason) (reasons.UnknownKind ∷ reasons.Misplaced ∷ reasons.Cell cell_faults.Blank
+    ∷ reasons.Cell cell_faults.Control ∷ reasons.Cell cell_faults.NotDigits ∷ reasons.Cell cell_faults.NotADate
+    ∷ reasons.Cell cell_faults.NotATime
+    ∷ reasons.Cell cell_faults.OverShare ∷ reasons.Cell cell_faults.NotACode ∷ reasons.Cell cell_faults.NotConstant
+    ∷ reasons.Number 3 ∷ reasons.Limit limit_kinds.Records ∷ reasons.Limit limit_kinds.Groups
+    ∷ reasons.Limit limit_kinds.Transaction ∷ reasons.Excess ∷ [])
+    ≡ map (λ words. codes "REFUSED record 3 field 1 level T " ++ words ++ 10 ∷ []) (codes "unknown kind" ∷ codes "misplaced"
+    ∷ codes "cell blank" ∷ codes "cell control" ∷ codes "cell not digits" ∷ codes "cell not a date" ∷ codes "cell not a time"
+    ∷ codes "cell over share" ∷ codes "cell not a code" ∷ codes "cell not constant" ∷ codes "number expected 3"
+    ∷ codes "limit records" ∷ codes "limit groups" ∷ codes "limit transaction" ∷ codes "excess" ∷ [])
 unfolding plain_digits refused
 reason_words = refl
 

@@ -1,5 +1,6 @@
 -- A text that ends in the middle of HDR's last date is refused at that date.
-use Rattle.std.proofs.Common.{◌≡◌, ℕ, zero, suc, ◌+◌, ◌<◌, ◌≤◌, List, [], ◌∷◌, ◌++◌, length, take, drop, replicate, refl, sym, ap, subst, subst₂, ◌∙◌, inr, lit<, lit≤, arith, append_assoc}
+use Rattle.std.proofs.Common.{◌≡◌, ℕ, zero, suc, ◌+◌, ◌<◌, ◌≤◌, List, [], ◌∷◌, ◌++◌, length, take, drop, replicate, refl, sym, ap}
+use Rattle.std.proofs.Common.{subst, subst₂, ◌∙◌, inr, lit<, lit≤, arith, append_assoc}
 use Rattle.std.specs.Prelude.{codes, ◌⊎◌, Some, None, slice_index_or}
 use Rattle.std.specs.List.{AllZip}
 use Rattle.std.proofs.lemmas.Int.{ints}
@@ -57,18 +58,23 @@ bad_cells (c2 ∷ c3 ∷ c4 ∷ c5 ∷ c6 ∷ c7 ∷ c8 ∷ rest) h e =
 
 bad_record : (r : RecordValue) → r.kind ≡ kinds.Hdr → IsRecord r → take 8 (row_of [] r).cells ≡ take 8 (line_cells line_80) → ⊥
 bad_record r e h same =
-    let P : Kind → Type 0 = λ k. AllZip IsCellOf (carried_fields k) r.cells → take 8 (letters k ∷ row_cells (fields_after_type k) [] r.cells) ≡ take 8 (line_cells line_80) → ⊥ in
+    let P : Kind → Type 0 =
+    λ k. AllZip IsCellOf (carried_fields k) r.cells
+    → take 8 (letters k ∷ row_cells (fields_after_type k) [] r.cells) ≡ take 8 (line_cells line_80) → ⊥ in
     subst P (sym e) (bad_cells r.cells) h same
 
 -- the first line of what is spelled
-first_spelled : (v : TransmissionValue) (line front rest : List ℕ) → IsTransmission v → NoLf line → Spells v front → line ++ 10 ∷ [] ≡ front ++ rest → IsLineOf (row_of [] v.opening) line
+first_spelled : (v : TransmissionValue) (line front rest : List ℕ) → IsTransmission v → NoLf line → Spells v front
+    → line ++ 10 ∷ [] ≡ front ++ rest → IsLineOf (row_of [] v.opening) line
 unfolding rows
 first_spelled v line front rest h no_lf s e = by s.0 s.1 s.2
   where
     by : (lines : List (List ℕ)) → AllZip IsLineOf (rows v) lines → front ≡ lines_text lines → IsLineOf (row_of [] v.opening) line
     by [] z t = absurd z
     by (k ∷ ks) z t =
-        let whole : line ++ 10 ∷ [] ≡ k ++ 10 ∷ (lines_text ks ++ rest) = e ∙ ap (λ (x : List ℕ). x ++ rest) t ∙ append_assoc (k ++ 10 ∷ []) (lines_text ks) rest ∙ append_assoc k (10 ∷ []) (lines_text ks ++ rest) in
+        let whole : line ++ 10 ∷ [] ≡ k ++ 10 ∷ (lines_text ks ++ rest) =
+        e ∙ ap (λ (x : List ℕ). x ++ rest) t ∙ append_assoc (k ++ 10 ∷ []) (lines_text ks) rest
+        ∙ append_assoc k (10 ∷ []) (lines_text ks ++ rest) in
         subst (IsLineOf (row_of [] v.opening)) (sym (first_line line k [] (lines_text ks ++ rest) no_lf z.0.0 whole).0) z.0
 
 not_accepted : (v : TransmissionValue) (n : ℕ) → ¬ IsAccepted largest line_80 v n
@@ -113,7 +119,8 @@ viable_before (suc (suc (suc (suc (suc (suc zero)))))) f t = viable_to 6 refl (l
 viable_before (suc (suc (suc (suc (suc (suc (suc zero))))))) f t = viable_to 7 refl (lit≤ tt)
 viable_before (suc (suc (suc (suc (suc (suc (suc (suc k)))))))) f t = absurd (omega arith)
 
-only_line : (before : List (List ℕ)) (line : List ℕ) (after : List (List ℕ)) → line_80 ∷ [] ≡ before ++ line ∷ after → (before ≡ []) × (line ≡ line_80)
+only_line : (before : List (List ℕ)) (line : List ℕ) (after : List (List ℕ)) → line_80 ∷ [] ≡ before ++ line ∷ after
+    → (before ≡ []) × (line ≡ line_80)
 only_line [] line after e = (refl, sym (ap (λ (xs : List (List ℕ)). slice_index_or xs 0 []) e))
 only_line (b ∷ []) line after e = absurd (no_second line after (ap (drop 1) e))
   where
@@ -133,7 +140,11 @@ first_bad = (
     later : (j l : ℕ) (b : IsBadAt largest line_80 j l) → (b.before ≡ []) × (b.line ≡ line_80) → (1 < j) ⊎ ((1 ≡ j) × (8 ≤ l))
     later j l b e =
         let here : j ≡ 1 = b.at ∙ ap (λ (xs : List (List ℕ)). length xs + 1) e.0 in
-        inr (sym here, not_less l (λ lt. b.bad (subst₂ (λ (xs : List (List ℕ)) (x : List ℕ). Viable largest xs x l) (sym e.0) (sym e.1) (viable_before l b.from lt))))
+        inr (
+          sym here,
+          not_less l (λ lt. b.bad (subst₂ (λ (xs : List (List ℕ)) (x : List ℕ). Viable largest xs x l) (sym e.0)
+              (sym e.1) (viable_before l b.from lt))),
+        )
       where
         not_less : (m : ℕ) → (m < 8 → ⊥) → 8 ≤ m
         not_less m h = omega (arith, h)
@@ -143,7 +154,13 @@ reasons_after UnknownKind h = absurd (some_none h)
   where
     some_none : Some kinds.Hdr ≡ None → ⊥
     some_none e = cc e
-reasons_after Misplaced h = absurd (h (outline_of Samples.one_acknowledgement, outline_whole Samples.one_acknowledgement one_acknowledgement_whole, tt, (Plain kinds.Hdr ∷ [], _, refl, ((0, (lit< tt, refl)), tt))))
+reasons_after Misplaced h =
+    absurd (h (
+      outline_of Samples.one_acknowledgement,
+      outline_whole Samples.one_acknowledgement one_acknowledgement_whole,
+      tt,
+      (Plain kinds.Hdr ∷ [], _, refl, ((0, (lit< tt, refl)), tt)),
+    ))
 reasons_after (Cell f) h = lit≤ tt
 reasons_after (Number n) h = lit≤ tt
 reasons_after (Limit limit_kinds.Records) h = lit≤ tt

@@ -24,11 +24,14 @@ use Rattle.cwr_parts.specs.Format.Splits.{split_of, join_of}
 use Rattle.cwr_tools_tests.proofs.Samples
 
 -- the widths of the kinds, from HDR to XRF
-widths : map line_width all_kinds ≡ 101 ∷ 28 ∷ 37 ∷ 24 ∷ 121 ∷ 24 ∷ 153 ∷ 260 ∷ 260 ∷ 183 ∷ 183 ∷ 58 ∷ 180 ∷ 180 ∷ 52 ∷ 110 ∷ 83 ∷ 364 ∷ 364 ∷ 118 ∷ 266 ∷ 301 ∷ 308 ∷ 159 ∷ 185 ∷ 719 ∷ 719 ∷ 719 ∷ 719 ∷ 719 ∷ 719 ∷ 719 ∷ 719 ∷ 719 ∷ 719 ∷ 719 ∷ 719 ∷ 719 ∷ 719 ∷ 719 ∷ []
+widths : map line_width all_kinds ≡ 101 ∷ 28 ∷ 37 ∷ 24 ∷ 121 ∷ 24 ∷ 153 ∷ 260 ∷ 260 ∷ 183 ∷ 183 ∷ 58 ∷ 180 ∷ 180 ∷ 52 ∷ 110 ∷ 83
+    ∷ 364 ∷ 364 ∷ 118 ∷ 266 ∷ 301 ∷ 308 ∷ 159 ∷ 185 ∷ 719 ∷ 719 ∷ 719 ∷ 719 ∷ 719 ∷ 719 ∷ 719 ∷ 719 ∷ 719 ∷ 719 ∷ 719 ∷ 719 ∷ 719
+    ∷ 719 ∷ 719 ∷ []
 widths = refl
 
 -- how many fields the kinds have
-field_counts : map (λ kind. length (layout kind)) all_kinds ≡ 9 ∷ 6 ∷ 6 ∷ 4 ∷ 19 ∷ 5 ∷ 15 ∷ 28 ∷ 28 ∷ 25 ∷ 25 ∷ 12 ∷ 23 ∷ 23 ∷ 11 ∷ 8 ∷ 6 ∷ 16 ∷ 16 ∷ 7 ∷ 15 ∷ 16 ∷ 15 ∷ 13 ∷ 9 ∷ 4 ∷ 4 ∷ 4 ∷ 4 ∷ 4 ∷ 4 ∷ 4 ∷ 4 ∷ 4 ∷ 4 ∷ 4 ∷ 4 ∷ 4 ∷ 4 ∷ 4 ∷ []
+field_counts : map (λ kind. length (layout kind)) all_kinds ≡ 9 ∷ 6 ∷ 6 ∷ 4 ∷ 19 ∷ 5 ∷ 15 ∷ 28 ∷ 28 ∷ 25 ∷ 25 ∷ 12 ∷ 23 ∷ 23 ∷ 11
+    ∷ 8 ∷ 6 ∷ 16 ∷ 16 ∷ 7 ∷ 15 ∷ 16 ∷ 15 ∷ 13 ∷ 9 ∷ 4 ∷ 4 ∷ 4 ∷ 4 ∷ 4 ∷ 4 ∷ 4 ∷ 4 ∷ 4 ∷ 4 ∷ 4 ∷ 4 ∷ 4 ∷ 4 ∷ 4 ∷ []
 field_counts = refl
 
 -- ---- one acknowledgement
@@ -42,7 +45,8 @@ abbrev one_acknowledgement_lines : List (List ℕ)
 one_acknowledgement_lines =
     (codes "HDRPB123456789MUSIC HOUSE" ++ replicate 34 32 ++ codes "01.102024010210150020240103")
     ∷ codes "GRHACK0000102.100000000001"
-    ∷ (codes "ACK0000000000000000202401021015000000100000000NWRBLUE RIVER" ++ replicate 50 32 ++ codes "W0001" ++ replicate 35 32 ++ codes "20240110AS")
+    ∷ (codes "ACK0000000000000000202401021015000000100000000NWRBLUE RIVER" ++ replicate 50 32 ++ codes "W0001" ++ replicate 35 32
+    ++ codes "20240110AS")
     ∷ codes "GRT000010000000100000003"
     ∷ codes "TRL000010000000100000005" ∷ []
 
@@ -54,7 +58,10 @@ one_acknowledgement_lengths : map length one_acknowledgement_lines ≡ 86 ∷ 26
 one_acknowledgement_lengths = refl
 
 -- the canonical text, byte by byte
-one_acknowledgement_text : canonical_text Samples.one_acknowledgement ≡ flat_map (λ (p : ℕ × List ℕ). filled p.0 p.1 ++ 13 ∷ 10 ∷ []) ((101, slice_index_or one_acknowledgement_lines 0 []) ∷ (28, slice_index_or one_acknowledgement_lines 1 []) ∷ (159, slice_index_or one_acknowledgement_lines 2 []) ∷ (37, slice_index_or one_acknowledgement_lines 3 []) ∷ (24, slice_index_or one_acknowledgement_lines 4 []) ∷ [])
+one_acknowledgement_text : canonical_text Samples.one_acknowledgement ≡ flat_map (λ (p : ℕ × List ℕ). filled p.0 p.1 ++ 13 ∷ 10
+    ∷ []) ((101, slice_index_or one_acknowledgement_lines 0 []) ∷ (28, slice_index_or one_acknowledgement_lines 1 [])
+    ∷ (159, slice_index_or one_acknowledgement_lines 2 []) ∷ (37, slice_index_or one_acknowledgement_lines 3 [])
+    ∷ (24, slice_index_or one_acknowledgement_lines 4 []) ∷ [])
 unfolding digits canonical_text rows
 one_acknowledgement_text = refl
 
@@ -71,7 +78,8 @@ trimmed_acknowledgement_closed = refl
 trimmed_acknowledgement_raw : raw_lines (closed trimmed_acknowledgement_text) ≡ one_acknowledgement_lines
 trimmed_acknowledgement_raw = refl
 
-trimmed_acknowledgement_cut : map line_cells (raw_lines (closed trimmed_acknowledgement_text)) ≡ map (λ row. row.cells) (rows Samples.one_acknowledgement)
+trimmed_acknowledgement_cut : map line_cells (raw_lines (closed trimmed_acknowledgement_text))
+    ≡ map (λ row. row.cells) (rows Samples.one_acknowledgement)
 unfolding digits rows
 trimmed_acknowledgement_cut = refl
 
@@ -80,23 +88,28 @@ one_acknowledgement_records : map record_of (rows Samples.one_acknowledgement) �
 unfolding digits rows
 one_acknowledgement_records = refl
 
-one_acknowledgement_items : items (rows Samples.one_acknowledgement) ≡ Opened Samples.h ∷ GroupOpened (Samples.gr "ACK") ∷ Transaction (Samples.a1 ∷ []) ∷ GroupClosed Samples.grt ∷ Ended ∷ []
+one_acknowledgement_items : items (rows Samples.one_acknowledgement)
+    ≡ Opened Samples.h ∷ GroupOpened (Samples.gr "ACK") ∷ Transaction (Samples.a1 ∷ []) ∷ GroupClosed Samples.grt ∷ Ended ∷ []
 unfolding digits rows items_after
 one_acknowledgement_items = refl
 
 -- no transaction is handed out before a row follows it
-one_acknowledgement_three : items (take 3 (rows Samples.one_acknowledgement)) ≡ Opened Samples.h ∷ GroupOpened (Samples.gr "ACK") ∷ []
+one_acknowledgement_three : items (take 3 (rows Samples.one_acknowledgement))
+    ≡ Opened Samples.h ∷ GroupOpened (Samples.gr "ACK") ∷ []
 unfolding digits rows items_after
 one_acknowledgement_three = refl
 
-one_acknowledgement_check : check_text (items (rows Samples.one_acknowledgement)) (good_verdict Samples.one_acknowledgement) ≡ codes "GOOD groups 1 transactions 1 records 5\n"
+one_acknowledgement_check : check_text (items (rows Samples.one_acknowledgement)) (good_verdict Samples.one_acknowledgement)
+    ≡ codes "GOOD groups 1 transactions 1 records 5\n"
 unfolding digits plain_digits rows items_after check_lines findings findings_after
 one_acknowledgement_check = refl
 
 one_acknowledgement_show : show_text (items (rows Samples.one_acknowledgement)) (good_verdict Samples.one_acknowledgement) ≡
-    codes "1 HDR\n  2 sender type: PB\n  3 sender id: 123456789\n  4 sender name: MUSIC HOUSE\n  5 edi standard version: 01.10\n  6 creation date: 20240102\n  7 creation time: 101500\n  8 transmission date: 20240103\n"
+    codes
+    "1 HDR\n  2 sender type: PB\n  3 sender id: 123456789\n  4 sender name: MUSIC HOUSE\n  5 edi standard version: 01.10\n  6 creation date: 20240102\n  7 creation time: 101500\n  8 transmission date: 20240103\n"
     ++ codes "2 GRH\n  2 transaction type: ACK\n  4 version: 02.10\n  5 batch request: 0000000001\n"
-    ++ codes "3 ACK\n  4 creation date: 20240102\n  5 creation time: 101500\n  6 original group id: 00001\n  7 original transaction sequence: 00000000\n  8 original transaction type: NWR\n  9 creation title: BLUE RIVER\n  10 submitter creation number: W0001\n  12 processing date: 20240110\n  13 transaction status: AS\n"
+    ++ codes
+    "3 ACK\n  4 creation date: 20240102\n  5 creation time: 101500\n  6 original group id: 00001\n  7 original transaction sequence: 00000000\n  8 original transaction type: NWR\n  9 creation title: BLUE RIVER\n  10 submitter creation number: W0001\n  12 processing date: 20240110\n  13 transaction status: AS\n"
     ++ codes "4 GRT\n5 TRL\nGOOD groups 1 transactions 1 records 5\n"
 unfolding digits trimmed plain_digits rows items_after cell_lines show_lines
 one_acknowledgement_show = refl
@@ -107,7 +120,8 @@ one_work_length : length (canonical_text Samples.one_work) ≡ 1893
 unfolding digits canonical_text rows
 one_work_length = refl
 
-one_work_ends : map (λ row. trimmed (full_line row)) (drop 13 (rows Samples.one_work)) ≡ codes "GRT000010000000100000013" ∷ codes "TRL000010000000100000015" ∷ []
+one_work_ends : map (λ row. trimmed (full_line row)) (drop 13 (rows Samples.one_work))
+    ≡ codes "GRT000010000000100000013" ∷ codes "TRL000010000000100000015" ∷ []
 unfolding digits trimmed rows
 one_work_ends = refl
 
@@ -115,11 +129,13 @@ one_work_findings : findings Samples.long_work ≡ []
 unfolding findings findings_after
 one_work_findings = refl
 
-one_work_check : check_text (items (rows Samples.one_work)) (good_verdict Samples.one_work) ≡ codes "GOOD groups 1 transactions 1 records 15\n"
+one_work_check : check_text (items (rows Samples.one_work)) (good_verdict Samples.one_work)
+    ≡ codes "GOOD groups 1 transactions 1 records 15\n"
 unfolding digits plain_digits rows items_after check_lines findings findings_after
 one_work_check = refl
 
-one_agreement_check : check_text (items (rows Samples.one_agreement)) (good_verdict Samples.one_agreement) ≡ codes "GOOD groups 1 transactions 1 records 11\n"
+one_agreement_check : check_text (items (rows Samples.one_agreement)) (good_verdict Samples.one_agreement)
+    ≡ codes "GOOD groups 1 transactions 1 records 11\n"
 unfolding digits plain_digits rows items_after check_lines findings findings_after
 one_agreement_check = refl
 
@@ -137,7 +153,8 @@ two_groups_numbers = refl
 two_groups_outline : lengths_of (outline_of Samples.two_groups) ≡ lengths_of_value Samples.two_groups
 two_groups_outline = refl
 
-two_groups_check : check_text (items (rows Samples.two_groups)) (good_verdict Samples.two_groups) ≡ codes "GOOD groups 2 transactions 3 records 12\n"
+two_groups_check : check_text (items (rows Samples.two_groups)) (good_verdict Samples.two_groups)
+    ≡ codes "GOOD groups 2 transactions 3 records 12\n"
 unfolding digits plain_digits rows items_after check_lines findings findings_after
 two_groups_check = refl
 
@@ -167,7 +184,8 @@ unfolding digits canonical_text rows
 split_in_twos_lengths = refl
 
 split_in_twos_numbers : map (λ v. numbers_of (lengths_of_value v)) (split_of 2 Samples.two_groups) ≡
-    ([] ∷ (1 ∷ []) ∷ (0 ∷ 0 ∷ []) ∷ (0 ∷ 1 ∷ []) ∷ (1 ∷ 1 ∷ 4 ∷ []) ∷ (2 ∷ []) ∷ (0 ∷ 0 ∷ []) ∷ (0 ∷ 1 ∷ []) ∷ (2 ∷ 1 ∷ 4 ∷ []) ∷ (2 ∷ 2 ∷ 10 ∷ []) ∷ [])
+    ([] ∷ (1 ∷ []) ∷ (0 ∷ 0 ∷ []) ∷ (0 ∷ 1 ∷ []) ∷ (1 ∷ 1 ∷ 4 ∷ []) ∷ (2 ∷ []) ∷ (0 ∷ 0 ∷ []) ∷ (0 ∷ 1 ∷ []) ∷ (2 ∷ 1 ∷ 4 ∷ [])
+    ∷ (2 ∷ 2 ∷ 10 ∷ []) ∷ [])
     ∷ ([] ∷ (1 ∷ []) ∷ (0 ∷ 0 ∷ []) ∷ (0 ∷ 1 ∷ []) ∷ (1 ∷ 1 ∷ 4 ∷ []) ∷ (1 ∷ 1 ∷ 6 ∷ []) ∷ []) ∷ []
 split_in_twos_numbers = refl
 
@@ -178,7 +196,9 @@ split_in_ones = refl
 split_in_threes : split_of 3 Samples.two_groups ≡ Samples.two_groups ∷ []
 split_in_threes = refl
 
-joined_again_length : map (λ v. length (canonical_text v)) (map (λ parts. join_of (slice_index_or parts 0 Samples.one_acknowledgement) (drop 1 parts)) (split_of 2 Samples.two_groups ∷ [])) ≡ 1668 ∷ []
+joined_again_length : map (λ v. length (canonical_text v)) (map
+    (λ parts. join_of (slice_index_or parts 0 Samples.one_acknowledgement) (drop 1 parts))
+    (split_of 2 Samples.two_groups ∷ [])) ≡ 1668 ∷ []
 unfolding digits canonical_text rows
 joined_again_length = refl
 
@@ -191,7 +211,8 @@ long_line_over = refl
 long_line_fits : has_bad_excess (filled 1024 (slice_index_or one_acknowledgement_lines 0 [])) ≡ false
 long_line_fits = refl
 
-unknown_kinds : map line_kind ((239 ∷ 187 ∷ 191 ∷ slice_index_or one_acknowledgement_lines 0 []) ∷ codes "hdr" ∷ [] ∷ []) ≡ None ∷ None ∷ None ∷ []
+unknown_kinds : map line_kind ((239 ∷ 187 ∷ 191 ∷ slice_index_or one_acknowledgement_lines 0 []) ∷ codes "hdr" ∷ [] ∷ [])
+    ≡ None ∷ None ∷ None ∷ []
 unknown_kinds = refl
 
 -- the fields that rules name

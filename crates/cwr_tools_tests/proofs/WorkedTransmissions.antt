@@ -52,16 +52,20 @@ one_acknowledgement_whole = record {
 pub one_acknowledgement_within : FitsIn largest Samples.one_acknowledgement
 one_acknowledgement_within = (lit≤ tt, lit≤ tt, ((lit≤ tt, tt), tt))
 
-one_acknowledgement_accepted : (more : List ℕ) → IsAccepted largest (canonical_text Samples.one_acknowledgement ++ more) Samples.one_acknowledgement 359
+one_acknowledgement_accepted : (more : List ℕ)
+    → IsAccepted largest (canonical_text Samples.one_acknowledgement ++ more) Samples.one_acknowledgement 359
 unfolding digits canonical_text rows
-one_acknowledgement_accepted more = canonical_accepted largest Samples.one_acknowledgement more one_acknowledgement_whole one_acknowledgement_within
+one_acknowledgement_accepted more =
+    canonical_accepted largest Samples.one_acknowledgement more one_acknowledgement_whole one_acknowledgement_within
 
 records_sound : (rs : List RecordValue) → list_all record_test rs ≡ true → AllByRecursion IsRecord rs
 records_sound [] h = tt
-records_sound (r ∷ rs) h = let p = and_parts (record_test r) (list_all record_test rs) h in (record_sound r p.0, records_sound rs p.1)
+records_sound (r ∷ rs) h =
+    let p = and_parts (record_test r) (list_all record_test rs) h in (record_sound r p.0, records_sound rs p.1)
 
 -- records that pass the tests are a transaction of the type
-transaction_sound : (ty : TransactionType) (rs : List RecordValue) → list_all record_test rs ≡ true → nullable (after_all (map symbol_of rs) (pattern_of ty)) ≡ true → IsTransaction ty rs
+transaction_sound : (ty : TransactionType) (rs : List RecordValue) → list_all record_test rs ≡ true
+    → nullable (after_all (map symbol_of rs) (pattern_of ty)) ≡ true → IsTransaction ty rs
 transaction_sound ty rs h k = (records_sound rs h, accepts_sound (map symbol_of rs) (pattern_of ty) k)
 
 pub one_work_whole : IsTransmission Samples.one_work
@@ -89,7 +93,12 @@ one_agreement_whole = record {
     record {
       head = (refl, record_sound (Samples.gr "AGR") refl);
       some_transaction = lit< tt;
-      each = (transaction_sound Agreement (Samples.ag1 ∷ Samples.te1 ∷ Samples.ipa_as ∷ Samples.ipa_ac ∷ Samples.te1 ∷ Samples.ipa_ac ∷ Samples.ipa_as ∷ []) refl refl, tt);
+      each = (
+        transaction_sound Agreement
+            (Samples.ag1 ∷ Samples.te1 ∷ Samples.ipa_as ∷ Samples.ipa_ac ∷ Samples.te1 ∷ Samples.ipa_ac ∷ Samples.ipa_as ∷ []) refl
+            refl,
+        tt,
+      );
       foot = (refl, record_sound Samples.grt refl);
     },
     tt,
@@ -112,7 +121,10 @@ two_groups_whole = record {
       record {
         head = (refl, record_sound (Samples.gr "REV") refl);
         some_transaction = lit< tt;
-        each = (transaction_sound RevisedWork (Samples.v1 ∷ Samples.s1 ∷ []) refl refl, (transaction_sound RevisedWork (Samples.v2 ∷ Samples.s1 ∷ []) refl refl, tt));
+        each = (
+          transaction_sound RevisedWork (Samples.v1 ∷ Samples.s1 ∷ []) refl refl,
+          (transaction_sound RevisedWork (Samples.v2 ∷ Samples.s1 ∷ []) refl refl, tt),
+        );
         foot = (refl, record_sound Samples.grt refl);
       },
       tt,
@@ -123,6 +135,9 @@ two_groups_whole = record {
 two_groups_within : FitsIn (record { records = 12; groups = 2; transaction = 2 }) Samples.two_groups
 two_groups_within = (lit≤ tt, lit≤ tt, ((lit≤ tt, tt), ((lit≤ tt, (lit≤ tt, tt)), tt)))
 
-two_groups_accepted : (more : List ℕ) → IsAccepted (record { records = 12; groups = 2; transaction = 2 }) (canonical_text Samples.two_groups ++ more) Samples.two_groups 1599
+two_groups_accepted : (more : List ℕ) → IsAccepted (record { records = 12; groups = 2; transaction = 2 })
+    (canonical_text Samples.two_groups ++ more) Samples.two_groups 1599
 unfolding digits canonical_text rows
-two_groups_accepted more = canonical_accepted (record { records = 12; groups = 2; transaction = 2 }) Samples.two_groups more two_groups_whole two_groups_within
+two_groups_accepted more =
+    canonical_accepted (record { records = 12; groups = 2; transaction = 2 }) Samples.two_groups more two_groups_whole
+    two_groups_within

@@ -9,14 +9,17 @@ use Rattle.cwr_values.specs.Format.FormerOrders.{Order, IsTransactionIn, IsGroup
 use Rattle.cwr_values.specs.Format.Values.{GroupValue, TransmissionValue, IsTransaction, IsGroup, IsTransmission, type_of}
 
 module _ (order : Order) (kept : (ty : TransactionType) (xs : List Symbol) → order ty xs → IsShape ty xs) where
-  transaction_kept : (ty : TransactionType) (records : List RecordValue) → IsTransactionIn order ty records → IsTransaction ty records
+  transaction_kept : (ty : TransactionType) (records : List RecordValue) → IsTransactionIn order ty records
+      → IsTransaction ty records
   transaction_kept ty records h = (h.0, kept ty _ h.1)
 
   group_kept : (g : GroupValue) → IsGroupIn order g → IsGroup g
   group_kept g h = record {
     head = h.head;
     some_transaction = h.some_transaction;
-    each = all_follow (IsTransactionIn order (type_of g.head)) (IsTransaction (type_of g.head)) (transaction_kept (type_of g.head)) g.transactions h.each;
+    each =
+        all_follow (IsTransactionIn order (type_of g.head)) (IsTransaction (type_of g.head)) (transaction_kept (type_of g.head))
+        g.transactions h.each;
     foot = h.foot;
   }
 

@@ -17,7 +17,8 @@ use Rattle.cwr_shape.specs.Steps.Counting.{counts_with}
 use Rattle.cwr_shape.proofs.OneMore.{open_type-snoc, counts-snoc}
 use Rattle.cwr_shape.proofs.TransactionNumbers.{walk}
 use Rattle.cwr_shape.proofs.NumbersAreCounted.{walks_whole}
-use Rattle.cwr_values.specs.Format.Values.{GroupValue, TransmissionValue, IsTransmission, symbol_of, symbol_by, outline_of, outline_of_group}
+use Rattle.cwr_values.specs.Format.Values.{GroupValue, TransmissionValue, IsTransmission, symbol_of, symbol_by, outline_of}
+use Rattle.cwr_values.specs.Format.Values.{outline_of_group}
 use Rattle.cwr_values.specs.Format.Rows.{records_of, lengths_of_value, rows}
 use Rattle.cwr_values.specs.Format.Begins.{row_after, rows_after, rows_so_far}
 use Rattle.cwr_values.proofs.OneSpelling.{symbols-outline, outline_whole}
@@ -30,7 +31,8 @@ transactions_lengths (t ∷ ts) = ap₂ (λ (n : ℕ) (ns : List ℕ). n ∷ ns)
 
 groups_lengths : (gs : List GroupValue) → lengths_of (map outline_of_group gs) ≡ map (λ g. map length g.transactions) gs
 groups_lengths [] = refl
-groups_lengths (g ∷ gs) = ap₂ (λ (n : List ℕ) (ns : List (List ℕ)). n ∷ ns) (transactions_lengths g.transactions) (groups_lengths gs)
+groups_lengths (g ∷ gs) =
+    ap₂ (λ (n : List ℕ) (ns : List (List ℕ)). n ∷ ns) (transactions_lengths g.transactions) (groups_lengths gs)
 
 -- ---- counters give the rows
 
@@ -44,37 +46,47 @@ kind_of_symbol r = by r.kind
     by k = refl
 
 rows_walked : (before rs : List RecordValue)
-    → map (λ p. row_of p.0 p.1) (zip (walk (open_type (map symbol_of before)) (counts_of (map symbol_of before)) (map symbol_of rs)) rs) ≡ rows_after before rs
+    → map (λ p. row_of p.0 p.1)
+    (zip (walk (open_type (map symbol_of before)) (counts_of (map symbol_of before)) (map symbol_of rs)) rs) ≡ rows_after
+    before rs
 unfolding rows_after
 rows_walked before [] = refl
 rows_walked before (r ∷ rs) =
     let xs : List Symbol = map symbol_of before in
     let s : Symbol = symbol_of r in
     let grown : map symbol_of (before ++ r ∷ []) ≡ xs ++ s ∷ [] = map-append symbol_of before (r ∷ []) in
-    let ty : type_after (open_type xs) s ≡ open_type (map symbol_of (before ++ r ∷ [])) = sym (open_type-snoc xs s) ∙ sym (ap open_type grown) in
-    let counts : counts_with (open_type xs) (counts_of xs) s ≡ counts_of (map symbol_of (before ++ r ∷ [])) = counts-snoc xs s ∙ sym (ap counts_of grown) in
-    ap₂ (λ (a : Row) (l : List Row). a ∷ l) (ap (λ (k : Kind). row_of (expected_numbers (open_type xs) (counts_of xs) k) r) (kind_of_symbol r))
-    (ap₂ (λ (t : TransactionType) (c : Counts). map (λ p. row_of p.0 p.1) (zip (walk t c (map symbol_of rs)) rs)) ty counts ∙ rows_walked (before ++ r ∷ []) rs)
+    let ty : type_after (open_type xs) s ≡ open_type (map symbol_of (before ++ r ∷ [])) =
+    sym (open_type-snoc xs s) ∙ sym (ap open_type grown) in
+    let counts : counts_with (open_type xs) (counts_of xs) s ≡ counts_of (map symbol_of (before ++ r ∷ [])) =
+    counts-snoc xs s ∙ sym (ap counts_of grown) in
+    ap₂ (λ (a : Row) (l : List Row). a ∷ l)
+    (ap (λ (k : Kind). row_of (expected_numbers (open_type xs) (counts_of xs) k) r) (kind_of_symbol r))
+    (ap₂ (λ (t : TransactionType) (c : Counts). map (λ p. row_of p.0 p.1) (zip (walk t c (map symbol_of rs)) rs)) ty counts
+    ∙ rows_walked (before ++ r ∷ []) rs)
 
 -- the rows of a transmission are those of its records, one after another
 pub rows_whole : (v : TransmissionValue) → IsTransmission v → rows v ≡ rows_so_far (records_of v)
 unfolding rows
 rows_whole v h =
     let numbers : numbers_of (lengths_of_value v) ≡ walk (open_type []) (counts_of []) (map symbol_of (records_of v)) =
-    sym (ap numbers_of (groups_lengths v.groups)) ∙ sym (walks_whole (outline_of v) (outline_whole v h)) ∙ ap (walk Acknowledgement (counts_of [])) (symbols-outline v h) in
+    sym (ap numbers_of (groups_lengths v.groups)) ∙ sym (walks_whole (outline_of v) (outline_whole v h))
+    ∙ ap (walk Acknowledgement (counts_of [])) (symbols-outline v h) in
     ap (λ (ns : List (List ℕ)). map (λ p. row_of p.0 p.1) (zip ns (records_of v))) numbers ∙ rows_walked [] (records_of v)
 
 -- ---- more records
 
-pub rows_after-append : (before xs ys : List RecordValue) → rows_after before (xs ++ ys) ≡ rows_after before xs ++ rows_after (before ++ xs) ys
+pub rows_after-append : (before xs ys : List RecordValue)
+    → rows_after before (xs ++ ys) ≡ rows_after before xs ++ rows_after (before ++ xs) ys
 unfolding rows_after
 rows_after-append before [] ys = ap (λ (b : List RecordValue). rows_after b ys) (sym (append-nil before))
 rows_after-append before (x ∷ xs) ys =
     ap (λ (l : List Row). row_after before x ∷ l)
-    (rows_after-append (before ++ x ∷ []) xs ys ∙ ap (λ (b : List RecordValue). rows_after (before ++ x ∷ []) xs ++ rows_after b ys) (append_assoc before (x ∷ []) xs))
+    (rows_after-append (before ++ x ∷ []) xs ys
+    ∙ ap (λ (b : List RecordValue). rows_after (before ++ x ∷ []) xs ++ rows_after b ys) (append_assoc before (x ∷ []) xs))
 
 -- one more record has one more row
-pub rows_so_far-snoc : (rs : List RecordValue) (r : RecordValue) → rows_so_far (rs ++ r ∷ []) ≡ rows_so_far rs ++ row_after rs r ∷ []
+pub rows_so_far-snoc : (rs : List RecordValue) (r : RecordValue)
+    → rows_so_far (rs ++ r ∷ []) ≡ rows_so_far rs ++ row_after rs r ∷ []
 unfolding rows_after
 rows_so_far-snoc rs r = rows_after-append [] rs (r ∷ [])
 
@@ -88,10 +100,12 @@ pub length-rows_so_far : (rs : List RecordValue) → length (rows_so_far rs) ≡
 length-rows_so_far rs = length-rows_after [] rs
 
 -- a transmission's rows begin with those of the records that it begins with
-pub rows_split : (v : TransmissionValue) (before after : List RecordValue) → IsTransmission v → records_of v ≡ before ++ after → rows v ≡ rows_so_far before ++ rows_after before after
+pub rows_split : (v : TransmissionValue) (before after : List RecordValue) → IsTransmission v → records_of v ≡ before ++ after
+    → rows v ≡ rows_so_far before ++ rows_after before after
 rows_split v before after h e = rows_whole v h ∙ ap rows_so_far e ∙ rows_after-append [] before after
 
-pub rows_begin : (v : TransmissionValue) (before after : List RecordValue) → IsTransmission v → records_of v ≡ before ++ after → (rest : List Row) × (rows v ≡ rows_so_far before ++ rest)
+pub rows_begin : (v : TransmissionValue) (before after : List RecordValue) → IsTransmission v → records_of v ≡ before ++ after
+    → (rest : List Row) × (rows v ≡ rows_so_far before ++ rest)
 rows_begin v before after h e = (rows_after before after, rows_split v before after h e)
 
 -- the row of one record, by the records before it
@@ -102,10 +116,12 @@ pub record RowAt (v : TransmissionValue) (before : List RecordValue) (r : Record
   pub as_many : length front ≡ length before
 
 -- transmissions that begin with the same records begin with the same rows
-pub same_rows : (v w : TransmissionValue) (before rest others : List RecordValue) → IsTransmission v → IsTransmission w → records_of v ≡ before ++ rest → records_of w ≡ before ++ others
+pub same_rows : (v w : TransmissionValue) (before rest others : List RecordValue) → IsTransmission v → IsTransmission w
+    → records_of v ≡ before ++ rest → records_of w ≡ before ++ others
     → take (length before) (rows v) ≡ take (length before) (rows w)
 same_rows v w before rest others h k e f =
-    front (rows v) (rows_after before rest) (rows_split v before rest h e) ∙ sym (front (rows w) (rows_after before others) (rows_split w before others k f))
+    front (rows v) (rows_after before rest) (rows_split v before rest h e)
+    ∙ sym (front (rows w) (rows_after before others) (rows_split w before others k f))
   where
     taken : (xs ys : List Row) → take (length xs) (xs ++ ys) ≡ xs
     taken [] ys = refl

@@ -1,5 +1,6 @@
 -- Records that fit, one for each symbol: so each order of records that is a whole one is that of some transmission, whatever its first records are.
-use Rattle.std.proofs.Common.{◌≡◌, ℕ, ◌-◌, Bool, true, false, ◌&&◌, List, [], ◌∷◌, ◌++◌, map, drop, replicate, codes, refl, sym, ap, ap₂, subst, ◌∙◌, true≢false}
+use Rattle.std.proofs.Common.{◌≡◌, ℕ, ◌-◌, Bool, true, false, ◌&&◌, List, [], ◌∷◌, ◌++◌, map, drop, replicate, codes, refl, sym}
+use Rattle.std.proofs.Common.{ap, ap₂, subst, ◌∙◌, true≢false}
 use Rattle.std.specs.Prelude.{unwrap_or, slice_get}
 use Rattle.std.specs.List.{list_all, AllByRecursion, flat_map}
 use Rattle.std.proofs.lemmas.Bool.{and_parts}
@@ -100,17 +101,23 @@ named NewWork = refl
 named RevisedWork = refl
 named Acknowledgement = refl
 
-both_pass : (xs ys : List Symbol) → list_all is_of_record xs ≡ true → list_all is_of_record ys ≡ true → list_all is_of_record (xs ++ ys) ≡ true
+both_pass : (xs ys : List Symbol) → list_all is_of_record xs ≡ true → list_all is_of_record ys ≡ true
+    → list_all is_of_record (xs ++ ys) ≡ true
 both_pass xs ys h k = list_all-append is_of_record xs ys ∙ ap₂ (λ (a b : Bool). a && b) h k
 
-transactions_pass : (ty : TransactionType) (ts : List (List Symbol)) → AllByRecursion (IsShape ty) ts → list_all is_of_record (flat_map (λ t. t) ts) ≡ true
+transactions_pass : (ty : TransactionType) (ts : List (List Symbol)) → AllByRecursion (IsShape ty) ts
+    → list_all is_of_record (flat_map (λ t. t) ts) ≡ true
 transactions_pass ty [] h = refl
-transactions_pass ty (t ∷ ts) h = both_pass t (flat_map (λ u. u) ts) (matched_pass is_of_record (pattern_of ty) (named ty) t h.0) (transactions_pass ty ts h.1)
+transactions_pass ty (t ∷ ts) h =
+    both_pass t (flat_map (λ u. u) ts) (matched_pass is_of_record (pattern_of ty) (named ty) t h.0) (transactions_pass ty ts h.1)
 
-groups_pass : (groups : List GroupOutline) → AllByRecursion IsGroupOutline groups → list_all is_of_record (flat_map group_symbols groups) ≡ true
+groups_pass : (groups : List GroupOutline) → AllByRecursion IsGroupOutline groups
+    → list_all is_of_record (flat_map group_symbols groups) ≡ true
 groups_pass [] h = refl
 groups_pass (g ∷ groups) h =
-    both_pass (group_symbols g) (flat_map group_symbols groups) (both_pass (flat_map (λ t. t) g.transactions) (Plain kinds.Grt ∷ []) (transactions_pass g.ty g.transactions h.0.1) refl) (groups_pass groups h.1)
+    both_pass (group_symbols g) (flat_map group_symbols groups)
+    (both_pass (flat_map (λ t. t) g.transactions) (Plain kinds.Grt ∷ []) (transactions_pass g.ty g.transactions h.0.1) refl)
+    (groups_pass groups h.1)
 
 pub whole_pass : (groups : List GroupOutline) → IsOutline groups → list_all is_of_record (symbols_of groups) ≡ true
 whole_pass groups h = both_pass (flat_map group_symbols groups) (Plain kinds.Trl ∷ []) (groups_pass groups h.1) refl
@@ -129,15 +136,20 @@ pub record Completed (groups : List GroupOutline) (records : List RecordValue) :
   pub more : List RecordValue
   pub begins : records_of value ≡ records ++ more
 
-all_append : (rs qs : List RecordValue) → AllByRecursion IsRecord rs → AllByRecursion IsRecord qs → AllByRecursion IsRecord (rs ++ qs)
+all_append : (rs qs : List RecordValue) → AllByRecursion IsRecord rs → AllByRecursion IsRecord qs
+    → AllByRecursion IsRecord (rs ++ qs)
 all_append [] qs h k = k
 all_append (r ∷ rs) qs h k = (h.0, all_append rs qs h.1 k)
 
-pub completed : (groups : List GroupOutline) (records : List RecordValue) (rest : List Symbol) → IsOutline groups → AllByRecursion IsRecord records → symbols_of groups ≡ map symbol_of records ++ rest → Completed groups records
+pub completed : (groups : List GroupOutline) (records : List RecordValue) (rest : List Symbol) → IsOutline groups
+    → AllByRecursion IsRecord records → symbols_of groups ≡ map symbol_of records ++ rest → Completed groups records
 completed groups records rest h k e =
     let ws : List RecordValue = map witness rest in
-    let pass : list_all is_of_record rest ≡ true = rest_pass (map symbol_of records) rest (subst (λ (l : List Symbol). list_all is_of_record l ≡ true) e (whole_pass groups h)) in
+    let pass : list_all is_of_record rest ≡ true =
+    rest_pass (map symbol_of records) rest
+    (subst (λ (l : List Symbol). list_all is_of_record l ≡ true) e (whole_pass groups h)) in
     let symbols : map symbol_of (records ++ ws) ≡ symbols_of groups =
-    map-append symbol_of records ws ∙ ap (λ (l : List Symbol). map symbol_of records ++ l) (witnesses_symbols rest pass) ∙ sym e in
+    map-append symbol_of records ws ∙ ap (λ (l : List Symbol). map symbol_of records ++ l) (witnesses_symbols rest pass)
+    ∙ sym e in
     let b = built groups (records ++ ws) h symbols (all_append records ws k (witnesses_fit rest)) in
     record { value = b.value; whole = b.whole; outline = b.outline; more = ws; begins = b.records_are }

@@ -1,6 +1,7 @@
 //! Groups as values.
 
-ghost use Rattle.std.specs.Prelude.{◌≡◌, ◌↔◌, ◌+◌, ◌++◌, ◌∷◌, [], length, option_copied, slice_get, map, min, nat_lt, position, IsOk, IfOk, IfErr, IfSome, IsTrue, OnOk};
+ghost use Rattle.std.specs.Prelude.{◌≡◌, ◌↔◌, ◌+◌, ◌++◌, ◌∷◌, [], length, option_copied, slice_get, map, min, nat_lt, position, IsOk, IfOk, IfErr, IfSome};
+ghost use Rattle.std.specs.Prelude.{IsTrue, OnOk};
 ghost use Rattle.std.specs.Result.{IsErrAnd};
 ghost use Rattle.cwr_fields.specs.Format.Growth.{Outgrows};
 ghost use Rattle.cwr_lines.specs.Format.Records.{blank_record};
@@ -85,7 +86,8 @@ impl Group {
     /// GRH is handed back.
     pub fn new(alloc: Global, head: Record) -> Result<Group, Record>
         ensures grh { IsOk result ↔ (head.kind ≡ Kind.Grh) }
-        ensures ok { IfOk result (λ g. g ≡ record { head = head; transactions = []; foot = blank_record Kind.Grt }) }
+        ensures ok { IfOk result
+            (λ g. g ≡ record { head = head; transactions = []; foot = blank_record Kind.Grt }) }
         ensures err { IfErr result (λ given. given ≡ head) }
     {
         if head.view().kind() != Kind::Grh {
@@ -127,7 +129,8 @@ impl Group {
     /// type, else as incomplete exactly where it isn't whole, and for want of memory only where the list asks for some. A
     /// refused one is handed back, and the group stays as it is.
     pub fn push(&mut self, transaction: Transaction) -> Result<(), (GroupFault, Transaction)>
-        ensures ok { OnOk result (self.new ≡ record self.old { transactions = self.old.transactions ++ transaction ∷ [] }) }
+        ensures ok { OnOk result (self.new
+            ≡ record self.old { transactions = self.old.transactions ++ transaction ∷ [] }) }
         ensures err { IfErr result (λ e. (e.1 ≡ transaction) × (self.new ≡ self.old)) }
         ensures wrong_kind { IsErrAnd result (λ e. e.0 ≡ GroupFault.WrongKind)
             ↔ ¬ HasHeaderOf (type_of self.old.head) transaction }

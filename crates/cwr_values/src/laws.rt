@@ -43,14 +43,16 @@ pub fn numbers_fit_their_fields()
 
 /// No fault is reported of a transmission exactly where it has a group and is within the limits.
 pub fn fits_is_within()
-    ensures { (limits : Limits) (v : TransmissionValue) → (value_fault limits v ≡ None) ↔ ((0 < length v.groups) × FitsIn limits v) }
+    ensures { (limits : Limits) (v : TransmissionValue) → (value_fault limits v ≡ None)
+        ↔ ((0 < length v.groups) × FitsIn limits v) }
 {}
 
 /// Records that are each in order, and whose order is a whole one, are the records of a transmission, and of no other.
 pub fn whole_records_are_a_transmission()
     ensures some { (records : List RecordValue) → AllByRecursion IsRecord records → IsWhole (map symbol_of records)
         → (v : TransmissionValue) × IsTransmission v × (records_of v ≡ records) }
-    ensures no_other { (v w : TransmissionValue) → IsTransmission v → IsTransmission w → records_of v ≡ records_of w → v ≡ w }
+    ensures no_other { (v w : TransmissionValue) → IsTransmission v → IsTransmission w
+        → records_of v ≡ records_of w → v ≡ w }
 {}
 
 /// A row depends on its record and on the records before it alone: transmissions that begin with the same records
@@ -73,6 +75,8 @@ pub fn records_are_completed()
 
 /// Each transmission without copies, with carried records or without, is a transmission in today's order: the same value.
 pub fn transmissions_in_former_orders_are_kept()
-    ensures uncarried { (v : TransmissionValue) → IsTransmissionIn IsUncarriedShape v → IsTransmission v }
-    ensures uncopied { (v : TransmissionValue) → IsTransmissionIn IsUncopiedShape v → IsTransmission v }
+    ensures uncarried { (v : TransmissionValue) → IsTransmissionIn IsUncarriedShape v
+        → IsTransmission v }
+    ensures uncopied { (v : TransmissionValue) → IsTransmissionIn IsUncopiedShape v
+        → IsTransmission v }
 {}

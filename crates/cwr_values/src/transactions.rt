@@ -82,7 +82,8 @@ impl Transaction {
     /// The transaction that begins with the record. It is refused as misplaced exactly where none does.
     pub fn new(alloc: Global, head: RecordRef<'_>) -> Result<Transaction, PushFault>
         ensures ok { IfOk result (λ t. t ≡ head.entry ∷ []) }
-        ensures misplaced { (result ≡ Err PushFault.Misplaced) ↔ ¬ BeginsShape (symbol_of head.entry ∷ []) }
+        ensures misplaced { (result ≡ Err PushFault.Misplaced)
+            ↔ ¬ BeginsShape (symbol_of head.entry ∷ []) }
     {
         let Some((ty, step)) = begin(symbol_of(&head)) else {
             return Err(PushFault::Misplaced);
@@ -118,7 +119,8 @@ impl Transaction {
     pub fn push(&mut self, next: RecordRef<'_>) -> Result<(), PushFault>
         ensures ok { OnOk result (self.new ≡ self.old ++ next.entry ∷ []) }
         ensures err { OnErr result (self.new ≡ self.old) }
-        ensures misplaced { (result ≡ Err PushFault.Misplaced) ↔ ¬ BeginsWithOneMore self.old next.entry }
+        ensures misplaced { (result ≡ Err PushFault.Misplaced)
+            ↔ ¬ BeginsWithOneMore self.old next.entry }
         ensures memory { result ≡ Err PushFault.Memory → AsksMemory self.old next.entry }
     {
         let Some(step) = self.step.next(symbol_of(&next)) else {

@@ -120,9 +120,11 @@ impl Transmission {
     /// Adds a group at the end. It is refused as empty exactly where it has no transaction, and for want of memory only
     /// where the list asks for some. A refused one is handed back, and the transmission stays as it is.
     pub fn push(&mut self, group: Group) -> Result<(), (TransmissionFault, Group)>
-        ensures ok { OnOk result (self.new ≡ record self.old { groups = self.old.groups ++ group ∷ [] }) }
+        ensures ok { OnOk result
+            (self.new ≡ record self.old { groups = self.old.groups ++ group ∷ [] }) }
         ensures err { IfErr result (λ e. (e.1 ≡ group) × (self.new ≡ self.old)) }
-        ensures empty { IsErrAnd result (λ e. e.0 ≡ TransmissionFault.Empty) ↔ (length group.transactions ≡ 0) }
+        ensures empty { IsErrAnd result (λ e. e.0 ≡ TransmissionFault.Empty)
+            ↔ (length group.transactions ≡ 0) }
         ensures memory { IsErrAnd result (λ e. e.0 ≡ TransmissionFault.Memory)
             → Outgrows 4 (length self.old.groups) (length self.old.groups + 1) }
     {

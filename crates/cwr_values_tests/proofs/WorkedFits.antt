@@ -28,7 +28,9 @@ msg = blank_record kinds.Msg
 
 -- two groups: acknowledgements of one and two records, and of three and four
 abbrev worked : TransmissionValue
-worked = transmission (group ((ack ∷ []) ∷ (ack ∷ msg ∷ []) ∷ []) ∷ group ((ack ∷ msg ∷ msg ∷ []) ∷ (ack ∷ msg ∷ msg ∷ msg ∷ []) ∷ []) ∷ [])
+worked =
+    transmission
+    (group ((ack ∷ []) ∷ (ack ∷ msg ∷ []) ∷ []) ∷ group ((ack ∷ msg ∷ msg ∷ []) ∷ (ack ∷ msg ∷ msg ∷ msg ∷ []) ∷ []) ∷ [])
 
 no_group : value_fault (limits 5 1 1) (transmission []) ≡ Some NoGroup
 unfolding rows
@@ -47,6 +49,7 @@ unfolding rows
 too_many_groups = refl
 
 -- the first by its place, and not the longest
-too_long : (value_fault (limits 16 2 3) worked ≡ Some (Transaction 1 1)) × (value_fault (limits 16 2 1) worked ≡ Some (Transaction 0 1))
+too_long : (value_fault (limits 16 2 3) worked ≡ Some (Transaction 1 1))
+    × (value_fault (limits 16 2 1) worked ≡ Some (Transaction 0 1))
 unfolding rows
 too_long = (refl, refl)

@@ -5,7 +5,8 @@ ghost use Rattle.std.specs.Str.{bytes_eq};
 ghost use Rattle.std.specs.Str.Parse.{digits_value, without_leading_plus};
 ghost use Rattle.clap.specs.Words.{found_of, has_subcommand, one_text};
 ghost use Rattle.cwr_shape.specs.Format.Ranges.{limit_values};
-ghost use Rattle.cwr_words.specs.Format.Words.{AreNamesOf, IsAcksOf, IsAdviceOf, IsAskedBy, IsExportOf, IsImportOf, IsJoinOf, IsJudgingOf, IsLintOf, IsPlainCheck, IsRenumberingOf, IsSplitOf, IsTableOf, IsWorkOf, level_named, rows_named};
+ghost use Rattle.cwr_words.specs.Format.Words.{AreNamesOf, IsAcksOf, IsAdviceOf, IsAskedBy, IsExportOf, IsImportOf, IsJoinOf, IsJudgingOf, IsLintOf};
+ghost use Rattle.cwr_words.specs.Format.Words.{IsPlainCheck, IsRenumberingOf, IsSplitOf, IsTableOf, IsWorkOf, level_named, rows_named};
 
 use clap::error::ErrorKind;
 use clap::{ArgMatches, Error};
@@ -177,7 +178,8 @@ fn limits_of(name: &str, matches: &ArgMatches<'_>) -> Option<Limits>
 
 /// The names that stand for the files.
 fn names_in<'a>(alloc: Global, given: &ArgMatches<'a>) -> Result<Vec<&'a str>, AllocError>
-    ensures { IfOk result (λ names. AreNamesOf (found_of given.now) (map (λ name. name.now) names.items)) }
+    ensures { IfOk result
+        (λ names. AreNamesOf (found_of given.now) (map (λ name. name.now) names.items)) }
 {
     match given.get_strs(FILE) {
         Some(names) => names.to_vec(alloc),
@@ -333,7 +335,8 @@ fn work_in<'a>(
     name: &str,
     given: &ArgMatches<'a>,
 ) -> Result<Option<Work<'a>>, AllocError>
-    ensures { IfOk result (λ found. IfSome found (λ work. IsWorkOf name.now (found_of given.now) work)) }
+    ensures { IfOk result
+        (λ found. IfSome found (λ work. IsWorkOf name.now (found_of given.now) work)) }
 {
     if name == SPLIT {
         Ok(split_in(given))
@@ -376,8 +379,10 @@ fn progress_in(given: &ArgMatches<'_>) -> Option<bool> {
 /// What is asked for. `None` where a word is missing or out of its range.
 fn task_in<'a>(alloc: Global, matches: &ArgMatches<'a>) -> Result<Option<Task<'a>>, AllocError>
     // Without a subcommand it is a check of standard input within the largest limits.
-    ensures without { has_subcommand matches.now ≡ false → IsOkAnd result (λ found. IsSomeAnd found IsPlainCheck) }
-    ensures asked { IfOk result (λ found. IfSome found (λ task. has_subcommand matches.now ≡ true → IsAskedBy matches.now task)) }
+    ensures without { has_subcommand matches.now ≡ false
+        → IsOkAnd result (λ found. IsSomeAnd found IsPlainCheck) }
+    ensures asked { IfOk result (λ found. IfSome found
+        (λ task. has_subcommand matches.now ≡ true → IsAskedBy matches.now task)) }
 {
     let Some((name, given)) = matches.subcommand() else {
         return Ok(Some(Task {

@@ -1,11 +1,13 @@
 -- The cells of each field are bytes, at most 700.
-use Rattle.std.proofs.Common.{◌≡◌, ℕ, zero, suc, ◌+◌, ◌-◌, ◌/◌, ◌%◌, ◌<◌, ◌≤◌, Bool, true, ◌&&◌, List, [], ◌∷◌, ◌++◌, length, replicate, Option, Some, None, refl, sym, ap, ap₂, subst, ◌∙◌, inl, inr, arith}
+use Rattle.std.proofs.Common.{◌≡◌, ℕ, zero, suc, ◌+◌, ◌-◌, ◌/◌, ◌%◌, ◌<◌, ◌≤◌, Bool, true, ◌&&◌, List, [], ◌∷◌, ◌++◌, length}
+use Rattle.std.proofs.Common.{replicate, Option, Some, None, refl, sym, ap, ap₂, subst, ◌∙◌, inl, inr, arith}
 use Rattle.std.specs.Prelude.{◌==◌, IsSomeAnd, nat_le, nat_lt, slice_get, slice_index_or}
 use Rattle.std.specs.List.{list_all, IsAmong}
 use Rattle.std.proofs.lemmas.List.Folds.{list_all-append}
 use Rattle.std.proofs.lemmas.Bool.{and_parts, eqb-true, lt-ltb}
 use Rattle.cwr_fields.specs.declared.cell_types.CellType.{CellType}
-use Rattle.cwr_fields.specs.declared.cell_types.CellType.TheVariants.{Text, Required, Number, OptNumber, Date, OptDate, Time, OptTime, OptDuration, Share, Flag, Code, OptCode, Constant}
+use Rattle.cwr_fields.specs.declared.cell_types.CellType.TheVariants.{Text, Required, Number, OptNumber, Date, OptDate, Time}
+use Rattle.cwr_fields.specs.declared.cell_types.CellType.TheVariants.{OptTime, OptDuration, Share, Flag, Code, OptCode, Constant}
 use Rattle.cwr_fields.specs.declared.tables.Table.{Table}
 use Rattle.cwr_fields.specs.declared.tables.Table.TheVariants as tables
 use Rattle.cwr_fields.specs.declared.cell_types.Word.{Word}
@@ -37,7 +39,8 @@ repeated (suc n) b h = ap₂ (λ (x y : Bool). x && y) (lt-ltb b 256 h) (repeate
 of_digits : (width n : ℕ) → AreBytes (digits width n)
 unfolding digits
 of_digits zero n = refl
-of_digits (suc width) n = both (digits width (n / 10)) ((48 + n % 10) ∷ []) (of_digits width (n / 10)) (one (48 + n % 10) (omega arith))
+of_digits (suc width) n =
+    both (digits width (n / 10)) ((48 + n % 10) ∷ []) (of_digits width (n / 10)) (one (48 + n % 10) (omega arith))
 
 plain : (cell : List ℕ) → is_plain cell ≡ true → AreBytes cell
 plain [] h = refl
@@ -52,7 +55,8 @@ spaces (b ∷ cell) h =
     let here : b ≡ 32 = eqb-true b 32 parts.0 in
     ap₂ (λ (x y : Bool). x && y) (lt-ltb b 256 (omega arith)) (spaces cell parts.1)
 
-among_all : (p : List ℕ → Bool) (list : List (List ℕ)) (x : List ℕ) (i : ℕ) → list_all p list ≡ true → i < length list → p (slice_index_or list i x) ≡ true
+among_all : (p : List ℕ → Bool) (list : List (List ℕ)) (x : List ℕ) (i : ℕ) → list_all p list ≡ true → i < length list
+    → p (slice_index_or list i x) ≡ true
 among_all p [] x i h k = absurd (omega arith)
 among_all p (y ∷ list) x zero h k = (and_parts (p y) (list_all p list) h).0
 among_all p (y ∷ list) x (suc i) h k = among_all p list x i (and_parts (p y) (list_all p list) h).1 (omega arith)
@@ -82,7 +86,9 @@ codes_are tables.Recording = refl
 codes_are tables.Technique = refl
 
 code_of : (table : Table) (width : ℕ) (cell : List ℕ) → IsCodeOf (codes_of table) width cell → AreBytes cell
-code_of table width cell c = subst AreBytes (sym c.2) (both c.0 (replicate (width - length c.0) 32) (among (codes_of table) c.0 (codes_are table) c.1) (repeated (width - length c.0) 32 (omega arith)))
+code_of table width cell c =
+    subst AreBytes (sym c.2) (both c.0 (replicate (width - length c.0) 32) (among (codes_of table) c.0 (codes_are table) c.1)
+    (repeated (width - length c.0) 32 (omega arith)))
 
 code : (table : Table) (cell : List ℕ) → SpellsCode table cell → AreBytes cell
 code tables.Sender cell (inl c) = code_of tables.Sender 2 cell c
@@ -90,10 +96,14 @@ code tables.Sender cell (inr c) = subst AreBytes (sym c.2) (of_digits 2 c.0)
 code table cell c = code_of table (code_width table) cell c
 
 day : (cell : List ℕ) → SpellsDay cell → AreBytes cell
-day cell s = subst AreBytes (sym s.5) (both (digits 4 s.0 ++ digits 2 s.1) (digits 2 s.2) (both (digits 4 s.0) (digits 2 s.1) (of_digits 4 s.0) (of_digits 2 s.1)) (of_digits 2 s.2))
+day cell s =
+    subst AreBytes (sym s.5) (both (digits 4 s.0 ++ digits 2 s.1) (digits 2 s.2)
+    (both (digits 4 s.0) (digits 2 s.1) (of_digits 4 s.0) (of_digits 2 s.1)) (of_digits 2 s.2))
 
 time : (bound : ℕ) (cell : List ℕ) → SpellsTime bound cell → AreBytes cell
-time bound cell s = subst AreBytes (sym s.6) (both (digits 2 s.0 ++ digits 2 s.1) (digits 2 s.2) (both (digits 2 s.0) (digits 2 s.1) (of_digits 2 s.0) (of_digits 2 s.1)) (of_digits 2 s.2))
+time bound cell s =
+    subst AreBytes (sym s.6) (both (digits 2 s.0 ++ digits 2 s.1) (digits 2 s.2)
+    (both (digits 2 s.0) (digits 2 s.1) (of_digits 2 s.0) (of_digits 2 s.1)) (of_digits 2 s.2))
 
 same : (n b : ℕ) (cell : List ℕ) → b < 256 → cell ≡ replicate n b → AreBytes cell
 same n b cell h e = subst AreBytes (sym e) (repeated n b h)
@@ -134,7 +144,8 @@ all_narrow : (kind : Kind) → list_all is_narrow (layout kind) ≡ true
 all_narrow Hdr = refl
 all_narrow this_kind = refl
 
-passes : (p : FieldLayout → Bool) (fields : List FieldLayout) (i : ℕ) (f : FieldLayout) → list_all p fields ≡ true → slice_get fields i ≡ Some f → p f ≡ true
+passes : (p : FieldLayout → Bool) (fields : List FieldLayout) (i : ℕ) (f : FieldLayout) → list_all p fields ≡ true
+    → slice_get fields i ≡ Some f → p f ≡ true
 passes p [] i f h e = absurd (cc e)
 passes p (g ∷ fields) zero f h e = let first : g ≡ f = cc e in ap p (sym first) ∙ (and_parts (p g) (list_all p fields) h).0
 passes p (g ∷ fields) (suc i) f h e = passes p fields i f (and_parts (p g) (list_all p fields) h).1 e
@@ -151,9 +162,12 @@ narrow kind (suc i) f e = by f.width (passes is_narrow (layout kind) i f (all_na
 pub fits_bytes : (kind : Kind) (j : ℕ) (text : List ℕ) → FitsField kind j text → AreBytes text × (length text ≤ 700)
 fits_bytes kind j text h = by (carried_at kind j) refl h
   where
-    by : (o : Option FieldLayout) → carried_at kind j ≡ o → IsSomeAnd o (λ f. (length text ≤ f.width) × Allows f.ty (filled f.width text)) → AreBytes text × (length text ≤ 700)
+    by : (o : Option FieldLayout) → carried_at kind j ≡ o
+        → IsSomeAnd o (λ f. (length text ≤ f.width) × Allows f.ty (filled f.width text)) → AreBytes text × (length text ≤ 700)
     by None e k = absurd k
     by (Some f) e k = (
-      (and_parts (are_bytes text) (are_bytes (replicate (f.width - length text) 32)) (sym (list_all-append (λ b. nat_lt b 256) text (replicate (f.width - length text) 32)) ∙ allowed_bytes f.ty (filled f.width text) k.1)).0,
+      (and_parts (are_bytes text) (are_bytes (replicate (f.width - length text) 32)) (sym
+          (list_all-append (λ b. nat_lt b 256) text (replicate (f.width - length text) 32)) ∙ allowed_bytes f.ty
+          (filled f.width text) k.1)).0,
       omega (arith, k.0, narrow kind j f (open_some (field_at kind j) f e).0),
     )

@@ -1,5 +1,7 @@
 -- Bytes from the characters that stand for them.
-use Rattle.std.proofs.Common.{◌≡◌, ℕ, suc, ◌+◌, ◌<◌, ◌≤◌, Bool, true, false, cond, List, [], ◌∷◌, ◌++◌, length, take, drop, get_or, Some, refl, sym, ap, ap₂, subst, ◌∙◌, append_assoc, append-nil, arith, length-drop, ltb-true}
+use Rattle.std.proofs.Common.{◌≡◌, ℕ, suc, ◌+◌, ◌<◌, ◌≤◌, Bool, true, false, cond, List, [], ◌∷◌, ◌++◌, length, take, drop}
+use Rattle.std.proofs.Common.{get_or, Some, refl, sym, ap, ap₂, subst, ◌∙◌, append_assoc, append-nil, arith, length-drop}
+use Rattle.std.proofs.Common.{ltb-true}
 use Rattle.std.specs.Prelude.{◌&&◌, flat_map, nat_lt}
 use Rattle.std.specs.List.{list_all}
 use Rattle.std.specs.Str.{IsAscii}
@@ -19,17 +21,23 @@ pub characters_none : (enc : Encoding) (cell : List ℕ) → cell ≡ [] → byt
 unfolding byte_by_byte
 characters_none enc cell e = ap (λ (l : List ℕ). flat_map (character enc) l) e
 
-characters_last : (enc : Encoding) (cell : List ℕ) (b : ℕ) → byte_by_byte enc (cell ++ b ∷ []) ≡ byte_by_byte enc cell ++ character enc b
+characters_last : (enc : Encoding) (cell : List ℕ) (b : ℕ)
+    → byte_by_byte enc (cell ++ b ∷ []) ≡ byte_by_byte enc cell ++ character enc b
 unfolding byte_by_byte
-characters_last enc cell b = flat_map-append (character enc) cell (b ∷ []) ∙ ap (λ (l : List ℕ). flat_map (character enc) cell ++ l) (append-nil (character enc b))
+characters_last enc cell b =
+    flat_map-append (character enc) cell (b ∷ [])
+    ∙ ap (λ (l : List ℕ). flat_map (character enc) cell ++ l) (append-nil (character enc b))
 
 -- one byte more
-pub characters_more : (enc : Encoding) (text cell new : List ℕ) (i b n : ℕ) → byte_by_byte enc cell ≡ take i text → new ≡ cell ++ b ∷ [] → character enc b ≡ take n (drop i text) → byte_by_byte enc new ≡ take (i + n) text
+pub characters_more : (enc : Encoding) (text cell new : List ℕ) (i b n : ℕ) → byte_by_byte enc cell ≡ take i text
+    → new ≡ cell ++ b ∷ [] → character enc b ≡ take n (drop i text) → byte_by_byte enc new ≡ take (i + n) text
 characters_more enc text cell new i b n h e k =
     ap (byte_by_byte enc) e ∙ characters_last enc cell b ∙ ap₂ (λ (x y : List ℕ). x ++ y) h k ∙ sym (take-add i n text)
 
 pub bytes_more : (cell : List ℕ) (b : ℕ) → AreBytes cell → b < 256 → AreBytes (cell ++ b ∷ [])
-bytes_more cell b h k = list_all-append (λ c. nat_lt c 256) cell (b ∷ []) ∙ ap₂ (λ (x y : Bool). x && y) h (ap (λ (x : Bool). x && true) (lt-ltb b 256 k))
+bytes_more cell b h k =
+    list_all-append (λ c. nat_lt c 256) cell (b ∷ [])
+    ∙ ap₂ (λ (x y : Bool). x && y) h (ap (λ (x : Bool). x && true) (lt-ltb b 256 k))
 
 pub string_of : (j : Json) (s : List ℕ) → as_str j ≡ Some s → j ≡ string s
 string_of null s e = absurd (cc e)
@@ -52,13 +60,18 @@ front_all text m h = take_all m text h
 -- ---- what no characters are
 
 -- what begins with the characters of some bytes begins with those bytes
-pub characters_cut : (enc : Encoding) (cell tail other : List ℕ) → byte_by_byte enc cell ++ tail ≡ byte_by_byte enc other → (rest : List ℕ) × (other ≡ cell ++ rest) × (byte_by_byte enc rest ≡ tail)
+pub characters_cut : (enc : Encoding) (cell tail other : List ℕ) → byte_by_byte enc cell ++ tail ≡ byte_by_byte enc other
+    → (rest : List ℕ) × (other ≡ cell ++ rest) × (byte_by_byte enc rest ≡ tail)
 unfolding byte_by_byte
 characters_cut enc [] tail other e = (other, refl, sym e)
-characters_cut enc (b ∷ cell) tail [] e = absurd (none_if enc (nat_lt b 128) b (byte_by_byte enc cell ++ tail) (sym e ∙ append_assoc (character enc b) (byte_by_byte enc cell) tail))
+characters_cut enc (b ∷ cell) tail [] e =
+    absurd (none_if enc (nat_lt b 128) b (byte_by_byte enc cell ++ tail)
+    (sym e ∙ append_assoc (character enc b) (byte_by_byte enc cell) tail))
 characters_cut enc (b ∷ cell) tail (c ∷ other) e =
-    let whole : character enc b ++ (byte_by_byte enc cell ++ tail) ≡ character enc c ++ byte_by_byte enc other = sym (append_assoc (character enc b) (byte_by_byte enc cell) tail) ∙ e in
-    let one = one_if enc (nat_lt b 128) (nat_lt c 128) b c (byte_by_byte enc cell ++ tail) (byte_by_byte enc other) refl refl whole in
+    let whole : character enc b ++ (byte_by_byte enc cell ++ tail) ≡ character enc c ++ byte_by_byte enc other =
+    sym (append_assoc (character enc b) (byte_by_byte enc cell) tail) ∙ e in
+    let one =
+    one_if enc (nat_lt b 128) (nat_lt c 128) b c (byte_by_byte enc cell ++ tail) (byte_by_byte enc other) refl refl whole in
     let more = characters_cut enc cell tail other one.1 in
     (more.0, ap₂ (λ (x : ℕ) (l : List ℕ). x ∷ l) (sym one.0) more.1, more.2)
 
@@ -73,10 +86,14 @@ split_at : (text : List ℕ) (i : ℕ) → text ≡ take i text ++ drop i text
 split_at text i = sym (take-append-drop i text)
 
 -- where no character comes, the text is that of no bytes
-pub no_first : (enc : Encoding) (text cell other : List ℕ) (i : ℕ) → byte_by_byte enc cell ≡ take i text → i < length text → ((b : ℕ) (rest : List ℕ) → b < 256 → ¬ (drop i text ≡ character enc b ++ rest)) → AreBytes other → byte_by_byte enc other ≡ text → ⊥
+pub no_first : (enc : Encoding) (text cell other : List ℕ) (i : ℕ) → byte_by_byte enc cell ≡ take i text → i < length text
+    → ((b : ℕ) (rest : List ℕ) → b < 256 → ¬ (drop i text ≡ character enc b ++ rest)) → AreBytes other
+    → byte_by_byte enc other ≡ text → ⊥
 unfolding byte_by_byte
 no_first enc text cell other i so_far less none bytes e =
-    let c = characters_cut enc cell (drop i text) other (ap (λ (l : List ℕ). l ++ drop i text) so_far ∙ sym (split_at text i) ∙ sym e) in
+    let c =
+    characters_cut enc cell (drop i text) other
+    (ap (λ (l : List ℕ). l ++ drop i text) so_far ∙ sym (split_at text i) ∙ sym e) in
     by c.0 (bytes_after cell c.0 (subst AreBytes c.1 bytes)) c.2
   where
     by : (rest : List ℕ) → AreBytes rest → byte_by_byte enc rest ≡ drop i text → ⊥
@@ -84,10 +101,13 @@ no_first enc text cell other i so_far less none bytes e =
     by (b ∷ rest) h k = none b (byte_by_byte enc rest) (one_byte rest b h) (sym k)
 
 -- nor where there is no room for another byte
-pub no_room : (enc : Encoding) (text cell other : List ℕ) (i n : ℕ) → byte_by_byte enc cell ≡ take i text → i < length text → n ≤ length cell → length other ≤ n → byte_by_byte enc other ≡ text → ⊥
+pub no_room : (enc : Encoding) (text cell other : List ℕ) (i n : ℕ) → byte_by_byte enc cell ≡ take i text → i < length text
+    → n ≤ length cell → length other ≤ n → byte_by_byte enc other ≡ text → ⊥
 unfolding byte_by_byte
 no_room enc text cell other i n so_far less full fits e =
-    let c = characters_cut enc cell (drop i text) other (ap (λ (l : List ℕ). l ++ drop i text) so_far ∙ sym (split_at text i) ∙ sym e) in
+    let c =
+    characters_cut enc cell (drop i text) other
+    (ap (λ (l : List ℕ). l ++ drop i text) so_far ∙ sym (split_at text i) ∙ sym e) in
     by c.0 (omega (arith, ap length c.1, length-append cell c.0)) c.2
   where
     by : (rest : List ℕ) → length rest ≡ 0 → byte_by_byte enc rest ≡ drop i text → ⊥
@@ -114,10 +134,12 @@ stand_ascii enc text h = by (are_read_as_is enc text)
     by true = refl
     by false = ascii_each enc text h
 
-pub stand_each : (enc : Encoding) (text cell : List ℕ) → are_read_as_is enc text ≡ false → byte_by_byte enc cell ≡ text → StandFor enc text cell
+pub stand_each : (enc : Encoding) (text cell : List ℕ) → are_read_as_is enc text ≡ false → byte_by_byte enc cell ≡ text
+    → StandFor enc text cell
 stand_each enc text cell e h = ap (λ (x : Bool). cond x cell (byte_by_byte enc cell)) e ∙ h
 
-pub each_stands : (enc : Encoding) (text cell : List ℕ) → are_read_as_is enc text ≡ false → StandFor enc text cell → byte_by_byte enc cell ≡ text
+pub each_stands : (enc : Encoding) (text cell : List ℕ) → are_read_as_is enc text ≡ false → StandFor enc text cell
+    → byte_by_byte enc cell ≡ text
 each_stands enc text cell e h = sym (ap (λ (x : Bool). cond x cell (byte_by_byte enc cell)) e) ∙ h
 
 -- the bytes of a slice

@@ -1,5 +1,6 @@
 -- What bytes are shown as is in UTF-8.
-use Rattle.std.proofs.Common.{◌≡◌, ℕ, ◌+◌, ◌-◌, ◌/◌, ◌%◌, ◌<◌, ◌≤◌, Bool, true, false, not, cond, ◌&&◌, List, [], ◌∷◌, IsUtf8, refl, ap, ap₂, subst, ◌∙◌, arith, leb, ltb, ltb-true}
+use Rattle.std.proofs.Common.{◌≡◌, ℕ, ◌+◌, ◌-◌, ◌/◌, ◌%◌, ◌<◌, ◌≤◌, Bool, true, false, not, cond, ◌&&◌, List, [], ◌∷◌, IsUtf8}
+use Rattle.std.proofs.Common.{refl, ap, ap₂, subst, ◌∙◌, arith, leb, ltb, ltb-true}
 use Rattle.std.specs.Prelude.{nat_lt}
 use Rattle.std.specs.List.{list_all}
 use Rattle.std.specs.Str.{is_utf8}
@@ -34,7 +35,8 @@ three_bytes c h k =
     rw (first, second, third) refl
 
 three_are : (a b c x y z : ℕ) → a ≡ x → b ≡ y → c ≡ z → a ∷ b ∷ c ∷ [] ≡ x ∷ y ∷ z ∷ []
-three_are a b c x y z e f g = ap₂ (λ (k : ℕ) (l : List ℕ). k ∷ l) e (ap₂ (λ (k : ℕ) (l : List ℕ). k ∷ l) f (ap (λ (k : ℕ). k ∷ []) g))
+three_are a b c x y z e f g =
+    ap₂ (λ (k : ℕ) (l : List ℕ). k ∷ l) e (ap₂ (λ (k : ℕ) (l : List ℕ). k ∷ l) f (ap (λ (k : ℕ). k ∷ []) g))
 
 -- ---- bytes
 
@@ -51,13 +53,16 @@ high_scalar c h k = by (ltb c 55296)
 low_utf8 : (b : ℕ) → b < 128 → IsUtf8 (b ∷ [])
 low_utf8 b h = subst IsUtf8 (one_byte b h) (IsUtf8-encode b (low_scalar b (omega arith)))
 
-escape_utf8 : (b c : ℕ) (x : Bool) → c ≡ 63232 + b → 128 ≤ b → b < 256 → nat_lt b 192 ≡ x → IsUtf8 (cond x (239 ∷ 158 ∷ b ∷ []) (239 ∷ 159 ∷ (b - 64) ∷ []))
+escape_utf8 : (b c : ℕ) (x : Bool) → c ≡ 63232 + b → 128 ≤ b → b < 256 → nat_lt b 192 ≡ x
+    → IsUtf8 (cond x (239 ∷ 158 ∷ b ∷ []) (239 ∷ 159 ∷ (b - 64) ∷ []))
 escape_utf8 b c true e h k l =
     let low : b < 192 = ltb-true b 192 l in
-    subst IsUtf8 (three_bytes c (omega arith) (omega arith) ∙ three_are _ _ _ 239 158 b (omega (arith, e, h, low)) (omega (arith, e, h, low)) (omega (arith, e, h, low))) (IsUtf8-encode c (high_scalar c (omega arith) (omega arith)))
+    subst IsUtf8 (three_bytes c (omega arith) (omega arith) ∙ three_are _ _ _ 239 158 b (omega (arith, e, h, low))
+    (omega (arith, e, h, low)) (omega (arith, e, h, low))) (IsUtf8-encode c (high_scalar c (omega arith) (omega arith)))
 escape_utf8 b c false e h k l =
     let high : 192 ≤ b = ltb-false b 192 l in
-    subst IsUtf8 (three_bytes c (omega arith) (omega arith) ∙ three_are _ _ _ 239 159 (b - 64) (omega (arith, e, k, high)) (omega (arith, e, k, high)) (omega (arith, e, k, high))) (IsUtf8-encode c (high_scalar c (omega arith) (omega arith)))
+    subst IsUtf8 (three_bytes c (omega arith) (omega arith) ∙ three_are _ _ _ 239 159 (b - 64) (omega (arith, e, k, high))
+    (omega (arith, e, k, high)) (omega (arith, e, k, high))) (IsUtf8-encode c (high_scalar c (omega arith) (omega arith)))
 
 high_utf8 : (enc : Encoding) (b : ℕ) → 128 ≤ b → b < 256 → IsUtf8 (high_character enc b)
 high_utf8 Latin1 b h k = subst IsUtf8 (two_bytes b h (omega arith)) (IsUtf8-encode b (low_scalar b (omega arith)))
@@ -75,7 +80,8 @@ unfolding byte_by_byte
 each_utf8 enc [] h = IsUtf8-nil
 each_utf8 enc (b ∷ text) h =
     let parts = and_parts (nat_lt b 256) (list_all (λ c. nat_lt c 256) text) h in
-    IsUtf8-append (character enc b) (byte_by_byte enc text) (character_utf8 enc b (ltb-true b 256 parts.0)) (each_utf8 enc text parts.1)
+    IsUtf8-append (character enc b) (byte_by_byte enc text) (character_utf8 enc b (ltb-true b 256 parts.0))
+    (each_utf8 enc text parts.1)
 
 pub characters_utf8 : (enc : Encoding) (text : List ℕ) → AreBytes text → IsUtf8 (characters enc text)
 unfolding characters

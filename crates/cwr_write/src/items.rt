@@ -44,7 +44,8 @@ pub(crate) enum ItemFault {
 fn first_said(members: &MemberList<'_>, from: usize) -> usize
     requires { from ≤ length members.now.items }
     ensures bounds { (from ≤ result) × (result ≤ length members.now.items) }
-    ensures same { told (members_view (drop from members.now.items)) ≡ told (members_view (drop result members.now.items)) }
+    ensures same { told (members_view (drop from members.now.items))
+        ≡ told (members_view (drop result members.now.items)) }
     ensures said { result < length members.now.items → SaysAt members.now.items result }
 {
     let mut at = from;
@@ -61,9 +62,11 @@ fn first_said(members: &MemberList<'_>, from: usize) -> usize
 /// Where the list of records stands among a line's members: they have no other that says something.
 fn list_in(members: &MemberList<'_>) -> Result<usize, LineFault>
     ensures ok { IfOk result (IsOnlyAt members.now.items records_key) }
-    ensures err { OnErr result ((encoding : Encoding) (rs : List RecordValue) → ¬ AreOnlyRecords encoding (told (members_view members.now.items)) rs) }
+    ensures err { OnErr result ((encoding : Encoding) (rs : List RecordValue)
+        → ¬ AreOnlyRecords encoding (told (members_view members.now.items)) rs) }
     ensures why { IfErr result (λ f. IsOfData f.why) }
-    ensures reason { IfErr result (λ f. (f.record ≡ 0) × (f.kind ≡ None) × IsListReason (told (members_view members.now.items)) f.key f.why) }
+    ensures reason { IfErr result (λ f. (f.record ≡ 0) × (f.kind ≡ None)
+        × IsListReason (told (members_view members.now.items)) f.key f.why) }
 {
     let at = first_said(members, 0);
     let Some(member) = members.get(at) else {
@@ -84,7 +87,8 @@ fn list_in(members: &MemberList<'_>) -> Result<usize, LineFault>
 fn push_fault(number: u32, kind: Kind, fault: PushFault) -> ItemFault
     ensures own { IsOwn result }
     ensures misplaced { IsLine result → fault ≡ PushFault.Misplaced }
-    ensures told { OnLine result (λ f. (f.record ≡ number) × (f.why ≡ Why.Misplaced) × (f.kind ≡ Some kind) × (f.key ≡ Key.None)) }
+    ensures told { OnLine result (λ f. (f.record ≡ number) × (f.why ≡ Why.Misplaced)
+        × (f.kind ≡ Some kind) × (f.key ≡ Key.None)) }
 {
     match fault {
         PushFault::Memory => ItemFault::Memory,
@@ -114,11 +118,14 @@ fn transaction_of(
     requires some { 0 < length values.now }
     requires first { IsDataAt encoding values.now 0 first.now }
     requires inside { ¬ IsAlone first.now.kind }
-    ensures ok { IfOk result (λ transaction. AreRecordsData encoding (items_view values.now) transaction) }
+    ensures ok { IfOk result
+        (λ transaction. AreRecordsData encoding (items_view values.now) transaction) }
     ensures kinded { IfOk result (λ transaction. IsKinded (Item.Transaction transaction)) }
     ensures err { IfErr result IsOwn }
-    ensures none { IfErr result (λ fault. IsLine fault → NoItem (AreRecordsData encoding (items_view values.now))) }
-    ensures reason { IfErr result (λ fault. OnLine fault (IsAmong encoding (map value_view values.now))) }
+    ensures none { IfErr result
+        (λ fault. IsLine fault → NoItem (AreRecordsData encoding (items_view values.now))) }
+    ensures reason { IfErr result
+        (λ fault. OnLine fault (IsAmong encoding (map value_view values.now))) }
 {
     let mut transaction = match Transaction::new(alloc, first.view()) {
         Ok(transaction) => transaction,
@@ -161,11 +168,13 @@ fn item_alone(
     requires some { 0 < length values.now }
     requires kind { (first.kind ≡ kind) × IsAlone kind }
     requires data { IsDataAt encoding values.now 0 first }
-    ensures ok { IfOk result (λ item. AreRecordsData encoding (items_view values.now) (item_records item)) }
+    ensures ok { IfOk result
+        (λ item. AreRecordsData encoding (items_view values.now) (item_records item)) }
     ensures kinded { IfOk result IsKinded }
     ensures err { IfErr result IsOwn }
     ensures none { IfErr result (λ fault. NoItem (AreRecordsData encoding (items_view values.now))) }
-    ensures reason { IfErr result (λ fault. OnLine fault (IsAmong encoding (map value_view values.now))) }
+    ensures reason { IfErr result
+        (λ fault. OnLine fault (IsAmong encoding (map value_view values.now))) }
 {
     if values.len() > 1 {
         return Err(ItemFault::Line(beside(encoding, values, &first)));
@@ -180,11 +189,14 @@ fn item_alone(
 
 /// The item that values are.
 fn item_of(alloc: Global, encoding: Encoding, values: &[Value<'_>]) -> Result<Item, ItemFault>
-    ensures ok { IfOk result (λ item. AreRecordsData encoding (items_view values.now) (item_records item)) }
+    ensures ok { IfOk result
+        (λ item. AreRecordsData encoding (items_view values.now) (item_records item)) }
     ensures kinded { IfOk result IsKinded }
     ensures err { IfErr result IsOwn }
-    ensures none { IfErr result (λ fault. IsLine fault → NoItem (AreRecordsData encoding (items_view values.now))) }
-    ensures reason { IfErr result (λ fault. OnLine fault (IsOfList encoding (map value_view values.now))) }
+    ensures none { IfErr result
+        (λ fault. IsLine fault → NoItem (AreRecordsData encoding (items_view values.now))) }
+    ensures reason { IfErr result
+        (λ fault. OnLine fault (IsOfList encoding (map value_view values.now))) }
 {
     let Some(first) = values.first() else {
         return Err(ItemFault::Line(of_key("records", Why::Empty)));
@@ -220,11 +232,14 @@ pub(crate) fn item_in(
     encoding: Encoding,
     value: &Value<'_>,
 ) -> Result<Item, ItemFault>
-    ensures ok { IfOk result (λ item. IsItemData encoding (value_view value.now) (item_records item)) }
+    ensures ok { IfOk result
+        (λ item. IsItemData encoding (value_view value.now) (item_records item)) }
     ensures kinded { IfOk result IsKinded }
     ensures err { IfErr result IsOwn }
-    ensures none { IfErr result (λ fault. IsLine fault → NoItem (IsItemData encoding (value_view value.now))) }
-    ensures reason { IfErr result (λ fault. OnLine fault (IsItemReason encoding (value_view value.now))) }
+    ensures none { IfErr result
+        (λ fault. IsLine fault → NoItem (IsItemData encoding (value_view value.now))) }
+    ensures reason { IfErr result
+        (λ fault. OnLine fault (IsItemReason encoding (value_view value.now))) }
 {
     let Value::Object(members) = value else {
         return Err(ItemFault::Line(of_line(Why::NotAnObject)));
@@ -261,7 +276,8 @@ pub(crate) fn write_item<W: Target>(
     encoder: &mut Encoder<W>,
 ) -> Result<(), EncodeFault>
     requires { is_stopped encoder.old ≡ false }
-    ensures adds { AddsRecords W.contents W.failures (given_records item.now) result encoder.old encoder.new }
+    ensures adds { AddsRecords W.contents W.failures (given_records item.now) result encoder.old
+        encoder.new }
     ensures limits { encoder_limits encoder.new ≡ encoder_limits encoder.old }
     ensures judged { (start : Option (List ℕ)) (records : List RecordValue) → Encodes W.contents start records encoder.old
         → JudgesGiven (encoder_limits encoder.old) item.now (map symbol_of records) result }

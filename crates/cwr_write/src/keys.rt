@@ -43,7 +43,8 @@ fn has_key(kind: Kind, j: u8, key: &[u8]) -> bool
 
 /// The number of the field of that key, sought from the field after number `from` on, and then from the first one on.
 pub(crate) fn field_of_key(kind: Kind, key: &str, from: u8) -> Option<u8>
-    ensures { MatchOption result ((j : ℕ) → names_field kind j key.now ≡ false) (λ j. names_field kind j key.now ≡ true) }
+    ensures { MatchOption result ((j : ℕ) → names_field kind j key.now ≡ false)
+        (λ j. names_field kind j key.now ≡ true) }
 {
     let count = fields(kind);
     for j in from..count {

@@ -26,7 +26,8 @@ pub(crate) enum ReadFault {
 
 /// Where the first line feed stands.
 fn line_feed(piece: &[u8]) -> Option<usize>
-    ensures { MatchOption result (IsFalse (list_any is_lf piece.now)) (λ at. (at < length piece.now) × IsFalse (list_any is_lf (take at piece.now)) × (slice_index piece.now at ≡ 10)) }
+    ensures { MatchOption result (IsFalse (list_any is_lf piece.now)) (λ at. (at < length piece.now)
+        × IsFalse (list_any is_lf (take at piece.now)) × (slice_index piece.now at ≡ 10)) }
 {
     memchr::memchr(LF, piece)
 }
@@ -37,7 +38,8 @@ fn add(line: &mut Vec<u8>, bytes: &[u8], most: usize) -> Result<(), ReadFault>
     ensures unfailed { IsUnfailed result }
     ensures added { OnOk result (line.new.items ≡ line.old.items ++ bytes.now) }
     ensures short { OnOk result (length line.new.items ≤ most) }
-    ensures long { IfErr result (λ fault. fault ≡ ReadFault.TooLong → most < length line.old.items + length bytes.now) }
+    ensures long { IfErr result
+        (λ fault. fault ≡ ReadFault.TooLong → most < length line.old.items + length bytes.now) }
 {
     if bytes.len() > most.saturating_sub(line.len()) {
         return Err(ReadFault::TooLong);
@@ -56,9 +58,11 @@ fn take_piece<R: Source>(
 ) -> Result<Option<bool>, ReadFault>
     requires { length line.old.items ≤ most }
     ensures failures { CountsReading result (R.failures reader.old) (R.failures reader.new) }
-    ensures taken { IfOk result (λ ended. TakesPart (R.remaining reader.old) (R.remaining reader.new) line.old.items line.new.items ended) }
+    ensures taken { IfOk result (λ ended. TakesPart (R.remaining reader.old)
+        (R.remaining reader.new) line.old.items line.new.items ended) }
     ensures short { OnOk result (length line.new.items ≤ most) }
-    ensures long { IfErr result (λ fault. fault ≡ ReadFault.TooLong → ExceedsWith most (R.remaining reader.old) line.old.items) }
+    ensures long { IfErr result (λ fault. fault ≡ ReadFault.TooLong
+        → ExceedsWith most (R.remaining reader.old) line.old.items) }
 {
     let piece = match reader.fill() {
         Ok(piece) => piece,
@@ -89,9 +93,11 @@ pub(crate) fn next_line<R: Source>(
     most: usize,
 ) -> Result<bool, ReadFault>
     ensures failures { CountsReading result (R.failures reader.old) (R.failures reader.new) }
-    ensures taken { IfOk result (TakesLineOf (R.remaining reader.old) (R.remaining reader.new) line.new.items) }
+    ensures taken { IfOk result
+        (TakesLineOf (R.remaining reader.old) (R.remaining reader.new) line.new.items) }
     ensures short { OnOk result (length line.new.items ≤ most) }
-    ensures long { IfErr result (λ fault. fault ≡ ReadFault.TooLong → ExceedsWith most (R.remaining reader.old) []) }
+    ensures long { IfErr result
+        (λ fault. fault ≡ ReadFault.TooLong → ExceedsWith most (R.remaining reader.old) []) }
 {
     line.clear();
     for _ in 0..u64::MAX {

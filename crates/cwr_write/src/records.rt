@@ -1,6 +1,7 @@
 //! From the members of an object to a record.
 
-ghost use Rattle.std.specs.Prelude.{◌≡◌, ◌&&◌, ◌++◌, ℕ, ◌<◌, ◌≤◌, List, Bool, true, false, if◌then◌else◌, length, take, Some, None, IfErr, IfOk, MatchOption, OnErr, OnOk};
+ghost use Rattle.std.specs.Prelude.{◌≡◌, ◌&&◌, ◌++◌, ℕ, ◌<◌, ◌≤◌, List, Bool, true, false, if◌then◌else◌, length, take, Some, None, IfErr, IfOk, MatchOption};
+ghost use Rattle.std.specs.Prelude.{OnErr, OnOk};
 ghost use Rattle.std.specs.Str.{bytes_eq};
 ghost use Rattle.json.specs.Json.{Members, no_members, string};
 ghost use Rattle.json.specs.Value.{members_view, value_view};
@@ -67,10 +68,14 @@ fn kind_of(value: &Value<'_>) -> Result<Kind, Why>
 
 /// The kind that the first member which names one has.
 fn kind_in(members: &MemberList<'_>) -> Result<Kind, Why>
-    ensures ok { IfOk result (λ kind. first_of kind_key (told (members_view members.now.items)) ≡ Some (string (letters kind))) }
-    ensures err { OnErr result ((kind : Kind) → ¬ (first_of kind_key (told (members_view members.now.items)) ≡ Some (string (letters kind)))) }
+    ensures ok { IfOk result (λ kind. first_of kind_key (told (members_view members.now.items))
+        ≡ Some (string (letters kind))) }
+    ensures err { OnErr result ((kind : Kind)
+        → ¬ (first_of kind_key (told (members_view members.now.items))
+        ≡ Some (string (letters kind)))) }
     ensures why { IfErr result IsOfData }
-    ensures reason { IfErr result (IsKindReason (first_of kind_key (told (members_view members.now.items)))) }
+    ensures reason { IfErr result
+        (IsKindReason (first_of kind_key (told (members_view members.now.items)))) }
 {
     for member in members {
         if names_kind(member.0, &member.1) {
@@ -138,8 +143,10 @@ fn first_byte(encoding: Encoding, text: &[u8]) -> Option<(u8, usize)>
 
 /// Whether each character stands for a byte.
 fn are_bytes(encoding: Encoding, text: &[u8]) -> bool
-    ensures yes { result ≡ true → (cell : List ℕ) × AreBytes cell × (byte_by_byte encoding cell ≡ text.now) }
-    ensures no { result ≡ false → (cell : List ℕ) → AreBytes cell → ¬ (byte_by_byte encoding cell ≡ text.now) }
+    ensures yes { result ≡ true
+        → (cell : List ℕ) × AreBytes cell × (byte_by_byte encoding cell ≡ text.now) }
+    ensures no { result ≡ false → (cell : List ℕ) → AreBytes cell
+        → ¬ (byte_by_byte encoding cell ≡ text.now) }
 {
     let mut i: usize = 0;
     while i < text.len() {
@@ -201,10 +208,13 @@ fn set_bytes(draft: &mut Draft, j: u8, bytes: &[u8]) -> Result<(), Why>
 /// Sets a cell of a draft to the bytes that characters stand for, each for one.
 fn set_each(encoding: Encoding, draft: &mut Draft, j: u8, text: &[u8]) -> Result<(), Why>
     requires { are_read_as_is encoding text.now ≡ false }
-    ensures ok { OnOk result ((cell : List ℕ) × StandFor encoding text.now cell × Sets j cell draft.old draft.new) }
-    ensures err { OnErr result ((cell : List ℕ) → StandFor encoding text.now cell → ¬ FitsField draft.old.kind j cell) }
+    ensures ok { OnOk result
+        ((cell : List ℕ) × StandFor encoding text.now cell × Sets j cell draft.old draft.new) }
+    ensures err { OnErr result
+        ((cell : List ℕ) → StandFor encoding text.now cell → ¬ FitsField draft.old.kind j cell) }
     ensures why { IfErr result IsOfData }
-    ensures reason { IfErr result (λ why. (f : FieldLayout) → field_at draft.old.kind j ≡ Some f → f.derived ≡ false → IsValueReason encoding f (Some (string text.now)) why) }
+    ensures reason { IfErr result (λ why. (f : FieldLayout) → field_at draft.old.kind j ≡ Some f
+        → f.derived ≡ false → IsValueReason encoding f (Some (string text.now)) why) }
 {
     if !are_bytes(encoding, text) {
         return Err(Why::NotAByte);
@@ -217,10 +227,13 @@ fn set_each(encoding: Encoding, draft: &mut Draft, j: u8, text: &[u8]) -> Result
 
 /// Sets a cell of a draft to the bytes that characters stand for.
 fn set_characters(encoding: Encoding, draft: &mut Draft, j: u8, text: &[u8]) -> Result<(), Why>
-    ensures ok { OnOk result ((cell : List ℕ) × StandFor encoding text.now cell × Sets j cell draft.old draft.new) }
-    ensures err { OnErr result ((cell : List ℕ) → StandFor encoding text.now cell → ¬ FitsField draft.old.kind j cell) }
+    ensures ok { OnOk result
+        ((cell : List ℕ) × StandFor encoding text.now cell × Sets j cell draft.old draft.new) }
+    ensures err { OnErr result
+        ((cell : List ℕ) → StandFor encoding text.now cell → ¬ FitsField draft.old.kind j cell) }
     ensures why { IfErr result IsOfData }
-    ensures reason { IfErr result (λ why. (f : FieldLayout) → field_at draft.old.kind j ≡ Some f → f.derived ≡ false → IsValueReason encoding f (Some (string text.now)) why) }
+    ensures reason { IfErr result (λ why. (f : FieldLayout) → field_at draft.old.kind j ≡ Some f
+        → f.derived ≡ false → IsValueReason encoding f (Some (string text.now)) why) }
 {
     if are_own_bytes(encoding, text) {
         set_bytes(draft, j, text)
@@ -248,10 +261,13 @@ fn set_value(
     j: u8,
     value: &Value<'_>,
 ) -> Result<(), Why>
-    ensures ok { OnOk result ((cell : List ℕ) × IsTextOf encoding (value_view value.now) cell × Sets j cell draft.old draft.new) }
-    ensures err { OnErr result (draft.old.kind ≡ kind → (cell : List ℕ) → IsTextOf encoding (value_view value.now) cell → ¬ FitsField kind j cell) }
+    ensures ok { OnOk result ((cell : List ℕ) × IsTextOf encoding (value_view value.now) cell
+        × Sets j cell draft.old draft.new) }
+    ensures err { OnErr result (draft.old.kind ≡ kind → (cell : List ℕ)
+        → IsTextOf encoding (value_view value.now) cell → ¬ FitsField kind j cell) }
     ensures why { IfErr result IsOfData }
-    ensures reason { IfErr result (λ why. draft.old.kind ≡ kind → (f : FieldLayout) → field_at kind j ≡ Some f → IsValueReason encoding f (Some (value_view value.now)) why) }
+    ensures reason { IfErr result (λ why. draft.old.kind ≡ kind → (f : FieldLayout)
+        → field_at kind j ≡ Some f → IsValueReason encoding f (Some (value_view value.now)) why) }
 {
     if is_computed(kind, j) {
         return Err(Why::Computed);
@@ -276,7 +292,8 @@ struct Filling {
 impl Filling {
     /// Nothing came.
     fn new(kind: Kind) -> Filling
-        ensures filled { (encoding : Encoding) → IsFilled encoding kind no_members result.draft result.seen }
+        ensures filled { (encoding : Encoding)
+            → IsFilled encoding kind no_members result.draft result.seen }
         ensures kind { result.kind ≡ kind }
     {
         Filling {
@@ -336,10 +353,13 @@ impl Filling {
 
 /// The draft that members fill.
 fn filled(encoding: Encoding, kind: Kind, members: &MemberList<'_>) -> Result<Draft, (Key, Why)>
-    ensures ok { IfOk result (λ draft. (seen : List Bool) × IsFilled encoding kind (told (members_view members.now.items)) draft seen) }
-    ensures err { OnErr result ((r : RecordValue) → r.kind ≡ kind → ¬ IsDataOf encoding (told (members_view members.now.items)) r) }
+    ensures ok { IfOk result (λ draft. (seen : List Bool)
+        × IsFilled encoding kind (told (members_view members.now.items)) draft seen) }
+    ensures err { OnErr result ((r : RecordValue) → r.kind ≡ kind
+        → ¬ IsDataOf encoding (told (members_view members.now.items)) r) }
     ensures why { IfErr result (λ f. IsOfData f.1) }
-    ensures reason { IfErr result (λ f. IsMemberReason encoding kind (told (members_view members.now.items)) f.0 f.1) }
+    ensures reason { IfErr result
+        (λ f. IsMemberReason encoding kind (told (members_view members.now.items)) f.0 f.1) }
 {
     let mut filling = Filling::new(kind);
     for member in members {
@@ -363,11 +383,14 @@ fn done(draft: &Draft) -> Result<Record, (Key, Why)>
 
 /// The record of that kind that members are.
 fn record_in(encoding: Encoding, kind: Kind, members: &MemberList<'_>) -> Result<Record, (Key, Why)>
-    requires { first_of kind_key (told (members_view members.now.items)) ≡ Some (string (letters kind)) }
+    requires { first_of kind_key (told (members_view members.now.items))
+        ≡ Some (string (letters kind)) }
     ensures ok { IfOk result (λ r. IsDataOf encoding (told (members_view members.now.items)) r) }
-    ensures err { OnErr result ((r : RecordValue) → ¬ IsDataOf encoding (told (members_view members.now.items)) r) }
+    ensures err { OnErr result
+        ((r : RecordValue) → ¬ IsDataOf encoding (told (members_view members.now.items)) r) }
     ensures why { IfErr result (λ f. IsOfData f.1) }
-    ensures reason { IfErr result (λ f. IsMemberReason encoding kind (told (members_view members.now.items)) f.0 f.1) }
+    ensures reason { IfErr result
+        (λ f. IsMemberReason encoding kind (told (members_view members.now.items)) f.0 f.1) }
 {
     let draft = filled(encoding, kind, members)?;
     done(&draft)
@@ -380,9 +403,11 @@ pub(crate) fn record_of(
     value: &Value<'_>,
 ) -> Result<Record, LineFault>
     ensures ok { IfOk result (λ r. IsRecordData encoding (value_view value.now) r) }
-    ensures err { OnErr result ((r : RecordValue) → ¬ IsRecordData encoding (value_view value.now) r) }
+    ensures err { OnErr result
+        ((r : RecordValue) → ¬ IsRecordData encoding (value_view value.now) r) }
     ensures why { IfErr result (λ f. IsOfData f.why) }
-    ensures reason { IfErr result (λ f. (f.record ≡ number) × IsRecordReason encoding (value_view value.now) f.kind f.key f.why) }
+    ensures reason { IfErr result (λ f. (f.record ≡ number)
+        × IsRecordReason encoding (value_view value.now) f.kind f.key f.why) }
 {
     let Value::Object(members) = value else {
         return Err(of_record(number, None, Key::None, Why::NotAnObject));

@@ -11,7 +11,8 @@ ghost use Rattle.cwr_encode.specs.Steps.Finishing.{FinishesWriting};
 ghost use Rattle.cwr_write.specs.Format.Imports.{CountsReaderFault, CountsWriterFault, SaysItem, WritesWhole};
 ghost use Rattle.cwr_write.specs.Format.Faults.{IsOfLine, IsPlaceReason, IsReason, JudgesTrailer, reached_with};
 ghost use Rattle.cwr_write.specs.Format.Endings.{EndsAtLine, SaysTransmission, WritesTransmission};
-ghost use Rattle.cwr_write.specs.Steps.Taking.{EndsLines, EndsWith, FinishesLines, IsFinishFault, IsNoWriter, IsRunFaultOf, IsUnreadFault, JudgesNext, NoReader, Stands, TakesLine, TakesLines, given_records};
+ghost use Rattle.cwr_write.specs.Steps.Taking.{EndsLines, EndsWith, FinishesLines, IsFinishFault, IsNoWriter, IsRunFaultOf, IsUnreadFault, JudgesNext};
+ghost use Rattle.cwr_write.specs.Steps.Taking.{NoReader, Stands, TakesLine, TakesLines, given_records};
 
 use crate::items::{ItemFault, encode_fault, item_in, write_item};
 use crate::lines::{ReadFault, is_blank, next_line};
@@ -122,7 +123,8 @@ fn take_item<W: Target>(
     encoder: &mut Encoder<W>,
 ) -> Result<(), EncodeFault>
     requires { is_stopped encoder.old ≡ false }
-    ensures adds { AddsRecords W.contents W.failures (given_records item.now) result encoder.old encoder.new }
+    ensures adds { AddsRecords W.contents W.failures (given_records item.now) result encoder.old
+        encoder.new }
     ensures limits { encoder_limits encoder.new ≡ encoder_limits encoder.old }
     ensures more { OnOk result (reached ≢ Reached.End) }
     ensures judged { (start : Option (List ℕ)) (items : List Item) → Stands W.contents start items reached encoder.old
@@ -142,7 +144,9 @@ fn taken<W: Target>(
     encoder: &mut Encoder<W>,
 ) -> Result<Reached, ItemFault>
     requires { is_stopped encoder.old ≡ false }
-    ensures takes { TakesLine (λ i. i ≡ item.now) (λ limits items f. IsOfLine f × IsPlaceReason limits items item.now f.why) reached W.contents W.failures result encoder.old encoder.new }
+    ensures takes { TakesLine (λ i. i ≡ item.now)
+        (λ limits items f. IsOfLine f × IsPlaceReason limits items item.now f.why) reached
+        W.contents W.failures result encoder.old encoder.new }
     ensures limits { encoder_limits encoder.new ≡ encoder_limits encoder.old }
 {
     match take_item(item, reached, encoder) {
@@ -161,7 +165,9 @@ fn take_line<W: Target>(
     encoder: &mut Encoder<W>,
 ) -> Result<Reached, ItemFault>
     requires { is_stopped encoder.old ≡ false }
-    ensures takes { TakesLine (SaysItem encoding line.now) (λ limits items f. (most : ℕ) → IsReason encoding limits most items line.now f) reached W.contents W.failures result encoder.old encoder.new }
+    ensures takes { TakesLine (SaysItem encoding line.now)
+        (λ limits items f. (most : ℕ) → IsReason encoding limits most items line.now f) reached
+        W.contents W.failures result encoder.old encoder.new }
     ensures limits { encoder_limits encoder.new ≡ encoder_limits encoder.old }
 {
     let value = match Value::from_slice(alloc, line, scratch) {
@@ -220,10 +226,12 @@ fn take_lines<R: Source, W: Target>(
 ) -> Result<u64, WriteFault>
     requires unfailed { is_stopped encoder.old ≡ false }
     requires fresh { Encodes W.contents (W.contents (target_of encoder.old)) [] encoder.old }
-    ensures takes { TakesLines encoding (R.remaining reader.old) W.contents W.failures result encoder.old encoder.new }
+    ensures takes { TakesLines encoding (R.remaining reader.old) W.contents W.failures result
+        encoder.old encoder.new }
     ensures reads { CountsReaderFault result (R.failures reader.old) (R.failures reader.new) }
     ensures limits { encoder_limits encoder.new ≡ encoder_limits encoder.old }
-    ensures ends { IfSome (R.remaining reader.old) (λ text. length text < 2 ^ 64 - 1 → EndsLines encoding (encoder_limits encoder.old) most text result) }
+    ensures ends { IfSome (R.remaining reader.old) (λ text. length text < 2 ^ 64 - 1
+        → EndsLines encoding (encoder_limits encoder.old) most text result) }
 {
     let mut line: Vec<u8> = Vec::new(alloc);
     let mut scratch: Scratch = Scratch::new(alloc);
@@ -260,11 +268,13 @@ pub fn write<R: Source, W: Target>(
     reader: &mut R,
     writer: W,
 ) -> (W, Result<Written, WriteFault>)
-    ensures written { IfOk result.1 (λ w. WritesWhole encoding limits (R.remaining reader.old) W.contents writer result.0 w.bytes) }
+    ensures written { IfOk result.1 (λ w. WritesWhole encoding limits (R.remaining reader.old)
+        W.contents writer result.0 w.bytes) }
     ensures failures { CountsWriterFault result.1 (W.failures writer) (W.failures result.0) }
     ensures reads { CountsReaderFault result.1 (R.failures reader.old) (R.failures reader.new) }
     // Of a text of fewer than 2^64 - 1 bytes: all lines are taken, or the first up to which no transmission continues is told.
-    ensures ends { IfSome (R.remaining reader.old) (λ text. length text < 2 ^ 64 - 1 → EndsAtLine encoding limits most text result.1) }
+    ensures ends { IfSome (R.remaining reader.old)
+        (λ text. length text < 2 ^ 64 - 1 → EndsAtLine encoding limits most text result.1) }
     // Nothing else is refused: lines that are data of a transmission within the limits are taken, and it is written.
     ensures takes { IfSome (R.remaining reader.old) (λ text. length text < 2 ^ 64 - 1 → (v : TransmissionValue) → IsTransmission v → FitsIn limits v
         → SaysTransmission encoding most text v → WritesTransmission W.contents writer result.0 v result.1) }
@@ -281,8 +291,10 @@ pub fn write<R: Source, W: Target>(
 /// Ends a transmission of so many lines.
 fn finish<W: Target>(encoder: Encoder<W>, lines: u64) -> (W, Result<Written, WriteFault>)
     requires { is_stopped encoder ≡ false }
-    ensures written { IfOk result.1 (λ w. FinishesWriting W.contents W.failures encoder result.0 (Ok w.bytes)) }
-    ensures failures { CountsWriterFault result.1 (W.failures (target_of encoder)) (W.failures result.0) }
+    ensures written { IfOk result.1
+        (λ w. FinishesWriting W.contents W.failures encoder result.0 (Ok w.bytes)) }
+    ensures failures { CountsWriterFault result.1 (W.failures (target_of encoder))
+        (W.failures result.0) }
     ensures unread { NoReader result.1 }
     ensures ended { (start : Option (List ℕ)) (records : List RecordValue) → Encodes W.contents start records encoder
         → MayCome (encoder_limits encoder) (map symbol_of records) (Plain Trl) → FinishesLines lines result.1 }

@@ -51,7 +51,9 @@ with_level (Some this_level) more = with_text (codes "level") (level_code this_l
 
 -- what is told of an acknowledgement beside what it says
 abbrev pub with_notes : Notes → Members → Members
-with_notes notes more = with_mark (codes "unsent") notes.unsent (with_mark (codes "retitled") notes.retitled (with_mark (codes "again") notes.again more))
+with_notes notes more =
+    with_mark (codes "unsent") notes.unsent
+    (with_mark (codes "retitled") notes.retitled (with_mark (codes "again") notes.again more))
 
 -- ---- an acknowledgement
 
@@ -93,7 +95,8 @@ ack_data notes a t =
 -- transaction t, from 0, of group g, from 1, of that kind isn't answered
 abbrev pub place_data : ℕ → ℕ → Kind → Json
 place_data g t this_kind =
-    object (with_number (codes "group") g (with_number (codes "transaction") t (with_text (codes "type") (letters this_kind) no_members)))
+    object (with_number (codes "group") g
+    (with_number (codes "transaction") t (with_text (codes "type") (letters this_kind) no_members)))
 
 abbrev pub unanswered_data : ℕ → ℕ → Kind → Json
 unanswered_data g t this_kind = object (member (codes "unanswered") (place_data g t this_kind) no_members)
@@ -107,7 +110,8 @@ with_counts count (this_status ∷ more) = with_number (status_code this_status)
 abbrev pub counts_data : List Item → Json
 counts_data given =
     object (with_number (codes "acks") (count_by is_answer given)
-    (member (codes "statuses") (object (with_counts (λ this_status. count_by (has_status this_status) given) transaction_statuses)) no_members))
+    (member (codes "statuses")
+    (object (with_counts (λ this_status. count_by (has_status this_status) given) transaction_statuses)) no_members))
 
 -- ---- lines
 

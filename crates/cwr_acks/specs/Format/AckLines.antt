@@ -41,7 +41,8 @@ unanswered_line form g t f answered = if wants_answer f && not answered then una
 -- those that were sent and that none of the items answers
 abbrev pub unanswered_lines : Form → List (List SentFacts) → List Item → List ℕ
 unanswered_lines form sent items =
-    flat_map (λ p. flat_map (λ q. unanswered_line form p.0 q.0 q.1 (is_answered items p.0 q.0)) (enumerate_from 0 p.1)) (enumerate_from 1 sent)
+    flat_map (λ p. flat_map (λ q. unanswered_line form p.0 q.0 q.1 (is_answered items p.0 q.0)) (enumerate_from 0 p.1))
+    (enumerate_from 1 sent)
 
 abbrev pub unanswered_if : Form → Option (List (List SentFacts)) → List Item → List ℕ
 unanswered_if form None items = []

@@ -1,5 +1,6 @@
 -- What is written of acknowledgements, for people.
-use Rattle.std.specs.Prelude.{ℕ, Bool, List, [], ◌++◌, codes, count_by, decimal, Option, Some, None, option_map, unwrap_or, if◌then◌else◌}
+use Rattle.std.specs.Prelude.{ℕ, Bool, List, [], ◌++◌, codes, count_by, decimal, Option, Some, None, option_map, unwrap_or}
+use Rattle.std.specs.Prelude.{if◌then◌else◌}
 use Rattle.std.specs.List.{flat_map}
 use Rattle.cwr_fields.specs.declared.message_codes.TransactionStatus.{TransactionStatus}
 use Rattle.cwr_fields.specs.declared.message_codes.TransactionStatus.TheVariants as status
@@ -99,7 +100,8 @@ note_lines notes a = marked_if notes.unsent (codes "UNSENT ") a ++ sent_lines no
 
 -- transaction t, from 0, of group g, from 1, of that kind isn't answered
 abbrev pub unanswered_text : ℕ → ℕ → Kind → List ℕ
-unanswered_text g t this_kind = codes "UNANSWERED group " ++ decimal g ++ codes " transaction " ++ decimal t ++ codes " " ++ letters this_kind ++ codes "\n"
+unanswered_text g t this_kind =
+    codes "UNANSWERED group " ++ decimal g ++ codes " transaction " ++ decimal t ++ codes " " ++ letters this_kind ++ codes "\n"
 
 -- a status, and how many acknowledgements have it
 abbrev pub status_part : List ℕ → ℕ → List ℕ
@@ -109,4 +111,5 @@ status_part code count = codes " " ++ code ++ codes " " ++ decimal count
 abbrev pub counts_line : List Item → List ℕ
 counts_line items =
     codes "ACKS " ++ decimal (count_by is_answer items)
-    ++ flat_map (λ this_status. status_part (status_code this_status) (count_by (has_status this_status) items)) transaction_statuses ++ codes "\n"
+    ++ flat_map (λ this_status. status_part (status_code this_status) (count_by (has_status this_status) items))
+    transaction_statuses ++ codes "\n"

@@ -57,7 +57,8 @@ no_notes = record { unsent = false; retitled = false; again = false }
 
 abbrev pub notes_if : Option (List (List SentFacts)) → List Item → RecordValue → Notes
 notes_if None before a = no_notes
-notes_if (Some sent) before a = notes_on (facts_at sent (group_of a) (sequence_of a)) (is_answered before (group_of a) (sequence_of a)) a
+notes_if (Some sent) before a =
+    notes_on (facts_at sent (group_of a) (sequence_of a)) (is_answered before (group_of a) (sequence_of a)) a
 
 -- ---- what was sent
 

@@ -1,5 +1,7 @@
 -- How many acknowledgements there were, which entries of what was sent they marked, and the lines of one item more.
-use Rattle.std.specs.Prelude.{◌≡◌, ℕ, ◌+◌, ◌-◌, ◌≤◌, Bool, false, not, ◌&&◌, ◌==◌, List, [], ◌∷◌, ◌++◌, codes, count_by, decimal, length, map, Option, Some, None, option_map, replicate, slice_get, slice_index, take, unwrap_or, zip, if◌then◌else◌}
+use Rattle.std.specs.Prelude.{◌≡◌, ℕ, ◌+◌, ◌-◌, ◌≤◌, Bool, false, not, ◌&&◌, ◌==◌, List, [], ◌∷◌, ◌++◌, codes, count_by, decimal}
+use Rattle.std.specs.Prelude.{length, map, Option, Some, None, option_map, replicate, slice_get, slice_index, take, unwrap_or}
+use Rattle.std.specs.Prelude.{zip, if◌then◌else◌}
 use Rattle.std.specs.List.{enumerate_from, flat_map, list_any}
 use Rattle.std.specs.Option.{option_and_then}
 use Rattle.cwr_lines.specs.Format.Records.{RecordValue}
@@ -44,7 +46,9 @@ pub record HasRoom (answers : Answers) : Type 0 where
 
 -- the line of counts
 abbrev pub counts_text : Answers → List ℕ
-counts_text answers = codes "ACKS " ++ decimal answers.all ++ flat_map (λ p. status_part (status_code p.0) p.1) (zip transaction_statuses answers.by_status) ++ codes "\n"
+counts_text answers =
+    codes "ACKS " ++ decimal answers.all
+    ++ flat_map (λ p. status_part (status_code p.0) p.1) (zip transaction_statuses answers.by_status) ++ codes "\n"
 
 abbrev pub counts_in : Form → Answers → List ℕ
 counts_in forms.Words answers = counts_text answers

@@ -1,5 +1,6 @@
 -- The text of a line of JSON, part by part.
-use Rattle.std.specs.Prelude.{ℕ, Bool, true, false, List, [], ◌∷◌, ◌++◌, codes, decimal, Option, Some, None, unwrap_or, zip, if◌then◌else◌}
+use Rattle.std.specs.Prelude.{ℕ, Bool, true, false, List, [], ◌∷◌, ◌++◌, codes, decimal, Option, Some, None, unwrap_or, zip}
+use Rattle.std.specs.Prelude.{if◌then◌else◌}
 use Rattle.cwr_fields.specs.declared.message_codes.TransactionStatus.{TransactionStatus}
 use Rattle.cwr_fields.specs.declared.message_codes.MessageLevel.{MessageLevel}
 use Rattle.cwr_fields.specs.Format.Bytes.{is_spaces, trimmed}
@@ -51,7 +52,9 @@ comma_if later = if later then codes "," else []
 -- ---- an acknowledgement
 
 abbrev pub status_members : RecordValue → List ℕ
-status_members a = cell_member (codes "{\"status\":") (cell_named "transaction status" a) ++ codes ",\"words\":\"" ++ status_words (status_in a) ++ codes "\""
+status_members a =
+    cell_member (codes "{\"status\":") (cell_named "transaction status" a) ++ codes ",\"words\":\"" ++ status_words (status_in a)
+    ++ codes "\""
 
 abbrev pub original_members : RecordValue → List ℕ
 original_members a =
@@ -80,7 +83,8 @@ message_part later m =
 
 abbrev pub unanswered_data_text : ℕ → ℕ → Kind → List ℕ
 unanswered_data_text g t this_kind =
-    codes "{\"unanswered\":{\"group\":" ++ decimal g ++ codes ",\"transaction\":" ++ decimal t ++ codes ",\"type\":\"" ++ letters this_kind ++ codes "\"}}\n"
+    codes "{\"unanswered\":{\"group\":" ++ decimal g ++ codes ",\"transaction\":" ++ decimal t ++ codes ",\"type\":\""
+    ++ letters this_kind ++ codes "\"}}\n"
 
 -- the key of a status, after others or as the first
 abbrev pub count_key : Bool → List ℕ → List ℕ
@@ -97,4 +101,5 @@ count_members later (p ∷ more) = count_member later (status_code p.0) p.1 ++ c
 -- the line of counts
 abbrev pub counts_data_text : ℕ → List ℕ → List ℕ
 counts_data_text all by_status =
-    codes "{\"acks\":" ++ decimal all ++ codes ",\"statuses\":{" ++ count_members false (zip transaction_statuses by_status) ++ codes "}}\n"
+    codes "{\"acks\":" ++ decimal all ++ codes ",\"statuses\":{" ++ count_members false (zip transaction_statuses by_status)
+    ++ codes "}}\n"

@@ -8,7 +8,8 @@ use Rattle.cwr_advice.specs.declared.characters.Characters.TheVariants.{Unsaid, 
 
 -- it names UTF-8, with its hyphen or without, in upper case or lower case
 abbrev pub names_utf8 : List ℕ → Bool
-names_utf8 cell = str_eq_ignore_ascii_case (trimmed cell) (codes "UTF-8") || str_eq_ignore_ascii_case (trimmed cell) (codes "UTF8")
+names_utf8 cell =
+    str_eq_ignore_ascii_case (trimmed cell) (codes "UTF-8") || str_eq_ignore_ascii_case (trimmed cell) (codes "UTF8")
 
 -- what the header's character set says
 abbrev pub characters_in : List ℕ → Characters

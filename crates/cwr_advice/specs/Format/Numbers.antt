@@ -1,5 +1,6 @@
 -- The numbers and codes of others that cells hold, as far as they can be judged by themselves: by check digits and by their form.
-use Rattle.std.specs.Prelude.{ℕ, ◌+◌, ◌-◌, ◌*◌, ◌%◌, Bool, not, ◌&&◌, ◌||◌, ◌==◌, nat_lt, nat_le, List, [], ◌∷◌, codes, length, take, drop, zip, slice_index}
+use Rattle.std.specs.Prelude.{ℕ, ◌+◌, ◌-◌, ◌*◌, ◌%◌, Bool, not, ◌&&◌, ◌||◌, ◌==◌, nat_lt, nat_le, List, [], ◌∷◌, codes, length}
+use Rattle.std.specs.Prelude.{take, drop, zip, slice_index}
 use Rattle.std.specs.List.{list_all, sum_by}
 use Rattle.std.specs.Str.{bytes_eq}
 use Rattle.cwr_fields.specs.Format.Bytes.{are_digits, is_digit, number_of, trimmed}
@@ -40,7 +41,8 @@ base_weights = 1 ∷ 2 ∷ 3 ∷ 4 ∷ 5 ∷ 6 ∷ 7 ∷ 8 ∷ 9 ∷ []
 -- the form of one
 abbrev pub has_base_form : List ℕ → Bool
 has_base_form cell =
-    (length cell == 13) && bytes_eq (take 2 cell) (codes "I-") && are_digits (take 9 (drop 2 cell)) && (slice_index cell 11 == 45) && is_digit (slice_index cell 12)
+    (length cell == 13) && bytes_eq (take 2 cell) (codes "I-") && are_digits (take 9 (drop 2 cell)) && (slice_index cell 11 == 45)
+    && is_digit (slice_index cell 12)
 
 -- an IPI base number: two, the nine digits by their weights and the check digit are a multiple of ten together
 abbrev pub is_ipi_base : List ℕ → Bool
@@ -50,7 +52,9 @@ is_ipi_base cell = has_base_form cell && ((2 + weighted base_weights (drop 2 cel
 
 -- an ISRC: two letters, three letters or digits, seven digits
 abbrev pub is_isrc : List ℕ → Bool
-is_isrc cell = (length cell == 12) && list_all is_letter (take 2 cell) && list_all (λ b. is_letter b || is_digit b) (take 3 (drop 2 cell)) && are_digits (drop 5 cell)
+is_isrc cell =
+    (length cell == 12) && list_all is_letter (take 2 cell) && list_all (λ b. is_letter b || is_digit b) (take 3 (drop 2 cell))
+    && are_digits (drop 5 cell)
 
 -- the weights of the digits of an EAN, of which the last one's weight is 1 however many there are
 abbrev pub ean_weights : List ℕ
@@ -58,7 +62,8 @@ ean_weights = 3 ∷ 1 ∷ 3 ∷ 1 ∷ 3 ∷ 1 ∷ 3 ∷ 1 ∷ 3 ∷ 1 ∷ 3 ∷ 
 
 -- an EAN, or a UPC, which has one digit less: at most 13 digits, which are a multiple of ten by their weights
 abbrev pub is_ean_of : List ℕ → Bool
-is_ean_of digits = are_digits digits && nat_le (length digits) 13 && (weighted (drop (14 - length digits) ean_weights) digits % 10 == 0)
+is_ean_of digits =
+    are_digits digits && nat_le (length digits) 13 && (weighted (drop (14 - length digits) ean_weights) digits % 10 == 0)
 
 -- the same in a cell, with spaces behind it
 abbrev pub is_ean : List ℕ → Bool

@@ -1,6 +1,7 @@
 -- Advice on a transaction that is to be sent: which record breaks which rule, and at which field.
 use Prim.Native.String.{String}
-use Rattle.std.specs.Prelude.{ℕ, ◌+◌, Bool, true, false, not, ◌&&◌, ◌||◌, nat_lt, nat_le, List, [], ◌∷◌, codes, map, filter, take, drop, take_while, unwrap_or, flat_map, count_by, if◌then◌else◌}
+use Rattle.std.specs.Prelude.{ℕ, ◌+◌, Bool, true, false, not, ◌&&◌, ◌||◌, nat_lt, nat_le, List, [], ◌∷◌, codes, map, filter, take}
+use Rattle.std.specs.Prelude.{drop, take_while, unwrap_or, flat_map, count_by, if◌then◌else◌}
 use Rattle.std.specs.List.{list_any, sum_by, enumerate_from, after_last}
 use Rattle.std.specs.Str.{bytes_eq}
 use Rattle.cwr_fields.specs.Format.Bytes.{is_spaces}
@@ -12,13 +13,15 @@ use Rattle.cwr_shape.specs.declared.reasons.Level.{Level}
 use Rattle.cwr_shape.specs.declared.reasons.Level.TheVariants.{T, R, F}
 use Rattle.cwr_levels.specs.Format.Findings.{is_a, is_blank, is_owner, ownership, share_of}
 use Rattle.cwr_advice.specs.declared.rules.AdviceRule.{AdviceRule}
-use Rattle.cwr_advice.specs.declared.rules.AdviceRule.TheVariants.{A1a, A1b, A2a, A2b, A2c, A2d, A3a, A3b, A4a, A4b, A4c, A4d, A5a, A6a, A6b, A6c, A7a, A8a, A8b, A8c, A8d, A8e, A9a}
+use Rattle.cwr_advice.specs.declared.rules.AdviceRule.TheVariants.{A1a, A1b, A2a, A2b, A2c, A2d, A3a, A3b, A4a, A4b, A4c, A4d}
+use Rattle.cwr_advice.specs.declared.rules.AdviceRule.TheVariants.{A5a, A6a, A6b, A6c, A7a, A8a, A8b, A8c, A8d, A8e, A9a}
 use Rattle.cwr_advice.specs.declared.rules.Asked.{Asked}
 use Rattle.cwr_advice.specs.declared.rules.Advice.{Advice}
 use Rattle.cwr_advice.specs.declared.said.Said.{Said}
 use Rattle.cwr_advice.specs.Format.Characters.{is_unlike}
 use Rattle.cwr_advice.specs.Format.Days.{is_to_come}
-use Rattle.cwr_advice.specs.Format.Numbers.{is_ean, is_ipi_base, is_ipi_name, is_isrc, is_language, is_society, is_territory_number, is_zero}
+use Rattle.cwr_advice.specs.Format.Numbers.{is_ean, is_ipi_base, is_ipi_name, is_isrc, is_language, is_society}
+use Rattle.cwr_advice.specs.Format.Numbers.{is_territory_number, is_zero}
 use Rattle.cwr_advice.specs.Format.Shifts.{begins_with_letter, ends_with_letter, has_gap}
 
 -- ---- words on records
@@ -63,7 +66,9 @@ is_over_in code records right = nat_lt 10006 (sum_by (share_of right) (filter (c
 
 -- the same of one or more of the three rights
 abbrev pub are_over_in : List ℕ → List RecordValue → Bool
-are_over_in code records = is_over_in code records "pr collection share" || is_over_in code records "mr collection share" || is_over_in code records "sr collection share"
+are_over_in code records =
+    is_over_in code records "pr collection share" || is_over_in code records "mr collection share" || is_over_in code records
+    "sr collection share"
 
 -- so many territories of a work are compared with one another, and where there are more, none
 abbrev pub has_few_territories : List RecordValue → Bool
@@ -75,7 +80,9 @@ is_compared t r = has_few_territories t && is_territory r && not (is_blank "tis 
 
 -- with this territory more than the whole is collected there, and without it not
 abbrev pub goes_over : List RecordValue → ℕ → RecordValue → Bool
-goes_over t k r = is_compared t r && are_over_in (cell_named "tis code" r) (take (k + 1) t) && not (are_over_in (cell_named "tis code" r) (take k t))
+goes_over t k r =
+    is_compared t r && are_over_in (cell_named "tis code" r) (take (k + 1) t) && not
+    (are_over_in (cell_named "tis code" r) (take k t))
 
 -- the same territory stands before it already, after the last publisher or writer
 abbrev pub stands_twice : List RecordValue → ℕ → RecordValue → Bool
@@ -113,7 +120,8 @@ records_of_writer t k = take_while (λ r. not (is_writer r)) (drop (k + 1) t)
 
 -- the writer has no publisher, though the work has one whom the submitter controls
 abbrev pub has_no_publisher : List RecordValue → ℕ → RecordValue → Bool
-has_no_publisher t k r = is_a kinds.Swr r && list_any (is_a kinds.Spu) t && not (list_any (is_a kinds.Pwr) (records_of_writer t k))
+has_no_publisher t k r =
+    is_a kinds.Swr r && list_any (is_a kinds.Spu) t && not (list_any (is_a kinds.Pwr) (records_of_writer t k))
 
 -- the writer owns shares, and no record says where they are collected
 abbrev pub has_no_territory : List RecordValue → ℕ → RecordValue → Bool
@@ -221,22 +229,34 @@ at rule j = record { rule = rule; field = j }
 
 -- What is asked of a record of the kind, in this order: the rule, and the number of the field.
 abbrev pub asked_of : Kind → List Asked
-asked_of kinds.Nwr = at A2b 1 ∷ at A3b 1 ∷ at A6a 14 ∷ at A6c 15 ∷ at A7a 4 ∷ at A7a 19 ∷ at A8c 5 ∷ at A8d 11 ∷ at A8e 8 ∷ at A9a 4 ∷ at A9a 19 ∷ []
-asked_of kinds.Rev = at A2b 1 ∷ at A3b 1 ∷ at A6a 14 ∷ at A6c 15 ∷ at A7a 4 ∷ at A7a 19 ∷ at A8c 5 ∷ at A8d 11 ∷ at A8e 8 ∷ at A9a 4 ∷ at A9a 19 ∷ []
+asked_of kinds.Nwr =
+    at A2b 1 ∷ at A3b 1 ∷ at A6a 14 ∷ at A6c 15 ∷ at A7a 4 ∷ at A7a 19 ∷ at A8c 5 ∷ at A8d 11 ∷ at A8e 8 ∷ at A9a 4 ∷ at A9a 19
+    ∷ []
+asked_of kinds.Rev =
+    at A2b 1 ∷ at A3b 1 ∷ at A6a 14 ∷ at A6c 15 ∷ at A7a 4 ∷ at A7a 19 ∷ at A8c 5 ∷ at A8d 11 ∷ at A8e 8 ∷ at A9a 4 ∷ at A9a 19
+    ∷ []
 asked_of kinds.Spu = at A2a 8 ∷ at A3a 13 ∷ at A4a 10 ∷ at A4b 21 ∷ at A7a 5 ∷ at A8a 12 ∷ at A8a 14 ∷ at A8a 16 ∷ at A9a 6 ∷ []
 asked_of kinds.Opu = at A2a 8 ∷ at A3a 13 ∷ at A4a 10 ∷ at A4b 21 ∷ at A7a 5 ∷ at A8a 12 ∷ at A8a 14 ∷ at A8a 16 ∷ at A9a 6 ∷ []
-asked_of kinds.Swr = at A2c 1 ∷ at A2d 1 ∷ at A4a 10 ∷ at A4b 21 ∷ at A7a 4 ∷ at A7a 5 ∷ at A8a 11 ∷ at A8a 13 ∷ at A8a 15 ∷ at A9a 5 ∷ at A9a 6 ∷ []
+asked_of kinds.Swr =
+    at A2c 1 ∷ at A2d 1 ∷ at A4a 10 ∷ at A4b 21 ∷ at A7a 4 ∷ at A7a 5 ∷ at A8a 11 ∷ at A8a 13 ∷ at A8a 15 ∷ at A9a 5 ∷ at A9a 6
+    ∷ []
 asked_of kinds.Owr = at A4a 10 ∷ at A4b 21 ∷ at A7a 4 ∷ at A7a 5 ∷ at A8a 11 ∷ at A8a 13 ∷ at A8a 15 ∷ at A9a 5 ∷ at A9a 6 ∷ []
 asked_of kinds.Spt = at A1a 10 ∷ at A1b 10 ∷ at A8b 10 ∷ []
 asked_of kinds.Swt = at A1a 9 ∷ at A1b 9 ∷ at A8b 9 ∷ []
 asked_of kinds.Ter = at A8b 5 ∷ []
 asked_of kinds.Ipa = at A4a 5 ∷ at A4b 6 ∷ at A7a 7 ∷ at A7a 8 ∷ at A8a 10 ∷ at A8a 12 ∷ at A8a 14 ∷ at A9a 8 ∷ at A9a 9 ∷ []
 asked_of kinds.Alt = at A8c 6 ∷ at A9a 4 ∷ []
-asked_of kinds.Ewt = at A4a 10 ∷ at A4a 14 ∷ at A4b 11 ∷ at A4b 15 ∷ at A7a 4 ∷ at A7a 7 ∷ at A7a 8 ∷ at A7a 9 ∷ at A7a 12 ∷ at A7a 13 ∷ at A8c 6 ∷ at A9a 4 ∷ at A9a 7 ∷ at A9a 8 ∷ at A9a 9 ∷ at A9a 12 ∷ at A9a 13 ∷ []
-asked_of kinds.Ver = at A4a 10 ∷ at A4a 14 ∷ at A4b 11 ∷ at A4b 15 ∷ at A7a 4 ∷ at A7a 7 ∷ at A7a 8 ∷ at A7a 9 ∷ at A7a 12 ∷ at A7a 13 ∷ at A8c 6 ∷ at A9a 4 ∷ at A9a 7 ∷ at A9a 8 ∷ at A9a 9 ∷ at A9a 12 ∷ at A9a 13 ∷ []
+asked_of kinds.Ewt =
+    at A4a 10 ∷ at A4a 14 ∷ at A4b 11 ∷ at A4b 15 ∷ at A7a 4 ∷ at A7a 7 ∷ at A7a 8 ∷ at A7a 9 ∷ at A7a 12 ∷ at A7a 13 ∷ at A8c 6
+    ∷ at A9a 4 ∷ at A9a 7 ∷ at A9a 8 ∷ at A9a 9 ∷ at A9a 12 ∷ at A9a 13 ∷ []
+asked_of kinds.Ver =
+    at A4a 10 ∷ at A4a 14 ∷ at A4b 11 ∷ at A4b 15 ∷ at A7a 4 ∷ at A7a 7 ∷ at A7a 8 ∷ at A7a 9 ∷ at A7a 12 ∷ at A7a 13 ∷ at A8c 6
+    ∷ at A9a 4 ∷ at A9a 7 ∷ at A9a 8 ∷ at A9a 9 ∷ at A9a 12 ∷ at A9a 13 ∷ []
 asked_of kinds.Per = at A4a 6 ∷ at A4b 7 ∷ at A7a 4 ∷ at A7a 5 ∷ at A9a 4 ∷ at A9a 5 ∷ []
 asked_of kinds.Rec = at A4c 12 ∷ at A4d 11 ∷ at A7a 8 ∷ at A7a 9 ∷ at A8d 6 ∷ at A9a 8 ∷ at A9a 9 ∷ []
-asked_of kinds.Com = at A4a 10 ∷ at A4a 13 ∷ at A4b 14 ∷ at A4b 15 ∷ at A6b 1 ∷ at A7a 4 ∷ at A7a 8 ∷ at A7a 9 ∷ at A7a 11 ∷ at A7a 12 ∷ at A8d 7 ∷ at A9a 4 ∷ at A9a 8 ∷ at A9a 9 ∷ at A9a 11 ∷ at A9a 12 ∷ []
+asked_of kinds.Com =
+    at A4a 10 ∷ at A4a 13 ∷ at A4b 14 ∷ at A4b 15 ∷ at A6b 1 ∷ at A7a 4 ∷ at A7a 8 ∷ at A7a 9 ∷ at A7a 11 ∷ at A7a 12 ∷ at A8d 7
+    ∷ at A9a 4 ∷ at A9a 8 ∷ at A9a 9 ∷ at A9a 11 ∷ at A9a 12 ∷ []
 asked_of kinds.Pwr = at A7a 4 ∷ at A7a 5 ∷ at A9a 5 ∷ []
 asked_of kinds.Agr = at A8e 14 ∷ []
 asked_of kinds.Orn = at A7a 5 ∷ at A7a 8 ∷ at A7a 12 ∷ at A9a 5 ∷ at A9a 8 ∷ at A9a 12 ∷ []

@@ -1,5 +1,6 @@
 -- What is kept of the records of a transaction in place of them, and what that says of them.
-use Rattle.std.specs.Prelude.{◌≡◌, ◌⊎◌, ℕ, ◌+◌, Bool, true, false, not, ◌&&◌, if◌then◌else◌, List, filter, drop, take, slice_get, Option, Some}
+use Rattle.std.specs.Prelude.{◌≡◌, ◌⊎◌, ℕ, ◌+◌, Bool, true, false, not, ◌&&◌, if◌then◌else◌, List, filter, drop, take, slice_get}
+use Rattle.std.specs.Prelude.{Option, Some}
 use Rattle.std.specs.List.{list_any, sum_by, after_last}
 use Rattle.std.specs.Option.{is_some}
 use Rattle.std.specs.Str.{bytes_eq}
@@ -15,7 +16,9 @@ use Rattle.cwr_advice.specs.declared.rules.AdviceRule.{AdviceRule}
 use Rattle.cwr_advice.specs.declared.rules.AdviceRule.TheVariants.{A8e, A9a}
 use Rattle.cwr_advice.specs.Format.Characters.{is_ascii}
 use Rattle.cwr_advice.specs.Format.Days.{day_in}
-use Rattle.cwr_advice.specs.Format.Rules.{asked_of, begins_with_agent, breaks_alone, cell_at, has_composite_type, has_no_composite_type, in_chain, is_acknowledgement, is_territory, is_territory_of, is_version, is_writer, owns_shares, records_of_writer}
+use Rattle.cwr_advice.specs.Format.Rules.{asked_of, begins_with_agent, breaks_alone, cell_at, has_composite_type}
+use Rattle.cwr_advice.specs.Format.Rules.{has_no_composite_type, in_chain, is_acknowledgement, is_territory, is_territory_of}
+use Rattle.cwr_advice.specs.Format.Rules.{is_version, is_writer, owns_shares, records_of_writer}
 use Rattle.cwr_advice.specs.Format.Said.{nothing_said}
 use Rattle.cwr_advice.specs.Steps.Facts.{AreFacts}
 
@@ -47,7 +50,8 @@ pub record AreAllCollected (t : List RecordValue) (s : Owned) : Type 0 where
 -- writer alone, or one before it.
 abbrev pub AreOwing : (RecordValue → Bool) → (RecordValue → Bool) → List RecordValue → Owing → Type 0
 AreOwing asks gives t x = (k : ℕ) (r : RecordValue) → slice_get t k ≡ Some r → asks r ≡ true
-    → (list_any gives (records_of_writer t k) ≡ true) ⊎ ((x.lacks ≡ true) ⊎ ((x.owes ≡ true) × (list_any is_writer (drop (k + 1) t) ≡ false)))
+    → (list_any gives (records_of_writer t k) ≡ true)
+    ⊎ ((x.lacks ≡ true) ⊎ ((x.owes ≡ true) × (list_any is_writer (drop (k + 1) t) ≡ false)))
 
 -- a writer whom the submitter controls, who owns shares
 abbrev pub is_owning_writer : RecordValue → Bool
@@ -65,7 +69,9 @@ AreSinceParty t numbers = (number : List ℕ) → list_any (is_territory_of numb
 
 -- the record is a territory that stands before it already, after the last publisher or writer
 abbrev pub stands_again : List RecordValue → RecordValue → Bool
-stands_again before r = is_territory r && not (is_blank "tis code" r) && list_any (is_territory_of (cell_named "tis code" r)) (after_last is_owner before)
+stands_again before r =
+    is_territory r && not (is_blank "tis code" r) && list_any (is_territory_of (cell_named "tis code" r))
+    (after_last is_owner before)
 
 -- that is the sequence of a chain that is begun
 abbrev pub IsBegun : List RecordValue → Option (List ℕ) → Type 0

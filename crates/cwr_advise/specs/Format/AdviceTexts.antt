@@ -12,7 +12,8 @@ use Rattle.cwr_advice.specs.Format.Words.{advice_words, rule_text}
 -- the group's number is its ID, from 1, and the transaction's its sequence, from 0
 abbrev pub advice_line : ℕ → ℕ → Advice → List ℕ
 advice_line group transaction a = codes "ADVICE group " ++ decimal group ++ codes " transaction " ++ decimal transaction
-    ++ codes " record " ++ decimal a.rec ++ codes " field " ++ decimal a.field ++ codes " level " ++ level_text (level_of_rule a.rule)
+    ++ codes " record " ++ decimal a.rec ++ codes " field " ++ decimal a.field ++ codes " level "
+    ++ level_text (level_of_rule a.rule)
     ++ codes " rule " ++ rule_text a.rule ++ 10 ∷ []
 
 -- the cell of field j of a record on line n of the file, where it carries one
@@ -25,7 +26,8 @@ words_line a = codes "  advice    " ++ advice_words a.rule ++ 10 ∷ []
 
 -- the lines of advice at a record on line n of the file: what it is, where the record stands, its cell, and the advice in words
 abbrev pub lines_at_record : ℕ → ℕ → ℕ → Advice → RecordValue → List ℕ
-lines_at_record group sequence n a r = advice_line group sequence a ++ where_line n r.kind ++ cell_line n r a.field ++ words_line a
+lines_at_record group sequence n a r =
+    advice_line group sequence a ++ where_line n r.kind ++ cell_line n r a.field ++ words_line a
 
 -- the same in the transaction t, whose first record is on line n of the file
 unfoldable pub noted_advice : ℕ → ℕ → ℕ → List RecordValue → Advice → List ℕ

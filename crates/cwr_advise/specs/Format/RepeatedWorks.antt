@@ -1,5 +1,6 @@
 -- Works of a transmission whose submitter's work numbers stand in works before them.
-use Rattle.std.specs.Prelude.{ℕ, ◌+◌, Bool, not, ◌&&◌, ◌==◌, nat_lt, if◌then◌else◌, List, [], ◌∷◌, ◌++◌, codes, decimal, length, map, filter, take, count_by, flat_map, Option, Some, None}
+use Rattle.std.specs.Prelude.{ℕ, ◌+◌, Bool, not, ◌&&◌, ◌==◌, nat_lt, if◌then◌else◌, List, [], ◌∷◌, ◌++◌, codes, decimal, length}
+use Rattle.std.specs.Prelude.{map, filter, take, count_by, flat_map, Option, Some, None}
 use Rattle.std.specs.List.{after_last, enumerate_from}
 use Rattle.std.specs.Option.{option_to_list}
 use Rattle.std.specs.Str.{bytes_eq}
@@ -23,7 +24,12 @@ work_header item = []
 
 -- where a transaction stands that comes after these items
 abbrev pub place_after : List Item → Place
-place_after before = record { group = count_by opens_group before; sequence = count_by is_transaction (after_last opens_group before); line = length (records_in before) + 1 }
+place_after before =
+    record {
+      group = count_by opens_group before;
+      sequence = count_by is_transaction (after_last opens_group before);
+      line = length (records_in before) + 1;
+    }
 
 -- the work that the item is, which comes after these items: its number, which is field 6 of its header, and where it stands
 abbrev pub work_in : List Item → Item → List (List ℕ × Place)
@@ -46,26 +52,33 @@ repeated_advice = record { rec = 0; field = 6; rule = A5a }
 
 -- where the first work with the number stands
 abbrev pub first_line : Place → List ℕ
-first_line first = codes "  first     line " ++ decimal first.line ++ codes ", group " ++ decimal first.group ++ codes " transaction " ++ decimal first.sequence ++ 10 ∷ []
+first_line first =
+    codes "  first     line " ++ decimal first.line ++ codes ", group " ++ decimal first.group ++ codes " transaction "
+    ++ decimal first.sequence ++ 10 ∷ []
 
 -- the lines on a work that stands there and has this header, and on the first one with its number
 abbrev pub repeated_lines : Place → RecordValue → Place → List ℕ
 repeated_lines place h first =
-    advice_line place.group place.sequence repeated_advice ++ where_line place.line h.kind ++ cell_line place.line h 6 ++ first_line first ++ words_line repeated_advice
+    advice_line place.group place.sequence repeated_advice ++ where_line place.line h.kind ++ cell_line place.line h 6
+    ++ first_line first ++ words_line repeated_advice
 
 -- the line on the first work whose number isn't kept
 abbrev pub limit_line : ℕ → Place → List ℕ
-limit_line limit place = codes "LIMIT repeated " ++ decimal limit ++ codes " group " ++ decimal place.group ++ codes " transaction " ++ decimal place.sequence ++ 10 ∷ []
+limit_line limit place =
+    codes "LIMIT repeated " ++ decimal limit ++ codes " group " ++ decimal place.group ++ codes " transaction "
+    ++ decimal place.sequence ++ 10 ∷ []
 
 -- the lines on a work: those on the first one with its number, where there is one, and that on the limit, where it is the first beyond
 abbrev pub repeated_text : ℕ → Place → RecordValue → Option Place → Bool → List ℕ
-repeated_text limit place h first is_beyond = flat_map (repeated_lines place h) (option_to_list first) ++ (if is_beyond then limit_line limit place else [])
+repeated_text limit place h first is_beyond =
+    flat_map (repeated_lines place h) (option_to_list first) ++ (if is_beyond then limit_line limit place else [])
 
 -- The lines on an item that comes after these items. The numbers of so many works are kept, and with these it is compared; with the limit 0
 -- nothing is.
 abbrev pub repeated_in : ℕ → List Item → Item → List ℕ
 repeated_in limit before item =
-    flat_map (λ h. repeated_text limit (place_after before) h (place_of (cell_at h 6) (take limit (works_in before))) (nat_lt 0 limit && (length (works_in before) == limit))) (work_header item)
+    flat_map (λ h. repeated_text limit (place_after before) h (place_of (cell_at h 6) (take limit (works_in before)))
+    (nat_lt 0 limit && (length (works_in before) == limit))) (work_header item)
 
 -- memory is taken for its number
 abbrev pub keeps_number : ℕ → Item → Bool

@@ -21,4 +21,5 @@ place_at counts = record { group = counts.groups; sequence = counts.in_group; li
 
 -- the lines on the item, which comes after items with these numbers, where this is to be told
 abbrev pub repeated_at : ℕ → Totals → Item → Repeated → List ℕ
-repeated_at limit counts item told = flat_map (λ h. repeated_text limit (place_at counts) h told.first told.is_beyond) (work_header item)
+repeated_at limit counts item told =
+    flat_map (λ h. repeated_text limit (place_at counts) h told.first told.is_beyond) (work_header item)

@@ -1,5 +1,6 @@
 -- The fields of the layouts in numbers, as C sees them.
-use Rattle.std.specs.Prelude.{◌≡◌, ◌⊎◌, ℕ, ◌≤◌, List, ◌++◌, length, map, Option, Some, None, IsSomeAnd, slice_get, option_and_then, if◌then◌else◌}
+use Rattle.std.specs.Prelude.{◌≡◌, ◌⊎◌, ℕ, ◌≤◌, List, ◌++◌, length, map, Option, Some, None, IsSomeAnd, slice_get}
+use Rattle.std.specs.Prelude.{option_and_then, if◌then◌else◌}
 use Rattle.std.specs.List.{concat}
 use Rattle.cwr_fields.specs.declared.cell_types.CellType.{CellType}
 use Rattle.cwr_fields.specs.declared.cell_types.CellType.TheVariants as types
@@ -66,8 +67,11 @@ MayHold kind j text = IsSomeAnd (carried_at kind j) (λ f. (length text ≤ f.wi
 
 -- a text that cells of field j may hold, in the room; or none, and then nothing changes
 abbrev pub PutsCode : Kind → ℕ → List ℕ → List ℕ → ℕ → Type 0
-PutsCode kind j room code count = ((count ≡ 0) × (code ≡ room)) ⊎ ((text : List ℕ) × MayHold kind j text × CopiesOut text room code count)
+PutsCode kind j room code count =
+    ((count ≡ 0) × (code ≡ room)) ⊎ ((text : List ℕ) × MayHold kind j text × CopiesOut text room code count)
 
 -- so of the kind that the letters name; 0 where they name none
 abbrev pub TellsCode : List ℕ → ℕ → List ℕ → List ℕ → ℕ → Type 0
-TellsCode letters j room code count = ((kind_of letters ≡ None) × (count ≡ 0) × (code ≡ room)) ⊎ ((kind : Kind) × (kind_of letters ≡ Some kind) × PutsCode kind j room code count)
+TellsCode letters j room code count =
+    ((kind_of letters ≡ None) × (count ≡ 0) × (code ≡ room))
+    ⊎ ((kind : Kind) × (kind_of letters ≡ Some kind) × PutsCode kind j room code count)

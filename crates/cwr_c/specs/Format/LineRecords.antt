@@ -17,7 +17,9 @@ pub record CarriesRecord (line : List ℕ) (r : RecordValue) : Type 0 where
 
 -- nothing is left, or the next line is TRL's
 abbrev pub IsAtTrailer : List ℕ → Type 0
-IsAtTrailer rest = (rest ≡ []) ⊎ ((line : List ℕ) × (more : List ℕ) × (rest ≡ line ++ 10 ∷ more) × IsLine line × (body_kind (without_cr line) ≡ Some Trl))
+IsAtTrailer rest =
+    (rest ≡ [])
+    ⊎ ((line : List ℕ) × (more : List ℕ) × (rest ≡ line ++ 10 ∷ more) × IsLine line × (body_kind (without_cr line) ≡ Some Trl))
 
 -- The lines of the text, up to its end or to TRL's, carry the records; its last line may lack its line feed.
 pub record CarryRecords (text : List ℕ) (records : List RecordValue) : Type 0 where

@@ -17,7 +17,19 @@ use Rattle.cwr_c.specs.declared.verdicts.CwrVerdict.{CwrVerdict}
 
 -- a verdict of which only the ending is known
 abbrev pub ended : ℕ → CwrVerdict
-ended n = record { ending = n; groups = 0; transactions = 0; records = 0; field = 0; level = 0; reason = 0; detail = 0; expected = 0; used = 0 }
+ended n =
+    record {
+      ending = n;
+      groups = 0;
+      transactions = 0;
+      records = 0;
+      field = 0;
+      level = 0;
+      reason = 0;
+      detail = 0;
+      expected = 0;
+      used = 0;
+    }
 
 -- a level's letter in ASCII
 abbrev pub letter : Level → ℕ
@@ -73,7 +85,15 @@ expected reason.Excess = 0
 
 -- a refusal
 abbrev pub refused_in_c : Refusal → CwrVerdict
-refused_in_c r = record (ended 1) { records = r.rec; field = r.field; level = letter r.level; reason = reason_number r.reason; detail = detail r.reason; expected = expected r.reason }
+refused_in_c r =
+    record (ended 1) {
+      records = r.rec;
+      field = r.field;
+      level = letter r.level;
+      reason = reason_number r.reason;
+      detail = detail r.reason;
+      expected = expected r.reason;
+    }
 
 -- a verdict
 abbrev pub in_c : Verdict → CwrVerdict

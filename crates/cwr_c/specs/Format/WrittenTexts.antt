@@ -26,10 +26,12 @@ pub record IsCanonicalOf (limits : LimitValues) (lines text : List ℕ) : Type 0
 abbrev pub TellsWritten : ℕ → ℕ → ℕ → List ℕ → List ℕ → List ℕ → ℕ → CwrWritten → Type 0
 TellsWritten records groups transaction lines old new count told =
     ((told.ending ≢ 0) × (count ≡ 0) × (new ≡ old))
-    ⊎ ((told.ending ≡ 0) × ((text : List ℕ) × IsCanonicalOf (limit_values records groups transaction) lines text × CopiesOut text old new count))
+    ⊎ ((told.ending ≡ 0)
+    × ((text : List ℕ) × IsCanonicalOf (limit_values records groups transaction) lines text × CopiesOut text old new count))
 
 -- the canonical text of a transmission within the limits was written; or words were that say why none was, and where
 abbrev pub TellsImported : ℕ → ℕ → ℕ → List ℕ → List ℕ → ℕ → CwrWritten → Type 0
 TellsImported records groups transaction old new count told =
     ((told.ending ≢ 0) × ((words : List ℕ) × CopiesOut words old new count))
-    ⊎ ((told.ending ≡ 0) × ((text : List ℕ) × IsCanonical (limit_values records groups transaction) text × CopiesOut text old new count))
+    ⊎ ((told.ending ≡ 0)
+    × ((text : List ℕ) × IsCanonical (limit_values records groups transaction) text × CopiesOut text old new count))

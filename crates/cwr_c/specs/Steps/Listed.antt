@@ -29,13 +29,17 @@ numbers_with n item = record {
 }
 
 -- these items come before the verdict, and their findings were put
-abbrev pub ListsFrom : Limits → Option (List ℕ) → Option (List ℕ) → List CwrFinding → List CwrFinding → ℕ → Result Verdict ToolFault → Type 0
-ListsFrom limits before after old new count (Ok verdict) = (given : List Item) × IsRightVerdict limits before verdict after given × CopiesOut (findings_in_c 0 given) old new count
+abbrev pub ListsFrom : Limits → Option (List ℕ) → Option (List ℕ) → List CwrFinding → List CwrFinding → ℕ
+    → Result Verdict ToolFault → Type 0
+ListsFrom limits before after old new count (Ok verdict) =
+    (given : List Item) × IsRightVerdict limits before verdict after given × CopiesOut (findings_in_c 0 given) old new count
 ListsFrom limits before after old new count (Err fault) = Unit {0}
 
 -- so of a text
 abbrev pub ListsText : Limits → List ℕ → List CwrFinding → List CwrFinding → ℕ → Verdict → Type 0
-ListsText limits text old new count verdict = (given : List Item) × (after : Option (List ℕ)) × IsRightVerdict limits (Some text) verdict after given × CopiesOut (findings_in_c 0 given) old new count
+ListsText limits text old new count verdict =
+    (given : List Item) × (after : Option (List ℕ)) × IsRightVerdict limits (Some text) verdict after given
+    × CopiesOut (findings_in_c 0 given) old new count
 
 abbrev pub Lists : Limits → List ℕ → List CwrFinding → List CwrFinding → ℕ → Result Verdict ToolFault → Type 0
 Lists limits text old new count (Ok verdict) = IsVerdictOn limits text verdict × ListsText limits text old new count verdict

@@ -7,7 +7,8 @@ use Rattle.cwr_tools.specs.declared.verdicts.Verdict.{Verdict}
 use Rattle.cwr_tools.specs.declared.verdicts.Verdict.TheVariants.{Refused}
 use Rattle.cwr_tools.specs.declared.verdicts.ToolFault.{ToolFault}
 use Rattle.cwr_tools.specs.Format.Verdicts.{IsVerdictOn}
-use Rattle.cwr_tools.specs.Format.Reports.{ItemLines, lines_of_data, lines_of_explained, lines_of_findings, lines_of_records, text_on}
+use Rattle.cwr_tools.specs.Format.Reports.{ItemLines, lines_of_data, lines_of_explained, lines_of_findings, lines_of_records}
+use Rattle.cwr_tools.specs.Format.Reports.{text_on}
 use Rattle.cwr_tools.specs.Steps.Verdicts.{IsRightVerdict}
 use Rattle.cwr_json.specs.declared.encodings.Encoding.TheVariants.{Latin1}
 use Rattle.cwr_c.specs.declared.reports.Asked.{Asked}
@@ -34,7 +35,9 @@ IsJudged limits text (Err fault) = Unit {0}
 
 -- these items come before the verdict, and the report is the text on both
 abbrev pub IsTextOn : ItemLines → Limits → List ℕ → List ℕ → Verdict → Type 0
-IsTextOn of limits text report verdict = (given : List Item) × (after : Option (List ℕ)) × IsRightVerdict limits (Some text) verdict after given × (report ≡ text_on of given verdict)
+IsTextOn of limits text report verdict =
+    (given : List Item) × (after : Option (List ℕ)) × IsRightVerdict limits (Some text) verdict after given
+    × (report ≡ text_on of given verdict)
 
 -- so it begins, and words come after it
 abbrev pub IsExplainedOn : Limits → List ℕ → List ℕ → Verdict → Type 0

@@ -14,7 +14,8 @@ use Rattle.cwr_c.specs.declared.writing.After.TheVariants as after
 use Rattle.cwr_c.specs.Format.LineRecords.{CarryRecords}
 
 -- the encoder represents these records, of a transmission that is to keep to the limits, and its writer hasn't failed
-pub record IsWriting {W : Type 0} (contents : W → Option (List ℕ)) (start : Option (List ℕ)) (limits : LimitValues) (records : List RecordValue) (e : Encoder W) : Type 0 where
+pub record IsWriting {W : Type 0} (contents : W → Option (List ℕ)) (start : Option (List ℕ)) (limits : LimitValues)
+    (records : List RecordValue) (e : Encoder W) : Type 0 where
   pub encodes : Encodes contents start records e
   pub limits_are : encoder_limits e ≡ limits
   pub unfailed : is_stopped e ≡ false
@@ -22,14 +23,16 @@ pub record IsWriting {W : Type 0} (contents : W → Option (List ℕ)) (start : 
 -- these records are written after those before
 abbrev pub GoesOn : {W : Type 0} → (W → Option (List ℕ)) → List RecordValue → Encoder W → Encoder W → Type 0
 GoesOn contents more old new =
-    (start : Option (List ℕ)) (limits : LimitValues) (records : List RecordValue) → IsWriting contents start limits records old → IsWriting contents start limits (records ++ more) new
+    (start : Option (List ℕ)) (limits : LimitValues) (records : List RecordValue) → IsWriting contents start limits records old
+    → IsWriting contents start limits (records ++ more) new
 
 -- the records of the transaction that is held
 abbrev pub held_records : Option (List RecordValue) → List RecordValue
 held_records held = unwrap_or held []
 
 -- Some records are written. With those that are held then they are those that were held, and the ones that came.
-pub record WritesOn {W : Type 0} (contents : W → Option (List ℕ)) (came held left : List RecordValue) (old new : Encoder W) : Type 0 where
+pub record WritesOn {W : Type 0} (contents : W → Option (List ℕ)) (came held left : List RecordValue) (old new : Encoder W) : Type
+    0 where
   pub more : List RecordValue
   pub goes_on : GoesOn contents more old new
   pub same : more ++ left ≡ held ++ came
@@ -41,16 +44,20 @@ pub record HoldsRecord (line : HeldLine) (r : RecordValue) : Type 0 where
   pub excess : held_excess line ≡ false
 
 -- what a line does: its record is written or held; before that of TRL what is held is written
-abbrev pub WritesLine : {W : Type 0} → (W → Option (List ℕ)) → HeldLine → List RecordValue → After → Encoder W → Encoder W → Type 0
-WritesLine contents line held (after.Lines left) old new = (r : RecordValue) × HoldsRecord line r × WritesOn contents (r ∷ []) held (held_records left) old new
-WritesLine contents line held after.Trailer old new = (held_kind line ≡ Some Trl) × (held_excess line ≡ false) × GoesOn contents held old new
+abbrev pub WritesLine : {W : Type 0} → (W → Option (List ℕ)) → HeldLine → List RecordValue → After → Encoder W → Encoder W
+    → Type 0
+WritesLine contents line held (after.Lines left) old new =
+    (r : RecordValue) × HoldsRecord line r × WritesOn contents (r ∷ []) held (held_records left) old new
+WritesLine contents line held after.Trailer old new =
+    (held_kind line ≡ Some Trl) × (held_excess line ≡ false) × GoesOn contents held old new
 
 -- what is written from the lines of a text: their records, whatever was written before
 abbrev pub WritesLines : {W : Type 0} → (W → Option (List ℕ)) → List ℕ → Encoder W → Encoder W → Type 0
 WritesLines contents text old new = (records : List RecordValue) × CarryRecords text records × GoesOn contents records old new
 
 -- After what the writer had at the start, it has the canonical text of a transmission within the limits, with these records and TRL.
-pub record HasCanonical {W : Type 0} (contents : W → Option (List ℕ)) (start : Option (List ℕ)) (limits : LimitValues) (records : List RecordValue) (writer : W) : Type 0 where
+pub record HasCanonical {W : Type 0} (contents : W → Option (List ℕ)) (start : Option (List ℕ)) (limits : LimitValues)
+    (records : List RecordValue) (writer : W) : Type 0 where
   pub value : TransmissionValue
   pub whole : IsTransmission value
   pub within : FitsIn limits value
@@ -60,4 +67,5 @@ pub record HasCanonical {W : Type 0} (contents : W → Option (List ℕ)) (start
 -- what the encoder wrote is ended
 abbrev pub EndsWriting : {W : Type 0} → (W → Option (List ℕ)) → Encoder W → W → Type 0
 EndsWriting contents e writer =
-    (start : Option (List ℕ)) (limits : LimitValues) (records : List RecordValue) → IsWriting contents start limits records e → HasCanonical contents start limits records writer
+    (start : Option (List ℕ)) (limits : LimitValues) (records : List RecordValue) → IsWriting contents start limits records e
+    → HasCanonical contents start limits records writer

@@ -37,11 +37,13 @@ pub record IsEntryOf (text : List ℕ) (before : List Symbol) (entry : IndexEntr
 unfoldable pub AreEntriesOf : List ℕ → List Symbol → List IndexEntry → List RecordValue → Type 0
 AreEntriesOf text before [] records = Unit {0}
 AreEntriesOf text before (entry ∷ entries) [] = ⊥
-AreEntriesOf text before (entry ∷ entries) (r ∷ records) = IsEntryOf text before entry r × AreEntriesOf text (before ++ symbol_of r ∷ []) entries records
+AreEntriesOf text before (entry ∷ entries) (r ∷ records) =
+    IsEntryOf text before entry r × AreEntriesOf text (before ++ symbol_of r ∷ []) entries records
 
 -- the text has that end; where it is accepted, these are the transmission's records
 abbrev pub EndsWith : LimitValues → List ℕ → List RecordValue → End → Type 0
-EndsWith limits text records (ends.Accepted used) = (v : TransmissionValue) × IsAccepted limits text v used × (records_of v ≡ records)
+EndsWith limits text records (ends.Accepted used) =
+    (v : TransmissionValue) × IsAccepted limits text v used × (records_of v ≡ records)
 EndsWith limits text records (ends.Refused refusal) = IsRefused limits text refusal × (refusal.rec ≡ length records + 1)
 EndsWith limits text records (ends.Truncated count) = IsTruncated limits text count × (count ≡ length records)
 

@@ -34,11 +34,12 @@ pub record AreGroupItems (head : RecordValue) (given : List Item) : Type 0 where
 
 -- The bytes that the reader lost are accepted as the transmission. Where its bytes are known, they begin so, and it lost just
 -- that front.
-pub record TakesFront (limits : LimitValues) (before : Option (List ℕ)) (v : TransmissionValue) (after : Option (List ℕ)) : Type 0 where
-  pub input : List ℕ
-  pub consumed : Consumes before after input
-  pub accepted : IsAccepted limits input v (length input)
-  pub front : IfSome before (λ text. IsAccepted limits text v (length input) × (after ≡ Some (drop (length input) text)))
+pub record TakesFront (limits : LimitValues) (before : Option (List ℕ)) (v : TransmissionValue) (after : Option (List ℕ)) : Type 0
+  where
+    pub input : List ℕ
+    pub consumed : Consumes before after input
+    pub accepted : IsAccepted limits input v (length input)
+    pub front : IfSome before (λ text. IsAccepted limits text v (length input) × (after ≡ Some (drop (length input) text)))
 
 -- of a text that is accepted the run answers that transmission and takes its bytes, unless the reader or memory failed
 abbrev pub ReportsAccepted : LimitValues → Option (List ℕ) → Result TransmissionValue ReadFault → Option (List ℕ) → Type 0
@@ -47,5 +48,6 @@ ReportsAccepted limits before result after = IfSome before (λ text. (v : Transm
 
 -- the canonical text of a transmission within the limits is so read back, and what follows it stays unread
 abbrev pub ReportsCanonical : LimitValues → Option (List ℕ) → Result TransmissionValue ReadFault → Option (List ℕ) → Type 0
-ReportsCanonical limits before result after = (v : TransmissionValue) (more : List ℕ) → IsTransmission v → FitsIn limits v → before ≡ Some (canonical_text v ++ more)
+ReportsCanonical limits before result after =
+    (v : TransmissionValue) (more : List ℕ) → IsTransmission v → FitsIn limits v → before ≡ Some (canonical_text v ++ more)
     → MatchResult result (λ t. (t ≡ v) × (after ≡ Some more)) (λ fault. (fault ≡ Reader) ⊎ (fault ≡ Memory))

@@ -1,5 +1,6 @@
 -- What a call of a decoder does to what the decoder represents, and what its answer says of the input.
-use Rattle.std.specs.Prelude.{◌≡◌, ◌≢◌, ℕ, ◌<◌, ◌≤◌, Bool, true, false, List, ◌++◌, length, take, Option, Some, None, IfSome, IfNone}
+use Rattle.std.specs.Prelude.{◌≡◌, ◌≢◌, ℕ, ◌<◌, ◌≤◌, Bool, true, false, List, ◌++◌, length, take, Option, Some, None, IfSome}
+use Rattle.std.specs.Prelude.{IfNone}
 use Rattle.cwr_lines.specs.declared.lines.LineEnd.TheVariants as line_ends
 use Rattle.cwr_values.specs.declared.items.Item.{Item}
 use Rattle.cwr_decode.specs.declared.outcomes.Outcome.{Outcome}
@@ -47,14 +48,17 @@ seen_input true input piece = input
 -- the end of the input is taken, and with it a last line that had no line feed
 pub record TakesEnd (old : Standing) (out : Option Outcome) (new : Standing) : Type 0 where
   pub stands : (input : List ℕ) (given : List Item) → Represents old input given → Represents new input (given ++ items_in out)
-  pub right : (input : List ℕ) (given : List Item) → Represents old input given → IfSome out (λ outcome. IsRight old.tally.limits outcome true input input (given ++ items_out outcome))
-  pub last : (input : List ℕ) (given : List Item) → Represents old input given → IfSome out (λ outcome. RefusesLast outcome new input (given ++ items_out outcome))
+  pub right : (input : List ℕ) (given : List Item) → Represents old input given
+      → IfSome out (λ outcome. IsRight old.tally.limits outcome true input input (given ++ items_out outcome))
+  pub last : (input : List ℕ) (given : List Item) → Represents old input given
+      → IfSome out (λ outcome. RefusesLast outcome new input (given ++ items_out outcome))
   pub ready : IsReady new.state new.finished new.line
   pub leaves : IfSome out (λ outcome. Leaves outcome new.state)
   pub more : out ≡ Some More → ⊥
   pub none : IfNone out (IsLive old.state → IsLive new.state)
   pub waits : IfNone out (new.state ≡ Pending → old.state ≡ Pending)
-  pub grows : (input : List ℕ) (given : List Item) → Represents old input given → Grows old.tally.counts.records out new.tally.counts.records
+  pub grows : (input : List ℕ) (given : List Item) → Represents old input given
+      → Grows old.tally.counts.records out new.tally.counts.records
   pub empties : (input : List ℕ) (given : List Item) → Represents old input given → IfSome out (λ outcome. Empties outcome new)
   pub stays : IfSome (again old.state) (λ o. (out ≡ None) × (new ≡ end_input old))
   pub finished : new.finished ≡ true
@@ -64,14 +68,17 @@ pub record TakesEnd (old : Standing) (out : Option Outcome) (new : Standing) : T
 pub record Advances (old : Standing) (piece : List ℕ) (used : ℕ) (out : Option Outcome) (new : Standing) : Type 0 where
   pub within : used ≤ length piece
   pub some : IfNone out (0 < used)
-  pub stands : (input : List ℕ) (given : List Item) → Represents old input given → Represents new (input ++ take used piece) (given ++ items_in out)
+  pub stands : (input : List ℕ) (given : List Item) → Represents old input given
+      → Represents new (input ++ take used piece) (given ++ items_in out)
   pub right : (input : List ℕ) (given : List Item) → Represents old input given
-      → IfSome out (λ outcome. IsRight old.tally.limits outcome false (input ++ take used piece) (input ++ piece) (given ++ items_out outcome))
+      → IfSome out (λ outcome. IsRight old.tally.limits outcome false (input ++ take used piece) (input ++ piece)
+      (given ++ items_out outcome))
   pub ready : IsReady new.state new.finished new.line
   pub leaves : IfSome out (λ outcome. Leaves outcome new.state)
   pub more : out ≡ Some More → used ≡ length piece
   pub none : IfNone out (new.state ≡ Reading)
-  pub grows : (input : List ℕ) (given : List Item) → Represents old input given → Grows old.tally.counts.records out new.tally.counts.records
+  pub grows : (input : List ℕ) (given : List Item) → Represents old input given
+      → Grows old.tally.counts.records out new.tally.counts.records
   pub empties : (input : List ℕ) (given : List Item) → Represents old input given → IfSome out (λ outcome. Empties outcome new)
   pub finished : new.finished ≡ old.finished
   pub limits : new.tally.limits ≡ old.tally.limits
@@ -86,15 +93,18 @@ pub record Fed (old : Standing) (piece : List ℕ) (used : ℕ) (d : Standing) :
   pub was_fresh : old.finished ≡ false
   pub live : IsLive old.state
   pub inside : ¬ WaitsOutside old
-  pub grows : (input : List ℕ) (given : List Item) → Represents old input given → old.tally.counts.records ≤ d.tally.counts.records
+  pub grows : (input : List ℕ) (given : List Item) → Represents old input given
+      → old.tally.counts.records ≤ d.tally.counts.records
   pub limits : d.tally.limits ≡ old.tally.limits
 
 -- a piece is fed
 pub record Feeds (old : Standing) (piece : List ℕ) (used : ℕ) (outcome : Outcome) (new : Standing) : Type 0 where
   pub within : used ≤ length piece
-  pub stands : (input : List ℕ) (given : List Item) → Represents old input given → Represents new (input ++ take used piece) (given ++ items_out outcome)
+  pub stands : (input : List ℕ) (given : List Item) → Represents old input given
+      → Represents new (input ++ take used piece) (given ++ items_out outcome)
   pub right : IsLive old.state → (input : List ℕ) (given : List Item) → Represents old input given
-      → IsRight old.tally.limits outcome old.finished (input ++ take used piece) (seen_input old.finished input piece) (given ++ items_out outcome)
+      → IsRight old.tally.limits outcome old.finished (input ++ take used piece) (seen_input old.finished input piece)
+      (given ++ items_out outcome)
   pub ready : IsReady new.state new.finished new.line
   pub leaves : Leaves outcome new.state
   pub empties : (input : List ℕ) (given : List Item) → Represents old input given → Empties outcome new
@@ -102,22 +112,29 @@ pub record Feeds (old : Standing) (piece : List ℕ) (used : ℕ) (outcome : Out
   pub more : outcome ≡ More → (used ≡ length piece) × (old.finished ≡ false)
   pub unused : old.finished ≡ true → used ≡ 0
   pub alone : WaitsOutside old → (used ≡ 0) × (outcome ≢ More)
-  pub memory : outcome ≡ Memory → IsLive old.state → (input : List ℕ) (given : List Item) → Represents old input given → RunsOutOfMemory old used new
-  pub kept : (input : List ℕ) (given : List Item) → Represents old input given → old.tally.counts.records ≤ new.tally.counts.records
+  pub memory : outcome ≡ Memory → IsLive old.state → (input : List ℕ) (given : List Item) → Represents old input given
+      → RunsOutOfMemory old used new
+  pub kept : (input : List ℕ) (given : List Item) → Represents old input given
+      → old.tally.counts.records ≤ new.tally.counts.records
   pub finished : new.finished ≡ old.finished
   pub limits : new.tally.limits ≡ old.tally.limits
 
 -- the input has ended
 pub record Finishes (old : Standing) (outcome : Outcome) (new : Standing) : Type 0 where
-  pub stands : (input : List ℕ) (given : List Item) → Represents old input given → Represents new input (given ++ items_out outcome)
-  pub right : IsLive old.state → (input : List ℕ) (given : List Item) → Represents old input given → IsRight old.tally.limits outcome true input input (given ++ items_out outcome)
-  pub last : IsLive old.state → (input : List ℕ) (given : List Item) → Represents old input given → RefusesLast outcome new input (given ++ items_out outcome)
+  pub stands : (input : List ℕ) (given : List Item) → Represents old input given
+      → Represents new input (given ++ items_out outcome)
+  pub right : IsLive old.state → (input : List ℕ) (given : List Item) → Represents old input given
+      → IsRight old.tally.limits outcome true input input (given ++ items_out outcome)
+  pub last : IsLive old.state → (input : List ℕ) (given : List Item) → Represents old input given
+      → RefusesLast outcome new input (given ++ items_out outcome)
   pub ready : IsReady new.state new.finished new.line
   pub leaves : Leaves outcome new.state
   pub empties : (input : List ℕ) (given : List Item) → Represents old input given → Empties outcome new
   pub again : IfSome (again old.state) (λ o. (outcome ≡ o) × (new ≡ end_input old))
   pub more : outcome ≡ More → ⊥
-  pub memory : outcome ≡ Memory → IsLive old.state → (input : List ℕ) (given : List Item) → Represents old input given → RunsOutOfMemory old 0 new
-  pub kept : (input : List ℕ) (given : List Item) → Represents old input given → old.tally.counts.records ≤ new.tally.counts.records
+  pub memory : outcome ≡ Memory → IsLive old.state → (input : List ℕ) (given : List Item) → Represents old input given
+      → RunsOutOfMemory old 0 new
+  pub kept : (input : List ℕ) (given : List Item) → Represents old input given
+      → old.tally.counts.records ≤ new.tally.counts.records
   pub finished : new.finished ≡ true
   pub limits : new.tally.limits ≡ old.tally.limits

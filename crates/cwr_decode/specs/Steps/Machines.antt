@@ -1,5 +1,6 @@
 -- What a decoder holds, and what each of its steps does.
-use Rattle.std.specs.Prelude.{◌≡◌, ◌≢◌, ◌⊎◌, ℕ, ◌+◌, Bool, true, false, List, [], ◌∷◌, ◌++◌, length, map, Option, Some, None, IfSome, IsSomeAnd, Result, Ok, Err, MatchOption, MatchResult}
+use Rattle.std.specs.Prelude.{◌≡◌, ◌≢◌, ◌⊎◌, ℕ, ◌+◌, Bool, true, false, List, [], ◌∷◌, ◌++◌, length, map, Option, Some, None}
+use Rattle.std.specs.Prelude.{IfSome, IsSomeAnd, Result, Ok, Err, MatchOption, MatchResult}
 use Rattle.std.specs.List.{AllByRecursion}
 use Rattle.std.specs.declared.alloc.AllocError.{AllocError}
 use Rattle.cwr_fields.specs.declared.kinds.Kind.{Kind}
@@ -136,12 +137,14 @@ HandsOut false old result new = (result ≡ old) × (new ≡ None)
 
 -- an accepted record of the kind is added to those that are held, unless their list asks for memory and finds none; or it is
 -- an item of its own
-abbrev pub Adds : Kind → RecordValue → Option (List RecordValue) → Result (Option Item) AllocError → Option (List RecordValue) → Type 0
+abbrev pub Adds : Kind → RecordValue → Option (List RecordValue) → Result (Option Item) AllocError → Option (List RecordValue)
+    → Type 0
 Adds Hdr r old result new = (result ≡ Ok (Some (items.Opened r))) × (new ≡ old)
 Adds Grh r old result new = (result ≡ Ok (Some (items.GroupOpened r))) × (new ≡ old)
 Adds Grt r old result new = (result ≡ Ok (Some (items.GroupClosed r))) × (new ≡ old)
 Adds Trl r old result new = (result ≡ Ok (Some items.Ended)) × (new ≡ old)
-Adds this_kind r old result new = MatchResult result (λ item. (item ≡ None) × (new ≡ Some (held_list old ++ r ∷ []))) (λ fault. AsksMemory (held_list old) r)
+Adds this_kind r old result new =
+    MatchResult result (λ item. (item ≡ None) × (new ≡ Some (held_list old ++ r ∷ []))) (λ fault. AsksMemory (held_list old) r)
 
 -- after an accepted record a new line begins, unless that was the last one or found no memory
 abbrev pub FinishesRecord : Result (Option Item) AllocError → Standing → Option Outcome → Standing → Type 0
@@ -197,14 +200,16 @@ pub record Accepts (old : Standing) (result : Option Outcome) (new : Standing) :
   pub follows : Follows continues old.held accepted (with_tally old tally) result new
 
 -- the fault of a line of the kind is reported, and nothing is held from then on
-pub record ReportsFault (old : Standing) (kind : Option Kind) (fault : LineFault) (outcome : Outcome) (new : Standing) : Type 0 where
-  pub refusal : Refusal
-  pub number : refusal.rec ≡ old.tally.counts.records + 1
-  pub field : refusal.field ≡ fault.field
-  pub reason : refusal.reason ≡ fault.reason
-  pub level : (xs : List Symbol) → IsTallyOf old.tally xs → refusal.level ≡ level_of kind fault.field fault.reason (scope_after xs)
-  pub reported : outcome ≡ outcomes.Refused refusal
-  pub stops : new ≡ stopped old (Refused refusal)
+pub record ReportsFault (old : Standing) (kind : Option Kind) (fault : LineFault) (outcome : Outcome) (new : Standing) : Type 0
+  where
+    pub refusal : Refusal
+    pub number : refusal.rec ≡ old.tally.counts.records + 1
+    pub field : refusal.field ≡ fault.field
+    pub reason : refusal.reason ≡ fault.reason
+    pub level : (xs : List Symbol) → IsTallyOf old.tally xs
+        → refusal.level ≡ level_of kind fault.field fault.reason (scope_after xs)
+    pub reported : outcome ≡ outcomes.Refused refusal
+    pub stops : new ≡ stopped old (Refused refusal)
 
 -- the line is refused
 pub record Refuses (old : Standing) (result : Option Outcome) (new : Standing) : Type 0 where
@@ -229,9 +234,13 @@ FindsLine Nothing old new = new ≡ old
 
 -- what a cut line was found to be, whatever is done next
 abbrev pub FindsCut : Found → HeldLine → TallyValue → Option (List RecordValue) → TallyValue → Option (List RecordValue) → Type 0
-FindsCut Added line tally held counted more = (state : State) (finished : Bool) → FindsLine Added (record { line = line; tally = tally; held = held; state = state; finished = finished })
+FindsCut Added line tally held counted more =
+    (state : State) (finished : Bool)
+    → FindsLine Added (record { line = line; tally = tally; held = held; state = state; finished = finished })
     (record { line = empty_line; tally = counted; held = more; state = Reading; finished = finished })
-FindsCut Ends line tally held counted more = (state : State) (finished : Bool) → FindsLine Ends (record { line = line; tally = tally; held = held; state = state; finished = finished })
+FindsCut Ends line tally held counted more =
+    (state : State) (finished : Bool)
+    → FindsLine Ends (record { line = line; tally = tally; held = held; state = state; finished = finished })
     (record { line = line; tally = counted; held = more; state = Pending; finished = finished })
 FindsCut Nothing line tally held counted more = (counted ≡ tally) × (more ≡ held)
 
@@ -246,7 +255,8 @@ pub record JudgesFront (old : Standing) (piece : List ℕ) (used : ℕ) (out : O
 -- what the line at the front of the piece was found to be
 abbrev pub FindsFront : Found → Standing → List ℕ → ℕ → Standing → Type 0
 FindsFront Added old piece used new = JudgesFront old piece used None new
-FindsFront Ends old piece used new = IsSomeAnd new.held (λ whole. JudgesFront old piece used (Some (outcomes.Item (items.Transaction whole))) (emptied new))
+FindsFront Ends old piece used new =
+    IsSomeAnd new.held (λ whole. JudgesFront old piece used (Some (outcomes.Item (items.Transaction whole))) (emptied new))
 FindsFront Nothing old piece used new = new ≡ old
 
 -- the record that waits is entered
@@ -270,5 +280,11 @@ end_input old = record { line = old.line; tally = old.tally; held = old.held; st
 -- the input has ended, and a last line is there that had no line feed, or not
 abbrev pub ClosesLine : Bool → Standing → Standing → Type 0
 ClosesLine true old new = (old.state ≡ Reading) × (0 ≢ length old.line.bytes)
-    × (new ≡ record { line = record { bytes = old.line.bytes; ended = line_ends.Line }; tally = old.tally; held = old.held; state = old.state; finished = true })
+    × (new ≡ record {
+      line = record { bytes = old.line.bytes; ended = line_ends.Line };
+      tally = old.tally;
+      held = old.held;
+      state = old.state;
+      finished = true;
+    })
 ClosesLine false old new = (new ≡ end_input old) × (old.state ≡ Reading → length old.line.bytes ≡ 0)

@@ -1,5 +1,6 @@
 -- Reading a transmission from a reader: what is reported, and what that says of the bytes that the reader had.
-use Rattle.std.specs.Prelude.{◌≡◌, ◌⊎◌, ℕ, ◌≤◌, true, false, List, [], ◌∷◌, ◌++◌, length, Option, Some, None, IfSome, Result, Ok, Err}
+use Rattle.std.specs.Prelude.{◌≡◌, ◌⊎◌, ℕ, ◌≤◌, true, false, List, [], ◌∷◌, ◌++◌, length, Option, Some, None, IfSome, Result, Ok}
+use Rattle.std.specs.Prelude.{Err}
 use Rattle.std.specs.Io.KnownBytes.{Consumes, IsAtEnd}
 use Rattle.cwr_fields.specs.Format.Failures.{one_more_failure}
 use Rattle.cwr_shape.specs.Format.Ranges.{LimitValues}
@@ -44,7 +45,8 @@ ReportsAt (Err (faults.Refused refusal)) used input = EndsLineOf used input
 ReportsAt answer used input = Unit {0}
 
 -- what is reported is right of the input, of which these bytes were used
-pub record IsRightOf (limits : LimitValues) (answer : Result (Option Item) ReadFault) (used input : List ℕ) (given : List Item) : Type 0 where
+pub record IsRightOf (limits : LimitValues) (answer : Result (Option Item) ReadFault) (used input : List ℕ)
+    (given : List Item) : Type 0 where
   pub ends : IsEndOf limits input given (answer_end (length used) answer)
   pub comes : ReportsAt answer used input
 
@@ -91,10 +93,12 @@ pub record FeedsOn (least : ℕ) (old : Standing) (left : Option (List ℕ)) (ne
 
 -- Something is read. Just the bytes that the reader loses are fed: whatever the decoder represented before, with these and
 -- with the item that is read it represents that. Where the reader's bytes are known, what is reported is right of all of them.
-pub record Reads (old : Standing) (left : Option (List ℕ)) (answer : Result (Option Item) ReadFault) (new : Standing) (after : Option (List ℕ)) : Type 0 where
+pub record Reads (old : Standing) (left : Option (List ℕ)) (answer : Result (Option Item) ReadFault) (new : Standing)
+    (after : Option (List ℕ)) : Type 0 where
   pub bytes : List ℕ
   pub consumed : Consumes left after bytes
-  pub stands : (input : List ℕ) (given : List Item) → Represents old input given → Represents new (input ++ bytes) (given ++ items_read answer)
+  pub stands : (input : List ℕ) (given : List Item) → Represents old input given
+      → Represents new (input ++ bytes) (given ++ items_read answer)
   pub right : IsLive old.state → IsSpent old left → (input : List ℕ) (given : List Item) → Represents old input given
       → IfSome left (λ rest. IsRightOf old.tally.limits answer (input ++ bytes) (input ++ rest) (given ++ items_read answer))
   pub leaves : LeavesRead answer new.state

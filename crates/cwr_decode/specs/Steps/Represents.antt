@@ -1,5 +1,6 @@
 -- What a decoder represents: the input so far, and the items that were handed out.
-use Rattle.std.specs.Prelude.{◌≡◌, ◌≢◌, ◌⊎◌, ℕ, ◌+◌, Bool, true, false, IsTrue, IsFalse, List, [], ◌∷◌, ◌++◌, length, map, Option, Some, None}
+use Rattle.std.specs.Prelude.{◌≡◌, ◌≢◌, ◌⊎◌, ℕ, ◌+◌, Bool, true, false, IsTrue, IsFalse, List, [], ◌∷◌, ◌++◌, length, map, Option}
+use Rattle.std.specs.Prelude.{Some, None}
 use Rattle.std.specs.List.{AllZip, AllByRecursion, flat_map, list_any}
 use Rattle.cwr_lines.specs.declared.lines.LineEnd.TheVariants as line_ends
 use Rattle.cwr_lines.specs.Format.Growth.{AsksMemory}
@@ -169,7 +170,8 @@ MayFollow true more = more ≡ []
 
 -- however the input continues, it has the end that is reported
 abbrev pub IsEndAlways : LimitValues → Bool → List ℕ → List Item → Option End → Type 0
-IsEndAlways limits input_ended seen given reported = (more : List ℕ) → MayFollow input_ended more → IsEndOf limits (seen ++ more) given reported
+IsEndAlways limits input_ended seen given reported =
+    (more : List ℕ) → MayFollow input_ended more → IsEndOf limits (seen ++ more) given reported
 
 -- the bytes end with a line feed
 abbrev pub EndsInLf : List ℕ → Type 0
@@ -203,6 +205,7 @@ ComesAt outcomes.Done input_ended used seen = ⊥
 ComesAt outcome input_ended used seen = Unit {0}
 
 -- an answer is right of the input, of which these bytes were used, and these were seen
-pub record IsRight (limits : LimitValues) (outcome : Outcome) (input_ended : Bool) (used seen : List ℕ) (given : List Item) : Type 0 where
+pub record IsRight (limits : LimitValues) (outcome : Outcome) (input_ended : Bool) (used seen : List ℕ) (given : List Item) : Type
+    0 where
   pub ends : IsEndAlways limits input_ended seen given (outcome_end (length used) outcome)
   pub comes : ComesAt outcome input_ended used seen

@@ -24,7 +24,8 @@ fn keep_cut<K: Keeper>(
     expected: &mut SpelledPair,
     cut: &CutLine<'_>,
 ) -> Found
-    ensures { (so_far : List RecordValue) → K.stands_for keeper.old so_far → KeepsCut K.stands_for result cut.now so_far tally.old tally.new keeper.new }
+    ensures { (so_far : List RecordValue) → K.stands_for keeper.old so_far
+        → KeepsCut K.stands_for result cut.now so_far tally.old tally.new keeper.new }
 {
     let Some(kind) = cut.kind() else {
         return Found::Nothing;
@@ -84,7 +85,9 @@ impl Machine {
         keeper: &mut K,
         cut: &CutLine<'_>,
     ) -> Found
-        ensures keeps { (so_far : List RecordValue) → K.stands_for keeper.old so_far → KeepsLine K.stands_for K.are_clean result cut.now so_far tally.old tally.new keeper.new self.new.line }
+        ensures keeps { (so_far : List RecordValue) → K.stands_for keeper.old so_far → KeepsLine
+            K.stands_for K.are_clean result cut.now so_far tally.old tally.new keeper.new
+            self.new.line }
         ensures others { self.new ≡ with_line self.old self.new.line }
         ensures kept { result ≢ Found.Ends → self.new ≡ self.old }
     {

@@ -45,12 +45,15 @@ IsBetween xs = reached xs ≡ reached_to.Inside → Continues Any (xs ++ Plain k
 
 -- The answer to a call that adds symbols, where it may come, where what it is given is of the right kind, and where that
 -- and what it ends are whole: the first fault that holds, or none. A fault of the writer comes only where no other holds.
-abbrev pub JudgesCall : {A : Type 0} → Type 0 → Type 0 → Type 0 → LimitValues → List Symbol → List Symbol → Result A EncodeFault → Type 0
+abbrev pub JudgesCall : {A : Type 0} → Type 0 → Type 0 → Type 0 → LimitValues → List Symbol → List Symbol → Result A EncodeFault
+    → Type 0
 JudgesCall comes right whole limits xs added (Err OutOfOrder) = ¬ comes
 JudgesCall comes right whole limits xs added (Err WrongKind) = comes × ¬ right
 JudgesCall comes right whole limits xs added (Err Incomplete) = comes × right × ¬ whole
-JudgesCall comes right whole limits xs added (Err (Limit limit)) = comes × right × whole × IsBarredFirst limits (λ P. Continues P (xs ++ added)) (bars.Limit limit)
-JudgesCall comes right whole limits xs added (Err (Writer written)) = comes × right × whole × Continues (IsWithin limits) (xs ++ added)
+JudgesCall comes right whole limits xs added (Err (Limit limit)) =
+    comes × right × whole × IsBarredFirst limits (λ P. Continues P (xs ++ added)) (bars.Limit limit)
+JudgesCall comes right whole limits xs added (Err (Writer written)) =
+    comes × right × whole × Continues (IsWithin limits) (xs ++ added)
 JudgesCall comes right whole limits xs added (Ok x) = comes × right × whole × Continues (IsWithin limits) (xs ++ added)
 
 -- the answer isn't a limit
@@ -70,7 +73,8 @@ IsNoMistake (Err fault) = ⊥
 
 -- HDR comes first
 abbrev pub JudgesOpening : LimitValues → RecordValue → List Symbol → Result (Unit {0}) EncodeFault → Type 0
-JudgesOpening limits r xs answer = JudgesCall (reached xs ≡ reached_to.Nothing) (r.kind ≡ kinds.Hdr) (Unit {0}) limits xs (symbol_of r ∷ []) answer
+JudgesOpening limits r xs answer =
+    JudgesCall (reached xs ≡ reached_to.Nothing) (r.kind ≡ kinds.Hdr) (Unit {0}) limits xs (symbol_of r ∷ []) answer
 
 -- a group comes after HDR, or after another group
 abbrev pub MayBeginGroup : Reached → Type 0
@@ -79,7 +83,8 @@ MayBeginGroup reached_to.GroupFoot = Unit {0}
 MayBeginGroup r = ⊥
 
 abbrev pub JudgesGroup : LimitValues → RecordValue → List Symbol → Result (Unit {0}) EncodeFault → Type 0
-JudgesGroup limits r xs answer = JudgesCall (MayBeginGroup (reached xs)) (r.kind ≡ kinds.Grh) (Unit {0}) limits xs (symbol_of r ∷ []) answer
+JudgesGroup limits r xs answer =
+    JudgesCall (MayBeginGroup (reached xs)) (r.kind ≡ kinds.Grh) (Unit {0}) limits xs (symbol_of r ∷ []) answer
 
 -- a transaction, and the group's end, come in an open group
 abbrev pub IsInGroup : Reached → Type 0
@@ -88,8 +93,10 @@ IsInGroup reached_to.Inside = Unit {0}
 IsInGroup r = ⊥
 
 abbrev pub JudgesTransaction : LimitValues → List RecordValue → List Symbol → Result (Unit {0}) EncodeFault → Type 0
-JudgesTransaction limits t xs answer = JudgesCall (IsInGroup (reached xs)) (HasHeaderOf (open_type xs) t) (IsWholeTransaction t) limits xs (map symbol_of t) answer
+JudgesTransaction limits t xs answer =
+    JudgesCall (IsInGroup (reached xs)) (HasHeaderOf (open_type xs) t) (IsWholeTransaction t) limits xs (map symbol_of t) answer
 
 -- a group ends that has a transaction
 abbrev pub JudgesFoot : LimitValues → RecordValue → List Symbol → Result (Unit {0}) EncodeFault → Type 0
-JudgesFoot limits r xs answer = JudgesCall (IsInGroup (reached xs)) (r.kind ≡ kinds.Grt) (reached xs ≡ reached_to.Inside) limits xs (symbol_of r ∷ []) answer
+JudgesFoot limits r xs answer =
+    JudgesCall (IsInGroup (reached xs)) (r.kind ≡ kinds.Grt) (reached xs ≡ reached_to.Inside) limits xs (symbol_of r ∷ []) answer

@@ -21,7 +21,9 @@ IsBeforeTrailer r = ⊥
 
 -- a transmission ends that has a group
 abbrev pub JudgesEnd : {A : Type 0} → LimitValues → List Symbol → Result A EncodeFault → Type 0
-JudgesEnd limits xs answer = JudgesCall (IsBeforeTrailer (reached xs)) (Unit {0}) (reached xs ≡ reached_to.GroupFoot) limits xs (Plain kinds.Trl ∷ []) answer
+JudgesEnd limits xs answer =
+    JudgesCall (IsBeforeTrailer (reached xs)) (Unit {0}) (reached xs ≡ reached_to.GroupFoot) limits xs (Plain kinds.Trl ∷ [])
+    answer
 
 -- with TRL after them the records are those of the transmission, which is within the limits
 pub record Completes (limits : LimitValues) (records : List RecordValue) (v : TransmissionValue) : Type 0 where
@@ -30,12 +32,14 @@ pub record Completes (limits : LimitValues) (records : List RecordValue) (v : Tr
   pub records_are : records_of v ≡ records ++ trailer ∷ []
 
 -- after what the writer had at the start it has the text, and the number is the text's length
-pub record HasAll {W : Type 0} (contents : W → Option (List ℕ)) (start : Option (List ℕ)) (writer : W) (text : List ℕ) (n : ℕ) : Type 0 where
+pub record HasAll {W : Type 0} (contents : W → Option (List ℕ)) (start : Option (List ℕ)) (writer : W) (text : List ℕ)
+    (n : ℕ) : Type 0 where
   pub appended : Appends start (contents writer) text
   pub counted : n ≡ min (length text) (2 ^ 64 - 1)
 
 -- after what the writer had at the start it has the text's first bytes, so many
-pub record HasFront {W : Type 0} (contents : W → Option (List ℕ)) (start : Option (List ℕ)) (writer : W) (text : List ℕ) (n : ℕ) : Type 0 where
+pub record HasFront {W : Type 0} (contents : W → Option (List ℕ)) (start : Option (List ℕ)) (writer : W) (text : List ℕ)
+    (n : ℕ) : Type 0 where
   pub bytes : List ℕ
   pub rest : List ℕ
   pub split : text ≡ bytes ++ rest

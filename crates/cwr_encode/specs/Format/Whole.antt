@@ -19,5 +19,6 @@ refusal_of (Transaction group transaction) = Limit limit_kinds.Transaction
 -- the text's first bytes are, and how many is the answer. There is no other fault.
 abbrev pub WritesAll : {W : Type 0} → (W → Option (List ℕ)) → (W → ℕ) → List ℕ → W → W → Result ℕ EncodeFault → Type 0
 WritesAll contents failures text old new (Ok n) = (failures new ≡ failures old) × HasAll contents (contents old) new text n
-WritesAll contents failures text old new (Err (Writer n)) = (failures new ≡ one_more_failure (failures old)) × HasFront contents (contents old) new text n
+WritesAll contents failures text old new (Err (Writer n)) =
+    (failures new ≡ one_more_failure (failures old)) × HasFront contents (contents old) new text n
 WritesAll contents failures text old new (Err fault) = ⊥

@@ -1,5 +1,6 @@
 -- What an encoder keeps and represents, and what its calls do to that.
-use Rattle.std.specs.Prelude.{◌≡◌, ℕ, ◌+◌, Bool, true, false, List, [], ◌∷◌, ◌++◌, map, Option, Some, None, unwrap_or, Result, Ok, Err, nat_lt, if◌then◌else◌}
+use Rattle.std.specs.Prelude.{◌≡◌, ℕ, ◌+◌, Bool, true, false, List, [], ◌∷◌, ◌++◌, map, Option, Some, None, unwrap_or, Result, Ok}
+use Rattle.std.specs.Prelude.{Err, nat_lt, if◌then◌else◌}
 use Rattle.std.specs.List.{AllByRecursion}
 use Rattle.cwr_fields.specs.Format.Failures.{one_more_failure}
 use Rattle.cwr_fields.specs.declared.codes.TransactionType.{TransactionType}
@@ -59,7 +60,8 @@ encoder_limits e = e.tally.limits
 
 -- The encoder accepted these records, which begin a transmission within its limits, the last transaction whole. After what
 -- its writer had at the start it has written their part, or, once its writer failed, the first bytes of that.
-pub record Encodes {W : Type 0} (contents : W → Option (List ℕ)) (start : Option (List ℕ)) (records : List RecordValue) (e : Encoder W) : Type 0 where
+pub record Encodes {W : Type 0} (contents : W → Option (List ℕ)) (start : Option (List ℕ)) (records : List RecordValue)
+    (e : Encoder W) : Type 0 where
   pub counted : tallies.IsTallyOf e.tally (map symbol_of records)
   pub in_order : AllByRecursion IsRecord records
   pub between : IsBetween (map symbol_of records)
@@ -67,14 +69,19 @@ pub record Encodes {W : Type 0} (contents : W → Option (List ℕ)) (start : Op
 
 -- whatever records the encoder represented, it represents these records more
 abbrev pub RepresentsMore : {W : Type 0} → (W → Option (List ℕ)) → List RecordValue → Encoder W → Encoder W → Type 0
-RepresentsMore contents added old new = (start : Option (List ℕ)) (records : List RecordValue) → Encodes contents start records old → Encodes contents start (records ++ added) new
+RepresentsMore contents added old new =
+    (start : Option (List ℕ)) (records : List RecordValue) → Encodes contents start records old
+    → Encodes contents start (records ++ added) new
 
 -- What a call does that adds these records, where the writer hasn't failed before: where it is refused nothing is changed
 -- and nothing written. Else the records are accepted, and the writer failed exactly where that is the answer.
-abbrev pub AddsRecords : {W : Type 0} → (W → Option (List ℕ)) → (W → ℕ) → List RecordValue → Result (Unit {0}) EncodeFault → Encoder W → Encoder W → Type 0
-AddsRecords contents failures added (Ok x) old new = RepresentsMore contents added old new × (is_stopped new ≡ false) × (failures (target_of new) ≡ failures (target_of old))
+abbrev pub AddsRecords : {W : Type 0} → (W → Option (List ℕ)) → (W → ℕ) → List RecordValue → Result (Unit {0}) EncodeFault
+    → Encoder W → Encoder W → Type 0
+AddsRecords contents failures added (Ok x) old new =
+    RepresentsMore contents added old new × (is_stopped new ≡ false) × (failures (target_of new) ≡ failures (target_of old))
 AddsRecords contents failures added (Err (Writer written)) old new =
-    RepresentsMore contents added old new × (is_stopped new ≡ true) × (written ≡ bytes_written new) × (failures (target_of new) ≡ one_more_failure (failures (target_of old)))
+    RepresentsMore contents added old new × (is_stopped new ≡ true) × (written ≡ bytes_written new)
+    × (failures (target_of new) ≡ one_more_failure (failures (target_of old)))
 AddsRecords contents failures added (Err fault) old new = new ≡ old
 
 -- after a fault of the writer each call answers the same, and changes nothing
@@ -85,7 +92,9 @@ AnswersAgain result old new = (result ≡ Err (Writer (bytes_written old))) × (
 
 -- the number that belongs in field j of the next record, if that is of the kind, and 0 where that field has none
 abbrev pub IsNextNumber : TallyValue → Kind → ℕ → ℕ → Type 0
-IsNextNumber t kind j n = (xs : List Symbol) (s : Symbol) → tallies.IsTallyOf t xs → symbol_kind s ≡ kind → Continues Any (xs ++ s ∷ []) → n ≡ unwrap_or (number_in kind j (numbers_after xs kind)) 0
+IsNextNumber t kind j n =
+    (xs : List Symbol) (s : Symbol) → tallies.IsTallyOf t xs → symbol_kind s ≡ kind → Continues Any (xs ++ s ∷ [])
+    → n ≡ unwrap_or (number_in kind j (numbers_after xs kind)) 0
 
 -- the fault that a bar is
 abbrev pub fault_of_bar : Bar → EncodeFault

@@ -14,7 +14,9 @@ use Rattle.cwr_encode.specs.Format.Finishing.{Completes, HasAll, HasFront}
 -- length is the answer; where the writer fails, its first bytes are. Where the call is refused nothing is written.
 abbrev pub FinishesWriting : {W : Type 0} → (W → Option (List ℕ)) → (W → ℕ) → Encoder W → W → Result ℕ EncodeFault → Type 0
 FinishesWriting contents failures e writer (Ok n) = (failures writer ≡ failures (target_of e))
-    × ((start : Option (List ℕ)) (records : List RecordValue) → Encodes contents start records e → (v : TransmissionValue) × Completes (encoder_limits e) records v × HasAll contents start writer (canonical_text v) n)
+    × ((start : Option (List ℕ)) (records : List RecordValue) → Encodes contents start records e
+    → (v : TransmissionValue) × Completes (encoder_limits e) records v × HasAll contents start writer (canonical_text v) n)
 FinishesWriting contents failures e writer (Err (Writer n)) = (failures writer ≡ one_more_failure (failures (target_of e)))
-    × ((start : Option (List ℕ)) (records : List RecordValue) → Encodes contents start records e → (v : TransmissionValue) × Completes (encoder_limits e) records v × HasFront contents start writer (canonical_text v) n)
+    × ((start : Option (List ℕ)) (records : List RecordValue) → Encodes contents start records e
+    → (v : TransmissionValue) × Completes (encoder_limits e) records v × HasFront contents start writer (canonical_text v) n)
 FinishesWriting contents failures e writer (Err fault) = writer ≡ target_of e

@@ -14,7 +14,8 @@ text_of_transactions ts = flat_map (λ p. text_from p.0 0 p.1) (enumerate_from 0
 -- the text of the group that has that number
 abbrev pub text_of_group : ℕ → GroupValue → List ℕ
 text_of_group n g = canonical_line (row_of (n ∷ []) g.head)
-    ++ (text_of_transactions g.transactions ++ canonical_line (row_of (n ∷ length g.transactions ∷ group_records (map length g.transactions) ∷ []) g.foot))
+    ++ (text_of_transactions g.transactions
+    ++ canonical_line (row_of (n ∷ length g.transactions ∷ group_records (map length g.transactions) ∷ []) g.foot))
 
 -- the text of a transmission's groups
 abbrev pub text_of_groups : List GroupValue → List ℕ

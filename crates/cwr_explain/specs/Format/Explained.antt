@@ -1,5 +1,6 @@
 -- What words after a verdict add, what they may take from the reader, and which faults they have.
-use Rattle.std.specs.Prelude.{◌≡◌, ℕ, ◌-◌, ◌^◌, ◌≤◌, min, true, false, List, [], ◌∷◌, drop, length, slice_index, Option, Some, IfSome, IsSomeAnd, Result, Ok, Err}
+use Rattle.std.specs.Prelude.{◌≡◌, ℕ, ◌-◌, ◌^◌, ◌≤◌, min, true, false, List, [], ◌∷◌, drop, length, slice_index, Option, Some}
+use Rattle.std.specs.Prelude.{IfSome, IsSomeAnd, Result, Ok, Err}
 use Rattle.std.specs.Io.KnownBytes.{Appends, Consumes, IsAtEnd}
 use Rattle.cwr_fields.specs.Format.Failures.{one_more_failure}
 use Rattle.cwr_shape.specs.declared.limits.Limits.{Limits}
@@ -33,7 +34,9 @@ pub record IsTrailing (left after : Option (List ℕ)) (found : Trailing) : Type
 
 -- where the text is accepted, what stands after its transmission was found
 abbrev pub FindsAfter : Limits → Option (List ℕ) → Option (List ℕ) → Option Trailing → Type 0
-FindsAfter limits before after found = IfSome before (λ text. (v : TransmissionValue) (n : ℕ) → IsAccepted limits text v n → IsSomeAnd found (IsTrailing (Some (drop n text)) after))
+FindsAfter limits before after found =
+    IfSome before (λ text. (v : TransmissionValue) (n : ℕ) → IsAccepted limits text v n
+    → IsSomeAnd found (IsTrailing (Some (drop n text)) after))
 
 -- a writer's failures count one more where its fault is answered, and else they stay; no other fault is answered
 abbrev pub WritesOnly : Result (Unit {0}) ToolFault → ℕ → ℕ → Type 0

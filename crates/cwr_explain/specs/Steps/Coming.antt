@@ -12,11 +12,13 @@ ComesAt stage symbol = (xs : List Symbol) → StandsAt xs stage → Continues An
 
 -- after records that stand at the stage the symbols that may come are just these: some transmission continues so
 abbrev pub AreComing : Stage → List Symbol → Type 0
-AreComing stage symbols = (xs : List Symbol) → StandsAt xs stage → (s : Symbol) → Contains symbols s ↔ Continues Any (xs ++ s ∷ [])
+AreComing stage symbols =
+    (xs : List Symbol) → StandsAt xs stage → (s : Symbol) → Contains symbols s ↔ Continues Any (xs ++ s ∷ [])
 
 -- of the symbols that were asked the ones that may come were found
 abbrev pub HaveCome : Stage → List Symbol → List Symbol → Type 0
-HaveCome stage asked found = (xs : List Symbol) → StandsAt xs stage → (s : Symbol) → Contains found s ↔ (Contains asked s × Continues Any (xs ++ s ∷ []))
+HaveCome stage asked found =
+    (xs : List Symbol) → StandsAt xs stage → (s : Symbol) → Contains found s ↔ (Contains asked s × Continues Any (xs ++ s ∷ []))
 
 -- one symbol more was asked
 abbrev pub AsksOne : Stage → Symbol → List Symbol → List Symbol → Type 0

@@ -1,5 +1,6 @@
 -- What an explained check has written and taken, step by step.
-use Rattle.std.specs.Prelude.{◌≡◌, ℕ, ◌+◌, ◌-◌, ◌^◌, ◌<◌, ◌≤◌, min, nat_lt, Bool, true, false, List, [], ◌∷◌, length, slice_index, Option, None, Some, IfSome, Result, if◌then◌else◌}
+use Rattle.std.specs.Prelude.{◌≡◌, ℕ, ◌+◌, ◌-◌, ◌^◌, ◌<◌, ◌≤◌, min, nat_lt, Bool, true, false, List, [], ◌∷◌, length, slice_index}
+use Rattle.std.specs.Prelude.{Option, None, Some, IfSome, Result, if◌then◌else◌}
 use Rattle.std.specs.Io.KnownBytes.{Appends, Consumes, IsAtEnd}
 use Rattle.cwr_shape.specs.declared.limits.Limits.{Limits}
 use Rattle.cwr_tools.specs.declared.verdicts.Verdict.{Verdict}
@@ -18,7 +19,8 @@ byte_with count begins piece place = if nat_lt place count then slice_index begi
 
 -- the first three
 abbrev pub begins_with : ℕ → List ℕ → List ℕ → List ℕ
-begins_with count begins piece = byte_with count begins piece 0 ∷ byte_with count begins piece 1 ∷ byte_with count begins piece 2 ∷ []
+begins_with count begins piece =
+    byte_with count begins piece 0 ∷ byte_with count begins piece 1 ∷ byte_with count begins piece 2 ∷ []
 
 -- a piece more was taken and counted, or the end was reached
 pub record TakesPiece (left after : Option (List ℕ)) (old new : Trailing) (ended : Bool) : Type 0 where
@@ -41,7 +43,8 @@ pub record HasTaken (left after : Option (List ℕ)) (pieces : ℕ) (found : Tra
 
 -- First a check is made, and what it writes is written: the text on the findings and the verdict, with all that is said of a
 -- check of these bytes. Then words follow it; after a fault of the check there are none. More bytes may be taken from the reader.
-pub record Explains {W : Type 0} (limits : Limits) (before after : Option (List ℕ)) (contents : W → Option (List ℕ)) (old new : W) (result : Result Verdict ToolFault) : Type 0 where
+pub record Explains {W : Type 0} (limits : Limits) (before after : Option (List ℕ)) (contents : W → Option (List ℕ)) (old new : W)
+    (result : Result Verdict ToolFault) : Type 0 where
   pub between : W
   pub left : Option (List ℕ)
   pub checked : Result Verdict ToolFault

@@ -8,4 +8,6 @@ use Rattle.cwr_explain.specs.Steps.LinesAtEnd.{EndsWithLine}
 
 -- where a decoder refused a line, its input ends with that line, after the lines before it
 abbrev pub RefusedLineIsLast : Type 0
-RefusedLineIsLast = (d : Standing) (input : List ℕ) (given : List Item) (refusal : Refusal) → (s : IsStopped d input given refusal) → EndsWithLine input (text_of s.lines) s.line.bytes
+RefusedLineIsLast =
+    (d : Standing) (input : List ℕ) (given : List Item) (refusal : Refusal) → (s : IsStopped d input given refusal)
+    → EndsWithLine input (text_of s.lines) s.line.bytes

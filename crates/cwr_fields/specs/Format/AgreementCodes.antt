@@ -20,7 +20,8 @@ agreement_code agreement.SubpublishingGeneral = codes "PG"
 
 -- the types of agreements
 abbrev pub agreement_types : List AgreementType
-agreement_types = agreement.OriginalSpecific ∷ agreement.OriginalGeneral ∷ agreement.SubpublishingSpecific ∷ agreement.SubpublishingGeneral ∷ []
+agreement_types =
+    agreement.OriginalSpecific ∷ agreement.OriginalGeneral ∷ agreement.SubpublishingSpecific ∷ agreement.SubpublishingGeneral ∷ []
 
 -- the code of each prior royalty status
 abbrev pub prior_code : PriorRoyaltyStatus → List ℕ

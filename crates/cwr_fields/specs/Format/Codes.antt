@@ -8,8 +8,11 @@ use Rattle.cwr_fields.specs.declared.codes.TransactionType.{TransactionType}
 use Rattle.cwr_fields.specs.declared.codes.TransactionType.TheVariants.{Agreement, NewWork, RevisedWork, Acknowledgement}
 use Rattle.cwr_fields.specs.declared.codes.Role.{Role}
 use Rattle.cwr_fields.specs.declared.codes.Role.TheVariants.{Assignor, Acquirer}
-use Rattle.cwr_fields.specs.Format.AgreementCodes.{agreement_code, agreement_types, prior_code, prior_statuses, post_term_code, post_term_statuses, sales_code, sales_clauses, sign_code, signs}
-use Rattle.cwr_fields.specs.Format.WorkCodes.{category_code, categories, version_code, version_types, composite_code, composite_types, excerpt_code, excerpt_types, title_code, title_types, format_code, recording_formats, technique_code, recording_techniques}
+use Rattle.cwr_fields.specs.Format.AgreementCodes.{agreement_code, agreement_types, prior_code, prior_statuses, post_term_code}
+use Rattle.cwr_fields.specs.Format.AgreementCodes.{post_term_statuses, sales_code, sales_clauses, sign_code, signs}
+use Rattle.cwr_fields.specs.Format.WorkCodes.{category_code, categories, version_code, version_types, composite_code}
+use Rattle.cwr_fields.specs.Format.WorkCodes.{composite_types, excerpt_code, excerpt_types, title_code, title_types, format_code}
+use Rattle.cwr_fields.specs.Format.WorkCodes.{recording_formats, technique_code, recording_techniques}
 use Rattle.cwr_fields.specs.Format.PartyCodes.{publisher_code, publisher_types, designation_code, designations}
 use Rattle.cwr_fields.specs.Format.MessageCodes.{status_code, transaction_statuses, level_code, message_levels}
 use Rattle.cwr_fields.specs.Format.SenderCodes.{sender_text, senders}

@@ -48,7 +48,9 @@ unfolding digits
 day_not_zeros d e =
     let b = day_bounds d.year d.month d.day d.civil in
     let some : 0 < d.year = d.after_zero in
-    let front = parts_equal (digits 4 d.year ++ digits 2 d.month) (digits 2 d.day) (digits 4 0 ++ digits 2 0) (digits 2 0) (date_front_width d.year d.month) e in
+    let front =
+    parts_equal (digits 4 d.year ++ digits 2 d.month) (digits 2 d.day) (digits 4 0 ++ digits 2 0) (digits 2 0)
+    (date_front_width d.year d.month) e in
     let years = parts_equal (digits 4 d.year) (digits 2 d.month) (digits 4 0) (digits 2 0) (number_width 4 d.year) front.0 in
     let none : d.year ≡ 0 = number_equal 4 d.year 0 b.0 (lit< tt) years.0 in
     omega (arith, none)

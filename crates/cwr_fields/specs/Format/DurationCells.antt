@@ -43,4 +43,5 @@ duration_equal Blank Blank e = refl
 duration_equal Blank (Lasting t) e = absurd (time_written t (sym e))
 duration_equal (Lasting t) Blank e = absurd (time_written t e)
 duration_equal (Lasting t) (Lasting u) e =
-    ap Lasting (same_time t u (time_equal 100 t.hours t.minutes t.seconds u.hours u.minutes u.seconds (omega arith) t.most_hours t.most_minutes t.most_seconds u.most_hours u.most_minutes u.most_seconds e))
+    ap Lasting (same_time t u (time_equal 100 t.hours t.minutes t.seconds u.hours u.minutes u.seconds (omega arith) t.most_hours
+    t.most_minutes t.most_seconds u.most_hours u.most_minutes u.most_seconds e))

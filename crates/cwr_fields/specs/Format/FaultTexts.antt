@@ -1,7 +1,8 @@
 -- The words for the fault of a cell.
 use Rattle.std.specs.Prelude.{ℕ, List, codes}
 use Rattle.cwr_fields.specs.declared.cell_types.CellFault.{CellFault}
-use Rattle.cwr_fields.specs.declared.cell_types.CellFault.TheVariants.{Blank, Control, NotDigits, NotADate, NotATime, OverShare, NotACode, NotConstant}
+use Rattle.cwr_fields.specs.declared.cell_types.CellFault.TheVariants.{Blank, Control, NotDigits, NotADate, NotATime, OverShare}
+use Rattle.cwr_fields.specs.declared.cell_types.CellFault.TheVariants.{NotACode, NotConstant}
 
 -- the words for a cell's fault
 abbrev pub fault_text : CellFault → List ℕ

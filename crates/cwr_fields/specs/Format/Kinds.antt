@@ -2,11 +2,15 @@
 use Rattle.std.specs.Prelude.{ℕ, Bool, true, false, List, [], ◌∷◌, codes, Option, find}
 use Rattle.std.specs.Str.{bytes_eq}
 use Rattle.cwr_fields.specs.declared.kinds.Kind.{Kind}
-use Rattle.cwr_fields.specs.declared.kinds.Kind.TheVariants.{Hdr, Grh, Grt, Trl, Agr, Ter, Ipa, Nwr, Rev, Spu, Opu, Spt, Swr, Owr, Swt, Pwr, Alt, Ewt, Ver, Per, Rec, Orn, Com, Ack, Msg, Opt, Owt, Npn, Npr, Nwn, Npa, Net, Now, Nct, Nvt, Nat, Ins, Ind, Ari, Xrf}
+use Rattle.cwr_fields.specs.declared.kinds.Kind.TheVariants.{Hdr, Grh, Grt, Trl, Agr, Ter, Ipa, Nwr, Rev, Spu, Opu, Spt, Swr, Owr}
+use Rattle.cwr_fields.specs.declared.kinds.Kind.TheVariants.{Swt, Pwr, Alt, Ewt, Ver, Per, Rec, Orn, Com, Ack, Msg, Opt, Owt, Npn}
+use Rattle.cwr_fields.specs.declared.kinds.Kind.TheVariants.{Npr, Nwn, Npa, Net, Now, Nct, Nvt, Nat, Ins, Ind, Ari, Xrf}
 
 -- every kind
 abbrev pub all_kinds : List Kind
-all_kinds = Hdr ∷ Grh ∷ Grt ∷ Trl ∷ Agr ∷ Ter ∷ Ipa ∷ Nwr ∷ Rev ∷ Spu ∷ Opu ∷ Spt ∷ Swr ∷ Owr ∷ Swt ∷ Pwr ∷ Alt ∷ Ewt ∷ Ver ∷ Per ∷ Rec ∷ Orn ∷ Com ∷ Ack ∷ Msg ∷ Opt ∷ Owt ∷ Npn ∷ Npr ∷ Nwn ∷ Npa ∷ Net ∷ Now ∷ Nct ∷ Nvt ∷ Nat ∷ Ins ∷ Ind ∷ Ari ∷ Xrf ∷ []
+all_kinds =
+    Hdr ∷ Grh ∷ Grt ∷ Trl ∷ Agr ∷ Ter ∷ Ipa ∷ Nwr ∷ Rev ∷ Spu ∷ Opu ∷ Spt ∷ Swr ∷ Owr ∷ Swt ∷ Pwr ∷ Alt ∷ Ewt ∷ Ver ∷ Per ∷ Rec
+    ∷ Orn ∷ Com ∷ Ack ∷ Msg ∷ Opt ∷ Owt ∷ Npn ∷ Npr ∷ Nwn ∷ Npa ∷ Net ∷ Now ∷ Nct ∷ Nvt ∷ Nat ∷ Ins ∷ Ind ∷ Ari ∷ Xrf ∷ []
 
 -- the record type that a line of the kind begins with
 abbrev pub letters : Kind → List ℕ

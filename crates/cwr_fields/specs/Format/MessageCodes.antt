@@ -20,7 +20,10 @@ status_code status.ClaimRejected = codes "RC"
 
 -- the statuses of transactions
 abbrev pub transaction_statuses : List TransactionStatus
-transaction_statuses = status.Conflict ∷ status.Duplicate ∷ status.TransactionAccepted ∷ status.RegistrationAccepted ∷ status.AcceptedWithChanges ∷ status.ReadyForPayment ∷ status.ChangedReadyForPayment ∷ status.Rejected ∷ status.NoParticipation ∷ status.ClaimRejected ∷ []
+transaction_statuses =
+    status.Conflict ∷ status.Duplicate ∷ status.TransactionAccepted ∷ status.RegistrationAccepted ∷ status.AcceptedWithChanges
+    ∷ status.ReadyForPayment ∷ status.ChangedReadyForPayment ∷ status.Rejected ∷ status.NoParticipation ∷ status.ClaimRejected
+    ∷ []
 
 -- the code of each level of messages
 abbrev pub level_code : MessageLevel → List ℕ

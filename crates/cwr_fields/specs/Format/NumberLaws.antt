@@ -1,5 +1,6 @@
 -- What the digits of a number say of it, and that they are a cell of numbers.
-use Rattle.std.proofs.Common.{◌≡◌, refl, sym, ap, ap₂, ◌∙◌, length, ℕ, zero, suc, ◌+◌, ◌%◌, ◌/◌, ◌^◌, ◌<◌, List, [], ◌∷◌, ◌++◌, replicate, arith, length-append, pow-suc}
+use Rattle.std.proofs.Common.{◌≡◌, refl, sym, ap, ap₂, ◌∙◌, length, ℕ, zero, suc, ◌+◌, ◌%◌, ◌/◌, ◌^◌, ◌<◌, List, [], ◌∷◌, ◌++◌}
+use Rattle.std.proofs.Common.{replicate, arith, length-append, pow-suc}
 use Rattle.std.proofs.lemmas.List.{length-replicate}
 use Rattle.cwr_fields.specs.declared.cell_types.CellType.TheVariants as types
 use Rattle.cwr_fields.specs.Format.Bytes.{digits}
@@ -9,7 +10,8 @@ use Rattle.cwr_fields.specs.Format.Cells.{Allows}
 pub number_width : (width n : ℕ) → length (digits width n) ≡ width
 unfolding digits
 number_width zero n = refl
-number_width (suc width) n = omega (arith, length-append (digits width (n / 10)) ((48 + n % 10) ∷ []), number_width width (n / 10))
+number_width (suc width) n =
+    omega (arith, length-append (digits width (n / 10)) ((48 + n % 10) ∷ []), number_width width (n / 10))
 
 -- at least one digit of a number that they can write are a cell of numbers
 pub number_fits : (width n : ℕ) → 0 < width → n < 10 ^ width → Allows types.Number (digits width n)
@@ -66,12 +68,15 @@ parts_equal (x ∷ xs) ys (a ∷ as') bs h e =
     (ap₂ (λ (c : ℕ) (cs : List ℕ). c ∷ cs) first r.0, r.1)
 
 -- digits of the same width after texts of the same length
-pub digits_after : (width n m : ℕ) (xs ys : List ℕ) → length xs ≡ length ys → n < 10 ^ width → m < 10 ^ width → xs ++ digits width n ≡ ys ++ digits width m → (xs ≡ ys) × (n ≡ m)
+pub digits_after : (width n m : ℕ) (xs ys : List ℕ) → length xs ≡ length ys → n < 10 ^ width → m < 10 ^ width
+    → xs ++ digits width n ≡ ys ++ digits width m → (xs ≡ ys) × (n ≡ m)
 digits_after width n m xs ys h hn hm e =
     let both = parts_equal xs (digits width n) ys (digits width m) h e in
     (both.0, number_equal width n m hn hm both.1)
 
 -- a text that ends in digits isn't spaces
-pub not_spaces_after : (width rest n : ℕ) (xs : List ℕ) → length xs ≡ rest → ¬ (xs ++ digits (suc width) n ≡ spaces rest ++ spaces (suc width))
+pub not_spaces_after : (width rest n : ℕ) (xs : List ℕ) → length xs ≡ rest
+    → ¬ (xs ++ digits (suc width) n ≡ spaces rest ++ spaces (suc width))
 not_spaces_after width rest n xs h e =
-    not_spaces width n (parts_equal xs (digits (suc width) n) (spaces rest) (spaces (suc width)) (h ∙ sym (length-replicate rest 32)) e).1
+    not_spaces width n
+    (parts_equal xs (digits (suc width) n) (spaces rest) (spaces (suc width)) (h ∙ sym (length-replicate rest 32)) e).1

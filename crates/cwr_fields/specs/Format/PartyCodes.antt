@@ -16,7 +16,9 @@ publisher_code publisher.SubPublisher = codes "SE"
 
 -- the types of publishers
 abbrev pub publisher_types : List PublisherType
-publisher_types = publisher.OriginalPublisher ∷ publisher.Acquirer ∷ publisher.Administrator ∷ publisher.IncomeParticipant ∷ publisher.SubstitutedPublisher ∷ publisher.SubPublisher ∷ []
+publisher_types =
+    publisher.OriginalPublisher ∷ publisher.Acquirer ∷ publisher.Administrator ∷ publisher.IncomeParticipant
+    ∷ publisher.SubstitutedPublisher ∷ publisher.SubPublisher ∷ []
 
 -- the code of each designation of writers
 abbrev pub designation_code : WriterDesignation → List ℕ
@@ -32,4 +34,6 @@ designation_code designation.Translator = codes "TR"
 
 -- the designations of writers
 abbrev pub designations : List WriterDesignation
-designations = designation.Author ∷ designation.Adaptor ∷ designation.Arranger ∷ designation.Composer ∷ designation.ComposerAuthor ∷ designation.IncomeParticipant ∷ designation.SubAuthor ∷ designation.SubArranger ∷ designation.Translator ∷ []
+designations =
+    designation.Author ∷ designation.Adaptor ∷ designation.Arranger ∷ designation.Composer ∷ designation.ComposerAuthor
+    ∷ designation.IncomeParticipant ∷ designation.SubAuthor ∷ designation.SubArranger ∷ designation.Translator ∷ []

@@ -1,7 +1,8 @@
 -- The types of senders, and the texts of their cells.
 use Rattle.std.specs.Prelude.{ℕ, List, [], ◌∷◌, codes}
 use Rattle.cwr_fields.specs.declared.sender_types.SenderType.{SenderType}
-use Rattle.cwr_fields.specs.declared.sender_types.SenderType.TheVariants.{Publisher, Society, AdministrativeAgency, Writer, Digits}
+use Rattle.cwr_fields.specs.declared.sender_types.SenderType.TheVariants.{Publisher, Society, AdministrativeAgency, Writer}
+use Rattle.cwr_fields.specs.declared.sender_types.SenderType.TheVariants.{Digits}
 use Rattle.cwr_fields.specs.Format.Bytes.{digits}
 
 -- the code of each type of sender, or its two digits

@@ -71,7 +71,9 @@ title_code title.AlternativeNational = codes "AL"
 
 -- the types of titles
 abbrev pub title_types : List TitleType
-title_types = title.Alternative ∷ title.FirstLine ∷ title.Formal ∷ title.Incorrect ∷ title.Original ∷ title.OriginalTranslated ∷ title.Part ∷ title.Restricted ∷ title.ExtraSearch ∷ title.OriginalNational ∷ title.AlternativeNational ∷ []
+title_types =
+    title.Alternative ∷ title.FirstLine ∷ title.Formal ∷ title.Incorrect ∷ title.Original ∷ title.OriginalTranslated ∷ title.Part
+    ∷ title.Restricted ∷ title.ExtraSearch ∷ title.OriginalNational ∷ title.AlternativeNational ∷ []
 
 -- the code of each format of recordings
 abbrev pub format_code : RecordingFormat → List ℕ

@@ -1,8 +1,10 @@
 -- The JSON form of a transmission: the data of a record and of an item, and which record data is.
-use Rattle.std.specs.Prelude.{◌≡◌, ℕ, ◌+◌, ◌≤◌, Bool, true, false, not, ◌&&◌, ◌||◌, ◌==◌, List, [], ◌∷◌, ◌++◌, length, map, take, count_by, codes, decimal, Option, Some, None, if◌then◌else◌, ⊤}
+use Rattle.std.specs.Prelude.{◌≡◌, ℕ, ◌+◌, ◌≤◌, Bool, true, false, not, ◌&&◌, ◌||◌, ◌==◌, List, [], ◌∷◌, ◌++◌, length, map, take}
+use Rattle.std.specs.Prelude.{count_by, codes, decimal, Option, Some, None, if◌then◌else◌, ⊤}
 use Rattle.std.specs.List.{AllZip, after_last, enumerate_from, flat_map, list_all, list_any}
 use Rattle.std.specs.Str.{bytes_eq}
-use Rattle.json.specs.Json.{Json, null, boolean, number, string, array, object, Items, no_items, item, Members, no_members, member}
+use Rattle.json.specs.Json.{Json, null, boolean, number, string, array, object, Items, no_items, item, Members, no_members}
+use Rattle.json.specs.Json.{member}
 use Rattle.json.specs.Find.{is_null}
 use Rattle.json.specs.Tree.{json_tokens}
 use Rattle.json.specs.Print.{print}
@@ -82,7 +84,12 @@ item_line enc notes i = print (json_tokens (item_data enc notes i)) ++ 10 ∷ []
 
 -- what the notes of an item say, by the items before it
 abbrev pub notes_after : List Item → Item → Notes
-notes_after before i = record { group = count_by opens_group before + (if opens_group i then 1 else 0); transaction = count_by is_transaction (after_last opens_group before); line = length (records_in before) + 1 }
+notes_after before i =
+    record {
+      group = count_by opens_group before + (if opens_group i then 1 else 0);
+      transaction = count_by is_transaction (after_last opens_group before);
+      line = length (records_in before) + 1;
+    }
 
 abbrev pub notes_if : Bool → List Item → Item → Option Notes
 notes_if false before i = None
@@ -128,7 +135,8 @@ IsCellFrom enc f None cell = cell ≡ blank_cell f.ty f.width
 IsCellFrom enc f (Some null) cell = ⊥
 IsCellFrom enc f (Some (boolean b)) cell = ⊥
 IsCellFrom enc f (Some (number s)) cell = ⊥
-IsCellFrom enc f (Some (string s)) cell = (text : List ℕ) × StandFor enc s text × (length text ≤ f.width) × (cell ≡ filled f.width text)
+IsCellFrom enc f (Some (string s)) cell =
+    (text : List ℕ) × StandFor enc s text × (length text ≤ f.width) × (cell ≡ filled f.width text)
 IsCellFrom enc f (Some (array js)) cell = ⊥
 IsCellFrom enc f (Some (object ms)) cell = ⊥
 

@@ -26,12 +26,18 @@ AreBelow n = (n.group < 2 ^ 64) × (n.transaction < 2 ^ 64) × (n.line < 2 ^ 64)
 
 -- the data of an item, printed, is JSON, and reads back as that data
 abbrev pub LinesReadBack : Type 0
-LinesReadBack = (enc : Encoding) (notes : Option Notes) (item : Item) → IfSome notes AreBelow → document (print (json_tokens (item_data enc notes item))) ≡ Some (item_data enc notes item)
+LinesReadBack =
+    (enc : Encoding) (notes : Option Notes) (item : Item) → IfSome notes AreBelow
+    → document (print (json_tokens (item_data enc notes item))) ≡ Some (item_data enc notes item)
 
 -- the data of an item is data of its records, with notes or without
 abbrev pub OwnData : Type 0
-OwnData = (enc : Encoding) (notes : Option Notes) (item : Item) → AllByRecursion IsRecord (item_records item) → IsItemData enc (item_data enc notes item) (item_records item)
+OwnData =
+    (enc : Encoding) (notes : Option Notes) (item : Item) → AllByRecursion IsRecord (item_records item)
+    → IsItemData enc (item_data enc notes item) (item_records item)
 
 -- data is of no other records
 abbrev pub OneData : Type 0
-OneData = (enc : Encoding) (data_of : Json) (records others : List RecordValue) → IsItemData enc data_of records → IsItemData enc data_of others → records ≡ others
+OneData =
+    (enc : Encoding) (data_of : Json) (records others : List RecordValue) → IsItemData enc data_of records
+    → IsItemData enc data_of others → records ≡ others

@@ -1,5 +1,6 @@
 -- The text of a record's data, cell by cell.
-use Rattle.std.specs.Prelude.{◌≡◌, ℕ, zero, suc, Bool, false, nat_lt, List, [], ◌++◌, codes, decimal, Option, Some, None, if◌then◌else◌}
+use Rattle.std.specs.Prelude.{◌≡◌, ℕ, zero, suc, Bool, false, nat_lt, List, [], ◌++◌, codes, decimal, Option, Some, None}
+use Rattle.std.specs.Prelude.{if◌then◌else◌}
 use Rattle.std.specs.List.{enumerate_from, flat_map, list_any, zip}
 use Rattle.json.specs.Print.{escape}
 use Rattle.cwr_fields.specs.Format.Bytes.{is_spaces, trimmed}
@@ -41,7 +42,8 @@ NoLow text = has_low text ≡ false
 
 -- a cell as a member after others, unless it is blank
 abbrev pub member_text : Encoding → FieldLayout → List ℕ → List ℕ
-member_text enc f cell = if is_spaces cell then [] else codes ",\"" ++ key_of f.name ++ codes "\":\"" ++ spelled enc (trimmed cell) ++ codes "\""
+member_text enc f cell =
+    if is_spaces cell then [] else codes ",\"" ++ key_of f.name ++ codes "\":\"" ++ spelled enc (trimmed cell) ++ codes "\""
 
 -- the cells beside their fields
 abbrev pub members_beside : Encoding → List FieldLayout → List (List ℕ) → List ℕ
@@ -77,7 +79,8 @@ note_text key n = key ++ decimal n ++ codes ","
 abbrev pub group_notes_text : Notes → Item → List ℕ
 group_notes_text n (Opened r) = []
 group_notes_text n (GroupOpened r) = note_text (codes "\"_group\":") n.group
-group_notes_text n (Transaction t) = note_text (codes "\"_group\":") n.group ++ note_text (codes "\"_transaction\":") n.transaction
+group_notes_text n (Transaction t) =
+    note_text (codes "\"_group\":") n.group ++ note_text (codes "\"_transaction\":") n.transaction
 group_notes_text n (GroupClosed r) = note_text (codes "\"_group\":") n.group
 group_notes_text n Ended = []
 

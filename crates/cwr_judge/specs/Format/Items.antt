@@ -1,5 +1,6 @@
 -- The items that rows give: transactions, and the records that stand around them.
-use Rattle.std.specs.Prelude.{◌≡◌, ℕ, ◌+◌, ◌-◌, Bool, true, false, not, ◌&&◌, ◌==◌, List, [], ◌∷◌, ◌++◌, length, map, drop, Option, Some, None, slice_index_or, if◌then◌else◌}
+use Rattle.std.specs.Prelude.{◌≡◌, ℕ, ◌+◌, ◌-◌, Bool, true, false, not, ◌&&◌, ◌==◌, List, [], ◌∷◌, ◌++◌, length, map, drop}
+use Rattle.std.specs.Prelude.{Option, Some, None, slice_index_or, if◌then◌else◌}
 use Rattle.std.specs.List.{last_or, flat_map}
 use Rattle.cwr_fields.specs.Format.Bytes.{number_of}
 use Rattle.cwr_fields.specs.declared.kinds.Kind.{Kind}
@@ -41,7 +42,8 @@ own_item this_kind row = []
 -- the items that a row gives after these rows: the transaction that ended with the row before it, and then its own
 abbrev pub items_at : List Row → Row → List Item
 items_at before row =
-    (if ends_transaction (last_or None before) row then Transaction (transaction_at_end (last_or None before) before) ∷ [] else [])
+    (if ends_transaction (last_or None before) row then Transaction (transaction_at_end (last_or None before) before)
+    ∷ [] else [])
     ++ own_item row.kind row
 
 -- the items that rows give after others

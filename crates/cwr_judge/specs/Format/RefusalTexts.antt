@@ -5,4 +5,6 @@ use Rattle.cwr_judge.specs.declared.refusals.Refusal.{Refusal}
 
 -- its record, its field, its level and its reason
 abbrev pub refusal_text : Refusal → List ℕ
-refusal_text r = codes "record " ++ decimal r.rec ++ codes " field " ++ decimal r.field ++ codes " level " ++ level_text r.level ++ codes " " ++ reason_text r.reason
+refusal_text r =
+    codes "record " ++ decimal r.rec ++ codes " field " ++ decimal r.field ++ codes " level " ++ level_text r.level ++ codes " "
+    ++ reason_text r.reason

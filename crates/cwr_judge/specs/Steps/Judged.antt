@@ -1,5 +1,6 @@
 -- Whether a line that was cut may come next, after records of which these symbols were seen.
-use Rattle.std.specs.Prelude.{◌≡◌, ◌≢◌, ℕ, ◌+◌, ◌<◌, ◌≤◌, ◌==◌, Bool, true, false, List, [], ◌∷◌, ◌++◌, length, Option, Some, None, option_map, IfSome, IsSomeAnd, if◌then◌else◌}
+use Rattle.std.specs.Prelude.{◌≡◌, ◌≢◌, ℕ, ◌+◌, ◌<◌, ◌≤◌, ◌==◌, Bool, true, false, List, [], ◌∷◌, ◌++◌, length, Option, Some}
+use Rattle.std.specs.Prelude.{None, option_map, IfSome, IsSomeAnd, if◌then◌else◌}
 use Rattle.std.specs.List.{IsAmong}
 use Rattle.cwr_fields.specs.declared.cell_types.CellType.{CellType}
 use Rattle.cwr_fields.specs.Format.Bytes.{digits}
@@ -32,7 +33,8 @@ pub record IsNumberCell (xs : List Symbol) (kind : Kind) (j width : ℕ) (cell :
 
 -- cell j of the line, where that field is derived, is the number that belongs there
 abbrev pub HasNumberAt : List Symbol → HeldLine → Kind → ℕ → Type 0
-HasNumberAt xs h kind j = (f : FieldLayout) → field_at kind j ≡ Some f → f.derived ≡ true → IsNumberCell xs kind j f.width (held_cell h j)
+HasNumberAt xs h kind j =
+    (f : FieldLayout) → field_at kind j ≡ Some f → f.derived ≡ true → IsNumberCell xs kind j f.width (held_cell h j)
 
 -- where some record of the kind may come, this is not so
 abbrev pub Lacks : List Symbol → Kind → Type 0 → Type 0
@@ -86,8 +88,10 @@ IsGoodText limits xs kind j ty cell = Allows ty cell × IfSome (named_symbol kin
 -- why it isn't: the first of these that holds
 abbrev pub IsTextFault : LimitValues → List Symbol → Kind → ℕ → CellType → List ℕ → Reason → Type 0
 IsTextFault limits xs this_kind j ty cell (Cell fault) = HasFault ty cell fault
-IsTextFault limits xs this_kind j ty cell Misplaced = Allows ty cell × IsSomeAnd (named_symbol this_kind j cell) (λ s. IsBarred limits xs s bars.Misplaced)
-IsTextFault limits xs this_kind j ty cell (Limit limit) = Allows ty cell × IsSomeAnd (named_symbol this_kind j cell) (λ s. IsBarred limits xs s (bars.Limit limit))
+IsTextFault limits xs this_kind j ty cell Misplaced =
+    Allows ty cell × IsSomeAnd (named_symbol this_kind j cell) (λ s. IsBarred limits xs s bars.Misplaced)
+IsTextFault limits xs this_kind j ty cell (Limit limit) =
+    Allows ty cell × IsSomeAnd (named_symbol this_kind j cell) (λ s. IsBarred limits xs s (bars.Limit limit))
 IsTextFault limits xs this_kind j ty cell reason = ⊥
 
 -- why a derived cell isn't the number: the first of these that holds
@@ -103,16 +107,19 @@ IsGoodNextCell false limits xs this_kind j f cell = IsGoodText limits xs this_ki
 
 -- why it isn't
 abbrev pub IsFaultBy : Bool → LimitValues → List Symbol → Kind → ℕ → FieldLayout → List ℕ → Reason → Type 0
-IsFaultBy true limits xs this_kind j f cell reason = (n : ℕ) × IsNumberAt xs this_kind j (Some n) × IsNumberFault f.ty cell n reason
+IsFaultBy true limits xs this_kind j f cell reason =
+    (n : ℕ) × IsNumberAt xs this_kind j (Some n) × IsNumberFault f.ty cell n reason
 IsFaultBy false limits xs this_kind j f cell reason = IsTextFault limits xs this_kind j f.ty cell reason
 
 -- the line's cell in field j, which is after the record type, is good
 abbrev pub IsGoodAt : LimitValues → List Symbol → HeldLine → Kind → ℕ → Type 0
-IsGoodAt limits xs h kind j = IsSomeAnd (field_at kind j) (λ f. IsSomeAnd (held_cell h j) (IsGoodNextCell f.derived limits xs kind j f))
+IsGoodAt limits xs h kind j =
+    IsSomeAnd (field_at kind j) (λ f. IsSomeAnd (held_cell h j) (IsGoodNextCell f.derived limits xs kind j f))
 
 -- why it isn't
 abbrev pub HasReasonAt : LimitValues → List Symbol → HeldLine → Kind → ℕ → Reason → Type 0
-HasReasonAt limits xs h kind j reason = IsSomeAnd (field_at kind j) (λ f. IsSomeAnd (held_cell h j) (λ cell. IsFaultBy f.derived limits xs kind j f cell reason))
+HasReasonAt limits xs h kind j reason =
+    IsSomeAnd (field_at kind j) (λ f. IsSomeAnd (held_cell h j) (λ cell. IsFaultBy f.derived limits xs kind j f cell reason))
 
 -- some record of the kind may come
 abbrev pub MayComeOf : LimitValues → List Symbol → Kind → Type 0
@@ -122,11 +129,13 @@ MayComeOf limits xs kind = (s : Symbol) × IsAmong (candidates (Some kind) []) s
 -- of a cell, or the field is the one after the last and the line's excess is bad
 pub data IsWrongAt (limits : LimitValues) (xs : List Symbol) (h : HeldLine) (kind : Kind) : ℕ → Reason → Type 0 where
   barred : (bar : Bar) → IsBarredAmong limits xs (candidates (Some kind) []) bar → IsWrongAt limits xs h kind 1 (bar_reason bar)
-  cell : (j : ℕ) (reason : Reason) → 2 ≤ j → MayComeOf limits xs kind → HasReasonAt limits xs h kind j reason → IsWrongAt limits xs h kind j reason
+  cell : (j : ℕ) (reason : Reason) → 2 ≤ j → MayComeOf limits xs kind → HasReasonAt limits xs h kind j reason
+      → IsWrongAt limits xs h kind j reason
   past_last : MayComeOf limits xs kind → held_excess h ≡ true → IsWrongAt limits xs h kind (length (layout kind) + 1) Excess
 
 -- the field is wrong for the reason, and each one before it is good
-pub record IsFirstWrong (limits : LimitValues) (xs : List Symbol) (h : HeldLine) (kind : Kind) (field : ℕ) (reason : Reason) : Type 0 where
+pub record IsFirstWrong (limits : LimitValues) (xs : List Symbol) (h : HeldLine) (kind : Kind) (field : ℕ)
+    (reason : Reason) : Type 0 where
   pub here : IsWrongAt limits xs h kind field reason
   pub before : (i : ℕ) → 2 ≤ i → i < field → IsGoodAt limits xs h kind i
 

@@ -24,7 +24,9 @@ open_of records = drop (length records - open_records (map symbol_of records)) r
 
 -- one more symbol continues the open transaction: it stands in one, and begins none
 abbrev pub continues_open : List Symbol → Symbol → Bool
-continues_open xs s = (transactions_begun Acknowledgement (xs ++ s ∷ []) == transactions_begun Acknowledgement xs) && tallies_there.has_open_transaction (scope_after (xs ++ s ∷ []))
+continues_open xs s =
+    (transactions_begun Acknowledgement (xs ++ s ∷ []) == transactions_begun Acknowledgement xs)
+    && tallies_there.has_open_transaction (scope_after (xs ++ s ∷ []))
 
 -- the item of an open transaction that ends
 abbrev pub ended_transaction : List RecordValue → List Item

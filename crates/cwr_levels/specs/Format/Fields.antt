@@ -16,7 +16,8 @@ index_of_name name fields = prefix_len (λ f. not (bytes_eq f.name name)) fields
 pub record IsField (name : String) (kind : Kind) (j wide : ℕ) : Type 0 where
   pub carried : is_some (carried_at kind j) ≡ true
   pub place : carried_before kind j ≡ index_of_name (codes name) (carried_fields kind)
-  pub width : unwrap_or (option_map (λ (f : FieldLayout). f.width) (slice_get (carried_fields kind) (carried_before kind j))) 0 ≡ wide
+  pub width : unwrap_or (option_map (λ (f : FieldLayout). f.width) (slice_get (carried_fields kind) (carried_before kind j))) 0
+      ≡ wide
 
 -- field j of the kind is the share in the performing right, and those in the other two rights follow, each after one field more
 pub record HasSharesFrom (kind : Kind) (j : ℕ) : Type 0 where

@@ -1,6 +1,7 @@
 -- The findings of a transaction: which record breaks which rule, and at which field.
 use Prim.Native.String.{String}
-use Rattle.std.specs.Prelude.{ℕ, ◌+◌, Bool, false, not, ◌&&◌, ◌||◌, ◌==◌, nat_lt, List, [], ◌∷◌, codes, map, filter, take, drop, take_while, sum_by, count_by, Option, Some, None, if◌then◌else◌, flat_map}
+use Rattle.std.specs.Prelude.{ℕ, ◌+◌, Bool, false, not, ◌&&◌, ◌||◌, ◌==◌, nat_lt, List, [], ◌∷◌, codes, map, filter, take, drop}
+use Rattle.std.specs.Prelude.{take_while, sum_by, count_by, Option, Some, None, if◌then◌else◌, flat_map}
 use Rattle.std.specs.List.{list_any, last_or, enumerate_from, prefix_len}
 use Rattle.std.specs.Str.{bytes_eq}
 use Rattle.cwr_fields.specs.declared.codes.Role.{Role}
@@ -106,11 +107,14 @@ are_over_whole records = is_over_whole records "pr share" || is_over_whole recor
 
 -- the record of a work counts its components, and not so many
 abbrev pub counts_others : RecordValue → ℕ → Bool
-counts_others r components = not (is_blank "composite component count" r) && not (number_of (cell_named "composite component count" r) == components)
+counts_others r components =
+    not (is_blank "composite component count" r) && not (number_of (cell_named "composite component count" r) == components)
 
 -- the record of an agreement has both dates, and its end is before its start
 abbrev pub ends_before_start : RecordValue → Bool
-ends_before_start r = is_day (cell_named "start date" r) && is_day (cell_named "end date" r) && nat_lt (number_of (cell_named "end date" r)) (number_of (cell_named "start date" r))
+ends_before_start r =
+    is_day (cell_named "start date" r) && is_day (cell_named "end date" r) && nat_lt (number_of (cell_named "end date" r))
+    (number_of (cell_named "start date" r))
 
 -- one side of the parties has more than the whole
 abbrev pub have_side_over_whole : List RecordValue → Bool
@@ -132,7 +136,8 @@ breaks V7 t k r = is_work t && is_a kinds.Pwr r
 breaks V8 t k r = is_work t && is_a kinds.Ewt r && list_any (is_blank "excerpt type") (take 1 t)
 breaks V9 t k r = is_work t && (k == 0) && counts_others r (count_by (is_a kinds.Com) t)
 breaks V10 t k r = is_agreement t && (k == 0) && ends_before_start r
-breaks V11 t k r = is_agreement t && is_a kinds.Ter r && begins_block (take k t) && have_side_over_whole (parties_after (drop (k + 1) t))
+breaks V11 t k r =
+    is_agreement t && is_a kinds.Ter r && begins_block (take k t) && have_side_over_whole (parties_after (drop (k + 1) t))
 
 -- the field that the rule names in a record of the kind
 abbrev pub field_of_rule : Rule → Kind → ℕ
@@ -158,7 +163,9 @@ all_rules = V1 ∷ V2 ∷ V3 ∷ V4 ∷ V5 ∷ V6 ∷ V7 ∷ V8 ∷ V9 ∷ V10 �
 
 -- the findings at a record, by rule, where n more stand before those of the list
 abbrev pub findings_at : ℕ → List RecordValue → ℕ → RecordValue → List Finding
-findings_at n t k r = map (λ rule. record { rec = n + k; field = field_of_rule rule r.kind; rule = rule; level = level_of_rule rule }) (filter (λ rule. breaks rule t k r) all_rules)
+findings_at n t k r =
+    map (λ rule. record { rec = n + k; field = field_of_rule rule r.kind; rule = rule; level = level_of_rule rule })
+    (filter (λ rule. breaks rule t k r) all_rules)
 
 -- the findings of records as of a transaction of their own, by record and then by rule, where n more stand before them
 unfoldable pub findings_after : ℕ → List RecordValue → List Finding

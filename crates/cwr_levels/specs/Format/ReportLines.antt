@@ -32,7 +32,8 @@ fault_line r = codes "FAULT " ++ refusal_text r ++ 10 ∷ []
 
 -- the line on a text that has so many faults and findings, in so many lines
 abbrev pub faults_line : ℕ → ℕ → ℕ → List ℕ
-faults_line faults findings records = codes "FAULTS " ++ decimal faults ++ codes " findings " ++ decimal findings ++ codes " records " ++ decimal records ++ 10 ∷ []
+faults_line faults findings records =
+    codes "FAULTS " ++ decimal faults ++ codes " findings " ++ decimal findings ++ codes " records " ++ decimal records ++ 10 ∷ []
 
 -- the line on a text that ends too early
 abbrev pub truncated_line : ℕ → List ℕ
@@ -40,7 +41,8 @@ truncated_line records = codes "TRUNCATED records " ++ decimal records ++ 10 ∷
 
 -- a line that ends with the numbers of a transmission
 abbrev pub with_numbers : List ℕ → ℕ → ℕ → ℕ → List ℕ
-with_numbers text groups transactions records = text ++ codes " groups " ++ decimal groups ++ codes " transactions " ++ decimal transactions
+with_numbers text groups transactions records =
+    text ++ codes " groups " ++ decimal groups ++ codes " transactions " ++ decimal transactions
     ++ codes " records " ++ decimal records ++ 10 ∷ []
 
 -- the line on an accepted text
@@ -49,11 +51,13 @@ good_line groups transactions records = with_numbers (codes "GOOD") groups trans
 
 -- the line on transmissions that were joined into one with these numbers
 abbrev pub joined_line : ℕ → ℕ → ℕ → ℕ → List ℕ
-joined_line inputs groups transactions records = with_numbers (codes "JOINED inputs " ++ decimal inputs) groups transactions records
+joined_line inputs groups transactions records =
+    with_numbers (codes "JOINED inputs " ++ decimal inputs) groups transactions records
 
 -- the line on a transmission that was split
 abbrev pub split_line : ℕ → ℕ → List ℕ
-split_line outputs transactions = codes "SPLIT outputs " ++ decimal outputs ++ codes " transactions " ++ decimal transactions ++ 10 ∷ []
+split_line outputs transactions =
+    codes "SPLIT outputs " ++ decimal outputs ++ codes " transactions " ++ decimal transactions ++ 10 ∷ []
 
 -- the line on a result that would pass a limit
 abbrev pub limit_line : LimitKind → List ℕ

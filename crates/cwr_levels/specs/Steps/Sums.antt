@@ -1,12 +1,14 @@
 -- What is kept of the records of a work in place of them, and what that says of them.
-use Rattle.std.specs.Prelude.{◌≡◌, ◌⊎◌, ℕ, Bool, true, false, not, ◌==◌, List, [], ◌∷◌, ◌++◌, length, drop, take, slice_get, Option, Some, None}
+use Rattle.std.specs.Prelude.{◌≡◌, ◌⊎◌, ℕ, Bool, true, false, not, ◌==◌, List, [], ◌∷◌, ◌++◌, length, drop, take, slice_get}
+use Rattle.std.specs.Prelude.{Option, Some, None}
 use Rattle.std.specs.List.{list_any, last_or}
 use Rattle.std.specs.Str.{bytes_eq}
 use Rattle.cwr_fields.specs.declared.kinds.Kind.TheVariants as kinds
 use Rattle.cwr_lines.specs.Format.Records.{RecordValue}
 use Rattle.cwr_levels.specs.declared.rules.Rule.TheVariants.{V1, V2, V7, V8}
 use Rattle.cwr_levels.specs.declared.sums.Sums.{Sums}
-use Rattle.cwr_levels.specs.Format.Findings.{before_copy, breaks, counts_others, in_blocks, is_blank, is_territory, is_work, nearest}
+use Rattle.cwr_levels.specs.Format.Findings.{before_copy, breaks, counts_others, in_blocks, is_blank, is_territory, is_work}
+use Rattle.cwr_levels.specs.Format.Findings.{nearest}
 use Rattle.cwr_levels.specs.Steps.Walks.{AreTotals, capped, is_publisher, party_number}
 
 -- the record, after k others, breaks none of the rules that speak of one record and those around it

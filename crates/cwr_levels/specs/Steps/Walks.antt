@@ -1,5 +1,6 @@
 -- What a walk over the records of a transaction knows.
-use Rattle.std.specs.Prelude.{◌≡◌, ℕ, ◌<◌, Bool, true, false, ◌&&◌, ◌||◌, min, List, Option, Some, None, option_map, filter, sum_by, count_by, slice_get, IfSome}
+use Rattle.std.specs.Prelude.{◌≡◌, ℕ, ◌<◌, Bool, true, false, ◌&&◌, ◌||◌, min, List, Option, Some, None, option_map, filter}
+use Rattle.std.specs.Prelude.{sum_by, count_by, slice_get, IfSome}
 use Rattle.std.specs.List.{list_any, last_or}
 use Rattle.std.specs.Borrow.{Bor}
 use Rattle.std.specs.Str.{bytes_eq}
@@ -18,7 +19,8 @@ use Rattle.cwr_levels.specs.declared.shares.Shares.{Shares}
 use Rattle.cwr_levels.specs.declared.shares.Sides.{Sides}
 use Rattle.cwr_levels.specs.declared.totals.TransactionTotals.{TransactionTotals}
 use Rattle.cwr_levels.specs.declared.before.Before.{Before}
-use Rattle.cwr_levels.specs.Format.Findings.{is_a, share_of, nearest, is_owner, is_party, is_author, is_territory, in_blocks, of_role, all_rules}
+use Rattle.cwr_levels.specs.Format.Findings.{is_a, share_of, nearest, is_owner, is_party, is_author, is_territory, in_blocks}
+use Rattle.cwr_levels.specs.Format.Findings.{of_role, all_rules}
 
 -- ---- shares, added up
 
@@ -67,7 +69,9 @@ is_publisher number r = is_a kinds.Spu r && bytes_eq number (cell_named "interes
 
 -- the set has the numbers of the SPU records among these
 abbrev pub HasNumbersOf : List RecordValue → BTreeSet (Bor (List ℕ)) → Type 0
-HasNumbersOf records numbers = (number : Bor (List ℕ)) → contains_by (λ k. slice_cmp nat_cmp number.now k.now) numbers ≡ list_any (is_publisher number.now) records
+HasNumbersOf records numbers =
+    (number : Bor (List ℕ))
+    → contains_by (λ k. slice_cmp nat_cmp number.now k.now) numbers ≡ list_any (is_publisher number.now) records
 
 -- where the numbers of publishers are kept, they are those of the SPU records among these
 abbrev pub KnowsNumbersOf : List RecordValue → Publishers → Type 0
@@ -86,7 +90,9 @@ is_kind kind other = bytes_eq (letters other) (letters kind)
 
 -- a record of the kind can break the rule
 abbrev pub can_break : Rule → Kind → Bool
-can_break V1 this_kind = is_kind kinds.Nwr this_kind || is_kind kinds.Rev this_kind || is_kind kinds.Ewt this_kind || is_kind kinds.Ver this_kind || is_kind kinds.Com this_kind
+can_break V1 this_kind =
+    is_kind kinds.Nwr this_kind || is_kind kinds.Rev this_kind || is_kind kinds.Ewt this_kind || is_kind kinds.Ver this_kind
+    || is_kind kinds.Com this_kind
 can_break V2 this_kind = is_kind kinds.Spt this_kind || is_kind kinds.Swt this_kind
 can_break V7 this_kind = is_kind kinds.Pwr this_kind
 can_break V8 this_kind = is_kind kinds.Ewt this_kind

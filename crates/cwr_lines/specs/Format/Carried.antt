@@ -1,5 +1,6 @@
 -- The carried cells of a record, found by their fields, set and judged.
-use Rattle.std.specs.Prelude.{◌≡◌, ◌≢◌, ℕ, ◌-◌, ◌<◌, ◌≤◌, IsTrue, not, List, length, filter, take, Option, Some, None, IfSome, IsSomeAnd, slice_get, slice_set, if◌then◌else◌}
+use Rattle.std.specs.Prelude.{◌≡◌, ◌≢◌, ℕ, ◌-◌, ◌<◌, ◌≤◌, IsTrue, not, List, length, filter, take, Option, Some, None, IfSome}
+use Rattle.std.specs.Prelude.{IsSomeAnd, slice_get, slice_set, if◌then◌else◌}
 use Rattle.std.specs.Option.{option_and_then}
 use Rattle.cwr_fields.specs.declared.cell_types.CellFault.{CellFault}
 use Rattle.cwr_fields.specs.declared.cell_types.CellType.{CellType}
@@ -43,14 +44,17 @@ pub record ShowsSet (r : RecordValue) (j : ℕ) (text : List ℕ) : Type 0 where
 
 -- new is old with the text, filled up with spaces, as its cell of field j, and that is one of the field
 abbrev pub Sets : ℕ → List ℕ → RecordValue → RecordValue → Type 0
-Sets j text old new = IsSomeAnd (carried_at old.kind j) (λ f. (length text ≤ f.width) × Allows f.ty (filled f.width text) × (new ≡ set_cell j (filled f.width text) old))
+Sets j text old new =
+    IsSomeAnd (carried_at old.kind j)
+    (λ f. (length text ≤ f.width) × Allows f.ty (filled f.width text) × (new ≡ set_cell j (filled f.width text) old))
 
 -- why the text isn't set as a cell of field j: the first of these that holds
 abbrev pub IsSetFault : Kind → ℕ → List ℕ → SetFault → Type 0
 IsSetFault this_kind j text NoSuchField = field_at this_kind j ≡ None
 IsSetFault this_kind j text Derived = IsSomeAnd (field_at this_kind j) (λ f. IsTrue f.derived)
 IsSetFault this_kind j text TooWide = IsSomeAnd (carried_at this_kind j) (λ f. f.width < length text)
-IsSetFault this_kind j text (Cell fault) = IsSomeAnd (carried_at this_kind j) (λ f. (length text ≤ f.width) × HasFault f.ty (filled f.width text) fault)
+IsSetFault this_kind j text (Cell fault) =
+    IsSomeAnd (carried_at this_kind j) (λ f. (length text ≤ f.width) × HasFault f.ty (filled f.width text) fault)
 
 -- the record's cell of field j, where it has one, is one of the field's type
 abbrev pub FitsAt : RecordValue → ℕ → Type 0

@@ -11,4 +11,5 @@ lines_width records = sum_by (λ (r : RecordValue). line_width r.kind) records
 -- a record more asks for memory: its line outgrows the room for lines, or it outgrows the room for places
 abbrev pub AsksMemory : List RecordValue → RecordValue → Type 0
 AsksMemory records next =
-    Outgrows 2048 (lines_width records) (lines_width records + line_width next.kind) ⊎ Outgrows 16 (length records) (length records + 1)
+    Outgrows 2048 (lines_width records) (lines_width records + line_width next.kind)
+    ⊎ Outgrows 16 (length records) (length records + 1)

@@ -1,5 +1,6 @@
 -- The lines of a text, the row that a line represents, and the cells that a line is cut into.
-use Rattle.std.specs.Prelude.{◌≡◌, ℕ, ◌-◌, ◌≤◌, Bool, false, not, ◌||◌, ◌==◌, nat_lt, IsFalse, List, [], ◌∷◌, ◌++◌, length, map, take, drop, Option, Some, None, if◌then◌else◌}
+use Rattle.std.specs.Prelude.{◌≡◌, ℕ, ◌-◌, ◌≤◌, Bool, false, not, ◌||◌, ◌==◌, nat_lt, IsFalse, List, [], ◌∷◌, ◌++◌, length, map}
+use Rattle.std.specs.Prelude.{take, drop, Option, Some, None, if◌then◌else◌}
 use Rattle.std.specs.List.{list_any, slice_split}
 use Rattle.std.specs.Str.{bytes_eq}
 use Rattle.cwr_fields.specs.Format.Bytes.{is_spaces, trimmed, filled}
@@ -23,7 +24,8 @@ without_cr line = if bytes_eq (drop (length line - 1) line) (13 ∷ []) then tak
 -- The line represents the row: it has no line feed and isn't too long, and but for trailing spaces and one carriage
 -- return at its end it is the row's full line.
 abbrev pub IsLineOf : Row → List ℕ → Type 0
-IsLineOf row line = IsFalse (list_any is_lf line) × (length line ≤ longest_line) × (trimmed (without_cr line) ≡ trimmed (full_line row))
+IsLineOf row line =
+    IsFalse (list_any is_lf line) × (length line ≤ longest_line) × (trimmed (without_cr line) ≡ trimmed (full_line row))
 
 -- with a line feed added where the text isn't empty and doesn't end with one
 abbrev pub closed : List ℕ → List ℕ

@@ -1,5 +1,6 @@
 -- Records as values, and the rows that they are written as.
-use Rattle.std.specs.Prelude.{◌≡◌, ℕ, ◌+◌, Bool, true, false, not, List, [], ◌∷◌, length, map, filter, drop, replicate, slice_index, Some, option_map, unwrap_or, find, zip, position, if◌then◌else◌, slice_get}
+use Rattle.std.specs.Prelude.{◌≡◌, ℕ, ◌+◌, Bool, true, false, not, List, [], ◌∷◌, length, map, filter, drop, replicate}
+use Rattle.std.specs.Prelude.{slice_index, Some, option_map, unwrap_or, find, zip, position, if◌then◌else◌, slice_get}
 use Prim.Native.String.{String}
 use Rattle.std.specs.Prelude.{codes}
 use Rattle.std.specs.List.{AllZip, concat}
@@ -70,7 +71,8 @@ full_line row = concat row.cells
 
 -- what a row carries, without its derived cells
 abbrev pub record_of : Row → RecordValue
-record_of row = record { kind = row.kind; cells = map (λ p. p.1) (filter (λ p. not p.0.derived) (zip (layout row.kind) row.cells)) }
+record_of row =
+    record { kind = row.kind; cells = map (λ p. p.1) (filter (λ p. not p.0.derived) (zip (layout row.kind) row.cells)) }
 
 -- a cell in which nothing was set: the word of a constant, else spaces
 abbrev pub blank_cell : CellType → ℕ → List ℕ
@@ -83,7 +85,8 @@ blank_record kind = record { kind = kind; cells = map (λ f. blank_cell f.ty f.w
 
 -- the record's cell of that name, and the empty text where its kind carries none of that name
 abbrev pub cell_named : String → RecordValue → List ℕ
-cell_named name r = unwrap_or (option_map (λ p. p.1) (find (λ p. bytes_eq p.0.name (codes name)) (zip (carried_fields r.kind) r.cells))) []
+cell_named name r =
+    unwrap_or (option_map (λ p. p.1) (find (λ p. bytes_eq p.0.name (codes name)) (zip (carried_fields r.kind) r.cells))) []
 
 -- the number of the field of that name, and 1 where the kind has none
 abbrev pub field_number : String → Kind → ℕ

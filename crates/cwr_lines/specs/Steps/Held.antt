@@ -1,5 +1,6 @@
 -- A line as far as it was taken, and what it is cut into.
-use Rattle.std.specs.Prelude.{◌≡◌, ◌≢◌, ℕ, ◌-◌, ◌<◌, ◌≤◌, Bool, true, false, ◌==◌, IsFalse, List, [], ◌∷◌, ◌++◌, length, take, Option, Some, None, slice_get, slice_index, if◌then◌else◌}
+use Rattle.std.specs.Prelude.{◌≡◌, ◌≢◌, ℕ, ◌-◌, ◌<◌, ◌≤◌, Bool, true, false, ◌==◌, IsFalse, List, [], ◌∷◌, ◌++◌, length, take}
+use Rattle.std.specs.Prelude.{Option, Some, None, slice_get, slice_index, if◌then◌else◌}
 use Rattle.std.specs.List.{list_any}
 use Rattle.cwr_fields.specs.Format.Bytes.{filled, is_plain}
 use Rattle.cwr_fields.specs.declared.kinds.Kind.{Kind}
@@ -7,7 +8,8 @@ use Rattle.cwr_lines.specs.declared.lines.LineEnd.{LineEnd}
 use Rattle.cwr_lines.specs.declared.lines.LineEnd.TheVariants.{Open, Line, Over}
 use Rattle.cwr_fields.specs.Format.Layouts.{line_width}
 use Rattle.cwr_lines.specs.Format.Records.{RecordValue, record_of}
-use Rattle.cwr_lines.specs.Format.Lines.{is_lf, longest_line, without_cr, body_kind, cells_as, excess_as, line_kind, line_cells, has_bad_excess}
+use Rattle.cwr_lines.specs.Format.Lines.{is_lf, longest_line, without_cr, body_kind, cells_as, excess_as, line_kind, line_cells}
+use Rattle.cwr_lines.specs.Format.Lines.{has_bad_excess}
 
 -- the bytes of a line before its line feed, and how it ended
 pub record HeldLine : Type 0 where

@@ -10,8 +10,10 @@ use Rattle.cwr_lines.specs.Steps.Held.{HeldLine, ended_too_long, filled_as, held
 abbrev pub numbered_part : Kind → List ℕ → List ℕ → List ℕ
 numbered_part Hdr numbers line = drop 3 line
 numbered_part Grh numbers line = take 3 (drop 3 line) ++ (digits 5 (slice_index numbers 0) ++ drop 11 line)
-numbered_part Grt numbers line = digits 5 (slice_index numbers 0) ++ (digits 8 (slice_index numbers 1) ++ (digits 8 (slice_index numbers 2) ++ drop 24 line))
-numbered_part Trl numbers line = digits 5 (slice_index numbers 0) ++ (digits 8 (slice_index numbers 1) ++ (digits 8 (slice_index numbers 2) ++ drop 24 line))
+numbered_part Grt numbers line =
+    digits 5 (slice_index numbers 0) ++ (digits 8 (slice_index numbers 1) ++ (digits 8 (slice_index numbers 2) ++ drop 24 line))
+numbered_part Trl numbers line =
+    digits 5 (slice_index numbers 0) ++ (digits 8 (slice_index numbers 1) ++ (digits 8 (slice_index numbers 2) ++ drop 24 line))
 numbered_part this_kind numbers line = digits 8 (slice_index numbers 0) ++ (digits 8 (slice_index numbers 1) ++ drop 19 line)
 
 -- the text with the part in the place of as many of its bytes, from byte `start` on

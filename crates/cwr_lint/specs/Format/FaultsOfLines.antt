@@ -1,5 +1,6 @@
 -- The faults that a lint tells of one line.
-use Rattle.std.specs.Prelude.{◌≡◌, ℕ, zero, suc, ◌+◌, ◌<◌, ◌≤◌, Bool, false, ◌&&◌, nat_le, if◌then◌else◌, List, [], ◌∷◌, ◌++◌, flat_map, length, Option, Some, None}
+use Rattle.std.specs.Prelude.{◌≡◌, ℕ, zero, suc, ◌+◌, ◌<◌, ◌≤◌, Bool, false, ◌&&◌, nat_le, if◌then◌else◌, List, [], ◌∷◌, ◌++◌}
+use Rattle.std.specs.Prelude.{flat_map, length, Option, Some, None}
 use Rattle.cwr_lines.specs.Format.Records.{RecordValue}
 use Rattle.cwr_shape.specs.declared.reasons.Reason.{Reason}
 use Rattle.cwr_judge.specs.declared.refusals.Refusal.{Refusal}
@@ -22,13 +23,15 @@ IsFaultText asked fault text = (words : List ℕ) × (asked.explained ≡ false 
 -- the faults and their lines with one more
 abbrev pub TellsMore : Asking → Option Refusal → List Refusal → List ℕ → List Refusal → List ℕ → Type 0
 TellsMore asked None before earlier told text = (told ≡ before) × (text ≡ earlier)
-TellsMore asked (Some fault) before earlier told text = (told ≡ before ++ fault ∷ []) × (line : List ℕ) × IsFaultText asked fault line × (text ≡ earlier ++ line)
+TellsMore asked (Some fault) before earlier told text =
+    (told ≡ before ++ fault ∷ []) × (line : List ℕ) × IsFaultText asked fault line × (text ≡ earlier ++ line)
 
 -- the faults at the fields from one on that are below j, in order, and their lines
 abbrev pub Tells : Asking → JudgedLine → ℕ → ℕ → List Refusal → List ℕ → Type 0
 Tells asked l from zero told text = (told ≡ []) × (text ≡ [])
 Tells asked l from (suc j) told text = (reason : Option Reason) × (from ≤ j → IsToldAt l j reason) × (j < from → reason ≡ None)
-    × (before : List Refusal) × (earlier : List ℕ) × Tells asked l from j before earlier × TellsMore asked (fault_in l j reason) before earlier told text
+    × (before : List Refusal) × (earlier : List ℕ) × Tells asked l from j before earlier
+    × TellsMore asked (fault_in l j reason) before earlier told text
 
 -- a transaction that ended: its group and its number as they are reported, the number of its first line, and its records
 pub record EndedTransaction : Type 0 where
@@ -48,7 +51,9 @@ said_if numbered said = if numbered then said else None
 
 -- The lines of findings in a transaction, and then the advice on it. Words stand under each finding where they are asked for.
 abbrev pub told_lines : Asking → Bool → ℕ → ℕ → ℕ → List RecordValue → List ℕ
-told_lines asked numbered group sequence first t = transaction_lines (asked.explained && numbered) group sequence first t ++ advice_if (said_if numbered asked.said) group sequence first t
+told_lines asked numbered group sequence first t =
+    transaction_lines (asked.explained && numbered) group sequence first t
+    ++ advice_if (said_if numbered asked.said) group sequence first t
 
 -- what is told of a transaction that ended
 abbrev pub ended_lines : Asking → Option EndedTransaction → List ℕ
@@ -56,7 +61,8 @@ ended_lines asked None = []
 ended_lines asked (Some t) = told_lines asked (nat_le (t.first + length t.records) 100000000) t.group t.sequence t.first t.records
 
 -- What is told of a line that was judged: the findings of the transaction that it ends, and then its faults at the fields from one on.
-pub record TellsLine (asked : Asking) (judged : JudgedLine) (ended : Option EndedTransaction) (from : ℕ) (told : List Refusal) (text : List ℕ) : Type 0 where
+pub record TellsLine (asked : Asking) (judged : JudgedLine) (ended : Option EndedTransaction) (from : ℕ) (told : List Refusal)
+    (text : List ℕ) : Type 0 where
   pub lines : List ℕ
   pub tells : Tells asked judged from (fields_end judged.cut.kind) told lines
   pub whole : text ≡ ended_lines asked ended ++ lines

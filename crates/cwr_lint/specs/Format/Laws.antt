@@ -18,10 +18,14 @@ IsToldWith told k reason = (f : Refusal) × Contains told f × (f.field ≡ k) �
 -- Of a line of known kind the faults at its cells are just those of the cells that aren't in their types' sets; but a line that is misplaced
 -- and has a bad excess was cut by another kind's layout. The excess is told where it is bad, and the order where the line is misplaced.
 pub record TellsCells (l : JudgedLine) (kind : Kind) (told : List Refusal) : Type 0 where
-  pub cells : (f : FieldLayout) (cell : List ℕ) (k : ℕ) (fault : CellFault) → 2 ≤ k → field_at kind k ≡ Some f → slice_get l.cut.cells (k - 1) ≡ Some cell → tells_cells l ≡ true → IsToldWith told k (Cell fault) ↔ HasFault f.ty cell fault
+  pub cells : (f : FieldLayout) (cell : List ℕ) (k : ℕ) (fault : CellFault) → 2 ≤ k → field_at kind k ≡ Some f
+      → slice_get l.cut.cells (k - 1) ≡ Some cell → tells_cells l ≡ true → IsToldWith told k (Cell fault)
+      ↔ HasFault f.ty cell fault
   pub excess : IsToldWith told (length (layout kind) + 1) Excess ↔ (l.cut.excess ≡ true)
   pub order : IsToldWith told 1 Misplaced ↔ (l.misplaced ≡ true)
 
 -- so it is of the faults that are told of a whole line
 abbrev pub CellsAreTold : Type 0
-CellsAreTold = (asked : Asking) (l : JudgedLine) (kind : Kind) (told : List Refusal) (text : List ℕ) → l.cut.kind ≡ Some kind → Tells asked l 1 (fields_end l.cut.kind) told text → TellsCells l kind told
+CellsAreTold =
+    (asked : Asking) (l : JudgedLine) (kind : Kind) (told : List Refusal) (text : List ℕ) → l.cut.kind ≡ Some kind
+    → Tells asked l 1 (fields_end l.cut.kind) told text → TellsCells l kind told

@@ -12,7 +12,8 @@ use Rattle.cwr_judge.specs.Format.Ends.{IsNotAccepted, IsTruncated}
 
 -- The text begins with the lines of a transmission within the limits, but for one line, which has another cell in field k, a number's, and
 -- every other cell as it should be.
-pub record DiffersInOneCell (limits : Limits) (text : List ℕ) (before : List (List ℕ)) (wrong : List ℕ) (kind : Kind) (k : ℕ) : Type 0 where
+pub record DiffersInOneCell (limits : Limits) (text : List ℕ) (before : List (List ℕ)) (wrong : List ℕ) (kind : Kind)
+    (k : ℕ) : Type 0 where
   pub range : AreInRange limits
   pub value : TransmissionValue
   pub whole : IsTransmission value
@@ -35,5 +36,7 @@ pub record DiffersInOneCell (limits : Limits) (text : List ℕ) (before : List (
 
 -- Where a text differs from a good one in one derived cell, it is neither accepted nor truncated.
 abbrev pub OneCellIsRefused : Type 0
-OneCellIsRefused = (limits : Limits) (text : List ℕ) (before : List (List ℕ)) (wrong : List ℕ) (kind : Kind) (k : ℕ) → DiffersInOneCell limits text before wrong kind k
+OneCellIsRefused =
+    (limits : Limits) (text : List ℕ) (before : List (List ℕ)) (wrong : List ℕ) (kind : Kind) (k : ℕ)
+    → DiffersInOneCell limits text before wrong kind k
     → IsNotAccepted limits text × ((n : ℕ) → ¬ IsTruncated limits text n)

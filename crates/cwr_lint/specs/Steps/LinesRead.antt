@@ -1,5 +1,6 @@
 -- Lines as they are read, one after another.
-use Rattle.std.specs.Prelude.{◌≡◌, ◌⊎◌, ℕ, ◌-◌, ◌^◌, ◌≤◌, Bool, true, false, IsFalse, List, [], ◌∷◌, ◌++◌, length, take, Option, IfSome}
+use Rattle.std.specs.Prelude.{◌≡◌, ◌⊎◌, ℕ, ◌-◌, ◌^◌, ◌≤◌, Bool, true, false, IsFalse, List, [], ◌∷◌, ◌++◌, length, take, Option}
+use Rattle.std.specs.Prelude.{IfSome}
 use Rattle.std.specs.List.{list_any}
 use Rattle.std.specs.Io.KnownBytes.{Consumes, IsAtEnd}
 use Rattle.cwr_lines.specs.declared.lines.LineEnd.{LineEnd}
@@ -24,7 +25,8 @@ IsTextOf false text lines = text ++ 10 ∷ [] ≡ text_of lines
 
 -- whatever lines a text has, that text and these bytes have these lines after them
 abbrev pub GoesOn : Bool → List ℕ → List (List ℕ) → Bool → Type 0
-GoesOn ended bytes lines last = (text : List ℕ) (before : List (List ℕ)) → IsTextOf ended text before → IsTextOf last (text ++ bytes) (before ++ lines)
+GoesOn ended bytes lines last =
+    (text : List ℕ) (before : List (List ℕ)) → IsTextOf ended text before → IsTextOf last (text ++ bytes) (before ++ lines)
 
 -- the line is held: all of it, or its first 1,024 bytes where it is longer
 pub record HoldsRaw (line : List ℕ) (raw : RawLine) : Type 0 where

@@ -1,5 +1,6 @@
 -- What a whole lint has written and taken.
-use Rattle.std.specs.Prelude.{◌≡◌, ◌⊎◌, ℕ, ◌+◌, ◌-◌, ◌^◌, ◌≤◌, Bool, true, false, IsFalse, List, ◌∷◌, ◌++◌, length, map, Option, IfSome, Result, Ok, Err}
+use Rattle.std.specs.Prelude.{◌≡◌, ◌⊎◌, ℕ, ◌+◌, ◌-◌, ◌^◌, ◌≤◌, Bool, true, false, IsFalse, List, ◌∷◌, ◌++◌, length, map, Option}
+use Rattle.std.specs.Prelude.{IfSome, Result, Ok, Err}
 use Rattle.std.specs.List.{AllByRecursion, AllZip, list_any}
 use Rattle.std.specs.Io.KnownBytes.{Appends, Consumes, IsAtEnd}
 use Rattle.cwr_fields.specs.Format.Failures.{one_more_failure}
@@ -28,7 +29,8 @@ use Rattle.cwr_lint.specs.Steps.Walks.{IsTold}
 
 -- First a check is made, and what it writes is written, but no line of a refusal: with all that is said of a check of these bytes. Then
 -- words follow it; after a fault of the check there are none. More bytes may be taken from the reader.
-pub record Lints {W : Type 0} (wanted : Wanted) (limits : Limits) (before after : Option (List ℕ)) (contents : W → Option (List ℕ)) (old new : W) (result : Result Verdict ToolFault) : Type 0 where
+pub record Lints {W : Type 0} (wanted : Wanted) (limits : Limits) (before after : Option (List ℕ))
+    (contents : W → Option (List ℕ)) (old new : W) (result : Result Verdict ToolFault) : Type 0 where
   pub between : W
   pub left : Option (List ℕ)
   pub checked : Result Verdict ToolFault
@@ -41,7 +43,8 @@ pub record Lints {W : Type 0} (wanted : Wanted) (limits : Limits) (before after 
 
 -- These bytes were read: the text of lines, of which this one is refused, and those follow it. The lines before it are those of records, which
 -- the tally counts.
-pub record AreLinesRead (refusal : Refusal) (tally : TallyValue) (last : Bool) (bytes : List ℕ) (refused : List ℕ) (lines : List (List ℕ)) : Type 0 where
+pub record AreLinesRead (refusal : Refusal) (tally : TallyValue) (last : Bool) (bytes : List ℕ) (refused : List ℕ)
+    (lines : List (List ℕ)) : Type 0 where
   pub front : List (List ℕ)
   pub records : List RecordValue
   pub in_order : AllByRecursion IsRecord records
@@ -53,7 +56,8 @@ pub record AreLinesRead (refusal : Refusal) (tally : TallyValue) (last : Bool) (
 
 -- The text was refused so, after these items, and their lines were written and then what is told of the line that is refused and of those after
 -- it, from what was counted of the records before, and with advice by what was heard before the same stop. Where the text's bytes are known these are its lines, up to a TRL or to its end.
-pub record TellsFaults {W : Type 0} (wanted : Wanted) (limits : Limits) (before after : Option (List ℕ)) (contents : W → Option (List ℕ)) (old new : W) (refusal : Refusal) : Type 0 where
+pub record TellsFaults {W : Type 0} (wanted : Wanted) (limits : Limits) (before after : Option (List ℕ))
+    (contents : W → Option (List ℕ)) (old new : W) (refusal : Refusal) : Type 0 where
   pub given : List Item
   pub left : Option (List ℕ)
   pub stopped : StopsAfter limits (read_faults.Refused refusal) before left given
@@ -67,18 +71,23 @@ pub record TellsFaults {W : Type 0} (wanted : Wanted) (limits : Limits) (before 
   pub tally : TallyValue
   pub heard : List Item
   pub heard_before : StopsAfter limits (read_faults.Refused refusal) before left heard
-  pub told : IsTold (asking_for wanted (said_in heard)) (state_at tally.stage tally.counts (refusal.rec - 1)) refusal refused lines over text
+  pub told : IsTold (asking_for wanted (said_in heard)) (state_at tally.stage tally.counts (refusal.rec - 1)) refusal refused
+      lines over text
   pub written : Appends (contents old) (contents new) ((lines_linted wanted).lines given ++ text)
-  pub read : IfSome before (λ known. (bytes : List ℕ) × Consumes before after bytes × AreLinesRead refusal tally last bytes refused lines)
+  pub read : IfSome before
+      (λ known. (bytes : List ℕ) × Consumes before after bytes × AreLinesRead refusal tally last bytes refused lines)
   pub cut : last ≡ false → IfSome before (λ known. IsAtEnd after ⊎ (2 ^ 64 - 1 ≤ length known))
   pub ends : over ≡ true → EndsAtTrl (refused ∷ lines)
   pub all : over ≡ false → IfSome before (λ known. IsAtEnd after ⊎ (2 ^ 64 - 1 ≤ length known))
 
 -- Of a text that is refused the faults are told, and the refusal first. Of any other what a check writes is written, and nothing else: the
 -- findings of the items, and the line of the verdict.
-abbrev pub Tells : {W : Type 0} → Wanted → Limits → Option (List ℕ) → Option (List ℕ) → (W → Option (List ℕ)) → W → W → Verdict → Type 0
-Tells wanted limits before after contents old new (Refused refusal) = TellsFaults wanted limits before after contents old new refusal
-Tells wanted limits before after contents old new verdict = Reports (lines_linted wanted) limits before after contents old new (Ok verdict)
+abbrev pub Tells : {W : Type 0} → Wanted → Limits → Option (List ℕ) → Option (List ℕ) → (W → Option (List ℕ)) → W → W → Verdict
+    → Type 0
+Tells wanted limits before after contents old new (Refused refusal) =
+    TellsFaults wanted limits before after contents old new refusal
+Tells wanted limits before after contents old new verdict =
+    Reports (lines_linted wanted) limits before after contents old new (Ok verdict)
 
 -- A run that goes on after the refusal ends so: its fault is answered, and nothing more is done; or else the writer hands on what it has, and
 -- the refusal is answered, or the fault of the writer, which then counts one more failure.

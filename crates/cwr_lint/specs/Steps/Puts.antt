@@ -16,8 +16,10 @@ CountsPut (Err Memory) old new = new ≡ old
 CountsPut (Err fault) old new = ⊥
 
 -- Whatever text was put so far, that text followed by this one is now put: it is written whole, or after a fault its first bytes are.
-pub record PutsAfter {W A : Type 0} (contents : W → Option (List ℕ)) (failures : W → ℕ) (text : List ℕ) (result : Result A ToolFault) (old new : Sink W) : Type 0 where
-  pub written : (start : Option (List ℕ)) (before : List ℕ) → HasWritten contents start before old → HasWritten contents start (before ++ text) new
+pub record PutsAfter {W A : Type 0} (contents : W → Option (List ℕ)) (failures : W → ℕ) (text : List ℕ)
+    (result : Result A ToolFault) (old new : Sink W) : Type 0 where
+  pub written : (start : Option (List ℕ)) (before : List ℕ) → HasWritten contents start before old
+      → HasWritten contents start (before ++ text) new
   pub unfailed : OnOk result (has_failed new ≡ false)
   pub counts : CountsPut result (failures (writer_of old)) (failures (writer_of new))
 
@@ -26,12 +28,16 @@ abbrev pub PutsSome : {W A : Type 0} → (W → Option (List ℕ)) → (W → �
 PutsSome contents failures result old new = (text : List ℕ) × PutsAfter contents failures text result old new
 
 -- such a text is put
-abbrev pub PutsSuch : {W A : Type 0} → (List ℕ → Type 0) → (W → Option (List ℕ)) → (W → ℕ) → Result A ToolFault → Sink W → Sink W → Type 0
-PutsSuch P contents failures result old new = (text : List ℕ) × PutsAfter contents failures text result old new × OnOk result (P text)
+abbrev pub PutsSuch : {W A : Type 0} → (List ℕ → Type 0) → (W → Option (List ℕ)) → (W → ℕ) → Result A ToolFault → Sink W → Sink W
+    → Type 0
+PutsSuch P contents failures result old new =
+    (text : List ℕ) × PutsAfter contents failures text result old new × OnOk result (P text)
 
 -- a text is put that goes with what is answered
-abbrev pub PutsWith : {W A : Type 0} → (A → List ℕ → Type 0) → (W → Option (List ℕ)) → (W → ℕ) → Result A ToolFault → Sink W → Sink W → Type 0
-PutsWith P contents failures result old new = (text : List ℕ) × PutsAfter contents failures text result old new × IfOk result (λ x. P x text)
+abbrev pub PutsWith : {W A : Type 0} → (A → List ℕ → Type 0) → (W → Option (List ℕ)) → (W → ℕ) → Result A ToolFault → Sink W
+    → Sink W → Type 0
+PutsWith P contents failures result old new =
+    (text : List ℕ) × PutsAfter contents failures text result old new × IfOk result (λ x. P x text)
 
 -- the answer of a sink, as one of a run
 abbrev pub tool_result : Result (Unit {0}) SinkFault → Result (Unit {0}) ToolFault
@@ -47,12 +53,16 @@ CountsBoth (Err Memory) reader read writer wrote = (read ≡ reader) × (wrote �
 CountsBoth (Err fault) reader read writer wrote = ⊥
 
 -- a text is put after those before, and bytes are taken from a reader
-pub record ReadsAndPuts {W A : Type 0} (left after : Option (List ℕ)) (reader read : ℕ) (contents : W → Option (List ℕ)) (failures : W → ℕ) (text : List ℕ) (result : Result A ToolFault) (old new : Sink W) : Type 0 where
+pub record ReadsAndPuts {W A : Type 0} (left after : Option (List ℕ)) (reader read : ℕ) (contents : W → Option (List ℕ))
+    (failures : W → ℕ) (text : List ℕ) (result : Result A ToolFault) (old new : Sink W) : Type 0 where
   pub taken : TakesMore left after
-  pub written : (start : Option (List ℕ)) (before : List ℕ) → HasWritten contents start before old → HasWritten contents start (before ++ text) new
+  pub written : (start : Option (List ℕ)) (before : List ℕ) → HasWritten contents start before old
+      → HasWritten contents start (before ++ text) new
   pub unfailed : OnOk result (has_failed new ≡ false)
   pub counts : CountsBoth result reader read (failures (writer_of old)) (failures (writer_of new))
 
 -- such a text goes with what is answered
-abbrev pub ReadsAndPutsWith : {W A : Type 0} → (A → List ℕ → Type 0) → Option (List ℕ) → Option (List ℕ) → ℕ → ℕ → (W → Option (List ℕ)) → (W → ℕ) → Result A ToolFault → Sink W → Sink W → Type 0
-ReadsAndPutsWith P left after reader read contents failures result old new = (text : List ℕ) × ReadsAndPuts left after reader read contents failures text result old new × IfOk result (λ x. P x text)
+abbrev pub ReadsAndPutsWith : {W A : Type 0} → (A → List ℕ → Type 0) → Option (List ℕ) → Option (List ℕ) → ℕ → ℕ
+    → (W → Option (List ℕ)) → (W → ℕ) → Result A ToolFault → Sink W → Sink W → Type 0
+ReadsAndPutsWith P left after reader read contents failures result old new =
+    (text : List ℕ) × ReadsAndPuts left after reader read contents failures text result old new × IfOk result (λ x. P x text)

@@ -1,5 +1,6 @@
 -- What the steps of a lint tell, and what they count.
-use Rattle.std.specs.Prelude.{◌≡◌, ◌⊎◌, ℕ, ◌+◌, ◌-◌, ◌^◌, ◌≤◌, min, Bool, true, false, IsFalse, List, [], ◌∷◌, ◌++◌, length, Option, Some, None, IfSome}
+use Rattle.std.specs.Prelude.{◌≡◌, ◌⊎◌, ℕ, ◌+◌, ◌-◌, ◌^◌, ◌≤◌, min, Bool, true, false, IsFalse, List, [], ◌∷◌, ◌++◌, length}
+use Rattle.std.specs.Prelude.{Option, Some, None, IfSome}
 use Rattle.std.specs.List.{AllByRecursion, list_any}
 use Rattle.std.specs.Option.{is_some}
 use Rattle.std.specs.Io.KnownBytes.{Consumes, IsAtEnd}
@@ -34,7 +35,8 @@ TellsSoMany asked l from upto count text = (told : List Refusal) × Tells asked 
 
 -- so many faults were told of a line, and before them the findings of the transaction that it ends
 abbrev pub TellsOfLine : Asking → JudgedLine → Option EndedTransaction → ℕ → ℕ → List ℕ → Type 0
-TellsOfLine asked judged ended from count text = (told : List Refusal) × TellsLine asked judged ended from told text × (count ≡ length told)
+TellsOfLine asked judged ended from count text =
+    (told : List Refusal) × TellsLine asked judged ended from told text × (count ≡ length told)
 
 -- what a run holds between two lines
 abbrev pub walk_of : LintRun → Walk
@@ -58,7 +60,8 @@ TakesRead asked cut old new true text = TakesLine asked cut 1 old new text
 TakesRead asked cut old new false text = ⊥
 
 -- a line was read after another one that has ended, and what is wrong with it was told
-pub record TakesNext (asked : Asking) (left after : Option (List ℕ)) (before raw : RawLine) (old new : LintRun) (text : List ℕ) : Type 0 where
+pub record TakesNext (asked : Asking) (left after : Option (List ℕ)) (before raw : RawLine) (old new : LintRun)
+    (text : List ℕ) : Type 0 where
   pub on : old.state.over ≡ false
   pub goes : before.ended ≡ true
   pub read : ReadsLine left after raw
@@ -71,7 +74,8 @@ pub record TakesNone (left after : Option (List ℕ)) (before : RawLine) (old ne
   pub kept : Consumes left after []
   pub why : (old.state.over ≡ true) ⊎ (before.ended ≡ false) ⊎ IfSome left (λ known. IsAtEnd after)
 
-abbrev pub TakesNextIf : Asking → Option (List ℕ) → Option (List ℕ) → RawLine → RawLine → LintRun → LintRun → Bool → List ℕ → Type 0
+abbrev pub TakesNextIf : Asking → Option (List ℕ) → Option (List ℕ) → RawLine → RawLine → LintRun → LintRun → Bool → List ℕ
+    → Type 0
 TakesNextIf asked left after before raw old new true text = TakesNext asked left after before raw old new text
 TakesNextIf asked left after before raw old new false text = TakesNone left after before old new text
 
@@ -80,7 +84,8 @@ abbrev pub EndsAtTrl : List (List ℕ) → Type 0
 EndsAtTrl lines = (front : List (List ℕ)) × (line : List ℕ) × (lines ≡ front ++ line ∷ []) × (line_kind line ≡ Some Trl)
 
 -- Lines were read after one that has ended or not, and what is wrong with each was told and counted. The last one ended so.
-pub record TakesLines (asked : Asking) (left after : Option (List ℕ)) (ended last : Bool) (old new : LintRun) (text : List ℕ) : Type 0 where
+pub record TakesLines (asked : Asking) (left after : Option (List ℕ)) (ended last : Bool) (old new : LintRun)
+    (text : List ℕ) : Type 0 where
   pub bytes : List ℕ
   pub taken : Consumes left after bytes
   pub lines : List (List ℕ)
@@ -93,11 +98,12 @@ pub record TakesLines (asked : Asking) (left after : Option (List ℕ)) (ended l
   pub over : new.state.over ≡ true → ((lines ≡ []) × (old.state.over ≡ true)) ⊎ EndsAtTrl lines
 
 -- up to the end
-pub record TakesAll (asked : Asking) (left after : Option (List ℕ)) (ended : Bool) (old new : LintRun) (text : List ℕ) : Type 0 where
-  pub last : Bool
-  pub takes : TakesLines asked left after ended last old new text
-  pub cut : last ≡ false → (ended ≡ false) ⊎ IsAllRead left after takes.bytes
-  pub all : new.state.over ≡ false → (ended ≡ false) ⊎ IsAllRead left after takes.bytes
+pub record TakesAll (asked : Asking) (left after : Option (List ℕ)) (ended : Bool) (old new : LintRun) (text : List ℕ) : Type 0
+  where
+    pub last : Bool
+    pub takes : TakesLines asked left after ended last old new text
+    pub cut : last ≡ false → (ended ≡ false) ⊎ IsAllRead left after takes.bytes
+    pub all : new.state.over ≡ false → (ended ≡ false) ⊎ IsAllRead left after takes.bytes
 
 -- The line of the refusal, and what else is wrong with the line that is refused.
 pub record TakesFirst (asked : Asking) (refusal : Refusal) (cut : LineCut) (old new : LintRun) (text : List ℕ) : Type 0 where
@@ -108,7 +114,8 @@ pub record TakesFirst (asked : Asking) (refusal : Refusal) (cut : LineCut) (old 
   pub whole : text ≡ line ++ beside
 
 -- and of the lines after it
-pub record TakesFrom (asked : Asking) (refusal : Refusal) (left after : Option (List ℕ)) (raw : RawLine) (old new : LintRun) (text : List ℕ) : Type 0 where
+pub record TakesFrom (asked : Asking) (refusal : Refusal) (left after : Option (List ℕ)) (raw : RawLine) (old new : LintRun)
+    (text : List ℕ) : Type 0 where
   pub between : LintRun
   pub beside : List ℕ
   pub first : TakesFirst asked refusal (held_cut (held_raw raw)) old between beside
@@ -124,7 +131,8 @@ pub record BeginsAt (refusal : Refusal) (run : LintRun) : Type 0 where
   pub over : run.state.over ≡ false
 
 -- All that is told, of the line that is held as it was refused, where that state was held, and of those after it.
-pub record TellsToEnd (asked : Asking) (begins : LintState) (refusal : Refusal) (left after : Option (List ℕ)) (raw : RawLine) (text : List ℕ) : Type 0 where
+pub record TellsToEnd (asked : Asking) (begins : LintState) (refusal : Refusal) (left after : Option (List ℕ)) (raw : RawLine)
+    (text : List ℕ) : Type 0 where
   pub bytes : List ℕ
   pub taken : Consumes left after bytes
   pub lines : List (List ℕ)
@@ -138,7 +146,8 @@ pub record TellsToEnd (asked : Asking) (begins : LintState) (refusal : Refusal) 
   pub all : over ≡ false → (raw.ended ≡ false) ⊎ IsAllRead left after bytes
 
 -- the line that was refused is the one that was read last
-pub record TellsRun (asked : Asking) (begins : LintState) (refusal : Refusal) (last : LastBytes) (left after : Option (List ℕ)) (text : List ℕ) : Type 0 where
+pub record TellsRun (asked : Asking) (begins : LintState) (refusal : Refusal) (last : LastBytes) (left after : Option (List ℕ))
+    (text : List ℕ) : Type 0 where
   pub between : Option (List ℕ)
   pub raw : RawLine
   pub held : IsOfLine raw

@@ -1,5 +1,6 @@
 -- How a lint goes from line to line: what it holds between two of them, and what it tells.
-use Rattle.std.specs.Prelude.{◌≡◌, ◌⊎◌, ℕ, ◌+◌, ◌-◌, ◌^◌, ◌==◌, min, Bool, true, false, ◌&&◌, is_some, List, [], ◌∷◌, ◌++◌, length, Option, Some, None, if◌then◌else◌}
+use Rattle.std.specs.Prelude.{◌≡◌, ◌⊎◌, ℕ, ◌+◌, ◌-◌, ◌^◌, ◌==◌, min, Bool, true, false, ◌&&◌, is_some, List, [], ◌∷◌, ◌++◌}
+use Rattle.std.specs.Prelude.{length, Option, Some, None, if◌then◌else◌}
 use Rattle.cwr_lines.specs.Format.Records.{RecordValue, IsRecord}
 use Rattle.cwr_lines.specs.Steps.Held.{carried_by}
 use Rattle.cwr_values.specs.Format.Begun.{BeginsWithOneMore}
@@ -63,7 +64,8 @@ ended_at st begun l = ended_by (judged_as st l) st begun
 
 -- a record begins a transaction or goes on in one, where some transaction has it there
 abbrev pub GoesOnWith : List RecordValue → RecordValue → Option (List RecordValue) → Type 0
-GoesOnWith records r new = ((¬ (¬ BeginsWithOneMore records r)) × (new ≡ Some (records ++ r ∷ []))) ⊎ ((¬ BeginsWithOneMore records r) × (new ≡ None))
+GoesOnWith records r new =
+    ((¬ (¬ BeginsWithOneMore records r)) × (new ≡ Some (records ++ r ∷ []))) ⊎ ((¬ BeginsWithOneMore records r) × (new ≡ None))
 
 -- after the record of a line that is taken so, and after which the order is known or not
 abbrev pub AfterRecord : Taking → Bool → Option (List RecordValue) → RecordValue → Option (List RecordValue) → Type 0
@@ -93,7 +95,8 @@ pub record Walk : Type 0 where
   pub begun : Option (List RecordValue)
 
 -- What is told of one more line, at its fields from one on, and what is held after it.
-pub record WalksLine (asked : Asking) (old : Walk) (l : LineCut) (from : ℕ) (told : List Refusal) (text : List ℕ) (new : Walk) : Type 0 where
+pub record WalksLine (asked : Asking) (old : Walk) (l : LineCut) (from : ℕ) (told : List Refusal) (text : List ℕ)
+    (new : Walk) : Type 0 where
   pub tells : TellsLine asked (judged_line old.state l) (ended_at old.state old.begun l) from told text
   pub state : new.state ≡ next_state old.state l
   pub begun : AfterJudged (is_quiet told && (from == 1)) (judged_as old.state l) (is_some new.state.stage) old.begun l new.begun
@@ -101,18 +104,23 @@ pub record WalksLine (asked : Asking) (old : Walk) (l : LineCut) (from : ℕ) (t
 -- what is told of lines, and what is held after them
 abbrev pub WalksLines : Asking → Walk → List (List ℕ) → List Refusal → List ℕ → Walk → Type 0
 WalksLines asked old [] told text new = (told ≡ []) × (text ≡ []) × (new ≡ old)
-WalksLines asked old (line ∷ lines) told text new = (old.state.over ≡ false) × (between : Walk) × (here : List Refusal) × (first : List ℕ) × (later : List Refusal) × (rest : List ℕ)
-    × WalksLine asked old (cut_of line) 1 here first between × WalksLines asked between lines later rest new × (told ≡ here ++ later) × (text ≡ first ++ rest)
+WalksLines asked old (line ∷ lines) told text new =
+    (old.state.over ≡ false) × (between : Walk) × (here : List Refusal) × (first : List ℕ) × (later : List Refusal)
+    × (rest : List ℕ)
+    × WalksLine asked old (cut_of line) 1 here first between × WalksLines asked between lines later rest new
+    × (told ≡ here ++ later) × (text ≡ first ++ rest)
 
 -- The line of the refusal; the other faults of the line that is refused, which is this one; those of the lines after it; and how many
 -- faults and findings there are, in how many lines. Words stand under a fault where they are asked for. At the line that is refused that state is held.
-pub record IsTold (asked : Asking) (begins : LintState) (refusal : Refusal) (refused : List ℕ) (lines : List (List ℕ)) (over : Bool) (text : List ℕ) : Type 0 where
+pub record IsTold (asked : Asking) (begins : LintState) (refusal : Refusal) (refused : List ℕ) (lines : List (List ℕ))
+    (over : Bool) (text : List ℕ) : Type 0 where
   pub line : List ℕ
   pub first : IsFaultText asked refusal line
   pub others : List Refusal
   pub beside : List ℕ
   pub between : Walk
-  pub tells_others : WalksLine asked (record { state = begins; begun = None }) (cut_of refused) (min (refusal.field + 1) (2 ^ 8 - 1)) others beside between
+  pub tells_others : WalksLine asked (record { state = begins; begun = None }) (cut_of refused)
+      (min (refusal.field + 1) (2 ^ 8 - 1)) others beside between
   pub later : List Refusal
   pub after : List ℕ
   pub last : Walk
@@ -120,4 +128,5 @@ pub record IsTold (asked : Asking) (begins : LintState) (refusal : Refusal) (ref
   pub over_is : over ≡ last.state.over
   pub findings : ℕ
   pub whole : let n = count_after (one_more_line (refusal.rec - 1)) lines in
-      text ≡ line ++ beside ++ after ++ truncated_unless over n ++ faults_line (min (1 + length others + length later) (2 ^ 64 - 1)) findings n
+      text ≡ line ++ beside ++ after ++ truncated_unless over n
+      ++ faults_line (min (1 + length others + length later) (2 ^ 64 - 1)) findings n

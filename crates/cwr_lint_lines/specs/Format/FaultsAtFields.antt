@@ -1,5 +1,6 @@
 -- What is told at each field of a line that was judged.
-use Rattle.std.specs.Prelude.{◌≡◌, ◌⊎◌, ℕ, ◌+◌, ◌-◌, ◌^◌, ◌<◌, ◌≤◌, ◌==◌, min, Bool, true, false, not, ◌||◌, List, length, Option, Some, None, slice_get, if◌then◌else◌}
+use Rattle.std.specs.Prelude.{◌≡◌, ◌⊎◌, ℕ, ◌+◌, ◌-◌, ◌^◌, ◌<◌, ◌≤◌, ◌==◌, min, Bool, true, false, not, ◌||◌, List, length, Option}
+use Rattle.std.specs.Prelude.{Some, None, slice_get, if◌then◌else◌}
 use Rattle.cwr_fields.specs.declared.cell_types.CellType.{CellType}
 use Rattle.cwr_fields.specs.Format.Bytes.{is_spaces}
 use Rattle.cwr_fields.specs.Format.Cells.{Allows, HasFault}
@@ -20,7 +21,8 @@ pub record LineCut : Type 0 where
   pub blank : Bool
 
 abbrev pub cut_of : List ℕ → LineCut
-cut_of line = record { kind = line_kind line; cells = line_cells line; excess = has_bad_excess line; blank = is_spaces (line_body line) }
+cut_of line =
+    record { kind = line_kind line; cells = line_cells line; excess = has_bad_excess line; blank = is_spaces (line_body line) }
 
 -- The line of that number, as it is judged: what is open before it, whether it is misplaced, and which numbers belong in its fields
 -- 2 to 4, where others stand.
@@ -39,7 +41,8 @@ report_number n = min n (2 ^ 32 - 1)
 
 -- the number that belongs in field j, where that is told; of a misplaced line none is
 abbrev pub number_in : JudgedLine → ℕ → Option ℕ
-number_in l j = if l.misplaced then None else (if j == 2 then l.second else (if j == 3 then l.third else (if j == 4 then l.fourth else None)))
+number_in l j =
+    if l.misplaced then None else (if j == 2 then l.second else (if j == 3 then l.third else (if j == 4 then l.fourth else None)))
 
 -- its cells are told: a line that is misplaced and has a bad excess was cut by another kind's layout
 abbrev pub tells_cells : JudgedLine → Bool
@@ -55,7 +58,8 @@ number_reason (Some n) = Some (Number n)
 
 -- of a cell its fault is told, if it has one, and else the number that belongs there
 abbrev pub IsToldOfCell : CellType → List ℕ → Option ℕ → Option Reason → Type 0
-IsToldOfCell ty cell number found = (Allows ty cell × (found ≡ number_reason number)) ⊎ ((fault : _) × HasFault ty cell fault × (found ≡ Some (Cell fault)))
+IsToldOfCell ty cell number found =
+    (Allows ty cell × (found ≡ number_reason number)) ⊎ ((fault : _) × HasFault ty cell fault × (found ≡ Some (Cell fault)))
 
 -- where cells aren't told, that number alone
 abbrev pub IsToldOfField : Bool → CellType → List ℕ → Option ℕ → Option Reason → Type 0
@@ -68,12 +72,14 @@ pub record IsToldAt (l : JudgedLine) (j : ℕ) (found : Option Reason) : Type 0 
   pub unknown : l.cut.kind ≡ None → found ≡ Some UnknownKind
   pub order : (kind : Kind) → l.cut.kind ≡ Some kind → j ≡ 1 → found ≡ reason_if l.misplaced Misplaced
   pub excess : (kind : Kind) → l.cut.kind ≡ Some kind → 2 ≤ j → length (layout kind) < j → found ≡ reason_if l.cut.excess Excess
-  pub cell : (kind : Kind) (f : FieldLayout) (cell : List ℕ) → l.cut.kind ≡ Some kind → 2 ≤ j → field_at kind j ≡ Some f → slice_get l.cut.cells (j - 1) ≡ Some cell → IsToldOfField (tells_cells l) f.ty cell (number_in l j) found
+  pub cell : (kind : Kind) (f : FieldLayout) (cell : List ℕ) → l.cut.kind ≡ Some kind → 2 ≤ j → field_at kind j ≡ Some f
+      → slice_get l.cut.cells (j - 1) ≡ Some cell → IsToldOfField (tells_cells l) f.ty cell (number_in l j) found
 
 -- the fault with that reason, if there is one
 abbrev pub fault_in : JudgedLine → ℕ → Option Reason → Option Refusal
 fault_in l j None = None
-fault_in l j (Some reason) = Some (record { rec = l.number; field = j; level = level_of l.cut.kind j reason l.scope; reason = reason })
+fault_in l j (Some reason) =
+    Some (record { rec = l.number; field = j; level = level_of l.cut.kind j reason l.scope; reason = reason })
 
 -- the number after the last field at which something may be told
 abbrev pub fields_end : Option Kind → ℕ

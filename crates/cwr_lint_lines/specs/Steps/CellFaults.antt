@@ -14,4 +14,6 @@ IsFaultOf ty cell (Some fault) = HasFault ty cell fault
 
 -- that of cell j of the line, where its kind has such a field
 abbrev pub IsFaultAt : HeldLine → ℕ → Option CellFault → Type 0
-IsFaultAt h j found = (kind : Kind) (f : FieldLayout) (cell : List ℕ) → held_kind h ≡ Some kind → field_at kind j ≡ Some f → held_cell h j ≡ Some cell → IsFaultOf f.ty cell found
+IsFaultAt h j found =
+    (kind : Kind) (f : FieldLayout) (cell : List ℕ) → held_kind h ≡ Some kind → field_at kind j ≡ Some f
+    → held_cell h j ≡ Some cell → IsFaultOf f.ty cell found

@@ -15,7 +15,8 @@ use Rattle.cwr_lint_lines.specs.declared.judging.Judged.TheVariants.{Unknown, Kn
 use Rattle.cwr_lint_lines.specs.declared.numbers.WrongNumbers.{WrongNumbers}
 use Rattle.cwr_lint_lines.specs.declared.states.OpenGroup.{OpenGroup}
 use Rattle.cwr_lint_lines.specs.declared.states.LintState.{LintState}
-use Rattle.cwr_lint_lines.specs.Format.FaultsAtFields.{JudgedLine, LineCut, IsToldAt, fault_in, fields_end, number_reason, report_number}
+use Rattle.cwr_lint_lines.specs.Format.FaultsAtFields.{JudgedLine, LineCut, IsToldAt, fault_in, fields_end, number_reason}
+use Rattle.cwr_lint_lines.specs.Format.FaultsAtFields.{report_number}
 use Rattle.cwr_lint_lines.specs.Steps.CellFaults.{IsFaultAt}
 use Rattle.cwr_lint_lines.specs.Steps.Cells.{held_cut}
 use Rattle.cwr_lint_lines.specs.Steps.NextStates.{is_end}
@@ -38,7 +39,8 @@ reason_or (Some fault) other = Some (Cell fault)
 
 -- the numbers that belong in fields 2 to 4
 abbrev pub number_of : WrongNumbers → ℕ → Option ℕ
-number_of numbers j = if j == 2 then numbers.second else (if j == 3 then numbers.third else (if j == 4 then numbers.fourth else None))
+number_of numbers j =
+    if j == 2 then numbers.second else (if j == 3 then numbers.third else (if j == 4 then numbers.fourth else None))
 
 abbrev pub is_misplaced : Judged → Bool
 is_misplaced Unknown = false

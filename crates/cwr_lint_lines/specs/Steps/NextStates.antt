@@ -22,7 +22,9 @@ use Rattle.cwr_lint_lines.specs.declared.takings.Taking.TheVariants as takings
 use Rattle.cwr_lint_lines.specs.Format.FaultsAtFields.{LineCut}
 use Rattle.cwr_lint_lines.specs.Steps.Following.{after, just, one_more, passing, settled, stranger}
 use Rattle.cwr_lint_lines.specs.Steps.Cells.{held_cut, number_at, role_in, symbol_in, type_in}
-use Rattle.cwr_lint_lines.specs.Steps.States.{added, all_groups, all_headers, all_transactions, begun, group_records, is_id, is_whole, may_have, next_in, next_of, number_or, open_transaction, records, records_with, standing_id, sum_known, transaction_or, transactions, unheaded}
+use Rattle.cwr_lint_lines.specs.Steps.States.{added, all_groups, all_headers, all_transactions, begun, group_records, is_id}
+use Rattle.cwr_lint_lines.specs.Steps.States.{is_whole, may_have, next_in, next_of, number_or, open_transaction, records}
+use Rattle.cwr_lint_lines.specs.Steps.States.{records_with, standing_id, sum_known, transaction_or, transactions, unheaded}
 use Rattle.cwr_lint_lines.specs.Steps.Numbers.{belonging, count_of_group_records, count_of_group_transactions, takes_count}
 
 -- ---- the open transaction
@@ -39,10 +41,12 @@ headed a l = record {
 
 -- after one more line that belongs so, with that record number, and then with so many records
 abbrev pub with_belonging : OpenTransaction → Belonging → Option ℕ → ℕ → OpenTransaction
-with_belonging t Unsaid r run = record { number = t.number; other = t.other; next = after t.next r; run_before = t.run_before; run = run }
+with_belonging t Unsaid r run =
+    record { number = t.number; other = t.other; next = after t.next r; run_before = t.run_before; run = run }
 with_belonging t Same r run = record { number = t.number; other = None; next = after t.next r; run_before = None; run = run }
 with_belonging t (Moved n) r run = record { number = n; other = None; next = after t.next r; run_before = None; run = run }
-with_belonging t (Strange n) r run = record { number = t.number; other = Some n; next = after t.next r; run_before = Some t.run; run = run }
+with_belonging t (Strange n) r run =
+    record { number = t.number; other = Some n; next = after t.next r; run_before = Some t.run; run = run }
 
 -- how many records it has by the record number of its last one; where two changed places that of the one before says it
 abbrev pub run_with : ℕ → Option ℕ → ℕ
@@ -92,7 +96,8 @@ with_line g t n r run = with_line_of g t (belonging t n) r run
 
 -- with a line of the numbers that stand there
 abbrev pub with_numbers_of : OpenGroup → LineCut → OpenGroup
-with_numbers_of g l = with_line g (open_transaction g) (number_at l 2) (number_at l 3) (run_with (open_transaction g).run (number_at l 3))
+with_numbers_of g l =
+    with_line g (open_transaction g) (number_at l 2) (number_at l 3) (run_with (open_transaction g).run (number_at l 3))
 
 -- with a line of unknown kind, which may have been a header: where none came it is taken for one
 abbrev pub with_unknown_of : OpenGroup → OpenTransaction → OpenGroup
@@ -141,7 +146,8 @@ records_said g misplaced (Some n) = if misplaced || takes_count (count_of_group_
 -- the transactions that its GRT counts
 abbrev pub transactions_said : OpenGroup → Bool → Option ℕ → ℕ
 transactions_said g misplaced None = transactions g None
-transactions_said g misplaced (Some n) = if misplaced || takes_count (count_of_group_transactions g) n then n else transactions g None
+transactions_said g misplaced (Some n) =
+    if misplaced || takes_count (count_of_group_transactions g) n then n else transactions g None
 
 -- ---- the state
 

@@ -16,7 +16,8 @@ use Rattle.cwr_lint_lines.specs.declared.takings.Taking.TheVariants as takings
 use Rattle.cwr_lint_lines.specs.Format.FaultsAtFields.{LineCut}
 use Rattle.cwr_lint_lines.specs.Steps.Following.{is_number, just, one_more, wanted}
 use Rattle.cwr_lint_lines.specs.Steps.Cells.{number_at, type_of_header}
-use Rattle.cwr_lint_lines.specs.Steps.States.{all_groups, all_headers, all_lines, all_records, all_transactions, group_records, is_id, number_or, transactions}
+use Rattle.cwr_lint_lines.specs.Steps.States.{all_groups, all_headers, all_lines, all_records, all_transactions, group_records}
+use Rattle.cwr_lint_lines.specs.Steps.States.{is_id, number_or, transactions}
 
 -- ---- counts: that of the lines that are there, that by the numbers, and that of the whole file
 

@@ -27,7 +27,9 @@ abbrev pub is_other_grt : OpenGroup → LineCut → Bool
 is_other_grt g l = (l.excess && not (is_id g (number_at l 2))) && not (is_borne_by (count_of_group_records g) (number_at l 4))
 
 abbrev pub is_other_trl : LintState → LineCut → Bool
-is_other_trl st l = (l.excess && not (is_borne_by (count_of_groups st) (number_at l 2))) && not (is_borne_by (count_of_all_records st) (number_at l 4))
+is_other_trl st l =
+    (l.excess && not (is_borne_by (count_of_groups st) (number_at l 2))) && not
+    (is_borne_by (count_of_all_records st) (number_at l 4))
 
 -- ---- headers
 
@@ -75,7 +77,8 @@ taking_of_header st ty kind l = taking_of_header_in st.group st ty kind l
 -- a line of no header's kind: one with the numbers of the next header is of another kind
 abbrev pub taking_of_further_in : Option OpenGroup → LineCut → Taking
 taking_of_further_in None l = takings.Further
-taking_of_further_in (Some g) l = if (is_some g.current && is_first l) && is_number (number_at l 2) g.next.expected then takings.Other else takings.Further
+taking_of_further_in (Some g) l =
+    if (is_some g.current && is_first l) && is_number (number_at l 2) g.next.expected then takings.Other else takings.Further
 
 abbrev pub taking_of_further : LintState → LineCut → Taking
 taking_of_further st l = taking_of_further_in st.group l
@@ -116,7 +119,8 @@ taking st this_kind l = taking_inside (type_of_header this_kind) st this_kind l
 -- the header of a type comes where no group is open, in a group of another type, or after a transaction that isn't whole
 abbrev pub is_misplaced_header_in : Option OpenGroup → LintState → TransactionType → Bool
 is_misplaced_header_in None st ty = is_some st.stage
-is_misplaced_header_in (Some g) st ty = (is_some g.ty && not (may_have g ty)) || ((is_some st.stage && g.has_line) && not (is_whole st))
+is_misplaced_header_in (Some g) st ty =
+    (is_some g.ty && not (may_have g ty)) || ((is_some st.stage && g.has_line) && not (is_whole st))
 
 abbrev pub is_misplaced_header : LintState → TransactionType → Bool
 is_misplaced_header st ty = is_misplaced_header_in st.group st ty

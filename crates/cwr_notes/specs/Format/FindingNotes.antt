@@ -1,7 +1,8 @@
 -- What is written under the line of a finding: where its record stands in the file, the rule in words, how much it rejects, and the
 -- cells that it speaks of.
 use Prim.Native.String.{String}
-use Rattle.std.specs.Prelude.{ℕ, ◌+◌, ◌-◌, Bool, true, false, ◌&&◌, ◌||◌, ◌==◌, List, [], ◌∷◌, ◌++◌, codes, decimal, length, take, drop, Option, Some, None, if◌then◌else◌, flat_map, slice_get, count_by}
+use Rattle.std.specs.Prelude.{ℕ, ◌+◌, ◌-◌, Bool, true, false, ◌&&◌, ◌||◌, ◌==◌, List, [], ◌∷◌, ◌++◌, codes, decimal, length, take}
+use Rattle.std.specs.Prelude.{drop, Option, Some, None, if◌then◌else◌, flat_map, slice_get, count_by}
 use Rattle.std.specs.List.{after_last, enumerate_from, last_or}
 use Rattle.std.specs.Option.{option_to_list}
 use Rattle.cwr_fields.specs.Format.Bytes.{is_spaces, trimmed}
@@ -28,7 +29,8 @@ use Rattle.cwr_levels.specs.Format.ReportLines.{finding_line}
 -- what the rule asks for
 abbrev pub rule_words : Rule → List ℕ
 rule_words V1 = codes "a work code (iswc) is blank, or T, nine digits and the check digit that belongs to them"
-rule_words V2 = codes "the interested party number of SPT is that of the nearest SPU before it, and that of SWT is that of the nearest SWR"
+rule_words V2 =
+    codes "the interested party number of SPT is that of the nearest SPU before it, and that of SWT is that of the nearest SWR"
 rule_words V3 = codes "the pr shares of SPU, OPU, SWR and OWR add up to 0, or to 9994 to 10006 (hundredths of a percent)"
 rule_words V4 = codes "the mr shares of SPU, OPU, SWR and OWR add up to 0, or to 9994 to 10006 (hundredths of a percent)"
 rule_words V5 = codes "the sr shares of SPU, OPU, SWR and OWR add up to 0, or to 9994 to 10006 (hundredths of a percent)"
@@ -37,7 +39,9 @@ rule_words V7 = codes "the publisher interested party number of PWR is the inter
 rule_words V8 = codes "only an excerpt has EWT: where one stands, the excerpt type of the work isn't blank"
 rule_words V9 = codes "the composite component count is blank, or it is the number of COM records"
 rule_words V10 = codes "an agreement doesn't end before it starts"
-rule_words V11 = codes "in one block the AS records, and so the AC records, have shares of at most 10006 (hundredths of a percent) in each right"
+rule_words V11 =
+    codes
+    "in one block the AS records, and so the AC records, have shares of at most 10006 (hundredths of a percent) in each right"
 
 -- how much a level rejects
 abbrev pub level_words : Level → List ℕ
@@ -60,12 +64,14 @@ value_words cell = if is_spaces cell then codes "blank" else trimmed cell
 -- the line on a cell of a field, where both are there, in a record of the kind on line n of the file
 abbrev pub noted_line : ℕ → Kind → Option FieldLayout → Option (List ℕ) → List ℕ
 noted_line n this_kind (Some f) (Some cell) =
-    codes "  cell      line " ++ decimal n ++ codes ", " ++ letters this_kind ++ codes " " ++ f.name ++ codes ": " ++ value_words cell ++ 10 ∷ []
+    codes "  cell      line " ++ decimal n ++ codes ", " ++ letters this_kind ++ codes " " ++ f.name ++ codes ": "
+    ++ value_words cell ++ 10 ∷ []
 noted_line n this_kind f cell = []
 
 -- the line on the record's cell of that name, if it carries one
 unfoldable pub named_line : ℕ → RecordValue → List ℕ → List ℕ
-named_line n r name = noted_line n r.kind (carried_at r.kind (number_of_field name r.kind)) (record_cell r (number_of_field name r.kind))
+named_line n r name =
+    noted_line n r.kind (carried_at r.kind (number_of_field name r.kind)) (record_cell r (number_of_field name r.kind))
 
 -- the lines on the record's cells of which the rule speaks
 abbrev pub noted_cells : ℕ → Rule → RecordValue → List ℕ
@@ -75,11 +81,14 @@ noted_cells n V3 r = named_line n r (codes "pr share")
 noted_cells n V4 r = named_line n r (codes "mr share")
 noted_cells n V5 r = named_line n r (codes "sr share")
 noted_cells n V6 r = named_line n r (codes "designation")
-noted_cells n V7 r = named_line n r (codes "publisher interested party number") ++ named_line n r (codes "interested party number")
+noted_cells n V7 r =
+    named_line n r (codes "publisher interested party number") ++ named_line n r (codes "interested party number")
 noted_cells n V8 r = named_line n r (codes "title") ++ named_line n r (codes "excerpt type")
 noted_cells n V9 r = named_line n r (codes "title") ++ named_line n r (codes "composite component count")
 noted_cells n V10 r = named_line n r (codes "start date") ++ named_line n r (codes "end date")
-noted_cells n V11 r = named_line n r (codes "agreement role") ++ named_line n r (codes "pr share") ++ named_line n r (codes "mr share") ++ named_line n r (codes "sr share")
+noted_cells n V11 r =
+    named_line n r (codes "agreement role") ++ named_line n r (codes "pr share") ++ named_line n r (codes "mr share")
+    ++ named_line n r (codes "sr share")
 
 -- the same of the record at a position of a transaction, whose first record is on line n
 unfoldable pub noted_at : ℕ → List RecordValue → Rule → ℕ → List ℕ
@@ -104,7 +113,8 @@ last_position p records = last_or None (positions p records)
 abbrev pub parties_from : Bool → ℕ → List RecordValue → List ℕ
 parties_from seen n [] = []
 parties_from seen n (r ∷ rest) =
-    if is_party r then n ∷ parties_from true (n + 1) rest else (if seen && is_a kinds.Ter r then [] else parties_from seen (n + 1) rest)
+    if is_party r then n
+    ∷ parties_from true (n + 1) rest else (if seen && is_a kinds.Ter r then [] else parties_from seen (n + 1) rest)
 
 -- a writer
 abbrev pub is_writer : RecordValue → Bool
@@ -117,7 +127,9 @@ is_header r = is_a kinds.Nwr r || is_a kinds.Rev r
 -- the positions of the other records of which the rule speaks, at record r of the transaction t, after k others. The publishers and
 -- the header of a work all stand before its PWR and EWT.
 abbrev pub others : Rule → List RecordValue → ℕ → RecordValue → List ℕ
-others V2 t k r = option_to_list (if is_a kinds.Spt r then last_position (is_a kinds.Spu) (take k t) else last_position (is_a kinds.Swr) (take k t))
+others V2 t k r =
+    option_to_list
+    (if is_a kinds.Spt r then last_position (is_a kinds.Spu) (take k t) else last_position (is_a kinds.Swr) (take k t))
 others V3 t k r = positions is_owner t
 others V4 t k r = positions is_owner t
 others V5 t k r = positions is_owner t
@@ -143,7 +155,8 @@ where_line n kind = codes "  where     line " ++ decimal n ++ codes ", " ++ lett
 -- where the record stands, the rule, the level, and the record's own cells of which the rule speaks
 abbrev pub head_lines : ℕ → Finding → RecordValue → List ℕ
 head_lines n f r =
-    where_line n r.kind ++ codes "  rule      " ++ rule_words f.rule ++ codes "\n  level     " ++ level_words f.level ++ 10 ∷ [] ++ noted_cells n f.rule r
+    where_line n r.kind ++ codes "  rule      " ++ rule_words f.rule ++ codes "\n  level     " ++ level_words f.level ++ 10 ∷ []
+    ++ noted_cells n f.rule r
 
 -- the most other records whose cells are written
 abbrev pub most_others : ℕ
@@ -168,7 +181,8 @@ tail_lines rule count t = more_line (count - most_others) ++ total_line rule cou
 -- the lines under a finding at a record
 abbrev pub notes_on : ℕ → List RecordValue → Finding → RecordValue → List ℕ
 notes_on n t f r =
-    head_lines (n + f.rec) f r ++ flat_map (noted_at n t f.rule) (take most_others (others f.rule t f.rec r)) ++ tail_lines f.rule (length (others f.rule t f.rec r)) t
+    head_lines (n + f.rec) f r ++ flat_map (noted_at n t f.rule) (take most_others (others f.rule t f.rec r))
+    ++ tail_lines f.rule (length (others f.rule t f.rec r)) t
 
 -- the lines under a finding in the transaction t, whose first record is on line n of the file
 unfoldable pub finding_notes : ℕ → List RecordValue → Finding → List ℕ
@@ -187,7 +201,9 @@ explained_in group sequence n item = []
 
 -- the same, by the items before it
 abbrev pub explained_findings : List Item → Item → List ℕ
-explained_findings before item = explained_in (count_by opens_group before) (count_by is_transaction (after_last opens_group before)) (length (records_in before) + 1) item
+explained_findings before item =
+    explained_in (count_by opens_group before) (count_by is_transaction (after_last opens_group before))
+    (length (records_in before) + 1) item
 
 -- what `explain` writes for items
 unfoldable pub explained_lines : List Item → List ℕ

@@ -1,5 +1,6 @@
 -- The transmission to which inputs are joined, and how a join ends.
-use Rattle.std.specs.Prelude.{◌≡◌, ℕ, Bool, true, false, length, sum_by, filter, List, [], ◌∷◌, ◌++◌, Option, Some, Result, Ok, Err, MatchResult}
+use Rattle.std.specs.Prelude.{◌≡◌, ℕ, Bool, true, false, length, sum_by, filter, List, [], ◌∷◌, ◌++◌, Option, Some, Result, Ok}
+use Rattle.std.specs.Prelude.{Err, MatchResult}
 use Rattle.std.specs.List.{AllZip, flat_map}
 use Rattle.std.specs.Io.KnownBytes.{Appends}
 use Rattle.cwr_fields.specs.Format.Failures.{one_more_failure}
@@ -52,26 +53,36 @@ AreJoined (v ∷ others) joined = joined ≡ join_of v others
 
 -- the numbers of a transmission that was joined of so many inputs
 abbrev pub join_report : ℕ → TransmissionValue → JoinReport
-join_report inputs v = record { inputs = inputs; groups = length v.groups; transactions = sum_by (λ g. length g.transactions) v.groups; records = length (rows v) }
+join_report inputs v =
+    record {
+      inputs = inputs;
+      groups = length v.groups;
+      transactions = sum_by (λ g. length g.transactions) v.groups;
+      records = length (rows v);
+    }
 
 -- ---- what the readers lose
 
 -- the reader's bytes begin with the transmission, just that front was consumed, and the reader didn't fail
-pub record TakesInput {R : Type 0} (limits : Limits) (remaining : R → Option (List ℕ)) (failures : R → ℕ) (old : R) (v : TransmissionValue) (new : R) : Type 0 where
+pub record TakesInput {R : Type 0} (limits : Limits) (remaining : R → Option (List ℕ)) (failures : R → ℕ) (old : R)
+    (v : TransmissionValue) (new : R) : Type 0 where
   pub takes : TakesFront limits (remaining old) v (remaining new)
   pub quiet : failures new ≡ failures old
 
 -- each reader's do
-abbrev pub TakeInputs : {R : Type 0} → Limits → (R → Option (List ℕ)) → (R → ℕ) → List R → List TransmissionValue → List R → Type 0
+abbrev pub TakeInputs : {R : Type 0} → Limits → (R → Option (List ℕ)) → (R → ℕ) → List R → List TransmissionValue → List R
+    → Type 0
 TakeInputs limits remaining failures [] [] [] = Unit {0}
-TakeInputs limits remaining failures (old ∷ olds) (v ∷ vs) (new ∷ news) = TakesInput limits remaining failures old v new × TakeInputs limits remaining failures olds vs news
+TakeInputs limits remaining failures (old ∷ olds) (v ∷ vs) (new ∷ news) =
+    TakesInput limits remaining failures old v new × TakeInputs limits remaining failures olds vs news
 TakeInputs limits remaining failures olds vs news = ⊥
 
 -- ---- how a join ends
 
 -- All inputs are accepted. After what the writer had, the canonical text of the transmission is written to which they are
 -- joined, which is within the limits, and the report has its numbers.
-pub record JoinsAll {R W : Type 0} (limits : Limits) (remaining : R → Option (List ℕ)) (failures : R → ℕ) (contents : W → Option (List ℕ)) (before after : List R) (old new : W) (report : JoinReport) : Type 0 where
+pub record JoinsAll {R W : Type 0} (limits : Limits) (remaining : R → Option (List ℕ)) (failures : R → ℕ)
+    (contents : W → Option (List ℕ)) (before after : List R) (old new : W) (report : JoinReport) : Type 0 where
   pub inputs : List TransmissionValue
   pub taken : TakeInputs limits remaining failures before inputs after
   pub joined : TransmissionValue
@@ -83,13 +94,15 @@ pub record JoinsAll {R W : Type 0} (limits : Limits) (remaining : R → Option (
 
 -- After what the writer had, the canonical text of these records is written: some transmission within the limits begins with
 -- them, and its canonical text with that one.
-pub record WritesPart {W : Type 0} (limits : Limits) (contents : W → Option (List ℕ)) (records : List RecordValue) (old new : W) : Type 0 where
+pub record WritesPart {W : Type 0} (limits : Limits) (contents : W → Option (List ℕ)) (records : List RecordValue)
+    (old new : W) : Type 0 where
   pub text : List ℕ
   pub part : IsPart limits records text
   pub written : Appends (contents old) (contents new) text
 
 -- what is written once all inputs are accepted: the canonical text of the transmission to which they are joined
-pub record IsWholeText (limits : Limits) (inputs : List TransmissionValue) (before after : Option (List ℕ)) (text : List ℕ) : Type 0 where
+pub record IsWholeText (limits : Limits) (inputs : List TransmissionValue) (before after : Option (List ℕ)) (text : List ℕ) : Type
+    0 where
   pub last : TransmissionValue
   pub taken : TakesFront limits before last after
   pub joined : TransmissionValue
@@ -127,7 +140,10 @@ IsOfDevice fault = ⊥
 
 -- where the inputs are accepted as transmissions that are joined to one within the limits, that one is written, unless a
 -- device or memory failed
-abbrev pub JoinsAccepted : {R W : Type 0} → Limits → (R → Option (List ℕ)) → (W → Option (List ℕ)) → List R → W → W → Result JoinReport JoinFault → Type 0
+abbrev pub JoinsAccepted : {R W : Type 0} → Limits → (R → Option (List ℕ)) → (W → Option (List ℕ)) → List R → W → W
+    → Result JoinReport JoinFault → Type 0
 JoinsAccepted limits remaining contents before old new result = (inputs : List TransmissionValue) (joined : TransmissionValue)
     → AllZip (HasInput limits remaining) before inputs → AreJoined inputs joined → FitsIn limits joined
-    → MatchResult result (λ report. (report ≡ join_report (length before) joined) × Appends (contents old) (contents new) (canonical_text joined)) (λ stopped. IsOfDevice stopped.fault)
+    → MatchResult result
+    (λ report. (report ≡ join_report (length before) joined) × Appends (contents old) (contents new) (canonical_text joined))
+    (λ stopped. IsOfDevice stopped.fault)

@@ -15,11 +15,13 @@ transactions_by_group v = flat_map (λ g. map (λ t. (g.0, t)) g.1.transactions)
 
 -- the part of the group at a place whose transactions are in the run, with a blank GRT
 abbrev pub group_part : List (ℕ × List RecordValue) → ℕ → GroupValue → GroupValue
-group_part run place g = record { head = g.head; transactions = map (λ p. p.1) (filter (λ p. p.0 == place) run); foot = blank_record kinds.Grt }
+group_part run place g =
+    record { head = g.head; transactions = map (λ p. p.1) (filter (λ p. p.0 == place) run); foot = blank_record kinds.Grt }
 
 -- a group for each group that has transactions in the run
 abbrev pub groups_in : List (ℕ × List RecordValue) → List GroupValue → List GroupValue
-groups_in run groups = filter (λ g. nat_lt 0 (length g.transactions)) (map (λ p. group_part run p.0 p.1) (enumerate_from 0 groups))
+groups_in run groups =
+    filter (λ g. nat_lt 0 (length g.transactions)) (map (λ p. group_part run p.0 p.1) (enumerate_from 0 groups))
 
 -- a transmission for each run of n transactions
 abbrev pub split_of : ℕ → TransmissionValue → List TransmissionValue

@@ -1,5 +1,6 @@
 -- The outputs of a split, and how it ends.
-use Rattle.std.specs.Prelude.{◌≡◌, ℕ, ◌/◌, List, ◌++◌, length, map, take, drop, count_by, sum_by, Option, Some, IfSome, Result, Ok, Err, MatchResult}
+use Rattle.std.specs.Prelude.{◌≡◌, ℕ, ◌/◌, List, ◌++◌, length, map, take, drop, count_by, sum_by, Option, Some, IfSome, Result}
+use Rattle.std.specs.Prelude.{Ok, Err, MatchResult}
 use Rattle.cwr_fields.specs.Format.Failures.{one_more_failure}
 use Rattle.cwr_shape.specs.declared.limits.Limits.{Limits}
 use Rattle.cwr_values.specs.declared.items.Item.{Item}
@@ -27,10 +28,12 @@ first_texts n count v = map canonical_text (take count (split_of n v))
 -- fill, whatever transmission within the limits they begin.
 pub record HasFullRuns (limits : Limits) (n : ℕ) (given : List Item) (old new : Option (List (List ℕ))) : Type 0 where
   pub begun : AreFirstItems limits given
-  pub texts : (v : TransmissionValue) (rest : List Item) → IsTransmission v → FitsIn limits v → value_items v ≡ given ++ rest → AddsTexts old new (first_texts n (count_by is_transaction given / n) v)
+  pub texts : (v : TransmissionValue) (rest : List Item) → IsTransmission v → FitsIn limits v → value_items v ≡ given ++ rest
+      → AddsTexts old new (first_texts n (count_by is_transaction given / n) v)
 
 -- all outputs were handed over
-pub record SplitsAll (limits : Limits) (n : ℕ) (before after : Option (List ℕ)) (old new : Option (List (List ℕ))) (report : SplitReport) : Type 0 where
+pub record SplitsAll (limits : Limits) (n : ℕ) (before after : Option (List ℕ)) (old new : Option (List (List ℕ)))
+    (report : SplitReport) : Type 0 where
   pub value : TransmissionValue
   pub taken : TakesFront limits before value after
   pub texts : AddsTexts old new (map canonical_text (split_of n value))
@@ -67,7 +70,8 @@ TellsWritten (Err fault) had = TellsBytes fault had
 -- The answer is right of the text: all is split where that begins with a transmission within the limits, of which it loses just that
 -- front, and the refusal or the number of records is the text's. No limit is a fault of its own.
 abbrev pub JudgesSplit : Limits → Option (List ℕ) → Option (List ℕ) → Result SplitReport ToolFault → Type 0
-JudgesSplit limits before after (Ok report) = IfSome before (λ text. (v : TransmissionValue) × (n : ℕ) × IsAccepted limits text v n × (after ≡ Some (drop n text)))
+JudgesSplit limits before after (Ok report) =
+    IfSome before (λ text. (v : TransmissionValue) × (n : ℕ) × IsAccepted limits text v n × (after ≡ Some (drop n text)))
 JudgesSplit limits before after (Err (Refused refusal)) = IfSome before (λ text. IsRefused limits text refusal)
 JudgesSplit limits before after (Err (Truncated records)) = IfSome before (λ text. IsTruncated limits text records)
 JudgesSplit limits before after (Err (Limit limit)) = ⊥
@@ -81,6 +85,9 @@ IsOfSplitDevice Output = Unit {0}
 IsOfSplitDevice fault = IsOfDevice fault
 
 -- where the input is accepted its transmission is split, unless a device or memory failed
-abbrev pub SplitsAccepted : Limits → ℕ → Option (List ℕ) → Option (List ℕ) → Option (List (List ℕ)) → Option (List (List ℕ)) → Result SplitReport ToolFault → Type 0
-SplitsAccepted limits n before after old new result = IfSome before (λ text. (v : TransmissionValue) (count : ℕ) → IsAccepted limits text v count
-    → MatchResult result (λ report. (report ≡ split_report n v) × (after ≡ Some (drop count text)) × AddsTexts old new (map canonical_text (split_of n v))) IsOfSplitDevice)
+abbrev pub SplitsAccepted : Limits → ℕ → Option (List ℕ) → Option (List ℕ) → Option (List (List ℕ)) → Option (List (List ℕ))
+    → Result SplitReport ToolFault → Type 0
+SplitsAccepted limits n before after old new result =
+    IfSome before (λ text. (v : TransmissionValue) (count : ℕ) → IsAccepted limits text v count
+    → MatchResult result (λ report. (report ≡ split_report n v) × (after ≡ Some (drop count text))
+    × AddsTexts old new (map canonical_text (split_of n v))) IsOfSplitDevice)

@@ -1,5 +1,6 @@
 -- What was joined so far: an encoder and numbers, and what one item and one input more do to them.
-use Rattle.std.specs.Prelude.{◌≡◌, ℕ, ◌+◌, ◌<◌, Bool, false, count_by, length, filter, map, List, [], ◌∷◌, ◌++◌, Option, Result, Ok, Err, MatchResult}
+use Rattle.std.specs.Prelude.{◌≡◌, ℕ, ◌+◌, ◌<◌, Bool, false, count_by, length, filter, map, List, [], ◌∷◌, ◌++◌, Option, Result}
+use Rattle.std.specs.Prelude.{Ok, Err, MatchResult}
 use Rattle.std.specs.List.{AllByRecursion, after_last}
 use Rattle.std.specs.Io.KnownBytes.{Appends}
 use Rattle.cwr_fields.specs.Format.Failures.{one_more_failure}
@@ -30,7 +31,8 @@ use Rattle.cwr_tools.specs.declared.verdicts.JoinReport.{JoinReport}
 use Rattle.cwr_tools.specs.declared.verdicts.ToolFault.{ToolFault}
 use Rattle.cwr_tools.specs.declared.verdicts.ToolFault.TheVariants.{Reader, Writer, Memory, Refused, Truncated, Limit}
 use Rattle.cwr_tools.specs.Steps.Reports.{HasHandedOut}
-use Rattle.cwr_parts.specs.Format.Joins.{AreJoined, CountsInputFault, CountsJoinWriter, TakeInputs, is_first, is_joined, join_report, joined_inputs}
+use Rattle.cwr_parts.specs.Format.Joins.{AreJoined, CountsInputFault, CountsJoinWriter, TakeInputs, is_first, is_joined}
+use Rattle.cwr_parts.specs.Format.Joins.{join_report, joined_inputs}
 use Rattle.cwr_parts.specs.Steps.Joins.{StopsJoin}
 use Rattle.cwr_tools.specs.Steps.Verdicts.{StopsAfter}
 
@@ -42,7 +44,8 @@ pub record AreCounted (counts : Totals) (items : List Item) : Type 0 where
   pub records : counts.records ≡ length (records_in items)
 
 -- the encoder accepted the records of these items, and they are counted
-pub record HasJoined {W : Type 0} (contents : W → Option (List ℕ)) (start : Option (List ℕ)) (items : List Item) (j : Joined W) : Type 0 where
+pub record HasJoined {W : Type 0} (contents : W → Option (List ℕ)) (start : Option (List ℕ)) (items : List Item)
+    (j : Joined W) : Type 0 where
   pub encodes : Encodes contents start (records_in items) j.encoder
   pub counted : AreCounted j.counts items
 
@@ -51,15 +54,19 @@ abbrev pub joined_writer : {W : Type 0} → Joined W → W
 joined_writer j = target_of j.encoder
 
 -- whatever items were joined, these were joined more, and the writer didn't fail
-pub record JoinsOn {W : Type 0} (contents : W → Option (List ℕ)) (failures : W → ℕ) (added : List Item) (old new : Joined W) : Type 0 where
-  pub more : (start : Option (List ℕ)) (items : List Item) → HasJoined contents start items old → HasJoined contents start (items ++ added) new
+pub record JoinsOn {W : Type 0} (contents : W → Option (List ℕ)) (failures : W → ℕ) (added : List Item)
+    (old new : Joined W) : Type 0 where
+  pub more : (start : Option (List ℕ)) (items : List Item) → HasJoined contents start items old
+      → HasJoined contents start (items ++ added) new
   pub unfailed : is_stopped new.encoder ≡ false
   pub quiet : failures (joined_writer new) ≡ failures (joined_writer old)
   pub limits : encoder_limits new.encoder ≡ encoder_limits old.encoder
 
 -- whatever items were joined, the records of these were accepted more, and the writer failed; so many bytes are written in all
-pub record FailsOn {W : Type 0} (contents : W → Option (List ℕ)) (failures : W → ℕ) (added : List Item) (written : ℕ) (old new : Joined W) : Type 0 where
-  pub more : (start : Option (List ℕ)) (items : List Item) → HasJoined contents start items old → Encodes contents start (records_in (items ++ added)) new.encoder
+pub record FailsOn {W : Type 0} (contents : W → Option (List ℕ)) (failures : W → ℕ) (added : List Item) (written : ℕ)
+    (old new : Joined W) : Type 0 where
+  pub more : (start : Option (List ℕ)) (items : List Item) → HasJoined contents start items old
+      → Encodes contents start (records_in (items ++ added)) new.encoder
   pub counted : written ≡ bytes_written new.encoder
   pub failed : failures (joined_writer new) ≡ one_more_failure (failures (joined_writer old))
   pub limits : encoder_limits new.encoder ≡ encoder_limits old.encoder
@@ -97,9 +104,11 @@ pub record MayAdd {W : Type 0} (contents : W → Option (List ℕ)) (added : Lis
   pub split : value_items value ≡ items ++ added ++ rest
 
 -- The items are joined, or a limit refuses them and nothing changes, or the writer fails in them.
-abbrev pub AddsItems : {W : Type 0} → (W → Option (List ℕ)) → (W → ℕ) → List Item → Result (Unit {0}) ToolFault → Joined W → Joined W → Type 0
+abbrev pub AddsItems : {W : Type 0} → (W → Option (List ℕ)) → (W → ℕ) → List Item → Result (Unit {0}) ToolFault → Joined W
+    → Joined W → Type 0
 AddsItems contents failures added (Ok u) old new = JoinsOn contents failures added old new
-AddsItems contents failures added (Err (Limit limit)) old new = IsBarredAfter contents (encoder_limits old.encoder) added limit old × (new ≡ old)
+AddsItems contents failures added (Err (Limit limit)) old new =
+    IsBarredAfter contents (encoder_limits old.encoder) added limit old × (new ≡ old)
 AddsItems contents failures added (Err (Writer written)) old new = FailsOn contents failures added written old new
 AddsItems contents failures added (Err fault) old new = ⊥
 
@@ -114,19 +123,33 @@ pub record IsBetweenInputs {W : Type 0} (contents : W → Option (List ℕ)) (fi
   pub joined : HasJoined contents start (joined_inputs inputs) j
 
 -- the reading of an input stopped with that fault, after these items
-abbrev pub StopsReadingInput : {W : Type 0} → Limits → (W → Option (List ℕ)) → (W → ℕ) → Bool → ReadFault → Option (List ℕ) → Option (List ℕ) → Joined W → Joined W → Type 0
-StopsReadingInput limits contents failures first fault before after old new = (given : List Item) × StopsAfter limits fault before after given × JoinsOn contents failures (filter (is_joined first) given) old new
+abbrev pub StopsReadingInput : {W : Type 0} → Limits → (W → Option (List ℕ)) → (W → ℕ) → Bool → ReadFault → Option (List ℕ)
+    → Option (List ℕ) → Joined W → Joined W → Type 0
+StopsReadingInput limits contents failures first fault before after old new =
+    (given : List Item) × StopsAfter limits fault before after given
+    × JoinsOn contents failures (filter (is_joined first) given) old new
 
 -- An input is accepted and joined, or its reading stops, an item of it passes a limit, or the writer fails in one.
-abbrev pub AddsInput : {W : Type 0} → Limits → (W → Option (List ℕ)) → (W → ℕ) → Bool → Option (List ℕ) → Option (List ℕ) → Result (Unit {0}) ToolFault → Joined W → Joined W → Type 0
-AddsInput limits contents failures first before after (Ok u) old new = (v : TransmissionValue) × TakesFront limits before v after × JoinsOn contents failures (filter (is_joined first) (value_items v)) old new
-AddsInput limits contents failures first before after (Err Reader) old new = StopsReadingInput limits contents failures first read_faults.Reader before after old new
-AddsInput limits contents failures first before after (Err Memory) old new = StopsReadingInput limits contents failures first read_faults.Memory before after old new
-AddsInput limits contents failures first before after (Err (Refused refusal)) old new = StopsReadingInput limits contents failures first (read_faults.Refused refusal) before after old new
-AddsInput limits contents failures first before after (Err (Truncated records)) old new = StopsReadingInput limits contents failures first (read_faults.Truncated records) before after old new
-AddsInput limits contents failures first before after (Err (Limit limit)) old new = (given : List Item) × (item : Item) × HasHandedOut limits before after (given ++ item ∷ [])
-    × JoinsOn contents failures (filter (is_joined first) given) old new × IsBarredAfter contents limits (filter (is_joined first) (given ++ item ∷ [])) limit old
-AddsInput limits contents failures first before after (Err (Writer written)) old new = (given : List Item) × HasHandedOut limits before after given × FailsOn contents failures (filter (is_joined first) given) written old new
+abbrev pub AddsInput : {W : Type 0} → Limits → (W → Option (List ℕ)) → (W → ℕ) → Bool → Option (List ℕ) → Option (List ℕ)
+    → Result (Unit {0}) ToolFault → Joined W → Joined W → Type 0
+AddsInput limits contents failures first before after (Ok u) old new =
+    (v : TransmissionValue) × TakesFront limits before v after
+    × JoinsOn contents failures (filter (is_joined first) (value_items v)) old new
+AddsInput limits contents failures first before after (Err Reader) old new =
+    StopsReadingInput limits contents failures first read_faults.Reader before after old new
+AddsInput limits contents failures first before after (Err Memory) old new =
+    StopsReadingInput limits contents failures first read_faults.Memory before after old new
+AddsInput limits contents failures first before after (Err (Refused refusal)) old new =
+    StopsReadingInput limits contents failures first (read_faults.Refused refusal) before after old new
+AddsInput limits contents failures first before after (Err (Truncated records)) old new =
+    StopsReadingInput limits contents failures first (read_faults.Truncated records) before after old new
+AddsInput limits contents failures first before after (Err (Limit limit)) old new =
+    (given : List Item) × (item : Item) × HasHandedOut limits before after (given ++ item ∷ [])
+    × JoinsOn contents failures (filter (is_joined first) given) old new
+    × IsBarredAfter contents limits (filter (is_joined first) (given ++ item ∷ [])) limit old
+AddsInput limits contents failures first before after (Err (Writer written)) old new =
+    (given : List Item) × HasHandedOut limits before after given
+    × FailsOn contents failures (filter (is_joined first) given) written old new
 AddsInput limits contents failures first before after (Err fault) old new = ⊥
 
 -- what the fault of a reading is reported as
@@ -144,7 +167,8 @@ CountsAddFault (Err fault) old new = CountsInputFault fault old new
 -- ---- all inputs
 
 -- all inputs are accepted and joined
-pub record AddsAll {R W : Type 0} (limits : Limits) (remaining : R → Option (List ℕ)) (failures : R → ℕ) (contents : W → Option (List ℕ)) (before after : List R) (old new : Joined W) : Type 0 where
+pub record AddsAll {R W : Type 0} (limits : Limits) (remaining : R → Option (List ℕ)) (failures : R → ℕ)
+    (contents : W → Option (List ℕ)) (before after : List R) (old new : Joined W) : Type 0 where
   pub inputs : List TransmissionValue
   pub taken : TakeInputs limits remaining failures before inputs after
   pub joined : HasJoined contents (contents (joined_writer old)) (joined_inputs inputs) new
@@ -152,9 +176,12 @@ pub record AddsAll {R W : Type 0} (limits : Limits) (remaining : R → Option (L
   pub limits_are : encoder_limits new.encoder ≡ limits
 
 -- all are, or a fault comes while one is in hand
-abbrev pub AddsInputs : {R W : Type 0} → Limits → (R → Option (List ℕ)) → (R → ℕ) → (W → Option (List ℕ)) → List R → List R → Result (Unit {0}) JoinFault → Joined W → Joined W → Type 0
-AddsInputs limits remaining failures contents before after (Ok u) old new = AddsAll limits remaining failures contents before after old new
-AddsInputs limits remaining failures contents before after (Err stopped) old new = StopsJoin limits remaining failures contents before after (joined_writer old) (joined_writer new) stopped
+abbrev pub AddsInputs : {R W : Type 0} → Limits → (R → Option (List ℕ)) → (R → ℕ) → (W → Option (List ℕ)) → List R → List R
+    → Result (Unit {0}) JoinFault → Joined W → Joined W → Type 0
+AddsInputs limits remaining failures contents before after (Ok u) old new =
+    AddsAll limits remaining failures contents before after old new
+AddsInputs limits remaining failures contents before after (Err stopped) old new =
+    StopsJoin limits remaining failures contents before after (joined_writer old) (joined_writer new) stopped
 
 -- ---- the end
 
@@ -170,20 +197,27 @@ pub record HasJoinedAll {W : Type 0} (contents : W → Option (List ℕ)) (count
 
 -- what a join answers whose encoder finished so, where all but TRL is counted
 abbrev pub IsAnswerOf : Result ℕ EncodeFault → Totals → ℕ → Result JoinReport JoinFault → Type 0
-IsAnswerOf (Ok n) counts inputs result = result ≡ Ok (record { inputs = inputs; groups = counts.groups; transactions = counts.transactions; records = counts.records + 1 })
-IsAnswerOf (Err other) counts inputs result = (fault : ToolFault) × is_fault_of other fault × (result ≡ Err (record { input = inputs; fault = fault }))
+IsAnswerOf (Ok n) counts inputs result =
+    result
+    ≡ Ok (record { inputs = inputs; groups = counts.groups; transactions = counts.transactions; records = counts.records + 1 })
+IsAnswerOf (Err other) counts inputs result =
+    (fault : ToolFault) × is_fault_of other fault × (result ≡ Err (record { input = inputs; fault = fault }))
 
 -- After all inputs the canonical text of the transmission is written to which they are joined, and the report has its numbers;
 -- where the writer fails, so many of the text's first bytes are.
-pub record EndsWithAll {W : Type 0} (contents : W → Option (List ℕ)) (count : ℕ) (start : Option (List ℕ)) (inputs : List TransmissionValue) (old : Joined W) (new : W) (result : Result JoinReport JoinFault) : Type 0 where
+pub record EndsWithAll {W : Type 0} (contents : W → Option (List ℕ)) (count : ℕ) (start : Option (List ℕ))
+    (inputs : List TransmissionValue) (old : Joined W) (new : W) (result : Result JoinReport JoinFault) : Type 0 where
   pub joined : TransmissionValue
   pub joined_of : AreJoined inputs joined
   pub whole : IsTransmission joined
   pub within : FitsIn (encoder_limits old.encoder) joined
-  pub ends : MatchResult result (λ report. (report ≡ join_report count joined) × Appends start (contents new) (canonical_text joined))
-      (λ stopped. (stopped.input ≡ count) × (written : ℕ) × (stopped.fault ≡ Writer written) × HasFront contents start new (canonical_text joined) written)
+  pub ends : MatchResult result
+      (λ report. (report ≡ join_report count joined) × Appends start (contents new) (canonical_text joined))
+      (λ stopped. (stopped.input ≡ count) × (written : ℕ) × (stopped.fault ≡ Writer written)
+      × HasFront contents start new (canonical_text joined) written)
 
 abbrev pub EndsJoin : {W : Type 0} → (W → Option (List ℕ)) → (W → ℕ) → ℕ → Joined W → W → Result JoinReport JoinFault → Type 0
 EndsJoin contents failures count old new result = CountsJoinWriter result (failures (joined_writer old)) (failures new)
-    × ((start : Option (List ℕ)) (inputs : List TransmissionValue) → length inputs ≡ count → 0 < count → AllByRecursion IsTransmission inputs → HasJoined contents start (joined_inputs inputs) old
+    × ((start : Option (List ℕ)) (inputs : List TransmissionValue) → length inputs ≡ count → 0 < count
+    → AllByRecursion IsTransmission inputs → HasJoined contents start (joined_inputs inputs) old
     → EndsWithAll contents count start inputs old new result)

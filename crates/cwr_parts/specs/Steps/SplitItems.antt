@@ -1,5 +1,6 @@
 -- What a split holds after the items that were handed out, and what it does with one more.
-use Rattle.std.specs.Prelude.{◌≡◌, ℕ, ◌+◌, ◌*◌, ◌<◌, Bool, true, false, List, [], ◌∷◌, length, map, count_by, Option, Some, None, Result, Ok, Err}
+use Rattle.std.specs.Prelude.{◌≡◌, ℕ, ◌+◌, ◌*◌, ◌<◌, Bool, true, false, List, [], ◌∷◌, length, map, count_by, Option, Some, None}
+use Rattle.std.specs.Prelude.{Result, Ok, Err}
 use Rattle.cwr_shape.specs.declared.limits.Limits.{Limits}
 use Rattle.cwr_values.specs.declared.items.Item.{Item}
 use Rattle.cwr_values.specs.declared.items.Item.TheVariants.{Opened, GroupOpened}
@@ -11,7 +12,8 @@ use Rattle.cwr_tools.specs.declared.verdicts.SplitReport.{SplitReport}
 use Rattle.cwr_tools.specs.declared.verdicts.ToolFault.{ToolFault}
 use Rattle.cwr_parts.specs.Format.Outputs.{AddsTexts}
 use Rattle.cwr_parts.specs.Steps.SplitOutputs.{CountsNone, FailsWith, HoldsOutput, Told, open_count, open_failures}
-use Rattle.cwr_parts.specs.Steps.SplitStages.{SplitStage, Remains, Between, Inside, Over, open_items, open_total, parts_at, split_stage_after}
+use Rattle.cwr_parts.specs.Steps.SplitStages.{SplitStage, Remains, Between, Inside, Over, open_items, open_total, parts_at}
+use Rattle.cwr_parts.specs.Steps.SplitStages.{split_stage_after}
 use Rattle.cwr_parts.specs.Format.Splitting.{SplitsAll}
 use Rattle.cwr_parts.specs.Steps.Splitting.{Splits}
 use Rattle.cwr_parts.specs.Steps.SplitSteps.{has_open_group}
@@ -37,7 +39,8 @@ HasCounted Over size report = Unit {0}
 HasCounted stage size report = report.outputs * size + open_total stage ≡ report.transactions
 
 -- what a split holds at a stage
-pub record HoldsStage {O W : Type 0} (told : Told O) (contents : W → Option (List ℕ)) (failures : W → ℕ) (stage : SplitStage) (s : Splitting W) (now : O) : Type 0 where
+pub record HoldsStage {O W : Type 0} (told : Told O) (contents : W → Option (List ℕ)) (failures : W → ℕ) (stage : SplitStage)
+    (s : Splitting W) (now : O) : Type 0 where
   pub opening : KnowsOpening stage s.opening
   pub head : KnowsHead stage s.head
   pub output : HoldsOutput contents failures s.limits (told.texts now) (open_items stage) s.output
@@ -47,7 +50,8 @@ pub record HoldsStage {O W : Type 0} (told : Told O) (contents : W → Option (L
   pub counted : HasCounted stage s.size s.report
 
 -- what it holds goes with what is left of some transmission that comes with this item next
-pub record MayTake {O W : Type 0} (told : Told O) (contents : W → Option (List ℕ)) (failures : W → ℕ) (item : Item) (s : Splitting W) (now : O) : Type 0 where
+pub record MayTake {O W : Type 0} (told : Told O) (contents : W → Option (List ℕ)) (failures : W → ℕ) (item : Item)
+    (s : Splitting W) (now : O) : Type 0 where
   pub stage : SplitStage
   pub value : TransmissionValue
   pub whole : List TransmissionValue
@@ -60,7 +64,8 @@ pub record MayTake {O W : Type 0} (told : Told O) (contents : W → Option (List
   pub room : s.report.transactions < 199999999
 
 -- it was taken: the split is at the next stage, and these parts were handed over
-pub record IsTaken {O W : Type 0} (told : Told O) (contents : W → Option (List ℕ)) (failures : W → ℕ) (next : SplitStage) (parts : List TransmissionValue) (item : Item) (old new : Splitting W) (before after : O) : Type 0 where
+pub record IsTaken {O W : Type 0} (told : Told O) (contents : W → Option (List ℕ)) (failures : W → ℕ) (next : SplitStage)
+    (parts : List TransmissionValue) (item : Item) (old new : Splitting W) (before after : O) : Type 0 where
   pub holds : HoldsStage told contents failures next new after
   pub texts : AddsTexts (told.texts before) (told.texts after) (map canonical_text parts)
   pub counts : CountsNone told before after
@@ -69,13 +74,18 @@ pub record IsTaken {O W : Type 0} (told : Told O) (contents : W → Option (List
   pub outputs : new.report.outputs ≡ old.report.outputs + length parts
   pub transactions : new.report.transactions ≡ old.report.transactions + count_by is_transaction (item ∷ [])
 
-abbrev pub TakesItem : {O W : Type 0} → Told O → (W → Option (List ℕ)) → (W → ℕ) → Item → Result (Unit {0}) ToolFault → Splitting W → Splitting W → O → O → Type 0
-TakesItem told contents failures item (Ok u) old new before after = (may : MayTake told contents failures item old before) → IsTaken told contents failures (split_stage_after old.size may.stage item) (parts_at old.size may.stage item) item old new before after
-TakesItem told contents failures item (Err fault) old new before after = FailsWith told fault (open_failures failures new.output) before after
+abbrev pub TakesItem : {O W : Type 0} → Told O → (W → Option (List ℕ)) → (W → ℕ) → Item → Result (Unit {0}) ToolFault
+    → Splitting W → Splitting W → O → O → Type 0
+TakesItem told contents failures item (Ok u) old new before after =
+    (may : MayTake told contents failures item old before) → IsTaken told contents failures
+    (split_stage_after old.size may.stage item) (parts_at old.size may.stage item) item old new before after
+TakesItem told contents failures item (Err fault) old new before after =
+    FailsWith told fault (open_failures failures new.output) before after
 
 -- ---- a whole input
 
 -- all outputs were handed over, or the first ones before a fault
-abbrev pub SplitsItems : Limits → ℕ → Option (List ℕ) → Option (List ℕ) → Option (List (List ℕ)) → Option (List (List ℕ)) → SplitReport → Result (Unit {0}) ToolFault → Type 0
+abbrev pub SplitsItems : Limits → ℕ → Option (List ℕ) → Option (List ℕ) → Option (List (List ℕ)) → Option (List (List ℕ))
+    → SplitReport → Result (Unit {0}) ToolFault → Type 0
 SplitsItems limits n before after old new report (Ok u) = SplitsAll limits n before after old new report
 SplitsItems limits n before after old new report (Err fault) = Splits limits n before after old new (Err fault)

@@ -1,5 +1,6 @@
 -- The outputs of a split while they are written: what one item does to the open one.
-use Rattle.std.specs.Prelude.{◌≡◌, ℕ, ◌==◌, false, List, [], ◌∷◌, ◌++◌, Option, Some, None, IfSome, Result, Ok, Err, if◌then◌else◌}
+use Rattle.std.specs.Prelude.{◌≡◌, ℕ, ◌==◌, false, List, [], ◌∷◌, ◌++◌, Option, Some, None, IfSome, Result, Ok, Err}
+use Rattle.std.specs.Prelude.{if◌then◌else◌}
 use Rattle.cwr_fields.specs.Format.Failures.{one_more_failure}
 use Rattle.cwr_fields.specs.declared.kinds.Kind.TheVariants as kinds
 use Rattle.cwr_lines.specs.Format.Records.{blank_record}
@@ -27,16 +28,20 @@ pub record MayPut {W : Type 0} (contents : W → Option (List ℕ)) (added : Lis
   pub first : AreFirstItems (encoder_limits e) (items ++ added)
 
 -- whatever items were written, these were written more, and the writer didn't fail
-pub record PutsOn {W : Type 0} (contents : W → Option (List ℕ)) (failures : W → ℕ) (added : List Item) (old new : Encoder W) : Type 0 where
-  pub more : (start : Option (List ℕ)) (items : List Item) → Encodes contents start (records_in items) old → Encodes contents start (records_in (items ++ added)) new
+pub record PutsOn {W : Type 0} (contents : W → Option (List ℕ)) (failures : W → ℕ) (added : List Item)
+    (old new : Encoder W) : Type 0 where
+  pub more : (start : Option (List ℕ)) (items : List Item) → Encodes contents start (records_in items) old
+      → Encodes contents start (records_in (items ++ added)) new
   pub unfailed : is_stopped new ≡ false
   pub quiet : failures (target_of new) ≡ failures (target_of old)
   pub limits : encoder_limits new ≡ encoder_limits old
 
 -- the items are written, or the writer fails in them
-abbrev pub PutsItems : {W : Type 0} → (W → Option (List ℕ)) → (W → ℕ) → List Item → Result (Unit {0}) ToolFault → Encoder W → Encoder W → Type 0
+abbrev pub PutsItems : {W : Type 0} → (W → Option (List ℕ)) → (W → ℕ) → List Item → Result (Unit {0}) ToolFault → Encoder W
+    → Encoder W → Type 0
 PutsItems contents failures added (Ok u) old new = PutsOn contents failures added old new
-PutsItems contents failures added (Err (Writer written)) old new = failures (target_of new) ≡ one_more_failure (failures (target_of old))
+PutsItems contents failures added (Err (Writer written)) old new =
+    failures (target_of new) ≡ one_more_failure (failures (target_of old))
 PutsItems contents failures added (Err fault) old new = ⊥
 
 -- ---- the items of an output
@@ -75,7 +80,8 @@ open_count None = 0
 open_count (Some out) = out.transactions
 
 -- These items were written to it, and its writer didn't fail. Where the texts of the outputs are known it had no bytes before.
-pub record IsOutput {W : Type 0} (contents : W → Option (List ℕ)) (failures : W → ℕ) (limits : LimitValues) (had : Option (List (List ℕ))) (items : List Item) (out : SplitOutput W) : Type 0 where
+pub record IsOutput {W : Type 0} (contents : W → Option (List ℕ)) (failures : W → ℕ) (limits : LimitValues)
+    (had : Option (List (List ℕ))) (items : List Item) (out : SplitOutput W) : Type 0 where
   pub start : Option (List ℕ)
   pub empty : IfSome had (λ _. start ≡ Some [])
   pub encodes : Encodes contents start (records_in items) out.encoder
@@ -84,7 +90,8 @@ pub record IsOutput {W : Type 0} (contents : W → Option (List ℕ)) (failures 
   pub limits_are : encoder_limits out.encoder ≡ limits
 
 -- where none is open, no items were
-abbrev pub HoldsOutput : {W : Type 0} → (W → Option (List ℕ)) → (W → ℕ) → LimitValues → Option (List (List ℕ)) → List Item → Option (SplitOutput W) → Type 0
+abbrev pub HoldsOutput : {W : Type 0} → (W → Option (List ℕ)) → (W → ℕ) → LimitValues → Option (List (List ℕ)) → List Item
+    → Option (SplitOutput W) → Type 0
 HoldsOutput contents failures limits had items None = items ≡ []
 HoldsOutput contents failures limits had items (Some out) = IsOutput contents failures limits had items out
 
@@ -148,11 +155,14 @@ pub record FailsWith {O : Type 0} (told : Told O) (fault : ToolFault) (pending :
 -- ---- an output that is whole
 
 -- The outputs have had the text of the transmission that its items and TRL are, where its writer had no bytes before.
-pub record TakesOutput {O W : Type 0} (told : Told O) (contents : W → Option (List ℕ)) (out : SplitOutput W) (old new : O) : Type 0 where
+pub record TakesOutput {O W : Type 0} (told : Told O) (contents : W → Option (List ℕ)) (out : SplitOutput W) (old new : O) : Type
+    0 where
   pub counts : CountsNone told old new
-  pub text : (start : Option (List ℕ)) (items : List Item) (w : TransmissionValue) → Encodes contents start (records_in items) out.encoder → IsTransmission w → value_items w ≡ items ++ Ended ∷ []
+  pub text : (start : Option (List ℕ)) (items : List Item) (w : TransmissionValue)
+      → Encodes contents start (records_in items) out.encoder → IsTransmission w → value_items w ≡ items ++ Ended ∷ []
       → IfSome (told.texts old) (λ _. start ≡ Some []) → AddsText (told.texts old) (told.texts new) (canonical_text w)
 
-abbrev pub HandsOver : {O W : Type 0} → Told O → (W → Option (List ℕ)) → SplitOutput W → Result (Unit {0}) ToolFault → O → O → Type 0
+abbrev pub HandsOver : {O W : Type 0} → Told O → (W → Option (List ℕ)) → SplitOutput W → Result (Unit {0}) ToolFault → O → O
+    → Type 0
 HandsOver told contents out (Ok u) old new = TakesOutput told contents out old new
 HandsOver told contents out (Err fault) old new = FailsWith told fault 0 old new

@@ -51,18 +51,21 @@ last_of o (g ∷ gs) = value_of o (g ∷ gs) ∷ []
 abbrev pub split_stage_after : ℕ → SplitStage → Item → SplitStage
 split_stage_after n Start (Opened o) = Between o []
 split_stage_after n (Between o closed) (GroupOpened h) = Inside o closed h []
-split_stage_after n (Inside o closed h cur) (Transaction t) = if total_in closed + length cur + 1 == n then Inside o [] h [] else Inside o closed h (cur ++ t ∷ [])
+split_stage_after n (Inside o closed h cur) (Transaction t) =
+    if total_in closed + length cur + 1 == n then Inside o [] h [] else Inside o closed h (cur ++ t ∷ [])
 split_stage_after n (Inside o closed h cur) (GroupClosed f) = Between o (with_group closed h cur)
 split_stage_after n stage item = Over
 
 -- the part that an item makes whole
 abbrev pub parts_at : ℕ → SplitStage → Item → List TransmissionValue
-parts_at n (Inside o closed h cur) (Transaction t) = if total_in closed + length cur + 1 == n then value_of o (closed ++ part_group h (cur ++ t ∷ []) ∷ []) ∷ [] else []
+parts_at n (Inside o closed h cur) (Transaction t) =
+    if total_in closed + length cur + 1 == n then value_of o (closed ++ part_group h (cur ++ t ∷ []) ∷ []) ∷ [] else []
 parts_at n (Between o closed) Ended = last_of o closed
 parts_at n stage item = []
 
 -- between groups, what is left has these groups after the closed ones of the open part
-pub record RemainsBetween (limits : Limits) (n : ℕ) (v : TransmissionValue) (whole : List TransmissionValue) (o : RecordValue) (closed : List GroupValue) (rest : List Item) : Type 0 where
+pub record RemainsBetween (limits : Limits) (n : ℕ) (v : TransmissionValue) (whole : List TransmissionValue) (o : RecordValue)
+    (closed : List GroupValue) (rest : List Item) : Type 0 where
   pub after : List GroupValue
   pub rest_is : rest ≡ flat_map group_items after ++ Ended ∷ []
   pub opening : IsRecordOf kinds.Hdr o
@@ -74,7 +77,8 @@ pub record RemainsBetween (limits : Limits) (n : ℕ) (v : TransmissionValue) (w
   pub split : split_of n v ≡ whole ++ split_of n (value_of o (closed ++ after))
 
 -- in a group, it has first the others of that one's transactions
-pub record RemainsInside (limits : Limits) (n : ℕ) (v : TransmissionValue) (whole : List TransmissionValue) (o : RecordValue) (closed : List GroupValue) (h : RecordValue) (cur : List (List RecordValue)) (rest : List Item) : Type 0 where
+pub record RemainsInside (limits : Limits) (n : ℕ) (v : TransmissionValue) (whole : List TransmissionValue) (o : RecordValue)
+    (closed : List GroupValue) (h : RecordValue) (cur : List (List RecordValue)) (rest : List Item) : Type 0 where
   pub todo : List (List RecordValue)
   pub foot : RecordValue
   pub after : List GroupValue

@@ -1,5 +1,6 @@
 -- What a split holds between two items, and what one item more does to that.
-use Rattle.std.specs.Prelude.{◌≡◌, ◌≢◌, ℕ, ◌+◌, ◌==◌, ◌<◌, ◌⊎◌, Bool, true, false, List, [], ◌∷◌, ◌++◌, Option, Some, None, Result, Ok, Err}
+use Rattle.std.specs.Prelude.{◌≡◌, ◌≢◌, ℕ, ◌+◌, ◌==◌, ◌<◌, ◌⊎◌, Bool, true, false, List, [], ◌∷◌, ◌++◌, Option, Some, None}
+use Rattle.std.specs.Prelude.{Result, Ok, Err}
 use Rattle.cwr_fields.specs.Format.Failures.{one_more_failure}
 use Rattle.cwr_shape.specs.Format.Ranges.{LimitValues}
 use Rattle.cwr_values.specs.declared.items.Item.{Item}
@@ -14,7 +15,8 @@ use Rattle.cwr_tools.specs.declared.verdicts.SplitReport.{SplitReport}
 use Rattle.cwr_tools.specs.declared.verdicts.ToolFault.{ToolFault}
 use Rattle.cwr_tools.specs.declared.verdicts.ToolFault.TheVariants.{Writer}
 use Rattle.cwr_parts.specs.Format.Outputs.{AddsText, given_up_with}
-use Rattle.cwr_parts.specs.Steps.SplitOutputs.{CountsNone, FailsWith, HoldsOutput, IsOutput, IsQuiet, MayEnd, MayPut, PutsOn, Told, blank_end, end_of, front_of, open_count, open_failures, open_front}
+use Rattle.cwr_parts.specs.Steps.SplitOutputs.{CountsNone, FailsWith, HoldsOutput, IsOutput, IsQuiet, MayEnd, MayPut, PutsOn}
+use Rattle.cwr_parts.specs.Steps.SplitOutputs.{Told, blank_end, end_of, front_of, open_count, open_failures, open_front}
 
 -- ---- the open output
 
@@ -49,17 +51,21 @@ FailsOpen failures fault old new = ⊥
 -- ---- an output is open
 
 -- an output is open, which had the items that one had before
-pub record IsOpen {O W : Type 0} (told : Told O) (contents : W → Option (List ℕ)) (failures : W → ℕ) (old new : Splitting W) (before after : O) : Type 0 where
+pub record IsOpen {O W : Type 0} (told : Told O) (contents : W → Option (List ℕ)) (failures : W → ℕ) (old new : Splitting W)
+    (before after : O) : Type 0 where
   pub out : SplitOutput W
   pub now : new ≡ holding old (Some out)
   pub quiet : IsQuiet told before after
-  pub held : (items : List Item) → HoldsOutput contents failures old.limits (told.texts before) items old.output → IsOutput contents failures old.limits (told.texts before) items out
+  pub held : (items : List Item) → HoldsOutput contents failures old.limits (told.texts before) items old.output
+      → IsOutput contents failures old.limits (told.texts before) items out
   pub counted : out.transactions ≡ open_count old.output
   pub group : out.in_group ≡ has_open_group old.output
 
-abbrev pub OpensOutput : {O W : Type 0} → Told O → (W → Option (List ℕ)) → (W → ℕ) → Result (Unit {0}) ToolFault → Splitting W → Splitting W → O → O → Type 0
+abbrev pub OpensOutput : {O W : Type 0} → Told O → (W → Option (List ℕ)) → (W → ℕ) → Result (Unit {0}) ToolFault → Splitting W
+    → Splitting W → O → O → Type 0
 OpensOutput told contents failures (Ok u) old new before after = IsOpen told contents failures old new before after
-OpensOutput told contents failures (Err fault) old new before after = FailsWith told fault (open_failures failures new.output) before after
+OpensOutput told contents failures (Err fault) old new before after =
+    FailsWith told fault (open_failures failures new.output) before after
 
 -- ---- a transaction is written
 
@@ -78,7 +84,8 @@ pub record MayWrite {W : Type 0} (contents : W → Option (List ℕ)) (item : It
   pub may : MayPut contents (front_of opening head out ++ item ∷ []) out.encoder
 
 -- it was
-pub record IsWritten {W : Type 0} (contents : W → Option (List ℕ)) (failures : W → ℕ) (item : Item) (old new : Splitting W) : Type 0 where
+pub record IsWritten {W : Type 0} (contents : W → Option (List ℕ)) (failures : W → ℕ) (item : Item) (old new : Splitting W) : Type
+    0 where
   pub opening : Item
   pub head : Item
   pub out : SplitOutput W
@@ -86,12 +93,14 @@ pub record IsWritten {W : Type 0} (contents : W → Option (List ℕ)) (failures
   pub head_is : old.head ≡ Some head
   pub open_is : old.output ≡ Some out
   pub added : SplitOutput W
-  pub now : new ≡ record old { output = Some added; report = record { outputs = old.report.outputs; transactions = old.report.transactions + 1 } }
+  pub now : new ≡ record old
+      { output = Some added; report = record { outputs = old.report.outputs; transactions = old.report.transactions + 1 } }
   pub puts : PutsOn contents failures (front_of opening head out ++ item ∷ []) out.encoder added.encoder
   pub counted : added.transactions ≡ out.transactions + 1
   pub group : added.in_group ≡ true
 
-abbrev pub Writes : {W : Type 0} → (W → Option (List ℕ)) → (W → ℕ) → Item → Result (Unit {0}) ToolFault → Splitting W → Splitting W → Type 0
+abbrev pub Writes : {W : Type 0} → (W → Option (List ℕ)) → (W → ℕ) → Item → Result (Unit {0}) ToolFault → Splitting W
+    → Splitting W → Type 0
 Writes contents failures item (Ok u) old new = IsWritten contents failures item old new
 Writes contents failures item (Err fault) old new = FailsOpen failures fault old.output new.output
 
@@ -108,13 +117,16 @@ pub record IsOutside {W : Type 0} (contents : W → Option (List ℕ)) (failures
   pub counted : now.transactions ≡ out.transactions
   pub group : now.in_group ≡ false
 
-abbrev pub IsOutsideOpen : {W : Type 0} → (W → Option (List ℕ)) → (W → ℕ) → Option (SplitOutput W) → Option (SplitOutput W) → Type 0
+abbrev pub IsOutsideOpen : {W : Type 0} → (W → Option (List ℕ)) → (W → ℕ) → Option (SplitOutput W) → Option (SplitOutput W)
+    → Type 0
 IsOutsideOpen contents failures None None = Unit {0}
 IsOutsideOpen contents failures (Some out) (Some now) = IsOutside contents failures out now
 IsOutsideOpen contents failures out now = ⊥
 
-abbrev pub EndsGroup : {W : Type 0} → (W → Option (List ℕ)) → (W → ℕ) → Result (Unit {0}) ToolFault → Splitting W → Splitting W → Type 0
-EndsGroup contents failures (Ok u) old new = (new ≡ holding old new.output) × IsOutsideOpen contents failures old.output new.output
+abbrev pub EndsGroup : {W : Type 0} → (W → Option (List ℕ)) → (W → ℕ) → Result (Unit {0}) ToolFault → Splitting W → Splitting W
+    → Type 0
+EndsGroup contents failures (Ok u) old new =
+    (new ≡ holding old new.output) × IsOutsideOpen contents failures old.output new.output
 EndsGroup contents failures (Err fault) old new = FailsOpen failures fault old.output new.output
 
 -- ---- an output ends
@@ -129,7 +141,8 @@ MayEndHeld limits items None = Unit {0}
 MayEndHeld limits items (Some out) = MayEnd limits (items ++ end_of out)
 
 -- there is no open output, or it may end
-pub record MayFinish {O W : Type 0} (told : Told O) (contents : W → Option (List ℕ)) (failures : W → ℕ) (s : Splitting W) (before : O) : Type 0 where
+pub record MayFinish {O W : Type 0} (told : Told O) (contents : W → Option (List ℕ)) (failures : W → ℕ) (s : Splitting W)
+    (before : O) : Type 0 where
   pub items : List Item
   pub held : HoldsOutput contents failures s.limits (told.texts before) items s.output
   pub ends : MayEndHeld s.limits items s.output
@@ -140,14 +153,22 @@ report_after report None = report
 report_after report (Some out) = record { outputs = report.outputs + 1; transactions = report.transactions }
 
 -- an output that was open was handed over: whatever transmission its items were
-abbrev pub IsHandedOver : {O W : Type 0} → Told O → (W → Option (List ℕ)) → (W → ℕ) → LimitValues → Option (SplitOutput W) → O → O → Type 0
+abbrev pub IsHandedOver : {O W : Type 0} → Told O → (W → Option (List ℕ)) → (W → ℕ) → LimitValues → Option (SplitOutput W) → O → O
+    → Type 0
 IsHandedOver told contents failures limits None before after = IsQuiet told before after
-IsHandedOver told contents failures limits (Some out) before after = CountsNone told before after × ((items : List Item) (w : TransmissionValue) → IsOutput contents failures limits (told.texts before) items out
-    → IsTransmission w → value_items w ≡ items ++ end_of out ++ Ended ∷ [] → AddsText (told.texts before) (told.texts after) (canonical_text w))
+IsHandedOver told contents failures limits (Some out) before after =
+    CountsNone told before after
+    × ((items : List Item) (w : TransmissionValue) → IsOutput contents failures limits (told.texts before) items out
+    → IsTransmission w → value_items w ≡ items ++ end_of out ++ Ended ∷ []
+    → AddsText (told.texts before) (told.texts after) (canonical_text w))
 
-abbrev pub FinishesOutput : {O W : Type 0} → Told O → (W → Option (List ℕ)) → (W → ℕ) → Result (Unit {0}) ToolFault → Splitting W → Splitting W → O → O → Type 0
-FinishesOutput told contents failures (Ok u) old new before after = (new ≡ record old { output = None; report = report_after old.report old.output }) × IsHandedOver told contents failures old.limits old.output before after
-FinishesOutput told contents failures (Err fault) old new before after = FailsWith told fault (open_failures failures new.output) before after
+abbrev pub FinishesOutput : {O W : Type 0} → Told O → (W → Option (List ℕ)) → (W → ℕ) → Result (Unit {0}) ToolFault → Splitting W
+    → Splitting W → O → O → Type 0
+FinishesOutput told contents failures (Ok u) old new before after =
+    (new ≡ record old { output = None; report = report_after old.report old.output })
+    × IsHandedOver told contents failures old.limits old.output before after
+FinishesOutput told contents failures (Err fault) old new before after =
+    FailsWith told fault (open_failures failures new.output) before after
 
 -- ---- a transaction is added
 
@@ -156,7 +177,8 @@ abbrev pub items_with : {W : Type 0} → List Item → Item → Item → Item �
 items_with items opening head item out = items ++ open_front opening head out ++ item ∷ []
 
 -- these items were written to the open output, and with the transaction some transmission begins, or ends where it is full
-pub record MayAddTransaction {O W : Type 0} (told : Told O) (contents : W → Option (List ℕ)) (failures : W → ℕ) (item : Item) (s : Splitting W) (before : O) : Type 0 where
+pub record MayAddTransaction {O W : Type 0} (told : Told O) (contents : W → Option (List ℕ)) (failures : W → ℕ) (item : Item)
+    (s : Splitting W) (before : O) : Type 0 where
   pub items : List Item
   pub opening : Item
   pub head : Item
@@ -172,36 +194,56 @@ pub record MayAddTransaction {O W : Type 0} (told : Told O) (contents : W → Op
   pub full : open_count s.output + 1 ≡ s.size → MayEnd s.limits (items_with items opening head item s.output ++ blank_end ∷ [])
 
 -- the open output continues with it
-pub record GoesOn {O W : Type 0} (told : Told O) (contents : W → Option (List ℕ)) (failures : W → ℕ) (opening head item : Item) (old new : Splitting W) (before after : O) : Type 0 where
+pub record GoesOn {O W : Type 0} (told : Told O) (contents : W → Option (List ℕ)) (failures : W → ℕ) (opening head item : Item)
+    (old new : Splitting W) (before after : O) : Type 0 where
   pub few : open_count old.output + 1 ≢ old.size
   pub out : SplitOutput W
-  pub now : new ≡ record old { output = Some out; report = record { outputs = old.report.outputs; transactions = old.report.transactions + 1 } }
+  pub now : new ≡ record old
+      { output = Some out; report = record { outputs = old.report.outputs; transactions = old.report.transactions + 1 } }
   pub quiet : IsQuiet told before after
-  pub held : (items : List Item) → HoldsOutput contents failures old.limits (told.texts before) items old.output → IsOutput contents failures old.limits (told.texts before) (items_with items opening head item old.output) out
+  pub held : (items : List Item) → HoldsOutput contents failures old.limits (told.texts before) items old.output
+      → IsOutput contents failures old.limits (told.texts before) (items_with items opening head item old.output) out
   pub counted : out.transactions ≡ open_count old.output + 1
   pub group : out.in_group ≡ true
 
 -- it is whole with it, and was handed over
-pub record FillsOutput {O W : Type 0} (told : Told O) (contents : W → Option (List ℕ)) (failures : W → ℕ) (opening head item : Item) (old new : Splitting W) (before after : O) : Type 0 where
+pub record FillsOutput {O W : Type 0} (told : Told O) (contents : W → Option (List ℕ)) (failures : W → ℕ)
+    (opening head item : Item) (old new : Splitting W) (before after : O) : Type 0 where
   pub all : open_count old.output + 1 ≡ old.size
-  pub now : new ≡ record old { output = None; report = record { outputs = old.report.outputs + 1; transactions = old.report.transactions + 1 } }
+  pub now : new ≡ record old
+      { output = None; report = record { outputs = old.report.outputs + 1; transactions = old.report.transactions + 1 } }
   pub counts : CountsNone told before after
-  pub text : (items : List Item) (w : TransmissionValue) → HoldsOutput contents failures old.limits (told.texts before) items old.output → IsTransmission w
-      → value_items w ≡ items_with items opening head item old.output ++ blank_end ∷ [] ++ Ended ∷ [] → AddsText (told.texts before) (told.texts after) (canonical_text w)
+  pub text : (items : List Item) (w : TransmissionValue)
+      → HoldsOutput contents failures old.limits (told.texts before) items old.output → IsTransmission w
+      → value_items w ≡ items_with items opening head item old.output ++ blank_end ∷ [] ++ Ended ∷ []
+      → AddsText (told.texts before) (told.texts after) (canonical_text w)
 
-abbrev pub AddsTransaction : {O W : Type 0} → Told O → (W → Option (List ℕ)) → (W → ℕ) → Item → Result (Unit {0}) ToolFault → Splitting W → Splitting W → O → O → Type 0
-AddsTransaction told contents failures item (Ok u) old new before after = (opening : Item) × (head : Item) × (old.opening ≡ Some opening) × (old.head ≡ Some head)
-    × (GoesOn told contents failures opening head item old new before after ⊎ FillsOutput told contents failures opening head item old new before after)
-AddsTransaction told contents failures item (Err fault) old new before after = FailsWith told fault (open_failures failures new.output) before after
+abbrev pub AddsTransaction : {O W : Type 0} → Told O → (W → Option (List ℕ)) → (W → ℕ) → Item → Result (Unit {0}) ToolFault
+    → Splitting W → Splitting W → O → O → Type 0
+AddsTransaction told contents failures item (Ok u) old new before after =
+    (opening : Item) × (head : Item) × (old.opening ≡ Some opening) × (old.head ≡ Some head)
+    × (GoesOn told contents failures opening head item old new before after
+    ⊎ FillsOutput told contents failures opening head item old new before after)
+AddsTransaction told contents failures item (Err fault) old new before after =
+    FailsWith told fault (open_failures failures new.output) before after
 
 -- ---- the start, and an end before all was read
 
 -- nothing was handed out
 abbrev pub is_new : {W : Type 0} → LimitValues → ℕ → Splitting W
-is_new limits size = record { limits = limits; size = size; opening = None; head = None; output = None; report = record { outputs = 0; transactions = 0 } }
+is_new limits size =
+    record {
+      limits = limits;
+      size = size;
+      opening = None;
+      head = None;
+      output = None;
+      report = record { outputs = 0; transactions = 0 };
+    }
 
 -- the writer of an open output was given up
-pub record GivesUp {O W : Type 0} (told : Told O) (failures : W → ℕ) (out : Option (SplitOutput W)) (before after : O) : Type 0 where
-  pub texts : told.texts after ≡ told.texts before
-  pub failures_are : told.failures after ≡ told.failures before
-  pub given_up : told.given_up after ≡ given_up_with (open_failures failures out) (told.given_up before)
+pub record GivesUp {O W : Type 0} (told : Told O) (failures : W → ℕ) (out : Option (SplitOutput W)) (before after : O) : Type 0
+  where
+    pub texts : told.texts after ≡ told.texts before
+    pub failures_are : told.failures after ≡ told.failures before
+    pub given_up : told.given_up after ≡ given_up_with (open_failures failures out) (told.given_up before)

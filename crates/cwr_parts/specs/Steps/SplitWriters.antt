@@ -34,12 +34,15 @@ abbrev pub TellsOpen : {W : Type 0} → Result (Unit {0}) ToolFault → Option (
 TellsOpen result None had = TellsWritten result had
 TellsOpen result (Some out) had = TellsCount result out.encoder
 
-abbrev pub CountsOpen : {W : Type 0} → (W → Option (List ℕ)) → Result (Unit {0}) ToolFault → Option (SplitOutput W) → Option (SplitOutput W) → Option (List ℕ) → Type 0
+abbrev pub CountsOpen : {W : Type 0} → (W → Option (List ℕ)) → Result (Unit {0}) ToolFault → Option (SplitOutput W)
+    → Option (SplitOutput W) → Option (List ℕ) → Type 0
 CountsOpen contents result old new had = BeganOpen contents old → BeganOpen contents new × TellsOpen result new had
 
 -- a step does so where the texts of the outputs are known
-abbrev pub CountsWritten : {W : Type 0} → (W → Option (List ℕ)) → Option (List (List ℕ)) → Result (Unit {0}) ToolFault → Option (SplitOutput W) → Option (SplitOutput W) → Option (List ℕ) → Type 0
-CountsWritten contents texts result old new had = (known : List (List ℕ)) → texts ≡ Some known → CountsOpen contents result old new had
+abbrev pub CountsWritten : {W : Type 0} → (W → Option (List ℕ)) → Option (List (List ℕ)) → Result (Unit {0}) ToolFault
+    → Option (SplitOutput W) → Option (SplitOutput W) → Option (List ℕ) → Type 0
+CountsWritten contents texts result old new had =
+    (known : List (List ℕ)) → texts ≡ Some known → CountsOpen contents result old new had
 
 -- what the writer had that was given up last, once an open one is
 abbrev pub had_after : {W : Type 0} → (W → Option (List ℕ)) → Option (SplitOutput W) → Option (List ℕ) → Option (List ℕ)

@@ -1,5 +1,6 @@
 -- What the end of a run over texts means for the program.
-use Rattle.std.specs.Prelude.{◌≡◌, ◌≢◌, ◌⊎◌, ℕ, Bool, true, false, List, [], drop, map, Option, None, Some, IfSome, option_map, Result, Ok, Err}
+use Rattle.std.specs.Prelude.{◌≡◌, ◌≢◌, ◌⊎◌, ℕ, Bool, true, false, List, [], drop, map, Option, None, Some, IfSome, option_map}
+use Rattle.std.specs.Prelude.{Result, Ok, Err}
 use Rattle.cwr_shape.specs.declared.limits.Limits.{Limits}
 use Rattle.cwr_values.specs.Format.Values.{TransmissionValue}
 use Rattle.cwr_judge.specs.declared.refusals.Refusal.{Refusal}
@@ -46,7 +47,8 @@ FallsShort wanted text v n = ((wanted.whole ≡ true) × (drop n text ≢ [])) �
 -- A run over the text ends well where that begins with a transmission within the limits that has all that is wanted, and as refused
 -- where it hasn't, or where the text is refused or truncated.
 abbrev pub IsStatusOn : Limits → Wanted → List ℕ → Status → Type 0
-IsStatusOn limits wanted text statuses.Good = (v : TransmissionValue) × (n : ℕ) × IsAccepted limits text v n × Meets wanted text v n
+IsStatusOn limits wanted text statuses.Good =
+    (v : TransmissionValue) × (n : ℕ) × IsAccepted limits text v n × Meets wanted text v n
 IsStatusOn limits wanted text statuses.Refused =
     ((refusal : Refusal) × IsRefused limits text refusal) ⊎ (((records : ℕ) × IsTruncated limits text records)
     ⊎ ((v : TransmissionValue) × (n : ℕ) × IsAccepted limits text v n × FallsShort wanted text v n))
@@ -72,7 +74,8 @@ StatusOnInput limits wanted input status = IfSome input (λ text. IsStatusOn lim
 
 -- A split of the text ends so too, but that each of its files may fail.
 abbrev pub EndsAsSplit : Limits → Bool → Option (List ℕ) → Result Status Fault → Type 0
-EndsAsSplit limits whole input (Ok status) = IfSome input (λ text. IsStatusOn limits (record { whole = whole; fail_on = None }) text status)
+EndsAsSplit limits whole input (Ok status) =
+    IfSome input (λ text. IsStatusOn limits (record { whole = whole; fail_on = None }) text status)
 EndsAsSplit limits whole input (Err fault) = Unit {0}
 
 -- an import that is written ends the run well, and one that is refused otherwise; the fault of a device or of memory is reported

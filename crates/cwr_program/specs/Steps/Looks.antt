@@ -1,5 +1,6 @@
 -- What was seen of a transmission, and after it.
-use Rattle.std.specs.Prelude.{◌≡◌, ℕ, Bool, true, false, not, nat_lt, ◌||◌, List, drop, Option, Some, None, IfSome, if◌then◌else◌, Result, Ok, Err}
+use Rattle.std.specs.Prelude.{◌≡◌, ℕ, Bool, true, false, not, nat_lt, ◌||◌, List, drop, Option, Some, None, IfSome, if◌then◌else◌}
+use Rattle.std.specs.Prelude.{Result, Ok, Err}
 use Rattle.cwr_shape.specs.declared.limits.Limits.{Limits}
 use Rattle.cwr_values.specs.Format.Values.{TransmissionValue}
 use Rattle.cwr_judge.specs.Format.Ends.{IsAccepted}
@@ -56,7 +57,9 @@ LooksOnce left after outcome look = Unit {0}
 
 -- so what stands after its transmission was read where the text is accepted
 abbrev pub LooksAfter : Limits → Option (List ℕ) → Look → Type 0
-LooksAfter limits before look = IfSome before (λ text. (v : TransmissionValue) (n : ℕ) → IsAccepted limits text v n → (after : Option (List ℕ)) × IsLook (Some (drop n text)) after look)
+LooksAfter limits before look =
+    IfSome before (λ text. (v : TransmissionValue) (n : ℕ) → IsAccepted limits text v n
+    → (after : Option (List ℕ)) × IsLook (Some (drop n text)) after look)
 
 -- what was found, if it was looked for
 abbrev pub look_of : Option Trailing → Look

@@ -17,7 +17,9 @@ use Rattle.cwr_program.specs.Steps.Looks.{IsLook}
 
 -- all of an accepted transmission is split, and what stands after it is looked at; else the fault is right of the text
 abbrev pub JudgesCut : Limits → Option (List ℕ) → Result SplitReport ToolFault → Look → Type 0
-JudgesCut limits before (Ok report) look = IfSome before (λ text. (v : TransmissionValue) × (n : ℕ) × IsAccepted limits text v n × (after : Option (List ℕ)) × IsLook (Some (drop n text)) after look)
+JudgesCut limits before (Ok report) look =
+    IfSome before (λ text. (v : TransmissionValue) × (n : ℕ) × IsAccepted limits text v n × (after : Option (List ℕ))
+    × IsLook (Some (drop n text)) after look)
 JudgesCut limits before (Err fault) look = JudgesSplit limits before before (Err fault)
 
 -- the run has the status, or the input failed where nothing may follow; else it ends as the fault does, and the writer of a part tells

@@ -21,20 +21,31 @@ use Rattle.cwr_program.specs.declared.reports.Telling.{Telling}
 use Rattle.cwr_program.specs.declared.reports.Telling.TheVariants as tellings
 
 -- the lines that are asked for were written, while the input was read from the one state to the other
-abbrev pub TellsUpTo : {W : Type 0} → Telling → Limits → Option (List ℕ) → Option (List ℕ) → (W → Option (List ℕ)) → W → W → Result Verdict ToolFault → Type 0
-TellsUpTo tellings.Findings limits before after contents old new outcome = Reports lines_of_findings limits before after contents old new outcome
-TellsUpTo (tellings.Explained name) limits before after contents old new outcome = Explains limits before after contents old new outcome
+abbrev pub TellsUpTo : {W : Type 0} → Telling → Limits → Option (List ℕ) → Option (List ℕ) → (W → Option (List ℕ)) → W → W
+    → Result Verdict ToolFault → Type 0
+TellsUpTo tellings.Findings limits before after contents old new outcome =
+    Reports lines_of_findings limits before after contents old new outcome
+TellsUpTo (tellings.Explained name) limits before after contents old new outcome =
+    Explains limits before after contents old new outcome
 TellsUpTo (tellings.Faults name advised) limits before after contents old new outcome =
-    Lints (wanting (is_some name) advised) limits before after contents old new outcome × IfOk outcome (Tells (wanting (is_some name) advised) limits before after contents old new)
-TellsUpTo tellings.Records limits before after contents old new outcome = Reports lines_of_records limits before after contents old new outcome
-TellsUpTo (tellings.Data encoding numbers) limits before after contents old new outcome = Reports (lines_of_data encoding numbers) limits before after contents old new outcome
-TellsUpTo (tellings.Rows table) limits before after contents old new outcome = Reports (lines_of_table table) limits before after contents old new outcome
-TellsUpTo (tellings.Answers form) limits before after contents old new outcome = Reports (lines_of_acks form None) limits before after contents old new outcome
-TellsUpTo (tellings.Advice repeated) limits before after contents old new outcome = Reports (lines_of_advice repeated) limits before after contents old new outcome
+    Lints (wanting (is_some name) advised) limits before after contents old new outcome
+    × IfOk outcome (Tells (wanting (is_some name) advised) limits before after contents old new)
+TellsUpTo tellings.Records limits before after contents old new outcome =
+    Reports lines_of_records limits before after contents old new outcome
+TellsUpTo (tellings.Data encoding numbers) limits before after contents old new outcome =
+    Reports (lines_of_data encoding numbers) limits before after contents old new outcome
+TellsUpTo (tellings.Rows table) limits before after contents old new outcome =
+    Reports (lines_of_table table) limits before after contents old new outcome
+TellsUpTo (tellings.Answers form) limits before after contents old new outcome =
+    Reports (lines_of_acks form None) limits before after contents old new outcome
+TellsUpTo (tellings.Advice repeated) limits before after contents old new outcome =
+    Reports (lines_of_advice repeated) limits before after contents old new outcome
 
 -- so it was, before what follows the transmission was looked at
-abbrev pub TellsText : {W : Type 0} → Telling → Limits → Option (List ℕ) → (W → Option (List ℕ)) → W → W → Result Verdict ToolFault → Type 0
-TellsText telling limits before contents old new outcome = (after : Option (List ℕ)) × TellsUpTo telling limits before after contents old new outcome
+abbrev pub TellsText : {W : Type 0} → Telling → Limits → Option (List ℕ) → (W → Option (List ℕ)) → W → W
+    → Result Verdict ToolFault → Type 0
+TellsText telling limits before contents old new outcome =
+    (after : Option (List ℕ)) × TellsUpTo telling limits before after contents old new outcome
 
 -- a look at what follows counts one more failure where it failed, and else none
 abbrev pub CountsLook : Look → ℕ → ℕ → Type 0

@@ -21,7 +21,8 @@ without_last_feed (line ∷ lines) = line ++ 10 ∷ without_last_feed lines
 
 -- the text begins with the lines, each with its line feed, or it is these lines and its last one has none
 abbrev pub BeginsWithLines : List ℕ → List (List ℕ) → Type 0
-BeginsWithLines text lines = ((rest : List ℕ) × (text ≡ flat_map (λ line. line ++ 10 ∷ []) lines ++ rest)) ⊎ (text ≡ without_last_feed lines)
+BeginsWithLines text lines =
+    ((rest : List ℕ) × (text ≡ flat_map (λ line. line ++ 10 ∷ []) lines ++ rest)) ⊎ (text ≡ without_last_feed lines)
 
 -- the text begins with lines that carry the records
 pub record BeginsWithRecords (text : List ℕ) (records : List RecordValue) : Type 0 where

@@ -33,7 +33,9 @@ without_lf (b ∷ segment) = if is_lf b then [] else (b ∷ without_lf segment)
 
 -- the line as it is held
 abbrev pub line_held : List ℕ → HeldLine
-line_held line = if is_too_long line then (record { bytes = take longest_line line; ended = Over }) else (record { bytes = line; ended = Line })
+line_held line =
+    if is_too_long line then (record { bytes = take longest_line line; ended = Over }) else
+    (record { bytes = line; ended = Line })
 
 -- ---- their numbers
 
@@ -65,7 +67,9 @@ line_by n h = renumbered (numbers_by (held_kind h) n) h
 -- The lines from here on, each with the numbers that belong in it by those before. After a line that is too long there is none.
 abbrev pub renumber_from : NumberingValue → List (List ℕ) → List ℕ
 renumber_from n [] = []
-renumber_from n (s ∷ later) = let h = line_held (without_lf s) in line_by n h ++ (if ended_too_long h.ended then [] else renumber_from (numbering_after n h) later)
+renumber_from n (s ∷ later) =
+    let h =
+    line_held (without_lf s) in line_by n h ++ (if ended_too_long h.ended then [] else renumber_from (numbering_after n h) later)
 
 -- what is left of a source in which so much of a line was taken
 abbrev pub text_from : NumberingValue → List ℕ → List ℕ → List ℕ

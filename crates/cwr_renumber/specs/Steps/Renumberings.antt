@@ -14,18 +14,25 @@ use Rattle.cwr_renumber.specs.Steps.Renumbered.{renumbered_text}
 
 -- Where the text with its numbers put right is accepted as a transmission, the canonical text of that one is written, and the report
 -- has its numbers. What is refused is that text, or it is truncated.
-abbrev pub Renumbers : {W : Type 0} → Limits → Option (List ℕ) → (W → Option (List ℕ)) → W → W → Result JoinReport ToolFault → Type 0
-Renumbers limits before contents old new (Ok report) = IfSome before (λ text. (v : TransmissionValue) × (n : ℕ) × IsAccepted limits (renumbered_text text) v n
+abbrev pub Renumbers : {W : Type 0} → Limits → Option (List ℕ) → (W → Option (List ℕ)) → W → W → Result JoinReport ToolFault
+    → Type 0
+Renumbers limits before contents old new (Ok report) =
+    IfSome before (λ text. (v : TransmissionValue) × (n : ℕ) × IsAccepted limits (renumbered_text text) v n
     × Appends (contents old) (contents new) (canonical_text v) × (report ≡ join_report 1 v))
-Renumbers limits before contents old new (Err (Refused refusal)) = IfSome before (λ text. IsRefused limits (renumbered_text text) refusal)
-Renumbers limits before contents old new (Err (Truncated records)) = IfSome before (λ text. IsTruncated limits (renumbered_text text) records)
+Renumbers limits before contents old new (Err (Refused refusal)) =
+    IfSome before (λ text. IsRefused limits (renumbered_text text) refusal)
+Renumbers limits before contents old new (Err (Truncated records)) =
+    IfSome before (λ text. IsTruncated limits (renumbered_text text) records)
 Renumbers limits before contents old new (Err Output) = ⊥
 Renumbers limits before contents old new (Err fault) = Unit {0}
 
 -- where it is accepted as one, that one is written, unless a device or memory failed
-abbrev pub RenumbersAccepted : {W : Type 0} → Limits → Option (List ℕ) → (W → Option (List ℕ)) → W → W → Result JoinReport ToolFault → Type 0
-RenumbersAccepted limits before contents old new result = IfSome before (λ text. (v : TransmissionValue) (n : ℕ) → IsAccepted limits (renumbered_text text) v n
-    → MatchResult result (λ report. (report ≡ join_report 1 v) × Appends (contents old) (contents new) (canonical_text v)) IsOfDevice)
+abbrev pub RenumbersAccepted : {W : Type 0} → Limits → Option (List ℕ) → (W → Option (List ℕ)) → W → W
+    → Result JoinReport ToolFault → Type 0
+RenumbersAccepted limits before contents old new result =
+    IfSome before (λ text. (v : TransmissionValue) (n : ℕ) → IsAccepted limits (renumbered_text text) v n
+    → MatchResult result (λ report. (report ≡ join_report 1 v) × Appends (contents old) (contents new) (canonical_text v))
+    IsOfDevice)
 
 -- the writer's failures count one more where its fault is answered, and else they stay
 abbrev pub CountsWriter : Result JoinReport ToolFault → ℕ → ℕ → Type 0

@@ -1,5 +1,6 @@
 -- What is kept of the transactions of a transmission that was sent.
-use Rattle.std.specs.Prelude.{ℕ, ◌+◌, ◌-◌, ◌*◌, ◌%◌, Bool, ◌||◌, ◌==◌, fold, List, [], map, Option, Some, None, option_map, slice_get, unwrap_or, if◌then◌else◌}
+use Rattle.std.specs.Prelude.{ℕ, ◌+◌, ◌-◌, ◌*◌, ◌%◌, Bool, ◌||◌, ◌==◌, fold, List, [], map, Option, Some, None, option_map}
+use Rattle.std.specs.Prelude.{slice_get, unwrap_or, if◌then◌else◌}
 use Rattle.std.specs.Option.{option_and_then}
 use Rattle.std.specs.Str.{bytes_eq}
 use Rattle.cwr_fields.specs.Format.Bytes.{trimmed}
@@ -45,4 +46,5 @@ if_wanted f = if bytes_eq (letters f.kind) (letters kinds.Ack) then None else So
 
 -- those of transaction t, from 0, of group g, from 1, where there is one that is no acknowledgement
 abbrev pub facts_at : List (List SentFacts) → ℕ → ℕ → Option SentFacts
-facts_at sent g t = option_and_then if_wanted (option_and_then (λ row. slice_get row t) (if g == 0 then None else slice_get sent (g - 1)))
+facts_at sent g t =
+    option_and_then if_wanted (option_and_then (λ row. slice_get row t) (if g == 0 then None else slice_get sent (g - 1)))

@@ -33,7 +33,8 @@ level_of_type (Some f) = if must_be_filled f.ty then R else F
 
 -- the level of a cell, a number or an excess inside a transaction, after its header; fields 2 and 3 are the sequences
 abbrev pub level_inside : Kind → ℕ → Reason → Level
-level_inside this_kind field (reasons.Cell fault) = if (field == 2) || (field == 3) then T else level_of_type (field_at this_kind field)
+level_inside this_kind field (reasons.Cell fault) =
+    if (field == 2) || (field == 3) then T else level_of_type (field_at this_kind field)
 level_inside this_kind field (reasons.Number n) = T
 level_inside this_kind field reason = R
 

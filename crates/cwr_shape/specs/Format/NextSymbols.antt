@@ -1,5 +1,6 @@
 -- What is open after some symbols, what is counted of them, and which symbol may come next.
-use Rattle.std.specs.Prelude.{ℕ, ◌+◌, Bool, true, false, nat_lt, List, [], ◌∷◌, ◌++◌, length, count_by, Option, Some, None, Result, MatchResult, if◌then◌else◌}
+use Rattle.std.specs.Prelude.{ℕ, ◌+◌, Bool, true, false, nat_lt, List, [], ◌∷◌, ◌++◌, length, count_by, Option, Some, None}
+use Rattle.std.specs.Prelude.{Result, MatchResult, if◌then◌else◌}
 use Rattle.std.specs.List.{after_last, last_or, IsAmong}
 use Rattle.cwr_fields.specs.declared.codes.TransactionType.{TransactionType}
 use Rattle.cwr_fields.specs.declared.codes.TransactionType.TheVariants.{Agreement, NewWork, RevisedWork, Acknowledgement}
@@ -105,8 +106,10 @@ MayCome limits xs s = Continues (IsWithin limits) (xs ++ s ∷ [])
 abbrev pub IsBarredFirst : LimitValues → ((List GroupOutline → Type 0) → Type 0) → Bar → Type 0
 IsBarredFirst limits ContinuesSo bars.Misplaced = ¬ ContinuesSo Any
 IsBarredFirst limits ContinuesSo (bars.Limit Records) = ContinuesSo Any × ¬ ContinuesSo (KeepsTo Records limits)
-IsBarredFirst limits ContinuesSo (bars.Limit Groups) = ContinuesSo (KeepsTo Records limits) × ¬ ContinuesSo (KeepsTo Groups limits)
-IsBarredFirst limits ContinuesSo (bars.Limit Transaction) = ContinuesSo (KeepsTo Records limits) × ContinuesSo (KeepsTo Groups limits) × ¬ ContinuesSo (KeepsTo Transaction limits)
+IsBarredFirst limits ContinuesSo (bars.Limit Groups) =
+    ContinuesSo (KeepsTo Records limits) × ¬ ContinuesSo (KeepsTo Groups limits)
+IsBarredFirst limits ContinuesSo (bars.Limit Transaction) =
+    ContinuesSo (KeepsTo Records limits) × ContinuesSo (KeepsTo Groups limits) × ¬ ContinuesSo (KeepsTo Transaction limits)
 
 -- why one symbol may not come
 abbrev pub IsBarred : LimitValues → List Symbol → Symbol → Bar → Type 0

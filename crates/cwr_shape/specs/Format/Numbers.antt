@@ -1,5 +1,6 @@
 -- The numbers that the records of a transmission carry, from the lengths of its transactions, group by group.
-use Rattle.std.specs.Prelude.{◌≡◌, ℕ, ◌+◌, ◌==◌, List, [], ◌∷◌, ◌++◌, length, map, filter, find, zip, sum, sum_by, slice_index_or, Option, option_map, flat_map}
+use Rattle.std.specs.Prelude.{◌≡◌, ℕ, ◌+◌, ◌==◌, List, [], ◌∷◌, ◌++◌, length, map, filter, find, zip, sum, sum_by, slice_index_or}
+use Rattle.std.specs.Prelude.{Option, option_map, flat_map}
 use Rattle.std.specs.List.{range_with_len, enumerate_from}
 use Rattle.cwr_fields.specs.declared.kinds.Kind.{Kind}
 use Rattle.cwr_fields.specs.declared.kinds.Kind.TheVariants as kinds
@@ -50,5 +51,6 @@ symbol_kind (Grh ty) = kinds.Grh
 
 -- in each transmission that continues from these symbols by a record of the kind, this is the number in its field j
 abbrev pub IsNumberAt : List Symbol → Kind → ℕ → Option ℕ → Type 0
-IsNumberAt xs kind j n = (groups : List GroupOutline) (s : Symbol) (rest : List Symbol) → IsOutline groups → symbols_of groups ≡ xs ++ s ∷ rest
+IsNumberAt xs kind j n =
+    (groups : List GroupOutline) (s : Symbol) (rest : List Symbol) → IsOutline groups → symbols_of groups ≡ xs ++ s ∷ rest
     → symbol_kind s ≡ kind → n ≡ number_in kind j (slice_index_or (numbers_of (lengths_of groups)) (length xs) [])

@@ -39,7 +39,8 @@ IsWhole xs = (groups : List GroupOutline) × IsOutline groups × (xs ≡ symbols
 abbrev pub KeepsTo : LimitKind → Limits → List GroupOutline → Type 0
 KeepsTo Records limits groups = length (symbols_of groups) ≤ limits.records
 KeepsTo Groups limits groups = length groups ≤ limits.groups
-KeepsTo Transaction limits groups = AllByRecursion (λ g. AllByRecursion (λ t. length t ≤ limits.transaction) g.transactions) groups
+KeepsTo Transaction limits groups =
+    AllByRecursion (λ g. AllByRecursion (λ t. length t ≤ limits.transaction) g.transactions) groups
 
 -- the transmission is within the limits
 abbrev pub IsWithin : Limits → List GroupOutline → Type 0

@@ -73,7 +73,9 @@ writer = a kinds.Swr then many (a kinds.Swt or a kinds.Pwr) or a kinds.Owr then 
 
 -- a record that may stand after the writers
 abbrev pub tail_record : Pattern
-tail_record = one_of (Plain kinds.Alt ∷ Plain kinds.Ewt ∷ Plain kinds.Ver ∷ Plain kinds.Per ∷ Plain kinds.Rec ∷ Plain kinds.Orn ∷ Plain kinds.Com ∷ [])
+tail_record =
+    one_of (Plain kinds.Alt ∷ Plain kinds.Ewt ∷ Plain kinds.Ver ∷ Plain kinds.Per ∷ Plain kinds.Rec ∷ Plain kinds.Orn
+    ∷ Plain kinds.Com ∷ [])
 
 -- a work with that header
 abbrev pub work : Kind → Pattern

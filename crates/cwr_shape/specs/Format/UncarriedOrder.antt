@@ -8,7 +8,8 @@ use Rattle.cwr_fields.specs.declared.kinds.Kind.TheVariants as kinds
 use Rattle.cwr_shape.specs.declared.symbols.Symbol.{Symbol}
 use Rattle.cwr_shape.specs.declared.symbols.Symbol.TheVariants.{Plain}
 use Rattle.cwr_shape.specs.Format.Outlines.{GroupOutline, symbols_of}
-use Rattle.cwr_shape.specs.Format.Shapes.{Pattern, ◌then◌, many, Matches, is_carried_symbol, a, some, block, publisher, writer, tail_record, agreement, work}
+use Rattle.cwr_shape.specs.Format.Shapes.{Pattern, ◌then◌, many, Matches, is_carried_symbol, a, some, block, publisher, writer}
+use Rattle.cwr_shape.specs.Format.Shapes.{tail_record, agreement, work}
 
 -- an agreement
 abbrev pub uncarried_agreement : Pattern
@@ -45,7 +46,8 @@ IsUncarriedGroup g = (0 < length g.transactions) × AllByRecursion (IsUncarriedS
 
 -- the symbols are those of a whole transmission, in which no record is carried, and no acknowledgement has a copy
 abbrev pub IsUncarriedWhole : List Symbol → Type 0
-IsUncarriedWhole xs = (groups : List GroupOutline) × (0 < length groups) × AllByRecursion IsUncarriedGroup groups × (xs ≡ symbols_of groups)
+IsUncarriedWhole xs =
+    (groups : List GroupOutline) × (0 < length groups) × AllByRecursion IsUncarriedGroup groups × (xs ≡ symbols_of groups)
 
 -- ---- with carried records
 
@@ -76,4 +78,5 @@ IsUncopiedGroup g = (0 < length g.transactions) × AllByRecursion (IsUncopiedSha
 
 -- the symbols are those of a whole transmission, in which no acknowledgement has a copy
 abbrev pub IsUncopiedWhole : List Symbol → Type 0
-IsUncopiedWhole xs = (groups : List GroupOutline) × (0 < length groups) × AllByRecursion IsUncopiedGroup groups × (xs ≡ symbols_of groups)
+IsUncopiedWhole xs =
+    (groups : List GroupOutline) × (0 < length groups) × AllByRecursion IsUncopiedGroup groups × (xs ≡ symbols_of groups)

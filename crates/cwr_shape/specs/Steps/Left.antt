@@ -10,7 +10,8 @@ use Rattle.cwr_shape.specs.declared.stages.Stage.{Stage}
 use Rattle.cwr_shape.specs.declared.stages.Stage.TheVariants as stages
 use Rattle.cwr_shape.specs.declared.stages.TransactionStep.{TransactionStep}
 use Rattle.cwr_shape.specs.declared.stages.TransactionStep.TheVariants as steps
-use Rattle.cwr_shape.specs.Format.Shapes.{Pattern, one_of, ◌then◌, ◌or◌, ◌and◌, many, carrying, Matches, a, some, copy, party, among_parties, block, publisher, writer, tail_record, pattern_of, IsShape}
+use Rattle.cwr_shape.specs.Format.Shapes.{Pattern, one_of, ◌then◌, ◌or◌, ◌and◌, many, carrying, Matches, a, some, copy, party}
+use Rattle.cwr_shape.specs.Format.Shapes.{among_parties, block, publisher, writer, tail_record, pattern_of, IsShape}
 use Rattle.cwr_shape.specs.Format.Outlines.{IsWhole, Continues}
 use Rattle.cwr_shape.specs.Steps.Stages.{stage_after}
 use Rattle.cwr_shape.specs.Format.AnyTransmission.{Any}
@@ -36,10 +37,12 @@ abbrev pub left_of : TransactionStep → Pattern
 left_of steps.InGroup = one_of []
 left_of steps.Acked = many (a kinds.Msg) then copy
 left_of steps.Agreed = carrying (some block)
-left_of steps.Territories = carrying (many (a kinds.Ter) then ((among_parties Assignor and among_parties Acquirer) then many block))
+left_of steps.Territories =
+    carrying (many (a kinds.Ter) then ((among_parties Assignor and among_parties Acquirer) then many block))
 left_of (steps.OneSide Assignor) = carrying (((among_parties Assignor or many party) and among_parties Acquirer) then many block)
 left_of (steps.OneSide Acquirer) = carrying ((among_parties Assignor and (among_parties Acquirer or many party)) then many block)
-left_of steps.Both = carrying (((among_parties Assignor or many party) and (among_parties Acquirer or many party)) then many block)
+left_of steps.Both =
+    carrying (((among_parties Assignor or many party) and (among_parties Acquirer or many party)) then many block)
 left_of steps.Work = carrying (many publisher then (some writer then many tail_record))
 left_of steps.Controlled = carrying (many (a kinds.Spt) then (many publisher then (some writer then many tail_record)))
 left_of steps.Other = carrying (many publisher then (some writer then many tail_record))

@@ -26,7 +26,8 @@ later_records ty rest = prefix_len (is_later_of ty) rest
 -- the records of the first transaction that begins among the symbols, of which the first stands in a group of the type
 abbrev pub first_transaction : TransactionType → List Symbol → ℕ
 first_transaction ty [] = 0
-first_transaction ty (s ∷ rest) = if is_header_of ty s then (1 + later_records ty rest) else first_transaction (type_after ty s) rest
+first_transaction ty (s ∷ rest) =
+    if is_header_of ty s then (1 + later_records ty rest) else first_transaction (type_after ty s) rest
 
 -- the further records of the open transaction, or where none is open the records of the next one
 abbrev pub transaction_to_come : Stage → List Symbol → ℕ

@@ -23,11 +23,16 @@ pub record KeepsNumbering (c : Counts) : Type 0 where
 
 -- before the first record
 abbrev pub no_records : NumberingValue
-no_records = record { ty = Acknowledgement; counts = record { records = 0; groups = 0; transactions = 0; in_group = 0; after_grh = 0; after_header = 0 } }
+no_records =
+    record {
+      ty = Acknowledgement;
+      counts = record { records = 0; groups = 0; transactions = 0; in_group = 0; after_grh = 0; after_header = 0 };
+    }
 
 -- with one record more, as long as records are counted
 abbrev pub numbering_with : NumberingValue → Symbol → NumberingValue
-numbering_with n s = if nat_lt n.counts.records 999999999 then (record { ty = type_after n.ty s; counts = counts_with n.ty n.counts s }) else n
+numbering_with n s =
+    if nat_lt n.counts.records 999999999 then (record { ty = type_after n.ty s; counts = counts_with n.ty n.counts s }) else n
 
 -- the numbers, three of them, with zeros where there are fewer
 abbrev pub three_numbers : List ℕ → List ℕ

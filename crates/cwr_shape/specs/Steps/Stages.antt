@@ -42,7 +42,8 @@ pwr_step s = steps.Writer
 
 -- how far the transaction has come, by its last record
 abbrev pub step_after : Symbol → List Symbol → TransactionStep
-step_after (Ipa role) xs = if list_any (is_ipa_of (other_role role)) (after_last (λ s. not (is_ipa s)) xs) then steps.Both else steps.OneSide role
+step_after (Ipa role) xs =
+    if list_any (is_ipa_of (other_role role)) (after_last (λ s. not (is_ipa s)) xs) then steps.Both else steps.OneSide role
 step_after (Plain kinds.Ack) xs = steps.Acked
 step_after (Plain kinds.Msg) xs = steps.Acked
 step_after (Plain kinds.Agr) xs = steps.Agreed

@@ -1,5 +1,6 @@
 -- What a sink shows of itself, and what it has written.
-use Rattle.std.specs.Prelude.{◌≡◌, ℕ, ◌+◌, ◌-◌, ◌≤◌, ◌^◌, min, Bool, false, List, [], ◌++◌, length, take, Option, Result, Ok, Err, OnOk, is_err}
+use Rattle.std.specs.Prelude.{◌≡◌, ℕ, ◌+◌, ◌-◌, ◌≤◌, ◌^◌, min, Bool, false, List, [], ◌++◌, length, take, Option, Result, Ok, Err}
+use Rattle.std.specs.Prelude.{OnOk, is_err}
 use Rattle.std.specs.Io.KnownBytes.{Appends}
 use Rattle.cwr_fields.specs.Format.Failures.{one_more_failure}
 use Rattle.cwr_sinks.specs.declared.sinks.Sink.{Sink}
@@ -27,7 +28,8 @@ CountsOn (Err e) old new = new ≡ one_more_failure old
 
 -- After what its writer had at the start the sink has written the text, or, once its writer failed, the first bytes of
 -- the text. Its count is that of these bytes.
-pub record HasWritten {W : Type 0} (contents : W → Option (List ℕ)) (start : Option (List ℕ)) (text : List ℕ) (sink : Sink W) : Type 0 where
+pub record HasWritten {W : Type 0} (contents : W → Option (List ℕ)) (start : Option (List ℕ)) (text : List ℕ)
+    (sink : Sink W) : Type 0 where
   pub bytes : List ℕ
   pub rest : List ℕ
   pub split : text ≡ bytes ++ rest
@@ -37,7 +39,8 @@ pub record HasWritten {W : Type 0} (contents : W → Option (List ℕ)) (start :
 
 -- The text was appended to what the writer had, or, where the writer failed, its first bytes were; the count has grown by as
 -- many.
-pub record GrowsBy {W E : Type 0} (contents : W → Option (List ℕ)) (text : List ℕ) (result : Result (Unit {0}) E) (old new : Sink W) : Type 0 where
+pub record GrowsBy {W E : Type 0} (contents : W → Option (List ℕ)) (text : List ℕ) (result : Result (Unit {0}) E)
+    (old new : Sink W) : Type 0 where
   pub taken : ℕ
   pub within : taken ≤ length text
   pub whole : OnOk result (taken ≡ length text)
@@ -46,7 +49,9 @@ pub record GrowsBy {W E : Type 0} (contents : W → Option (List ℕ)) (text : L
 
 -- What a call does that puts a text. Whatever text was put before, that text followed by this one is now put: it is written
 -- whole, or after a fault its first bytes are. The fault is that of the writer in this call.
-pub record Puts {W E : Type 0} (contents : W → Option (List ℕ)) (failures : W → ℕ) (text : List ℕ) (result : Result (Unit {0}) E) (old new : Sink W) : Type 0 where
-  pub written : (start : Option (List ℕ)) (before : List ℕ) → HasWritten contents start before old → HasWritten contents start (before ++ text) new
+pub record Puts {W E : Type 0} (contents : W → Option (List ℕ)) (failures : W → ℕ) (text : List ℕ) (result : Result (Unit {0}) E)
+    (old new : Sink W) : Type 0 where
+  pub written : (start : Option (List ℕ)) (before : List ℕ) → HasWritten contents start before old
+      → HasWritten contents start (before ++ text) new
   pub failed : has_failed new ≡ is_err result
   pub counts : CountsOn result (failures (writer_of old)) (failures (writer_of new))

@@ -52,7 +52,8 @@ row_of_kind this_kind numbers r = if is_a this_kind r then record_row numbers r 
 
 -- the rows of a transaction's records of the kind
 abbrev pub transaction_rows : Kind → Place → List RecordValue → List ℕ
-transaction_rows this_kind p t = flat_map (λ q. row_of_kind this_kind (InTransaction p.group p.transaction q.0) q.1) (enumerate_from 0 t)
+transaction_rows this_kind p t =
+    flat_map (λ q. row_of_kind this_kind (InTransaction p.group p.transaction q.0) q.1) (enumerate_from 0 t)
 
 -- the rows of an item's records of the kind
 abbrev pub item_rows : Kind → Place → Item → List ℕ
@@ -66,7 +67,11 @@ item_rows this_kind p Ended = row_of_kind this_kind Outside trailer
 
 -- where an item stands, by the items before it
 abbrev pub place_after : List Item → Item → Place
-place_after before item = record { group = count_by opens_group before + (if opens_group item then 1 else 0); transaction = count_by is_transaction (after_last opens_group before) }
+place_after before item =
+    record {
+      group = count_by opens_group before + (if opens_group item then 1 else 0);
+      transaction = count_by is_transaction (after_last opens_group before);
+    }
 
 -- the rows of items
 unfoldable pub rows_of : Kind → List Item → List ℕ

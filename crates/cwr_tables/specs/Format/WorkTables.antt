@@ -18,8 +18,10 @@ use Rattle.cwr_tables.specs.Format.RecordTables.{place_after, shown_cell}
 
 abbrev pub work_columns : List (List ℕ)
 work_columns =
-    codes "group" ∷ codes "transaction" ∷ codes "record_type" ∷ codes "submitter_work_number" ∷ codes "title" ∷ codes "iswc" ∷ codes "writers" ∷ codes "publishers"
-    ∷ codes "writers_pr_share" ∷ codes "writers_mr_share" ∷ codes "writers_sr_share" ∷ codes "publishers_pr_share" ∷ codes "publishers_mr_share" ∷ codes "publishers_sr_share" ∷ []
+    codes "group" ∷ codes "transaction" ∷ codes "record_type" ∷ codes "submitter_work_number" ∷ codes "title" ∷ codes "iswc"
+    ∷ codes "writers" ∷ codes "publishers"
+    ∷ codes "writers_pr_share" ∷ codes "writers_mr_share" ∷ codes "writers_sr_share" ∷ codes "publishers_pr_share"
+    ∷ codes "publishers_mr_share" ∷ codes "publishers_sr_share" ∷ []
 
 abbrev pub work_heading : List ℕ
 work_heading = row_text work_columns
@@ -37,7 +39,9 @@ owners side t = filter (is_on side) t
 
 -- a writer's name, the last one first, or a publisher's
 abbrev pub name_of_owner : Side → RecordValue → List ℕ
-name_of_owner Writers r = shown_cell (cell_named "last name" r) ++ (if is_blank "first name" r then [] else codes " " ++ shown_cell (cell_named "first name" r))
+name_of_owner Writers r =
+    shown_cell (cell_named "last name" r)
+    ++ (if is_blank "first name" r then [] else codes " " ++ shown_cell (cell_named "first name" r))
 name_of_owner Publishers r = shown_cell (cell_named "publisher name" r)
 
 -- the names, joined by semicolons
@@ -63,7 +67,8 @@ share_cells s = percent s.performing ∷ percent s.mechanical ∷ percent s.sync
 
 abbrev pub work_cells : Place → RecordValue → List RecordValue → List (List ℕ)
 work_cells p head t =
-    decimal p.group ∷ decimal p.transaction ∷ letters head.kind ∷ shown_cell (cell_named "submitter work number" head) ∷ shown_cell (cell_named "title" head) ∷ shown_cell (cell_named "iswc" head)
+    decimal p.group ∷ decimal p.transaction ∷ letters head.kind ∷ shown_cell (cell_named "submitter work number" head)
+    ∷ shown_cell (cell_named "title" head) ∷ shown_cell (cell_named "iswc" head)
     ∷ names Writers t ∷ names Publishers t ∷ share_cells (sums Writers t) ++ share_cells (sums Publishers t)
 
 -- the record is the header of a work

@@ -22,7 +22,8 @@ next_cells cells = flat_map next_cell cells
 abbrev pub numbers_text : RowNumbers → List ℕ
 numbers_text Outside = codes ",,"
 numbers_text (InGroup group) = cell_text (decimal group) ++ codes ",,"
-numbers_text (InTransaction group transaction sequence) = cell_text (decimal group) ++ next_cell (decimal transaction) ++ next_cell (decimal sequence)
+numbers_text (InTransaction group transaction sequence) =
+    cell_text (decimal group) ++ next_cell (decimal transaction) ++ next_cell (decimal sequence)
 
 -- the first columns
 abbrev pub numbers_heading : List ℕ

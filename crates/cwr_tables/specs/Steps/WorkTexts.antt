@@ -34,7 +34,8 @@ quotes side t = list_any calls_for_quotes (names side t)
 -- the cells before the names
 abbrev pub front_text : Place → RecordValue → List ℕ
 front_text p head =
-    cell_text (decimal p.group) ++ next_cell (decimal p.transaction) ++ next_cell (letters head.kind) ++ next_cell (shown_cell (cell_named "submitter work number" head))
+    cell_text (decimal p.group) ++ next_cell (decimal p.transaction) ++ next_cell (letters head.kind)
+    ++ next_cell (shown_cell (cell_named "submitter work number" head))
     ++ next_cell (shown_cell (cell_named "title" head)) ++ next_cell (shown_cell (cell_named "iswc" head))
 
 -- three shares

@@ -23,4 +23,5 @@ pub record IsNoted (text plain : List ℕ) : Type 0 where
 
 -- what is written of explained findings and a verdict is what a check writes of them, with indented lines put in after lines of it
 abbrev pub ExplainedIsNoted : Type 0
-ExplainedIsNoted = (items : List Item) (verdict : Verdict) → IsNoted (text_on lines_of_explained items verdict) (check_text items verdict)
+ExplainedIsNoted =
+    (items : List Item) (verdict : Verdict) → IsNoted (text_on lines_of_explained items verdict) (check_text items verdict)

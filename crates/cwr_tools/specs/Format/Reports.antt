@@ -51,7 +51,8 @@ lines_checked true = lines_of_explained
 
 -- the same, and no line of a refusal
 abbrev pub lines_up_to_fault : Bool → ItemLines
-lines_up_to_fault explained = record { lines = (lines_checked explained).lines; last = unrefused_line; take_memory = has_findings }
+lines_up_to_fault explained =
+    record { lines = (lines_checked explained).lines; last = unrefused_line; take_memory = has_findings }
 
 -- the lines of findings in a transaction, of that sequence in the group of that ID, whose first record is on line n of the file
 abbrev pub transaction_lines : Bool → ℕ → ℕ → ℕ → List RecordValue → List ℕ
@@ -82,11 +83,17 @@ CountsWriterFault result old new = new ≡ old
 
 -- a text that is accepted has its transmission's verdict and is consumed as far as it spells that, and what is written is
 -- the text on that transmission
-abbrev pub JudgesAccepted : {W : Type 0} → ItemLines → Limits → Option (List ℕ) → Option (List ℕ) → (W → Option (List ℕ)) → W → W → Verdict → Type 0
-JudgesAccepted of limits before after contents old new verdict = IfSome before (λ text. (v : TransmissionValue) (n : ℕ) → IsAccepted limits text v n
-    → (verdict ≡ good_verdict v) × (after ≡ Some (drop n text)) × Appends (contents old) (contents new) (text_on of (value_items v) (good_verdict v)))
+abbrev pub JudgesAccepted : {W : Type 0} → ItemLines → Limits → Option (List ℕ) → Option (List ℕ) → (W → Option (List ℕ)) → W → W
+    → Verdict → Type 0
+JudgesAccepted of limits before after contents old new verdict =
+    IfSome before (λ text. (v : TransmissionValue) (n : ℕ) → IsAccepted limits text v n
+    → (verdict ≡ good_verdict v) × (after ≡ Some (drop n text))
+    × Appends (contents old) (contents new) (text_on of (value_items v) (good_verdict v)))
 
 -- so has the canonical text of a transmission within the limits, and what follows it stays unread
-abbrev pub JudgesCanonical : {W : Type 0} → ItemLines → Limits → Option (List ℕ) → Option (List ℕ) → (W → Option (List ℕ)) → W → W → Verdict → Type 0
-JudgesCanonical of limits before after contents old new verdict = (v : TransmissionValue) (more : List ℕ) → IsTransmission v → FitsIn limits v → before ≡ Some (canonical_text v ++ more)
-    → (verdict ≡ good_verdict v) × (after ≡ Some more) × Appends (contents old) (contents new) (text_on of (value_items v) (good_verdict v))
+abbrev pub JudgesCanonical : {W : Type 0} → ItemLines → Limits → Option (List ℕ) → Option (List ℕ) → (W → Option (List ℕ)) → W → W
+    → Verdict → Type 0
+JudgesCanonical of limits before after contents old new verdict =
+    (v : TransmissionValue) (more : List ℕ) → IsTransmission v → FitsIn limits v → before ≡ Some (canonical_text v ++ more)
+    → (verdict ≡ good_verdict v) × (after ≡ Some more)
+    × Appends (contents old) (contents new) (text_on of (value_items v) (good_verdict v))

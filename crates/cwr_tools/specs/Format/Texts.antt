@@ -19,7 +19,8 @@ finding_lines_in group sequence item = []
 
 -- the finding lines of an item, by the items before it: its group's ID, and its sequence in the group
 abbrev pub finding_lines : List Item → Item → List ℕ
-finding_lines before item = finding_lines_in (count_by opens_group before) (count_by is_transaction (after_last opens_group before)) item
+finding_lines before item =
+    finding_lines_in (count_by opens_group before) (count_by is_transaction (after_last opens_group before)) item
 
 -- the line that says how a text ended
 abbrev pub verdict_line : Verdict → List ℕ

@@ -45,4 +45,5 @@ watched watch items = record watch { found = watch.found || any_from watch.from 
 
 -- where a text is accepted, what came in its transmission was seen
 abbrev pub SeesAccepted : Limits → Option (List ℕ) → Watch → Watch → Type 0
-SeesAccepted limits before old new = IfSome before (λ text. (v : TransmissionValue) (n : ℕ) → IsAccepted limits text v n → new ≡ watched old (value_items v))
+SeesAccepted limits before old new =
+    IfSome before (λ text. (v : TransmissionValue) (n : ℕ) → IsAccepted limits text v n → new ≡ watched old (value_items v))

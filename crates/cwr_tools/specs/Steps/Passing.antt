@@ -29,7 +29,8 @@ pub record FitTotals (c : Totals) (passed : Passed) : Type 0 where
   pub records : c.records + passed.records < 2 ^ 32
 
 -- something was read, after transactions that are so, and these were counted
-pub record ReadsTold (is_so : List RecordValue → Type 0) (old : Standing) (left : Option (List ℕ)) (c : Totals) (answer : Result (Option Item) ReadFault) (new : Standing) (after : Option (List ℕ)) (more : Totals) : Type 0 where
+pub record ReadsTold (is_so : List RecordValue → Type 0) (old : Standing) (left : Option (List ℕ)) (c : Totals)
+    (answer : Result (Option Item) ReadFault) (new : Standing) (after : Option (List ℕ)) (more : Totals) : Type 0 where
   pub passed : Passed
   pub reads : ReadsPassing is_so old left passed answer new after
   pub counted : FitTotals c passed → more ≡ totals_passing c passed

@@ -1,5 +1,6 @@
 -- What a run over a text has written, step by step.
-use Rattle.std.specs.Prelude.{◌≡◌, ◌⊎◌, ℕ, ◌+◌, Bool, true, false, List, [], ◌∷◌, ◌++◌, if◌then◌else◌, Option, Some, None, Result, Ok, Err}
+use Rattle.std.specs.Prelude.{◌≡◌, ◌⊎◌, ℕ, ◌+◌, Bool, true, false, List, [], ◌∷◌, ◌++◌, if◌then◌else◌, Option, Some, None, Result}
+use Rattle.std.specs.Prelude.{Ok, Err}
 use Rattle.std.specs.Io.KnownBytes.{Appends}
 use Rattle.cwr_fields.specs.Format.Failures.{one_more_failure}
 use Rattle.cwr_shape.specs.declared.limits.Limits.{Limits}
@@ -33,23 +34,32 @@ HasHandedOut limits before after given = (decoder : Standing) × HasRead limits 
 -- the text on the items so far, or on all items and the verdict
 abbrev pub IsReported : ItemLines → Limits → Option (List ℕ) → Option (List ℕ) → List Item → List ℕ → Type 0
 IsReported of limits before after given text =
-    (HasHandedOut limits before after given × (text ≡ of.lines given)) ⊎ ((verdict : Verdict) × IsRightVerdict limits before verdict after given × (text ≡ text_on of given verdict))
+    (HasHandedOut limits before after given × (text ≡ of.lines given))
+    ⊎ ((verdict : Verdict) × IsRightVerdict limits before verdict after given × (text ≡ text_on of given verdict))
 
 -- Memory was refused for a record that was accepted after these items, or for the lines of the next item, which was handed out
 -- too.
 abbrev pub LacksMemory : ItemLines → Limits → Option (List ℕ) → Option (List ℕ) → List Item → Type 0
 LacksMemory of limits before after given =
-    StopsAfter limits read_faults.Memory before after given ⊎ ((item : Item) × (of.take_memory item ≡ true) × HasHandedOut limits before after (given ++ item ∷ []))
+    StopsAfter limits read_faults.Memory before after given
+    ⊎ ((item : Item) × (of.take_memory item ≡ true) × HasHandedOut limits before after (given ++ item ∷ []))
 
 -- After what the writer had, the text on the items and the verdict is written. Where the reader failed or memory was refused,
 -- that on the items before is; where the writer failed, the first bytes of such a text are, so many as the fault says. There
 -- is no other fault.
-abbrev pub Reports : {W : Type 0} → ItemLines → Limits → Option (List ℕ) → Option (List ℕ) → (W → Option (List ℕ)) → W → W → Result Verdict ToolFault → Type 0
-Reports of limits before after contents old new (Ok verdict) = (given : List Item) × IsRightVerdict limits before verdict after given × Appends (contents old) (contents new) (text_on of given verdict)
-Reports of limits before after contents old new (Err Reader) = (given : List Item) × StopsAfter limits read_faults.Reader before after given × Appends (contents old) (contents new) (of.lines given)
-Reports of limits before after contents old new (Err Memory) = (given : List Item) × LacksMemory of limits before after given × Appends (contents old) (contents new) (of.lines given)
+abbrev pub Reports : {W : Type 0} → ItemLines → Limits → Option (List ℕ) → Option (List ℕ) → (W → Option (List ℕ)) → W → W
+    → Result Verdict ToolFault → Type 0
+Reports of limits before after contents old new (Ok verdict) =
+    (given : List Item) × IsRightVerdict limits before verdict after given
+    × Appends (contents old) (contents new) (text_on of given verdict)
+Reports of limits before after contents old new (Err Reader) =
+    (given : List Item) × StopsAfter limits read_faults.Reader before after given
+    × Appends (contents old) (contents new) (of.lines given)
+Reports of limits before after contents old new (Err Memory) =
+    (given : List Item) × LacksMemory of limits before after given × Appends (contents old) (contents new) (of.lines given)
 Reports of limits before after contents old new (Err (Writer written)) =
-    (given : List Item) × (text : List ℕ) × IsReported of limits before after given text × HasFront contents (contents old) new text written
+    (given : List Item) × (text : List ℕ) × IsReported of limits before after given text
+    × HasFront contents (contents old) new text written
 Reports of limits before after contents old new (Err fault) = ⊥
 
 -- ---- the same of its parts, over a sink
@@ -62,7 +72,9 @@ lines_told explained true = lines_up_to_fault explained
 -- the notes of an item that comes after items with these numbers
 abbrev pub notes_at : Bool → Totals → Item → Option Notes
 notes_at false counts item = None
-notes_at true counts item = Some (record { group = counts.groups + (if opens_group item then 1 else 0); transaction = counts.in_group; line = counts.records + 1 })
+notes_at true counts item =
+    Some (record
+    { group = counts.groups + (if opens_group item then 1 else 0); transaction = counts.in_group; line = counts.records + 1 })
 
 -- the lines of the findings in one item more, after items with these numbers
 abbrev pub findings_at : Bool → Totals → Item → List ℕ
@@ -70,16 +82,20 @@ findings_at false counts item = finding_lines_in counts.groups counts.in_group i
 findings_at true counts item = explained_in counts.groups counts.in_group (counts.records + 1) item
 
 -- The lines of an item are put, or the writer fails in them. Where memory for them is refused none of them is put.
-abbrev pub PutsLines : {W : Type 0} → (W → Option (List ℕ)) → (W → ℕ) → Bool → List ℕ → Result (Unit {0}) ToolFault → Sink W → Sink W → Type 0
+abbrev pub PutsLines : {W : Type 0} → (W → Option (List ℕ)) → (W → ℕ) → Bool → List ℕ → Result (Unit {0}) ToolFault → Sink W
+    → Sink W → Type 0
 PutsLines contents failures takes_memory text (Ok u) old new = Puts {E = ToolFault} contents failures text (Ok u) old new
 PutsLines contents failures takes_memory text (Err Memory) old new = (takes_memory ≡ true) × (new ≡ old)
-PutsLines contents failures takes_memory text (Err (Writer written)) old new = Puts {E = ToolFault} contents failures text (Err (Writer written)) old new × (written ≡ written_of new)
+PutsLines contents failures takes_memory text (Err (Writer written)) old new =
+    Puts {E = ToolFault} contents failures text (Err (Writer written)) old new × (written ≡ written_of new)
 PutsLines contents failures takes_memory text (Err fault) old new = ⊥
 
 -- the lines of one item more are put, after those of the items before
-abbrev pub PutsNext : {W : Type 0} → (W → Option (List ℕ)) → (W → ℕ) → ItemLines → List Item → Item → Result (Unit {0}) ToolFault → Sink W → Sink W → Type 0
+abbrev pub PutsNext : {W : Type 0} → (W → Option (List ℕ)) → (W → ℕ) → ItemLines → List Item → Item → Result (Unit {0}) ToolFault
+    → Sink W → Sink W → Type 0
 PutsNext contents failures of given item result old new =
-    (text : List ℕ) × (of.lines (given ++ item ∷ []) ≡ of.lines given ++ text) × PutsLines contents failures (of.take_memory item) text result old new
+    (text : List ℕ) × (of.lines (given ++ item ∷ []) ≡ of.lines given ++ text)
+    × PutsLines contents failures (of.take_memory item) text result old new
 
 -- of a transaction that is so nothing is told, and what stands after the items before it stands after it
 abbrev pub PassesOver : (List RecordValue → Type 0) → ItemLines → (List Item → Type 0) → Type 0
@@ -92,25 +108,35 @@ StandsCounted stands counts = (of : ItemLines) × (given : List Item) × IsCount
 
 -- it stands after the items before the verdict
 abbrev pub StandsAfter : (List Item → Type 0) → Limits → Option (List ℕ) → Option (List ℕ) → Verdict → Type 0
-StandsAfter stands limits before after verdict = (given : List Item) × IsRightVerdict limits before verdict after given × stands given
+StandsAfter stands limits before after verdict =
+    (given : List Item) × IsRightVerdict limits before verdict after given × stands given
 
 -- after what the writer had, the text is written
-pub record HasPut {W : Type 0} (contents : W → Option (List ℕ)) (failures : W → ℕ) (text : List ℕ) (old new : Sink W) : Type 0 where
-  pub written : HasWritten contents (contents (writer_of old)) text new
-  pub unfailed : has_failed new ≡ false
-  pub quiet : failures (writer_of new) ≡ failures (writer_of old)
+pub record HasPut {W : Type 0} (contents : W → Option (List ℕ)) (failures : W → ℕ) (text : List ℕ) (old new : Sink W) : Type 0
+  where
+    pub written : HasWritten contents (contents (writer_of old)) text new
+    pub unfailed : has_failed new ≡ false
+    pub quiet : failures (writer_of new) ≡ failures (writer_of old)
 
 -- the writer failed, and so many of the text's first bytes are written
-pub record HasPutFront {W : Type 0} (contents : W → Option (List ℕ)) (failures : W → ℕ) (text : List ℕ) (count : ℕ) (old new : Sink W) : Type 0 where
+pub record HasPutFront {W : Type 0} (contents : W → Option (List ℕ)) (failures : W → ℕ) (text : List ℕ) (count : ℕ)
+    (old new : Sink W) : Type 0 where
   pub written : HasWritten contents (contents (writer_of old)) text new
   pub counted : count ≡ written_of new
   pub failed : failures (writer_of new) ≡ one_more_failure (failures (writer_of old))
 
 -- what a run has put: with the lines of the items, what stands at the end for the verdict
-abbrev pub PutsReport : {W : Type 0} → ItemLines → (Verdict → List ℕ) → Limits → Option (List ℕ) → Option (List ℕ) → (W → Option (List ℕ)) → (W → ℕ) → Result Verdict ToolFault → Sink W → Sink W → Type 0
-PutsReport of end limits before after contents failures (Ok verdict) old new = (given : List Item) × IsRightVerdict limits before verdict after given × HasPut contents failures (of.lines given ++ end verdict) old new
-PutsReport of end limits before after contents failures (Err Reader) old new = (given : List Item) × StopsAfter limits read_faults.Reader before after given × HasPut contents failures (of.lines given) old new
-PutsReport of end limits before after contents failures (Err Memory) old new = (given : List Item) × LacksMemory of limits before after given × HasPut contents failures (of.lines given) old new
+abbrev pub PutsReport : {W : Type 0} → ItemLines → (Verdict → List ℕ) → Limits → Option (List ℕ) → Option (List ℕ)
+    → (W → Option (List ℕ)) → (W → ℕ) → Result Verdict ToolFault → Sink W → Sink W → Type 0
+PutsReport of end limits before after contents failures (Ok verdict) old new =
+    (given : List Item) × IsRightVerdict limits before verdict after given
+    × HasPut contents failures (of.lines given ++ end verdict) old new
+PutsReport of end limits before after contents failures (Err Reader) old new =
+    (given : List Item) × StopsAfter limits read_faults.Reader before after given
+    × HasPut contents failures (of.lines given) old new
+PutsReport of end limits before after contents failures (Err Memory) old new =
+    (given : List Item) × LacksMemory of limits before after given × HasPut contents failures (of.lines given) old new
 PutsReport of end limits before after contents failures (Err (Writer written)) old new =
-    (given : List Item) × (text : List ℕ) × IsReported of limits before after given text × HasPutFront contents failures text written old new
+    (given : List Item) × (text : List ℕ) × IsReported of limits before after given text
+    × HasPutFront contents failures text written old new
 PutsReport of end limits before after contents failures (Err fault) old new = ⊥

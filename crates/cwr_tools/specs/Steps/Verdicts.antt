@@ -35,17 +35,22 @@ StopsAfter limits fault before after given = (stop : StopsRun limits fault befor
 -- these items.
 abbrev pub IsRightVerdict : Limits → Option (List ℕ) → Verdict → Option (List ℕ) → List Item → Type 0
 IsRightVerdict limits before (Good groups transactions records) after given =
-    (v : TransmissionValue) × TakesFront limits before v after × (given ≡ value_items v) × (Good groups transactions records ≡ good_verdict v)
+    (v : TransmissionValue) × TakesFront limits before v after × (given ≡ value_items v)
+    × (Good groups transactions records ≡ good_verdict v)
 IsRightVerdict limits before (Refused refusal) after given = StopsAfter limits (read_faults.Refused refusal) before after given
-IsRightVerdict limits before (Truncated records) after given = StopsAfter limits (read_faults.Truncated records) before after given
+IsRightVerdict limits before (Truncated records) after given =
+    StopsAfter limits (read_faults.Truncated records) before after given
 
 -- the decoder stopped so at that stage, with these counts; where the text's bytes are known, the last of those that it was fed are held
 abbrev pub StopsAt : Limits → ReadFault → Option (List ℕ) → Option (List ℕ) → LastRead → Type 0
-StopsAt limits fault before after last = (stop : StopsRun limits fault before after) × (last.stage ≡ stage_of_records stop.decoder) × IfSome before (λ text. HoldsLast stop.read.input last.bytes) × (last.counts ≡ counts_of_records stop.decoder)
+StopsAt limits fault before after last =
+    (stop : StopsRun limits fault before after) × (last.stage ≡ stage_of_records stop.decoder)
+    × IfSome before (λ text. HoldsLast stop.read.input last.bytes) × (last.counts ≡ counts_of_records stop.decoder)
 
 -- what was read last where a text has the verdict: the last of the bytes that the reader lost, and where the text isn't good the
 -- stage of its accepted records
 abbrev pub IsReadLast : Limits → Option (List ℕ) → Option (List ℕ) → Verdict → LastRead → Type 0
-IsReadLast limits before after (Good groups transactions records) last = (read : List ℕ) × Consumes before after read × HoldsLast read last.bytes
+IsReadLast limits before after (Good groups transactions records) last =
+    (read : List ℕ) × Consumes before after read × HoldsLast read last.bytes
 IsReadLast limits before after (Refused refusal) last = StopsAt limits (read_faults.Refused refusal) before after last
 IsReadLast limits before after (Truncated records) last = StopsAt limits (read_faults.Truncated records) before after last

@@ -17,11 +17,13 @@ use Rattle.cwr_words.specs.declared.words.Rows.{Rows}
 use Rattle.cwr_words.specs.declared.words.Rows.TheVariants.{Records, Works}
 use Rattle.cwr_words.specs.declared.words.Task.{Task}
 use Rattle.cwr_words.specs.declared.words.Work.{Work}
-use Rattle.cwr_words.specs.declared.words.Work.TheVariants.{Check, Show, Explain, Lint, Advise, Json, Csv, Acks, Write, Split, Join, Renumber, Manual}
+use Rattle.cwr_words.specs.declared.words.Work.TheVariants.{Check, Show, Explain, Lint, Advise, Json, Csv, Acks, Write, Split}
+use Rattle.cwr_words.specs.declared.words.Work.TheVariants.{Join, Renumber, Manual}
 
 -- the flag of that id is given
 abbrev pub IsFlagOf : Found → List ℕ → Bool → Type 0
-IsFlagOf found id given = (one_text found id ≡ Some (codes "true") → given ≡ true) × (one_text found id ≡ Some (codes "false") → given ≡ false)
+IsFlagOf found id given =
+    (one_text found id ≡ Some (codes "true") → given ≡ true) × (one_text found id ≡ Some (codes "false") → given ≡ false)
 
 -- the names that FILE has
 abbrev pub values_of : Option (List (List ℕ)) → List (List ℕ)
@@ -64,8 +66,10 @@ IsSplitOf found (Csv rows file) = ⊥
 IsSplitOf found (Acks file sent as_json) = ⊥
 IsSplitOf found (Write file out line utf8) = ⊥
 IsSplitOf found (Split transactions file prefix only_new) =
-    ((text : List ℕ) → one_text found (codes "N") ≡ Some text → non_zero_u32_get transactions ≡ digits_value 10 (without_leading_plus text))
-    × (first_value found (codes "FILE") ≡ Some file.now) × (first_value found (codes "PREFIX") ≡ Some prefix.now) × IsFlagOf found (codes "new") only_new
+    ((text : List ℕ) → one_text found (codes "N") ≡ Some text
+    → non_zero_u32_get transactions ≡ digits_value 10 (without_leading_plus text))
+    × (first_value found (codes "FILE") ≡ Some file.now) × (first_value found (codes "PREFIX") ≡ Some prefix.now)
+    × IsFlagOf found (codes "new") only_new
 IsSplitOf found (Join out files only_new) = ⊥
 IsSplitOf found (Renumber file out only_new) = ⊥
 IsSplitOf found Manual = ⊥
@@ -73,18 +77,22 @@ IsSplitOf found Manual = ⊥
 -- every fault of the files FILE, explained where that flag is given, and with advice where that one is
 abbrev pub IsLintOf : Found → Work → Type 0
 IsLintOf found (Lint files quiet explained advised) =
-    AreNamesOf found (map (λ name. name.now) files.items) × IsFlagOf found (codes "quiet") quiet × IsFlagOf found (codes "explain") explained × IsFlagOf found (codes "advice") advised
+    AreNamesOf found (map (λ name. name.now) files.items) × IsFlagOf found (codes "quiet") quiet
+    × IsFlagOf found (codes "explain") explained × IsFlagOf found (codes "advice") advised
 IsLintOf found work = ⊥
 
 -- advice on the transmissions of the files FILE, where the numbers of so many works are kept as that option says
 abbrev pub IsAdviceOf : Found → Work → Type 0
 IsAdviceOf found (Advise files repeated) =
-    AreNamesOf found (map (λ name. name.now) files.items) × ((text : List ℕ) → one_text found (codes "repeated") ≡ Some text → repeated ≡ digits_value 10 (without_leading_plus text))
+    AreNamesOf found (map (λ name. name.now) files.items) × ((text : List ℕ) → one_text found (codes "repeated") ≡ Some text
+    → repeated ≡ digits_value 10 (without_leading_plus text))
 IsAdviceOf found work = ⊥
 
 -- the data of the file FILE, with numbers where that flag is given, and in UTF-8 where that one is
 abbrev pub IsExportOf : Found → Work → Type 0
-IsExportOf found (Json file numbers utf8) = (option_map (λ f. f.now) file ≡ first_value found (codes "FILE")) × IsFlagOf found (codes "numbers") numbers × IsFlagOf found (codes "utf8") utf8
+IsExportOf found (Json file numbers utf8) =
+    (option_map (λ f. f.now) file ≡ first_value found (codes "FILE")) × IsFlagOf found (codes "numbers") numbers
+    × IsFlagOf found (codes "utf8") utf8
 IsExportOf found work = ⊥
 
 -- what a table has rows of, by the word that names it
@@ -93,33 +101,41 @@ rows_named word = if bytes_eq word (codes "works") then Some Works else option_m
 
 -- the table that KIND names, of the file FILE
 abbrev pub IsTableOf : Found → Work → Type 0
-IsTableOf found (Csv rows file) = (option_and_then rows_named (first_value found (codes "KIND")) ≡ Some rows) × (option_map (λ f. f.now) file ≡ first_value found (codes "FILE"))
+IsTableOf found (Csv rows file) =
+    (option_and_then rows_named (first_value found (codes "KIND")) ≡ Some rows)
+    × (option_map (λ f. f.now) file ≡ first_value found (codes "FILE"))
 IsTableOf found work = ⊥
 
 -- what the acknowledgements of the file FILE say, matched with the transmission of the file that the option names, if it does, as JSON where that flag is
 -- given
 abbrev pub IsAcksOf : Found → Work → Type 0
-IsAcksOf found (Acks file sent as_json) = (option_map (λ f. f.now) file ≡ first_value found (codes "FILE")) × (option_map (λ f. f.now) sent ≡ first_value found (codes "sent")) × IsFlagOf found (codes "json") as_json
+IsAcksOf found (Acks file sent as_json) =
+    (option_map (λ f. f.now) file ≡ first_value found (codes "FILE"))
+    × (option_map (λ f. f.now) sent ≡ first_value found (codes "sent")) × IsFlagOf found (codes "json") as_json
 IsAcksOf found work = ⊥
 
 -- a transmission from the lines of the file FILE to the file OUT, where lines may have so many bytes as that option says, in UTF-8 where that flag
 -- is given
 abbrev pub IsImportOf : Found → Work → Type 0
 IsImportOf found (Write file out line utf8) =
-    (option_map (λ f. f.now) file ≡ first_value found (codes "FILE")) × (option_map (λ f. f.now) out ≡ first_value found (codes "OUT"))
-    × ((text : List ℕ) → one_text found (codes "line") ≡ Some text → line ≡ digits_value 10 (without_leading_plus text)) × IsFlagOf found (codes "utf8") utf8
+    (option_map (λ f. f.now) file ≡ first_value found (codes "FILE"))
+    × (option_map (λ f. f.now) out ≡ first_value found (codes "OUT"))
+    × ((text : List ℕ) → one_text found (codes "line") ≡ Some text → line ≡ digits_value 10 (without_leading_plus text))
+    × IsFlagOf found (codes "utf8") utf8
 IsImportOf found work = ⊥
 
 -- a join of the files FILE, in their order, to the file OUT
 abbrev pub IsJoinOf : Found → Work → Type 0
 IsJoinOf found (Join out files only_new) =
-    (first_value found (codes "OUT") ≡ Some out.now) × AreNamesOf found (map (λ name. name.now) files.items) × IsFlagOf found (codes "new") only_new
+    (first_value found (codes "OUT") ≡ Some out.now) × AreNamesOf found (map (λ name. name.now) files.items)
+    × IsFlagOf found (codes "new") only_new
 IsJoinOf found work = ⊥
 
 -- the file FILE with its numbers put right, to the file OUT
 abbrev pub IsRenumberingOf : Found → Work → Type 0
 IsRenumberingOf found (Renumber file out only_new) =
-    (option_map (λ f. f.now) file ≡ first_value found (codes "FILE")) × (option_map (λ f. f.now) out ≡ first_value found (codes "OUT")) × IsFlagOf found (codes "new") only_new
+    (option_map (λ f. f.now) file ≡ first_value found (codes "FILE"))
+    × (option_map (λ f. f.now) out ≡ first_value found (codes "OUT")) × IsFlagOf found (codes "new") only_new
 IsRenumberingOf found work = ⊥
 
 -- Work of the subcommand of that name: transmissions are checked, explained, linted or advised on; one is shown, or written as JSON or as a table, or what its
@@ -127,25 +143,34 @@ IsRenumberingOf found work = ⊥
 -- numbers of one are put right, or the manual
 -- is printed.
 abbrev pub IsWorkOf : List ℕ → Found → Work → Type 0
-IsWorkOf name found (Check judging) = (bytes_eq name (codes "show") ≡ false) × (bytes_eq name (codes "explain") ≡ false) × IsJudgingOf found judging
-IsWorkOf name found (Show file) = (bytes_eq name (codes "show") ≡ true) × (option_map (λ f. f.now) file ≡ first_value found (codes "FILE"))
+IsWorkOf name found (Check judging) =
+    (bytes_eq name (codes "show") ≡ false) × (bytes_eq name (codes "explain") ≡ false) × IsJudgingOf found judging
+IsWorkOf name found (Show file) =
+    (bytes_eq name (codes "show") ≡ true) × (option_map (λ f. f.now) file ≡ first_value found (codes "FILE"))
 IsWorkOf name found (Explain judging) = (bytes_eq name (codes "explain") ≡ true) × IsJudgingOf found judging
-IsWorkOf name found (Lint files quiet explained advised) = (bytes_eq name (codes "lint") ≡ true) × IsLintOf found (Lint files quiet explained advised)
+IsWorkOf name found (Lint files quiet explained advised) =
+    (bytes_eq name (codes "lint") ≡ true) × IsLintOf found (Lint files quiet explained advised)
 IsWorkOf name found (Advise files repeated) = (bytes_eq name (codes "advise") ≡ true) × IsAdviceOf found (Advise files repeated)
 IsWorkOf name found (Json file numbers utf8) = (bytes_eq name (codes "json") ≡ true) × IsExportOf found (Json file numbers utf8)
 IsWorkOf name found (Csv rows file) = (bytes_eq name (codes "csv") ≡ true) × IsTableOf found (Csv rows file)
 IsWorkOf name found (Acks file sent as_json) = (bytes_eq name (codes "acks") ≡ true) × IsAcksOf found (Acks file sent as_json)
-IsWorkOf name found (Write file out line utf8) = (bytes_eq name (codes "write") ≡ true) × IsImportOf found (Write file out line utf8)
-IsWorkOf name found (Split transactions file prefix only_new) = (bytes_eq name (codes "split") ≡ true) × IsSplitOf found (Split transactions file prefix only_new)
+IsWorkOf name found (Write file out line utf8) =
+    (bytes_eq name (codes "write") ≡ true) × IsImportOf found (Write file out line utf8)
+IsWorkOf name found (Split transactions file prefix only_new) =
+    (bytes_eq name (codes "split") ≡ true) × IsSplitOf found (Split transactions file prefix only_new)
 IsWorkOf name found (Join out files only_new) = (bytes_eq name (codes "join") ≡ true) × IsJoinOf found (Join out files only_new)
-IsWorkOf name found (Renumber file out only_new) = (bytes_eq name (codes "renumber") ≡ true) × IsRenumberingOf found (Renumber file out only_new)
+IsWorkOf name found (Renumber file out only_new) =
+    (bytes_eq name (codes "renumber") ≡ true) × IsRenumberingOf found (Renumber file out only_new)
 IsWorkOf name found Manual = bytes_eq name (codes "manual") ≡ true
 
 -- the limits are the numbers that the options of a subcommand say
 pub record AreLimitsOf (found : Found) (limits : Limits) : Type 0 where
-  pub records : (text : List ℕ) → one_text found (codes "records") ≡ Some text → limits.records ≡ digits_value 10 (without_leading_plus text)
-  pub groups : (text : List ℕ) → one_text found (codes "groups") ≡ Some text → limits.groups ≡ digits_value 10 (without_leading_plus text)
-  pub transaction : (text : List ℕ) → one_text found (codes "transaction") ≡ Some text → limits.transaction ≡ digits_value 10 (without_leading_plus text)
+  pub records : (text : List ℕ) → one_text found (codes "records") ≡ Some text
+      → limits.records ≡ digits_value 10 (without_leading_plus text)
+  pub groups : (text : List ℕ) → one_text found (codes "groups") ≡ Some text
+      → limits.groups ≡ digits_value 10 (without_leading_plus text)
+  pub transaction : (text : List ℕ) → one_text found (codes "transaction") ≡ Some text
+      → limits.transaction ≡ digits_value 10 (without_leading_plus text)
 
 -- the task is the work of the subcommand that the words name, within the limits that its words give; the manual takes none
 pub record IsAskedBy (matches : ArgMatches) (task : Task) : Type 0 where

@@ -39,15 +39,16 @@ pub record AreTaken (enc : Encoding) (limits : LimitValues) (most : ℕ) (lines 
   pub first : AreFirstItems limits items
 
 -- Line n, blank ones counted, is the first up to which no transmission continues, and the reason is true of it.
-pub record StopsAtLine (enc : Encoding) (limits : LimitValues) (most : ℕ) (text : List ℕ) (n : ℕ) (fault : LineFault) : Type 0 where
-  pub before : List (List ℕ)
-  pub line : List ℕ
-  pub after : List (List ℕ)
-  pub are : AreLines (before ++ line ∷ after) text
-  pub number : n ≡ length before + 1
-  pub taken : AreTaken enc limits most before
-  pub stops : ¬ AreTaken enc limits most (before ++ line ∷ [])
-  pub reason : IsReason enc limits most taken.items line fault
+pub record StopsAtLine (enc : Encoding) (limits : LimitValues) (most : ℕ) (text : List ℕ) (n : ℕ) (fault : LineFault) : Type 0
+  where
+    pub before : List (List ℕ)
+    pub line : List ℕ
+    pub after : List (List ℕ)
+    pub are : AreLines (before ++ line ∷ after) text
+    pub number : n ≡ length before + 1
+    pub taken : AreTaken enc limits most before
+    pub stops : ¬ AreTaken enc limits most (before ++ line ∷ [])
+    pub reason : IsReason enc limits most taken.items line fault
 
 -- All n lines are taken, and no transmission ends with them.
 pub record EndsEarly (enc : Encoding) (limits : LimitValues) (most : ℕ) (text : List ℕ) (n : ℕ) : Type 0 where
@@ -76,7 +77,8 @@ EndsAtLine enc limits most text (Err (Early n)) = EndsEarly enc limits most text
 EndsAtLine enc limits most text (Err fault) = Unit {0}
 
 -- after what the writer had, the canonical text of the transmission is written, unless a device or memory failed
-abbrev pub WritesTransmission : {W : Type 0} → (W → Option (List ℕ)) → W → W → TransmissionValue → Result Written WriteFault → Type 0
+abbrev pub WritesTransmission : {W : Type 0} → (W → Option (List ℕ)) → W → W → TransmissionValue → Result Written WriteFault
+    → Type 0
 WritesTransmission contents old new v (Ok w) = HasAll contents (contents old) new (canonical_text v) w.bytes
 WritesTransmission contents old new v (Err Reader) = Unit {0}
 WritesTransmission contents old new v (Err (Writer written)) = Unit {0}

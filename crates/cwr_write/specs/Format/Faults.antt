@@ -1,5 +1,6 @@
 -- What the reason of a refusal says of its line.
-use Rattle.std.specs.Prelude.{◌≡◌, ◌≢◌, ◌⊎◌, ℕ, ◌+◌, ◌<◌, min, not, true, false, nat_lt, List, [], ◌∷◌, ◌++◌, length, map, take, count_by, Option, Some, None, IsSome, IsSomeAnd, Result, Err}
+use Rattle.std.specs.Prelude.{◌≡◌, ◌≢◌, ◌⊎◌, ℕ, ◌+◌, ◌<◌, min, not, true, false, nat_lt, List, [], ◌∷◌, ◌++◌, length, map, take}
+use Rattle.std.specs.Prelude.{count_by, Option, Some, None, IsSome, IsSomeAnd, Result, Err}
 use Rattle.std.specs.List.{list_all, list_any}
 use Rattle.std.specs.Str.{IsUtf8, bytes_eq}
 use Rattle.json.specs.Find.{as_array, as_str}
@@ -23,7 +24,8 @@ use Rattle.cwr_encode.specs.declared.encoders.EncodeFault.TheVariants as faults
 use Rattle.cwr_encode.specs.Format.Encoders.{JudgesFoot, JudgesGroup, JudgesOpening, JudgesTransaction}
 use Rattle.cwr_json.specs.declared.encodings.Encoding.{Encoding}
 use Rattle.cwr_json.specs.Format.Encodings.{StandFor}
-use Rattle.cwr_json.specs.Format.Forms.{AreRecordsData, IsCellFrom, IsItemData, IsRecordData, first_of, key_of, kind_key, records_key, told}
+use Rattle.cwr_json.specs.Format.Forms.{AreRecordsData, IsCellFrom, IsItemData, IsRecordData, first_of, key_of, kind_key}
+use Rattle.cwr_json.specs.Format.Forms.{records_key, told}
 use Rattle.cwr_write.specs.Format.Imports.{SaysItem}
 use Rattle.cwr_write.specs.declared.writing.Reached.{Reached}
 use Rattle.cwr_write.specs.declared.writing.Reached.TheVariants as reached_to
@@ -32,7 +34,9 @@ use Rattle.cwr_write.specs.Format.AloneKinds.{IsAlone}
 use Rattle.cwr_write.specs.declared.refusals.Key.{Key}
 use Rattle.cwr_write.specs.declared.refusals.LineFault.{LineFault}
 use Rattle.cwr_write.specs.declared.refusals.Key.TheVariants as said_of
-use Rattle.cwr_write.specs.declared.refusals.Why.TheVariants.{NotJson, NotAnObject, UnknownKey, Repeated, Missing, NotAList, Empty, NotText, UnknownKind, Computed, NotAByte, TooWide, Cell, Misplaced, Alone, OutOfOrder, WrongKind, Incomplete, Limit, TooLong}
+use Rattle.cwr_write.specs.declared.refusals.Why.TheVariants.{NotJson, NotAnObject, UnknownKey, Repeated, Missing, NotAList}
+use Rattle.cwr_write.specs.declared.refusals.Why.TheVariants.{Empty, NotText, UnknownKind, Computed, NotAByte, TooWide, Cell}
+use Rattle.cwr_write.specs.declared.refusals.Why.TheVariants.{Misplaced, Alone, OutOfOrder, WrongKind, Incomplete, Limit, TooLong}
 
 -- the item is one of a transmission: of the right kind, and a transaction begins one of this profile
 abbrev pub IsItem : Item → Type 0
@@ -119,9 +123,12 @@ IsKindReason value why = ⊥
 abbrev pub IsValueReason : Encoding → FieldLayout → Option Json → Why → Type 0
 IsValueReason enc f value Computed = (f.derived ≡ true) × IsSome value
 IsValueReason enc f value NotText = (f.derived ≡ false) × IsNoText value
-IsValueReason enc f value NotAByte = (f.derived ≡ false) × OfText value (λ s. (text : List ℕ) → AreBytes text → ¬ StandFor enc s text)
-IsValueReason enc f value TooWide = (f.derived ≡ false) × OfText value (λ s. (text : List ℕ) × AreBytes text × StandFor enc s text × (f.width < length text))
-IsValueReason enc f value (Cell fault) = (f.derived ≡ false) × ((cell : List ℕ) × IsCellFrom enc f value cell × HasFault f.ty cell fault)
+IsValueReason enc f value NotAByte =
+    (f.derived ≡ false) × OfText value (λ s. (text : List ℕ) → AreBytes text → ¬ StandFor enc s text)
+IsValueReason enc f value TooWide =
+    (f.derived ≡ false) × OfText value (λ s. (text : List ℕ) × AreBytes text × StandFor enc s text × (f.width < length text))
+IsValueReason enc f value (Cell fault) =
+    (f.derived ≡ false) × ((cell : List ℕ) × IsCellFrom enc f value cell × HasFault f.ty cell fault)
 IsValueReason enc f value why = ⊥
 
 -- the key is told by its first bytes
@@ -131,9 +138,13 @@ TellsKey key k = ⊥
 
 -- why members are data of no record of the kind: a key that no field has, or one that comes twice, or the value of a field
 abbrev pub IsMemberReason : Encoding → Kind → Members → Key → Why → Type 0
-IsMemberReason enc this_kind ms key UnknownKey = (k : List ℕ) × TellsKey key k × (list_any (bytes_eq k) (keys ms) ≡ true) × (list_any (λ f. bytes_eq k (key_of f.name)) (layout this_kind) ≡ false)
-IsMemberReason enc this_kind ms (said_of.Field j) Repeated = IsSomeAnd (field_at this_kind j) (λ f. 1 < count_by (bytes_eq (key_of f.name)) (keys ms))
-IsMemberReason enc this_kind ms (said_of.Field j) why = IsSomeAnd (field_at this_kind j) (λ f. IsValueReason enc f (first_of (key_of f.name) ms) why)
+IsMemberReason enc this_kind ms key UnknownKey =
+    (k : List ℕ) × TellsKey key k × (list_any (bytes_eq k) (keys ms) ≡ true)
+    × (list_any (λ f. bytes_eq k (key_of f.name)) (layout this_kind) ≡ false)
+IsMemberReason enc this_kind ms (said_of.Field j) Repeated =
+    IsSomeAnd (field_at this_kind j) (λ f. 1 < count_by (bytes_eq (key_of f.name)) (keys ms))
+IsMemberReason enc this_kind ms (said_of.Field j) why =
+    IsSomeAnd (field_at this_kind j) (λ f. IsValueReason enc f (first_of (key_of f.name) ms) why)
 IsMemberReason enc this_kind ms key why = ⊥
 
 -- the members of a value that is an object; of none where it isn't
@@ -144,8 +155,11 @@ members_in j = None
 -- why a value is data of no record, once its kind is known or before
 abbrev pub IsRecordReason : Encoding → Json → Option Kind → Key → Why → Type 0
 IsRecordReason enc j kind key NotAnObject = (kind ≡ None) × (key ≡ said_of.None) × (members_in j ≡ None)
-IsRecordReason enc j None key why = (key ≡ said_of.Field 1) × IsSomeAnd (members_in j) (λ ms. IsKindReason (first_of kind_key (told ms)) why)
-IsRecordReason enc j (Some kind) key why = IsSomeAnd (members_in j) (λ ms. (first_of kind_key (told ms) ≡ Some (string (letters kind))) × IsMemberReason enc kind (told ms) key why)
+IsRecordReason enc j None key why =
+    (key ≡ said_of.Field 1) × IsSomeAnd (members_in j) (λ ms. IsKindReason (first_of kind_key (told ms)) why)
+IsRecordReason enc j (Some kind) key why =
+    IsSomeAnd (members_in j)
+    (λ ms. (first_of kind_key (told ms) ≡ Some (string (letters kind))) × IsMemberReason enc kind (told ms) key why)
 
 -- why the told members of a line are no list of records
 abbrev pub IsRecordsReason : Members → Why → Type 0
@@ -157,7 +171,8 @@ IsRecordsReason ms why = ⊥
 
 -- the key is told too: another than that of the records, or that
 abbrev pub IsListReason : Members → Key → Why → Type 0
-IsListReason ms key UnknownKey = (k : List ℕ) × TellsKey key k × (list_any (bytes_eq k) (keys ms) ≡ true) × (bytes_eq k records_key ≡ false)
+IsListReason ms key UnknownKey =
+    (k : List ℕ) × TellsKey key k × (list_any (bytes_eq k) (keys ms) ≡ true) × (bytes_eq k records_key ≡ false)
 IsListReason ms key why = TellsKey key records_key × IsRecordsReason ms why
 
 -- the fault is that of the whole line
@@ -171,8 +186,10 @@ BeginsAlone (r ∷ rs) told_kind = IsAlone r.kind × (told_kind ≡ Some r.kind)
 
 -- why a value after those of the records isn't one of their item's: it is a record that can't come after them, or data of none
 abbrev pub IsNextReason : Encoding → List RecordValue → Json → LineFault → Why → Type 0
-IsNextReason enc records j f Misplaced = (r : RecordValue) × IsRecordData enc j r × (f.kind ≡ Some r.kind) × (f.key ≡ said_of.None) × ¬ BeginsWithOneMore records r
-IsNextReason enc records j f Alone = (r : RecordValue) × IsRecordData enc j r × BeginsAlone records f.kind × (f.key ≡ said_of.None)
+IsNextReason enc records j f Misplaced =
+    (r : RecordValue) × IsRecordData enc j r × (f.kind ≡ Some r.kind) × (f.key ≡ said_of.None) × ¬ BeginsWithOneMore records r
+IsNextReason enc records j f Alone =
+    (r : RecordValue) × IsRecordData enc j r × BeginsAlone records f.kind × (f.key ≡ said_of.None)
 IsNextReason enc records j f why = IsRecordReason enc j f.kind f.key why
 
 -- none of the records is at fault: there are none, or some transaction begins with them, or the one is an item alone
@@ -196,7 +213,8 @@ pub record IsAmong (enc : Encoding) (js : List Json) (f : LineFault) : Type 0 wh
 abbrev pub IsItemReason : Encoding → Json → LineFault → Type 0
 IsItemReason enc j f = (IsOfLine f × (f.why ≡ NotAnObject) × (members_in j ≡ None))
     ⊎ (((f.record ≡ 0) × (f.kind ≡ None) × IsSomeAnd (members_in j) (λ ms. IsListReason (told ms) f.key f.why))
-    ⊎ IsSomeAnd (members_in j) (λ ms. (js : List Json) × (first_of records_key (told ms) ≡ Some (array (items_of js))) × IsAmong enc js f))
+    ⊎ IsSomeAnd (members_in j)
+    (λ ms. (js : List Json) × (first_of records_key (told ms) ≡ Some (array (items_of js))) × IsAmong enc js f))
 
 -- the line is JSON in UTF-8, and no data of an item of a transmission, for that reason
 pub record SaysNone (enc : Encoding) (line : List ℕ) (f : LineFault) : Type 0 where

@@ -1,5 +1,6 @@
 -- What a run writes from lines of JSON.
-use Rattle.std.specs.Prelude.{◌≡◌, ◌⊎◌, ℕ, ◌==◌, ◌<◌, ◌||◌, Bool, not, IsFalse, List, [], ◌∷◌, ◌++◌, length, Option, Some, IfSome, Result, Err}
+use Rattle.std.specs.Prelude.{◌≡◌, ◌⊎◌, ℕ, ◌==◌, ◌<◌, ◌||◌, Bool, not, IsFalse, List, [], ◌∷◌, ◌++◌, length, Option, Some, IfSome}
+use Rattle.std.specs.Prelude.{Result, Err}
 use Rattle.std.specs.List.{AllZip, filter, list_all, list_any}
 use Rattle.std.specs.Str.{IsUtf8}
 use Rattle.json.specs.Json.{Json, document}
@@ -30,7 +31,9 @@ pub record SaysItem (enc : Encoding) (line : List ℕ) (i : Item) : Type 0 where
 -- the lines of a text: each ends with a line feed, but the last one may end with the text
 unfoldable pub AreLines : List (List ℕ) → List ℕ → Type 0
 AreLines [] text = text ≡ []
-AreLines (l ∷ ls) text = IsFalse (list_any is_lf l) × (((rest : List ℕ) × (text ≡ l ++ 10 ∷ rest) × AreLines ls rest) ⊎ ((text ≡ l) × (0 < length l) × (ls ≡ [])))
+AreLines (l ∷ ls) text =
+    IsFalse (list_any is_lf l)
+    × (((rest : List ℕ) × (text ≡ l ++ 10 ∷ rest) × AreLines ls rest) ⊎ ((text ≡ l) × (0 < length l) × (ls ≡ [])))
 
 -- the text's lines but for the blank ones are data of the items, one by one
 pub record SaysItems (enc : Encoding) (text : List ℕ) (items : List Item) : Type 0 where
@@ -40,7 +43,8 @@ pub record SaysItems (enc : Encoding) (text : List ℕ) (items : List Item) : Ty
 
 -- After what the writer had, the canonical text of a transmission within the limits is written, in so many bytes. Its records are those of the
 -- items that the lines are data of.
-pub record WritesWhole {W : Type 0} (enc : Encoding) (limits : LimitValues) (left : Option (List ℕ)) (contents : W → Option (List ℕ)) (old new : W) (n : ℕ) : Type 0 where
+pub record WritesWhole {W : Type 0} (enc : Encoding) (limits : LimitValues) (left : Option (List ℕ))
+    (contents : W → Option (List ℕ)) (old new : W) (n : ℕ) : Type 0 where
   pub value : TransmissionValue
   pub whole : IsTransmission value
   pub within : FitsIn limits value

@@ -34,8 +34,10 @@ pub record IsFilled (enc : Encoding) (kind : Kind) (ms : Members) (draft : Recor
   pub known : list_all (is_known kind) (keys ms) ≡ true
   pub once : are_distinct (keys ms) ≡ true
   pub cells : AllZip (λ f cell. IsCellFrom enc f (first_of (key_of f.name) ms) cell) (carried_fields kind) draft.cells
-  pub marks : (j : ℕ) (k : List ℕ) → names_field kind j k ≡ true → get_or seen j false ≡ false → list_any (bytes_eq k) (keys ms) ≡ false
-  pub marked : (j : ℕ) (k : List ℕ) → names_field kind j k ≡ true → get_or seen j false ≡ true → list_any (bytes_eq k) (keys ms) ≡ true
+  pub marks : (j : ℕ) (k : List ℕ) → names_field kind j k ≡ true → get_or seen j false ≡ false
+      → list_any (bytes_eq k) (keys ms) ≡ false
+  pub marked : (j : ℕ) (k : List ℕ) → names_field kind j k ≡ true → get_or seen j false ≡ true
+      → list_any (bytes_eq k) (keys ms) ≡ true
 
 -- the value is a text of characters that stand for the bytes
 abbrev pub IsTextOf : Encoding → Json → List ℕ → Type 0
@@ -50,7 +52,8 @@ abbrev pub IsBytesReason : Kind → ℕ → List ℕ → Why → Type 0
 IsBytesReason this_kind j text UnknownKey = field_at this_kind j ≡ None
 IsBytesReason this_kind j text Computed = IsSomeAnd (field_at this_kind j) (λ f. f.derived ≡ true)
 IsBytesReason this_kind j text TooWide = IsSomeAnd (carried_at this_kind j) (λ f. f.width < length text)
-IsBytesReason this_kind j text (Cell fault) = IsSomeAnd (carried_at this_kind j) (λ f. (length text ≤ f.width) × HasFault f.ty (filled f.width text) fault)
+IsBytesReason this_kind j text (Cell fault) =
+    IsSomeAnd (carried_at this_kind j) (λ f. (length text ≤ f.width) × HasFault f.ty (filled f.width text) fault)
 IsBytesReason this_kind j text why = ⊥
 
 -- members, and others after them

@@ -1,5 +1,6 @@
 -- What taking a line does to an encoder.
-use Rattle.std.specs.Prelude.{◌≡◌, ◌≢◌, ◌⊎◌, ℕ, false, not, List, [], ◌∷◌, ◌++◌, length, Option, None, Some, IfSome, Result, Ok, Err}
+use Rattle.std.specs.Prelude.{◌≡◌, ◌≢◌, ◌⊎◌, ℕ, false, not, List, [], ◌∷◌, ◌++◌, length, Option, None, Some, IfSome, Result, Ok}
+use Rattle.std.specs.Prelude.{Err}
 use Rattle.std.specs.List.{AllZip, filter, flat_map}
 use Rattle.json.specs.Json.{Json}
 use Rattle.cwr_fields.specs.Format.Failures.{one_more_failure}
@@ -61,7 +62,8 @@ OnLine fault is = Unit {0}
 
 -- a list has no values, or the fault is of one of them
 abbrev pub IsOfList : Encoding → List Json → LineFault → Type 0
-IsOfList enc js f = ((f.record ≡ 0) × (f.kind ≡ None) × TellsKey f.key records_key × (f.why ≡ whys.Empty) × (js ≡ [])) ⊎ IsAmong enc js f
+IsOfList enc js f =
+    ((f.record ≡ 0) × (f.kind ≡ None) × TellsKey f.key records_key × (f.why ≡ whys.Empty) × (js ≡ [])) ⊎ IsAmong enc js f
 
 -- the fault is one of the line
 abbrev pub IsLine : ItemFault → Type 0
@@ -97,7 +99,8 @@ pub record HaveGiven (items : List Item) (reached : Reached) : Type 0 where
   pub begun : reached ≢ reached_to.End → records_in items ≡ given_in items
 
 -- The encoder was given the records of these items, with which some transmission within its limits begins.
-pub record Stands {W : Type 0} (contents : W → Option (List ℕ)) (start : Option (List ℕ)) (items : List Item) (reached : Reached) (e : Encoder W) : Type 0 where
+pub record Stands {W : Type 0} (contents : W → Option (List ℕ)) (start : Option (List ℕ)) (items : List Item) (reached : Reached)
+    (e : Encoder W) : Type 0 where
   pub encodes : Encodes contents start (given_in items) e
   pub first : AreFirstItems (encoder_limits e) items
   pub given : HaveGiven items reached
@@ -116,24 +119,35 @@ JudgesGiven limits Ended xs answer = Unit {0}
 abbrev pub JudgesNext : LimitValues → List Item → Item → Result (Unit {0}) EncodeFault → Type 0
 JudgesNext limits items item (Ok x) = AreFirstItems limits (items ++ item ∷ [])
 JudgesNext limits items item (Err (encode_faults.Writer written)) = Unit {0}
-JudgesNext limits items item (Err fault) = (¬ AreFirstItems limits (items ++ item ∷ [])) × JudgesItem limits items item (Err fault)
+JudgesNext limits items item (Err fault) =
+    (¬ AreFirstItems limits (items ++ item ∷ [])) × JudgesItem limits items item (Err fault)
 
 -- what the encoder stood for, it stands for with the item after that
 abbrev pub StandsWith : {W : Type 0} → (W → Option (List ℕ)) → Item → Reached → Reached → Encoder W → Encoder W → Type 0
-StandsWith contents item before after old new = (start : Option (List ℕ)) (items : List Item) → Stands contents start items before old → Stands contents start (items ++ item ∷ []) after new
+StandsWith contents item before after old new =
+    (start : Option (List ℕ)) (items : List Item) → Stands contents start items before old
+    → Stands contents start (items ++ item ∷ []) after new
 
 -- with no item of which this is so after what the encoder stands for some transmission begins
 abbrev pub NoneBegins : {W : Type 0} → (W → Option (List ℕ)) → (Item → Type 0) → Reached → Encoder W → Type 0
-NoneBegins contents is before e = (start : Option (List ℕ)) (items : List Item) → Stands contents start items before e → (i : Item) → is i → ¬ AreFirstItems (encoder_limits e) (items ++ i ∷ [])
+NoneBegins contents is before e =
+    (start : Option (List ℕ)) (items : List Item) → Stands contents start items before e → (i : Item) → is i
+    → ¬ AreFirstItems (encoder_limits e) (items ++ i ∷ [])
 
 -- An item more of which this is so is accepted. Or nothing is changed, since none such continues a transmission, for such a reason, or
 -- for want of memory. Or the writer failed.
-abbrev pub TakesLine : {W : Type 0} → (Item → Type 0) → (LimitValues → List Item → LineFault → Type 0) → Reached → (W → Option (List ℕ)) → (W → ℕ) → Result Reached ItemFault → Encoder W → Encoder W → Type 0
+abbrev pub TakesLine : {W : Type 0} → (Item → Type 0) → (LimitValues → List Item → LineFault → Type 0) → Reached
+    → (W → Option (List ℕ)) → (W → ℕ) → Result Reached ItemFault → Encoder W → Encoder W → Type 0
 TakesLine is reason before contents failures (Ok after) old new =
-    (item : Item) × is item × Goes before item after × RepresentsMore contents (given_records item) old new × (is_stopped new ≡ false) × (failures (target_of new) ≡ failures (target_of old)) × StandsWith contents item before after old new
-TakesLine is reason before contents failures (Err (item_faults.Writer written)) old new = failures (target_of new) ≡ one_more_failure (failures (target_of old))
-TakesLine is reason before contents failures (Err (item_faults.Line fault)) old new = (new ≡ old) × NoneBegins contents is before old
-    × ((start : Option (List ℕ)) (items : List Item) → Stands contents start items before old → reason (encoder_limits old) items fault)
+    (item : Item) × is item × Goes before item after × RepresentsMore contents (given_records item) old new
+    × (is_stopped new ≡ false) × (failures (target_of new) ≡ failures (target_of old))
+    × StandsWith contents item before after old new
+TakesLine is reason before contents failures (Err (item_faults.Writer written)) old new =
+    failures (target_of new) ≡ one_more_failure (failures (target_of old))
+TakesLine is reason before contents failures (Err (item_faults.Line fault)) old new =
+    (new ≡ old) × NoneBegins contents is before old
+    × ((start : Option (List ℕ)) (items : List Item) → Stands contents start items before old
+    → reason (encoder_limits old) items fault)
 TakesLine is reason before contents failures (Err item_faults.Memory) old new = new ≡ old
 
 -- Lines of a text were taken, so many, all but these bytes, and they are data of the items. None has more than so many bytes.
@@ -156,11 +170,15 @@ pub record StandsWhole {W : Type 0} (contents : W → Option (List ℕ)) (items 
   pub items_are : value_items value ≡ items
 
 -- what taking lines does: the items of all are accepted, or the writer failed in the last
-abbrev pub TakesLines : {W : Type 0} → Encoding → Option (List ℕ) → (W → Option (List ℕ)) → (W → ℕ) → Result ℕ WriteFault → Encoder W → Encoder W → Type 0
+abbrev pub TakesLines : {W : Type 0} → Encoding → Option (List ℕ) → (W → Option (List ℕ)) → (W → ℕ) → Result ℕ WriteFault
+    → Encoder W → Encoder W → Type 0
 TakesLines enc left contents failures (Ok lines) old new =
-    (items : List Item) × RepresentsMore contents (given_in items) old new × (is_stopped new ≡ false) × (failures (target_of new) ≡ failures (target_of old))
-    × (records_in items ≡ given_in items ++ trailer ∷ []) × IfSome left (λ text. SaysItems enc text items) × StandsWhole contents items new
-TakesLines enc left contents failures (Err (write_faults.Writer written)) old new = failures (target_of new) ≡ one_more_failure (failures (target_of old))
+    (items : List Item) × RepresentsMore contents (given_in items) old new × (is_stopped new ≡ false)
+    × (failures (target_of new) ≡ failures (target_of old))
+    × (records_in items ≡ given_in items ++ trailer ∷ []) × IfSome left (λ text. SaysItems enc text items)
+    × StandsWhole contents items new
+TakesLines enc left contents failures (Err (write_faults.Writer written)) old new =
+    failures (target_of new) ≡ one_more_failure (failures (target_of old))
 TakesLines enc left contents failures (Err fault) old new = failures (target_of new) ≡ failures (target_of old)
 
 -- how a run over the text ends, unless a device or memory failed

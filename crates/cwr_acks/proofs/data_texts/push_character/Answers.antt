@@ -5,7 +5,8 @@ use Rattle.cwr_acks.proofs.data_texts.push_character.Goals as goal
 
 pub returns-then-b-lt128-clause-value : goal.returns-then-b-lt128-clause-value
 returns-then-b-lt128-clause-value c =
-    c.push_escaped.ensures.value ∙ ap (λ (l : List ℕ). c.args.text.now.items ++ l) (sym (spelled_low Latin1 c.args.b c.if-b-lt128.true))
+    c.push_escaped.ensures.value
+    ∙ ap (λ (l : List ℕ). c.args.text.now.items ++ l) (sym (spelled_low Latin1 c.args.b c.if-b-lt128.true))
 
 pub returns-else-b-lt128-clause-value : goal.returns-else-b-lt128-clause-value
 returns-else-b-lt128-clause-value c =

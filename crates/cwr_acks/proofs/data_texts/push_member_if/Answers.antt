@@ -8,11 +8,13 @@ returns-then-is_spaces-clause-value c =
     let text : List ℕ = c.args.text.now.items in
     let blank : is_spaces (cell_at c.args.shown.now c.args.j) ≡ true
     = ap is_spaces (sym c.cell.ensures.value) ∙ sym c.is_spaces.ensures ∙ c.if-is_spaces.true in
-    sym (ap (λ (b : Bool). text ++ cond b [] (cell_member c.args.key.now (cell_at c.args.shown.now c.args.j))) blank ∙ append-nil text)
+    sym (ap (λ (b : Bool). text ++ cond b [] (cell_member c.args.key.now (cell_at c.args.shown.now c.args.j))) blank
+    ∙ append-nil text)
 
 pub returns-clause-value : goal.returns-clause-value
 returns-clause-value c =
     let text : List ℕ = c.args.text.now.items in
     let some : is_spaces (cell_at c.args.shown.now c.args.j) ≡ false
     = ap is_spaces (sym c.cell.ensures.value) ∙ sym c.is_spaces.ensures ∙ c.if-is_spaces.false in
-    c.push_member.ensures.value ∙ sym (ap (λ (b : Bool). text ++ cond b [] (cell_member c.args.key.now (cell_at c.args.shown.now c.args.j))) some)
+    c.push_member.ensures.value
+    ∙ sym (ap (λ (b : Bool). text ++ cond b [] (cell_member c.args.key.now (cell_at c.args.shown.now c.args.j))) some)

@@ -11,7 +11,8 @@ pub returns-clause-value : goal.returns-clause-value
 returns-clause-value c =
     let join : List ℕ → List ℕ → List ℕ = λ l m. l ++ m in
     let kind : cell_at c.args.shown.now 8 ≡ cell_named "original transaction type" c.args.shown.now
-    = cell_is "original transaction type" c.args.shown.now 8 3 _ refl (original_type c.args.shown.now c.requires.ack) c.push_member.ensures.fits in
+    = cell_is "original transaction type" c.args.shown.now 8 3 _ refl (original_type c.args.shown.now c.requires.ack)
+    c.push_member.ensures.fits in
     c.push_member.ensures.value ∙ ap₂ join
     (c.push_number-2.ensures.value ∙ ap₂ join
     (c.push-2.ensures.value ∙ ap (λ (l : List ℕ). l ++ codes ",\"transaction\":")

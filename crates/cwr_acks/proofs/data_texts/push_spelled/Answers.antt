@@ -13,7 +13,9 @@ loop-b-preserved c =
     let bytes : List ℕ = c.args.bytes.now in
     let old : List ℕ = c.args.text.now.items in
     record {
-      value = c.push_character.ensures.value ∙ ap (λ (l : List ℕ). l ++ spelled_byte Latin1 (get_or bytes i 0)) c.loop-b.invariant.value
+      value =
+          c.push_character.ensures.value
+          ∙ ap (λ (l : List ℕ). l ++ spelled_byte Latin1 (get_or bytes i 0)) c.loop-b.invariant.value
           ∙ append_assoc old (spelled_bytes Latin1 (take i bytes)) (spelled_byte Latin1 (get_or bytes i 0))
           ∙ ap (λ (l : List ℕ). old ++ l) (sym (spelled_more Latin1 bytes i c.loop-b-test.true));
       len = omega (arith, c.push_character.ensures.len, c.loop-b.invariant.len);

@@ -13,11 +13,13 @@ pub returns-clause-value : goal.returns-clause-value
 returns-clause-value c =
     let text : List ℕ = c.args.text.now.items in
     let one : cell_at c.args.shown.now 13 ≡ cell_named "transaction status" c.args.shown.now
-    = cell_is "transaction status" c.args.shown.now 13 2 _ refl (status c.args.shown.now c.requires.ack) c.push_member.ensures.fits in
+    = cell_is "transaction status" c.args.shown.now 13 2 _ refl (status c.args.shown.now c.requires.ack)
+    c.push_member.ensures.fits in
     c.push-3.ensures.value ∙ ap (λ (l : List ℕ). l ++ codes "\"")
     (c.push-2.ensures.value ∙ ap₂ (λ (l m : List ℕ). l ++ m)
     (c.push.ensures.value ∙ ap (λ (l : List ℕ). l ++ codes ",\"words\":\"")
     (c.push_member.ensures.value ∙ ap (λ (l : List ℕ). text ++ cell_member (codes "{\"status\":") l) one))
     (c.words_of.ensures.value ∙ ap (λ (o : Option TransactionStatus). status_words o) c.status_of.ensures))
-    ∙ four_parts text (cell_member (codes "{\"status\":") (cell_named "transaction status" c.args.shown.now)) (codes ",\"words\":\"")
+    ∙ four_parts text (cell_member (codes "{\"status\":") (cell_named "transaction status" c.args.shown.now))
+    (codes ",\"words\":\"")
     (status_words (status_in c.args.shown.now)) (codes "\"")

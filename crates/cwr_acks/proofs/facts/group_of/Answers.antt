@@ -5,7 +5,12 @@ use Rattle.cwr_acks.proofs.NamedParts.{cell_is, cell_long}
 use Rattle.cwr_acks.proofs.facts.group_of.Goals as goal
 
 pub number_of-requires : goal.number_of-requires
-number_of-requires c = let h = cell_long "original group id" c.args.head.now 6 5 c.cell.result.now c.cell.ensures.value (group c.args.head.now c.requires) c.cell.ensures.fits in omega (arith, h)
+number_of-requires c =
+    let h =
+    cell_long "original group id" c.args.head.now 6 5 c.cell.result.now c.cell.ensures.value (group c.args.head.now c.requires)
+    c.cell.ensures.fits in omega (arith, h)
 
 pub returns : goal.returns
-returns c = c.number_of.ensures.value ∙ ap number_of (cell_is "original group id" c.args.head.now 6 5 c.cell.result.now c.cell.ensures.value (group c.args.head.now c.requires) c.cell.ensures.fits)
+returns c =
+    c.number_of.ensures.value ∙ ap number_of (cell_is "original group id" c.args.head.now 6 5 c.cell.result.now
+    c.cell.ensures.value (group c.args.head.now c.requires) c.cell.ensures.fits)

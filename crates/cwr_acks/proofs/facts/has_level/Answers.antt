@@ -11,14 +11,18 @@ use Rattle.cwr_acks.proofs.facts.has_level.Goals as goal
 pub loop-shown-preserved : goal.loop-shown-preserved
 loop-shown-preserved c = record {
   within = let h = found_within c.args.transaction.now c.loop-shown.i c.in-Some.shown c.in-Some.ensures.value in omega (arith, h);
-  value = ap (λ (b : Bool). c.loop-shown.found || b) c.is_message_of-found.ensures ∙ ap (λ (b : Bool). b || is_message_of c.args.level c.in-Some.shown) c.loop-shown.invariant.value
+  value =
+      ap (λ (b : Bool). c.loop-shown.found || b) c.is_message_of-found.ensures
+      ∙ ap (λ (b : Bool). b || is_message_of c.args.level c.in-Some.shown) c.loop-shown.invariant.value
       ∙ sym (any_more (is_message_of c.args.level) c.args.transaction.now c.loop-shown.i c.in-Some.shown c.in-Some.ensures.value);
 }
 
 pub loop-shown-smaller : goal.loop-shown-smaller
-loop-shown-smaller c = let h = found_within c.args.transaction.now c.loop-shown.i c.in-Some.shown c.in-Some.ensures.value in omega (arith, h)
+loop-shown-smaller c =
+    let h = found_within c.args.transaction.now c.loop-shown.i c.in-Some.shown c.in-Some.ensures.value in omega (arith, h)
 
 pub returns : goal.returns
 returns c =
     let t : List RecordValue = c.args.transaction.now in
-    c.loop-shown.invariant.value ∙ ap (list_any (is_message_of c.args.level)) (take_all c.loop-shown.i t (none_within t c.loop-shown.i c.in_default.ensures.value))
+    c.loop-shown.invariant.value ∙ ap (list_any (is_message_of c.args.level))
+    (take_all c.loop-shown.i t (none_within t c.loop-shown.i c.in_default.ensures.value))

@@ -6,4 +6,6 @@ use Rattle.cwr_acks.proofs.NamedParts.{cell_is}
 use Rattle.cwr_acks.proofs.facts.named_check.Goals as goal
 
 pub returns : goal.returns
-returns c = c.title_check.ensures ∙ ap title_check (c.trimmed.ensures ∙ ap trimmed (cell_is "creation title" c.args.head.now 9 60 c.cell.result.now c.cell.ensures.value (title c.args.head.now c.requires) c.cell.ensures.fits))
+returns c =
+    c.title_check.ensures ∙ ap title_check (c.trimmed.ensures ∙ ap trimmed (cell_is "creation title" c.args.head.now 9 60
+    c.cell.result.now c.cell.ensures.value (title c.args.head.now c.requires) c.cell.ensures.fits))

@@ -5,12 +5,14 @@ use Rattle.cwr_acks.proofs.item_lines.put_begun.Goals as goal
 
 pub returns-in_err-put_opening-clause-puts : goal.returns-in_err-put_opening-clause-puts
 returns-in_err-put_opening-clause-puts g c =
-    puts_cut g.W.Target.contents g.W.Target.failures (opening_in c.args.form c.args.notes c.args.head.now (worst_level c.args.transaction.now))
+    puts_cut g.W.Target.contents g.W.Target.failures
+    (opening_in c.args.form c.args.notes c.args.head.now (worst_level c.args.transaction.now))
     (messages_in c.args.form c.args.transaction.now) c.args.sink.now c.put_opening.new.sink
     c.in_err-put_opening.field-0.0 c.from_residual.result c.from_residual.ensures.0 c.in_err-put_opening.ensures.puts
 
 pub returns-clause-puts : goal.returns-clause-puts
 returns-clause-puts g c =
-    puts_both g.W.Target.contents g.W.Target.failures (opening_in c.args.form c.args.notes c.args.head.now (worst_level c.args.transaction.now))
+    puts_both g.W.Target.contents g.W.Target.failures
+    (opening_in c.args.form c.args.notes c.args.head.now (worst_level c.args.transaction.now))
     (messages_in c.args.form c.args.transaction.now) c.args.sink.now c.put_opening.new.sink c.put_messages.new.sink
     tt c.put_messages.result c.in_ok-put_opening.ensures.puts c.put_messages.ensures.puts

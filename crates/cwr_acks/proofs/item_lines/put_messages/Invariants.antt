@@ -13,7 +13,8 @@ invariant-loop-shown g l = record {
   unfailed : has_failed l.sink ≡ false;
   counts : g.W.Target.failures (writer_of l.sink) ≡ g.W.Target.failures (writer_of l.initial.sink);
   written : (start : Option (List ℕ)) (before : List ℕ) → HasWritten g.W.Target.contents start before l.initial.sink
-      → HasWritten g.W.Target.contents start (before ++ numbered (λ n r. message_in l.form (list_any is_message (take n l.transaction)) r) 0
+      → HasWritten g.W.Target.contents start
+      (before ++ numbered (λ n r. message_in l.form (list_any is_message (take n l.transaction)) r) 0
       (take l.i l.transaction)) l.sink;
 }
 

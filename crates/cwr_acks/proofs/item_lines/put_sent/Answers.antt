@@ -12,5 +12,6 @@ returns-in_err-put_marked_if-clause-puts g c =
 pub returns-clause-puts : goal.returns-clause-puts
 returns-clause-puts g c =
     puts_both g.W.Target.contents g.W.Target.failures (marked_if c.args.notes.retitled (codes "RETITLED ") c.args.head.now)
-    (marked_if c.args.notes.again (codes "AGAIN ") c.args.head.now) c.args.sink.now c.put_marked_if.new.sink c.put_marked_if-2.new.sink
+    (marked_if c.args.notes.again (codes "AGAIN ") c.args.head.now) c.args.sink.now c.put_marked_if.new.sink
+    c.put_marked_if-2.new.sink
     tt c.put_marked_if-2.result c.in_ok-put_marked_if.ensures.puts c.put_marked_if-2.ensures.puts

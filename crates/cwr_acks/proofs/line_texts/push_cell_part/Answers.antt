@@ -6,4 +6,5 @@ pub push-requires-2 : goal.push-requires-2
 push-requires-2 c = omega (arith, c.requires, c.push.ensures.len, length-trimmed-le c.args.cell.now, ap length c.trimmed.ensures)
 
 pub returns-clause-len : goal.returns-clause-len
-returns-clause-len c = omega (arith, c.push.ensures.len, c.push-2.ensures.len, length-trimmed-le c.args.cell.now, ap length c.trimmed.ensures)
+returns-clause-len c =
+    omega (arith, c.push.ensures.len, c.push-2.ensures.len, length-trimmed-le c.args.cell.now, ap length c.trimmed.ensures)

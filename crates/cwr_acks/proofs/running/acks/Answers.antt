@@ -10,21 +10,33 @@ use Rattle.cwr_acks.proofs.running.acks.Goals as goal
 pub write_report-writer-requires : goal.write_report-writer-requires
 write_report-writer-requires g c = (
   lines_of_acks c.args.form (facts_if c.args.sent),
-  (facts_if c.args.sent, refl, matched_none c.args.sent c.requires, subst (λ (a : Answers). IsAnswers a []) (sym c.new.ensures) answers_none),
+  (
+    facts_if c.args.sent,
+    refl,
+    matched_none c.args.sent c.requires,
+    subst (λ (a : Answers). IsAnswers a []) (sym c.new.ensures) answers_none,
+  ),
 )
 
 pub returns-clause-reported : goal.returns-clause-reported
-returns-clause-reported g c = c.write_report-writer.ensures.reported (lines_of_acks c.args.form (facts_if c.args.sent))
-    (facts_if c.args.sent, refl, matched_none c.args.sent c.requires, subst (λ (a : Answers). IsAnswers a []) (sym c.new.ensures) answers_none)
+returns-clause-reported g c = c.write_report-writer.ensures.reported (lines_of_acks c.args.form (facts_if c.args.sent)) (
+  facts_if c.args.sent,
+  refl,
+  matched_none c.args.sent c.requires,
+  subst (λ (a : Answers). IsAnswers a []) (sym c.new.ensures) answers_none,
+)
 
 pub returns-clause-judged : goal.returns-clause-judged
 returns-clause-judged g c =
-    judged_text (lines_of_acks c.args.form (facts_if c.args.sent)) c.args.limits _ _ g.W.Target.contents c.args.writer c.write_report-writer.result.0 c.write_report-writer.result.1 (returns-clause-reported g c)
+    judged_text (lines_of_acks c.args.form (facts_if c.args.sent)) c.args.limits _ _ g.W.Target.contents c.args.writer
+    c.write_report-writer.result.0 c.write_report-writer.result.1 (returns-clause-reported g c)
 
 pub returns-clause-accepted : goal.returns-clause-accepted
 returns-clause-accepted g c =
-    accepted_reports (lines_of_acks c.args.form (facts_if c.args.sent)) c.args.limits _ _ g.W.Target.contents c.args.writer c.write_report-writer.result.0 c.write_report-writer.result.1 (returns-clause-reported g c)
+    accepted_reports (lines_of_acks c.args.form (facts_if c.args.sent)) c.args.limits _ _ g.W.Target.contents c.args.writer
+    c.write_report-writer.result.0 c.write_report-writer.result.1 (returns-clause-reported g c)
 
 pub returns-clause-canonical : goal.returns-clause-canonical
 returns-clause-canonical g c =
-    canonical_reports (lines_of_acks c.args.form (facts_if c.args.sent)) c.args.limits _ _ g.W.Target.contents c.args.writer c.write_report-writer.result.0 c.write_report-writer.result.1 (returns-clause-reported g c)
+    canonical_reports (lines_of_acks c.args.form (facts_if c.args.sent)) c.args.limits _ _ g.W.Target.contents c.args.writer
+    c.write_report-writer.result.0 c.write_report-writer.result.1 (returns-clause-reported g c)

@@ -12,5 +12,7 @@ returns c =
     let r = c.args.shown.now in
     let agent : is_agent r ≡ true = sym c.is_agent.ensures ∙ c.if-not-is_agent.false in
     let publisher = (and_parts (is_publisher r) (names_agent (cell_named "publisher type" r)) agent).0 in
-    ap not (c.chain_is_begun.ensures ∙ ap (λ (x : List ℕ). list_any (in_chain x) (take c.args.sequence c.args.transaction.now)) (named_sequence r c.cell.result.now c.cell.ensures.value publisher c.cell.ensures.fits))
-    ∙ and_true (is_agent r) (not (list_any (in_chain (cell_named "publisher sequence" r)) (take c.args.sequence c.args.transaction.now))) agent
+    ap not (c.chain_is_begun.ensures ∙ ap (λ (x : List ℕ). list_any (in_chain x) (take c.args.sequence c.args.transaction.now))
+    (named_sequence r c.cell.result.now c.cell.ensures.value publisher c.cell.ensures.fits))
+    ∙ and_true (is_agent r)
+    (not (list_any (in_chain (cell_named "publisher sequence" r)) (take c.args.sequence c.args.transaction.now))) agent

@@ -8,7 +8,8 @@ use Rattle.cwr_advice.proofs.judging.chain_is_begun.Goals as goal
 pub returns-then-in_chain : goal.returns-then-in_chain
 returns-then-in_chain c =
     let below : c.loop-left.left - 1 < c.args.end = omega (arith, c.loop-left.invariant.within, c.loop-left-test.true) in
-    sym (any_there (in_chain c.args.sequence.now) c.args.transaction.now (c.loop-left.left - 1) c.args.end c.in-Some.other (sym c.in-Some.ensures.value) (sym c.in_chain.ensures ∙ c.if-in_chain.true) below)
+    sym (any_there (in_chain c.args.sequence.now) c.args.transaction.now (c.loop-left.left - 1) c.args.end c.in-Some.other
+    (sym c.in-Some.ensures.value) (sym c.in_chain.ensures ∙ c.if-in_chain.true) below)
 
 pub loop-left-preserved-else-in_chain : goal.loop-left-preserved-else-in_chain
 loop-left-preserved-else-in_chain c =
@@ -16,17 +17,25 @@ loop-left-preserved-else-in_chain c =
     let next : (c.loop-left.left - 1) + 1 ≡ c.loop-left.left = omega (arith, c.loop-left-test.true) in
     record {
       within = omega (arith, below);
-      none = one_before (in_chain c.args.sequence.now) (take c.args.end c.args.transaction.now) (c.loop-left.left - 1) c.loop-left.left c.in-Some.other next
-          (found_in_front c.args.transaction.now (c.loop-left.left - 1) c.args.end c.in-Some.other (sym c.in-Some.ensures.value) below) (sym c.in_chain.ensures ∙ c.if-in_chain.false) c.loop-left.invariant.none;
+      none =
+          one_before (in_chain c.args.sequence.now) (take c.args.end c.args.transaction.now) (c.loop-left.left - 1)
+          c.loop-left.left c.in-Some.other next
+          (found_in_front c.args.transaction.now (c.loop-left.left - 1) c.args.end c.in-Some.other (sym c.in-Some.ensures.value)
+          below) (sym c.in_chain.ensures ∙ c.if-in_chain.false) c.loop-left.invariant.none;
     }
 
 pub loop-left-preserved : goal.loop-left-preserved
 loop-left-preserved c =
-    let end : length c.args.transaction.now ≤ c.loop-left.left - 1 = none_within c.args.transaction.now (c.loop-left.left - 1) c.in_default.ensures.value in
+    let end : length c.args.transaction.now ≤ c.loop-left.left - 1 =
+    none_within c.args.transaction.now (c.loop-left.left - 1) c.in_default.ensures.value in
     record {
       within = omega (arith, c.loop-left.invariant.within);
-      none = none_behind (in_chain c.args.sequence.now) (take c.args.end c.args.transaction.now) (c.loop-left.left - 1) (omega (arith, end, length-take c.args.end c.args.transaction.now));
+      none =
+          none_behind (in_chain c.args.sequence.now) (take c.args.end c.args.transaction.now) (c.loop-left.left - 1)
+          (omega (arith, end, length-take c.args.end c.args.transaction.now));
     }
 
 pub returns : goal.returns
-returns c = none_at_all (in_chain c.args.sequence.now) (take c.args.end c.args.transaction.now) c.loop-left.left (omega (arith, c.loop-left-test.false)) c.loop-left.invariant.none
+returns c =
+    none_at_all (in_chain c.args.sequence.now) (take c.args.end c.args.transaction.now) c.loop-left.left
+    (omega (arith, c.loop-left-test.false)) c.loop-left.invariant.none

@@ -9,4 +9,5 @@ pub returns : goal.returns
 returns c =
     let r = c.args.header.now in
     let header : is_header r ≡ true = sym c.is_header.ensures ∙ c.if-not-is_header.false in
-    ap not (c.is_spaces.ensures ∙ blank_composite r c.cell.result.now c.cell.ensures.value header c.cell.ensures.fits) ∙ and_true (is_header r) (not (is_blank "composite type" r)) header
+    ap not (c.is_spaces.ensures ∙ blank_composite r c.cell.result.now c.cell.ensures.value header c.cell.ensures.fits)
+    ∙ and_true (is_header r) (not (is_blank "composite type" r)) header

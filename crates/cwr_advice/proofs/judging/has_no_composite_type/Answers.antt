@@ -10,5 +10,6 @@ pub returns : goal.returns
 returns c =
     let header = sym c.is_header.ensures ∙ c.if-not-is_header.false in
     c.is_spaces.ensures
-    ∙ ap is_spaces (c.cell.ensures.value ∙ named_cell "composite type" c.args.header.now.kind 14 3 c.args.header.now (composite_of_header c.args.header.now header) refl c.cell.ensures.fits)
+    ∙ ap is_spaces (c.cell.ensures.value ∙ named_cell "composite type" c.args.header.now.kind 14 3 c.args.header.now
+    (composite_of_header c.args.header.now header) refl c.cell.ensures.fits)
     ∙ and_true (is_header c.args.header.now) (is_blank "composite type" c.args.header.now) header

@@ -10,5 +10,7 @@ pub returns : goal.returns
 returns c =
     let publisher = sym c.is_publisher.ensures ∙ c.if-not-is_publisher.false in
     c.eq.ensures
-    ∙ ap (λ (x : List ℕ). bytes_eq x c.args.sequence.now) (c.cell.ensures.value ∙ named_cell "publisher sequence" c.args.other.now.kind 4 2 c.args.other.now (sequence_of_publisher c.args.other.now publisher) refl c.cell.ensures.fits)
-    ∙ and_true (is_publisher c.args.other.now) (bytes_eq (cell_named "publisher sequence" c.args.other.now) c.args.sequence.now) publisher
+    ∙ ap (λ (x : List ℕ). bytes_eq x c.args.sequence.now) (c.cell.ensures.value ∙ named_cell "publisher sequence"
+    c.args.other.now.kind 4 2 c.args.other.now (sequence_of_publisher c.args.other.now publisher) refl c.cell.ensures.fits)
+    ∙ and_true (is_publisher c.args.other.now) (bytes_eq (cell_named "publisher sequence" c.args.other.now) c.args.sequence.now)
+    publisher

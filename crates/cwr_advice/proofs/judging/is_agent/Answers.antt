@@ -9,5 +9,6 @@ pub returns : goal.returns
 returns c =
     let publisher = sym c.is_publisher.ensures ∙ c.if-not-is_publisher.false in
     c.names_agent.ensures
-    ∙ ap names_agent (c.cell.ensures.value ∙ named_cell "publisher type" c.args.shown.now.kind 8 2 c.args.shown.now (type_of_publisher c.args.shown.now publisher) refl c.cell.ensures.fits)
+    ∙ ap names_agent (c.cell.ensures.value ∙ named_cell "publisher type" c.args.shown.now.kind 8 2 c.args.shown.now
+    (type_of_publisher c.args.shown.now publisher) refl c.cell.ensures.fits)
     ∙ and_true (is_publisher c.args.shown.now) (names_agent (cell_named "publisher type" c.args.shown.now)) publisher

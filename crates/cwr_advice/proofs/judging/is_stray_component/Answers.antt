@@ -9,5 +9,7 @@ use Rattle.cwr_advice.proofs.judging.is_stray_component.Goals as goal
 
 pub returns-in-Some : goal.returns-in-Some
 returns-in-Some c =
-    c.has_no_composite_type.ensures ∙ first_alone has_no_composite_type c.args.transaction.now c.in-Some.header c.in-Some.ensures.value
-    ∙ and_true (is_a kinds.Com c.args.shown.now) (list_any has_no_composite_type (take 1 c.args.transaction.now)) (sym c.is_of.ensures ∙ c.if-not-is_of.false)
+    c.has_no_composite_type.ensures
+    ∙ first_alone has_no_composite_type c.args.transaction.now c.in-Some.header c.in-Some.ensures.value
+    ∙ and_true (is_a kinds.Com c.args.shown.now) (list_any has_no_composite_type (take 1 c.args.transaction.now))
+    (sym c.is_of.ensures ∙ c.if-not-is_of.false)

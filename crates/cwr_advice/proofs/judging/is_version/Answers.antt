@@ -10,5 +10,6 @@ pub returns : goal.returns
 returns c =
     let r = c.args.header.now in
     let header : is_header r ≡ true = sym c.is_header.ensures ∙ c.if-not-is_header.false in
-    c.eq.ensures ∙ ap₂ bytes_eq (named_version r c.cell.result.now c.cell.ensures.value header c.cell.ensures.fits) c.as_slice.ensures
+    c.eq.ensures
+    ∙ ap₂ bytes_eq (named_version r c.cell.result.now c.cell.ensures.value header c.cell.ensures.fits) c.as_slice.ensures
     ∙ and_true (is_header r) (bytes_eq (cell_named "version type" r) (codes "MOD")) header

@@ -7,4 +7,5 @@ returns-then-not-is_publisher c = λ rs h. begun_still rs c.args.shown.now c.arg
 
 pub returns : goal.returns
 returns c = λ rs h.
-    begun_by rs c.args.shown.now c.cell.result.now c.chain_in.result (sym c.is_publisher.ensures ∙ c.if-not-is_publisher.false) c.cell.ensures.fits c.cell.ensures.value (some_is c.chain_in.result c.cell.result.now c.chain_in.ensures)
+    begun_by rs c.args.shown.now c.cell.result.now c.chain_in.result (sym c.is_publisher.ensures ∙ c.if-not-is_publisher.false)
+    c.cell.ensures.fits c.cell.ensures.value (some_is c.chain_in.result c.cell.result.now c.chain_in.ensures)

@@ -23,7 +23,13 @@ returns c =
     let territory = sym c.is_territory.ensures ∙ c.if-not-is_territory.false in
     let shares = c.collection_of.ensures in
     record {
-      performing = all_if (is_territory r) c.collection_of.result.performing (share_of "pr collection share" r) territory shares.performing;
-      mechanical = all_if (is_territory r) c.collection_of.result.mechanical (share_of "mr collection share" r) territory shares.mechanical;
-      synchronization = all_if (is_territory r) c.collection_of.result.synchronization (share_of "sr collection share" r) territory shares.synchronization;
+      performing =
+          all_if (is_territory r) c.collection_of.result.performing (share_of "pr collection share" r) territory
+          shares.performing;
+      mechanical =
+          all_if (is_territory r) c.collection_of.result.mechanical (share_of "mr collection share" r) territory
+          shares.mechanical;
+      synchronization =
+          all_if (is_territory r) c.collection_of.result.synchronization (share_of "sr collection share" r) territory
+          shares.synchronization;
     }

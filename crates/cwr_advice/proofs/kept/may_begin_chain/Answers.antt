@@ -13,4 +13,5 @@ returns-in-Some c = λ rs h no.
     let r = c.args.shown.now in
     let agent : is_agent r ≡ true = sym c.is_agent.ensures ∙ c.if-not-is_agent.false in
     let publisher = (and_parts (is_publisher r) (names_agent (cell_named "publisher type" r)) agent).0 in
-    chain_known rs r c.cell.result.now c.in-Some.chain.now publisher c.cell.ensures.fits c.cell.ensures.value (not-false _ (sym c.ne.ensures ∙ no)) (h c.in-Some.chain.now (sym c.in-Some.ensures))
+    chain_known rs r c.cell.result.now c.in-Some.chain.now publisher c.cell.ensures.fits c.cell.ensures.value
+    (not-false _ (sym c.ne.ensures ∙ no)) (h c.in-Some.chain.now (sym c.in-Some.ensures))

@@ -25,6 +25,7 @@ returns c =
     record {
       performing = all_if (is_owner r) c.shares_of.result.performing (share_of "pr share" r) owner shares.performing;
       mechanical = all_if (is_owner r) c.shares_of.result.mechanical (share_of "mr share" r) owner shares.mechanical;
-      synchronization = all_if (is_owner r) c.shares_of.result.synchronization (share_of "sr share" r) owner shares.synchronization;
+      synchronization =
+          all_if (is_owner r) c.shares_of.result.synchronization (share_of "sr share" r) owner shares.synchronization;
       small = shares.small;
     }

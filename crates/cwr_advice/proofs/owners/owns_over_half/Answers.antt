@@ -11,4 +11,5 @@ shares_of-requires c = publisher_owns c.args.shown.now (sym c.is_publisher.ensur
 pub returns : goal.returns
 returns c =
     let publisher : is_publisher c.args.shown.now ≡ true = sym c.is_publisher.ensures ∙ c.if-not-is_publisher.false in
-    ap (nat_lt 5006) c.shares_of.ensures.performing ∙ and_true (is_publisher c.args.shown.now) (nat_lt 5006 (share_of "pr share" c.args.shown.now)) publisher
+    ap (nat_lt 5006) c.shares_of.ensures.performing
+    ∙ and_true (is_publisher c.args.shown.now) (nat_lt 5006 (share_of "pr share" c.args.shown.now)) publisher

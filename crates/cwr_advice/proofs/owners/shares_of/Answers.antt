@@ -6,4 +6,5 @@ pub shares_from-requires-clause-there : goal.shares_from-requires-clause-there
 shares_from-requires-clause-there c = shares_of_publisher c.args.shown.now (sym c.is_publisher.ensures ∙ c.if-is_publisher.true)
 
 pub shares_from-requires-else-is_publisher-clause-there : goal.shares_from-requires-else-is_publisher-clause-there
-shares_from-requires-else-is_publisher-clause-there c = shares_of_other c.args.shown.now c.requires (sym c.is_publisher.ensures ∙ c.if-is_publisher.false)
+shares_from-requires-else-is_publisher-clause-there c =
+    shares_of_other c.args.shown.now c.requires (sym c.is_publisher.ensures ∙ c.if-is_publisher.false)

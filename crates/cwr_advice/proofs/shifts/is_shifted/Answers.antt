@@ -5,5 +5,6 @@ use Rattle.cwr_advice.proofs.shifts.is_shifted.Goals as goal
 
 pub returns-then-field-fields : goal.returns-then-field-fields
 returns-then-field-fields c =
-    let end : length (layout c.args.shown.now.kind) ≤ c.args.field = omega (arith, c.if-field-fields.true, c.fields.ensures, ap (λ k. length (layout k)) c.kind.ensures.value) in
+    let end : length (layout c.args.shown.now.kind) ≤ c.args.field =
+    omega (arith, c.if-field-fields.true, c.fields.ensures, ap (λ k. length (layout k)) c.kind.ensures.value) in
     sym (last_ends c.args.shown.now c.args.field end)

@@ -3,7 +3,11 @@ use Rattle.cwr_advice.proofs.TerritoryFields.{code_of_publisher, code_of_writer}
 use Rattle.cwr_advice.proofs.territory_cells.code_of.Goals as goal
 
 pub returns-then-is_of : goal.returns-then-is_of
-returns-then-is_of c = code_of_publisher c.args.shown.now c.cell.result.now c.cell.ensures.value (sym c.is_of.ensures ∙ c.if-is_of.true) c.cell.ensures.fits
+returns-then-is_of c =
+    code_of_publisher c.args.shown.now c.cell.result.now c.cell.ensures.value (sym c.is_of.ensures ∙ c.if-is_of.true)
+    c.cell.ensures.fits
 
 pub returns-else-is_of : goal.returns-else-is_of
-returns-else-is_of c = code_of_writer c.args.shown.now c.cell-else-is_of.result.now c.cell-else-is_of.ensures.value c.requires (sym c.is_of.ensures ∙ c.if-is_of.false) c.cell-else-is_of.ensures.fits
+returns-else-is_of c =
+    code_of_writer c.args.shown.now c.cell-else-is_of.result.now c.cell-else-is_of.ensures.value c.requires
+    (sym c.is_of.ensures ∙ c.if-is_of.false) c.cell-else-is_of.ensures.fits

@@ -4,4 +4,6 @@ use Rattle.cwr_advice.proofs.KeptInTurn.{kept}
 use Rattle.cwr_advice.proofs.walk.add_advice_at.Given as goal
 
 abbrev pub invariant-loop-asked : goal.invariant-loop-asked
-invariant-loop-asked l = l.found.items ≡ l.initial.found.items ++ kept (λ asked. breaks l.said asked.rule l.transaction l.sequence l.shown asked.field) (advice_of_asked l.sequence) (take l.asked-index l.asked-items)
+invariant-loop-asked l =
+    l.found.items ≡ l.initial.found.items ++ kept (λ asked. breaks l.said asked.rule l.transaction l.sequence l.shown asked.field)
+    (advice_of_asked l.sequence) (take l.asked-index l.asked-items)

@@ -7,4 +7,6 @@ use Rattle.cwr_advice.proofs.WriterRecords.{some_kept}
 use Rattle.cwr_advice.proofs.writers.writer_has.Given as goal
 
 abbrev pub invariant-loop-at : goal.invariant-loop-at
-invariant-loop-at l = list_any (is_a l.kind) (records_of_writer l.transaction l.sequence) ≡ some_kept (is_a l.kind) (λ r. not (is_writer r)) (drop l.at l.transaction)
+invariant-loop-at l =
+    list_any (is_a l.kind) (records_of_writer l.transaction l.sequence)
+    ≡ some_kept (is_a l.kind) (λ r. not (is_writer r)) (drop l.at l.transaction)

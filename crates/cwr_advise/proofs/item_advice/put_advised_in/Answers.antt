@@ -20,16 +20,23 @@ use Rattle.cwr_advise.proofs.item_advice.put_advised_in.Goals as goal
 pub returns-in_err-put_transaction_findings : goal.returns-in_err-put_transaction_findings
 returns-in_err-put_transaction_findings g c =
     let t = c.args.transaction.now in
-    subst (λ (r : Result (Unit {0}) ToolFault). PutsLines g.W.Target.contents g.W.Target.failures (has_advice t) (advised_transaction c.args.explained c.args.said c.args.group c.args.sequence c.args.first t) r c.args.sink.now c.put_transaction_findings.new.sink)
+    subst (λ (r : Result (Unit {0}) ToolFault). PutsLines g.W.Target.contents g.W.Target.failures (has_advice t)
+    (advised_transaction c.args.explained c.args.said c.args.group c.args.sequence c.args.first t) r c.args.sink.now
+    c.put_transaction_findings.new.sink)
     (sym (same_fault c.from_residual.result c.in_err-put_transaction_findings.field-0.0 c.from_residual.ensures.1))
-    (first_fault g.W.Target.contents g.W.Target.failures (has_findings (Transaction t)) (has_advice t) (transaction_lines c.args.explained c.args.group c.args.sequence c.args.first t)
-    (flat_map (noted_advice c.args.group c.args.sequence c.args.first t) (advice_of c.args.said t)) c.args.sink.now c.put_transaction_findings.new.sink c.in_err-put_transaction_findings.field-0.0
-    (found_first (length (findings t)) (length (advice_of (before_all_days Unsaid) t) + length (advice_of (before_all_days Utf8) t) + length (advice_of (before_all_days Other) t))) c.in_err-put_transaction_findings.ensures)
+    (first_fault g.W.Target.contents g.W.Target.failures (has_findings (Transaction t)) (has_advice t)
+    (transaction_lines c.args.explained c.args.group c.args.sequence c.args.first t)
+    (flat_map (noted_advice c.args.group c.args.sequence c.args.first t) (advice_of c.args.said t)) c.args.sink.now
+    c.put_transaction_findings.new.sink c.in_err-put_transaction_findings.field-0.0
+    (found_first (length (findings t)) (length (advice_of (before_all_days Unsaid) t) + length
+    (advice_of (before_all_days Utf8) t) + length
+    (advice_of (before_all_days Other) t))) c.in_err-put_transaction_findings.ensures)
 
 pub returns-in_default : goal.returns-in_default
 returns-in_default g c =
     let t = c.args.transaction.now in (
-      found_second (length (findings t)) (length (advice_of (before_all_days Unsaid) t) + length (advice_of (before_all_days Utf8) t) + length (advice_of (before_all_days Other) t))
+      found_second (length (findings t)) (length (advice_of (before_all_days Unsaid) t) + length
+          (advice_of (before_all_days Utf8) t) + length (advice_of (before_all_days Other) t))
           (said_some c.args.said t (some_there (advice_of c.args.said t) c.in_default.ensures.err)),
       refl,
     )
@@ -37,8 +44,13 @@ returns-in_default g c =
 pub returns : goal.returns
 returns g c =
     let t = c.args.transaction.now in
-    subst (λ (found : List Advice). PutsLines g.W.Target.contents g.W.Target.failures (has_advice t) (transaction_lines c.args.explained c.args.group c.args.sequence c.args.first t ++ flat_map (noted_advice c.args.group c.args.sequence c.args.first t) found) c.put_advice.result c.args.sink.now c.put_advice.new.sink)
+    subst (λ (found : List Advice). PutsLines g.W.Target.contents g.W.Target.failures (has_advice t) (transaction_lines
+    c.args.explained c.args.group c.args.sequence c.args.first t ++ flat_map
+    (noted_advice c.args.group c.args.sequence c.args.first t)
+    found) c.put_advice.result c.args.sink.now c.put_advice.new.sink)
     (c.as_slice.ensures.value ∙ c.in-Ok.ensures.ok)
-    (then_put g.W.Target.contents g.W.Target.failures (has_findings (Transaction t)) (has_advice t) (transaction_lines c.args.explained c.args.group c.args.sequence c.args.first t)
-    (flat_map (noted_advice c.args.group c.args.sequence c.args.first t) c.as_slice.result.now) c.args.sink.now c.put_transaction_findings.new.sink c.put_advice.new.sink tt c.put_advice.result
+    (then_put g.W.Target.contents g.W.Target.failures (has_findings (Transaction t)) (has_advice t)
+    (transaction_lines c.args.explained c.args.group c.args.sequence c.args.first t)
+    (flat_map (noted_advice c.args.group c.args.sequence c.args.first t) c.as_slice.result.now) c.args.sink.now
+    c.put_transaction_findings.new.sink c.put_advice.new.sink tt c.put_advice.result
     c.in_ok-put_transaction_findings.ensures c.put_advice.ensures)

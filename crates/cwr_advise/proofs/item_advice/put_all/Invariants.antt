@@ -10,7 +10,8 @@ invariant-loop-advice g l = record {
   unfailed : has_failed l.sink ≡ false;
   counts : g.W.Target.failures (writer_of l.sink) ≡ g.W.Target.failures (writer_of l.initial.sink);
   written : (start : Option (List ℕ)) (before : List ℕ) → HasWritten g.W.Target.contents start before l.initial.sink
-      → HasWritten g.W.Target.contents start (before ++ flat_map (noted_advice l.group l.sequence l.first l.transaction) (take l.i l.found)) l.sink;
+      → HasWritten g.W.Target.contents start
+      (before ++ flat_map (noted_advice l.group l.sequence l.first l.transaction) (take l.i l.found)) l.sink;
 }
 
 abbrev pub decreases-loop-advice : goal.decreases-loop-advice

@@ -5,16 +5,29 @@ use Rattle.cwr_advise.proofs.Begun.{begun_lines}
 use Rattle.cwr_advise.proofs.running.advise.Goals as goal
 
 pub write_report-writer-requires : goal.write_report-writer-requires
-write_report-writer-requires g c = (lines_of_advice c.args.repeated, begun_lines c.new-lines.result true false c.args.repeated c.new-lines.ensures.explained c.new-lines.ensures.up_to_fault c.new-lines.ensures.repeated c.new-lines.ensures.before c.new-lines.ensures.works)
+write_report-writer-requires g c = (
+  lines_of_advice c.args.repeated,
+  begun_lines c.new-lines.result true false c.args.repeated c.new-lines.ensures.explained
+      c.new-lines.ensures.up_to_fault c.new-lines.ensures.repeated c.new-lines.ensures.before c.new-lines.ensures.works,
+)
 
 pub returns-clause-reported : goal.returns-clause-reported
-returns-clause-reported g c = c.write_report-writer.ensures.reported (lines_of_advice c.args.repeated) (begun_lines c.new-lines.result true false c.args.repeated c.new-lines.ensures.explained c.new-lines.ensures.up_to_fault c.new-lines.ensures.repeated c.new-lines.ensures.before c.new-lines.ensures.works)
+returns-clause-reported g c =
+    c.write_report-writer.ensures.reported (lines_of_advice c.args.repeated) (begun_lines c.new-lines.result true false
+    c.args.repeated c.new-lines.ensures.explained c.new-lines.ensures.up_to_fault c.new-lines.ensures.repeated
+    c.new-lines.ensures.before c.new-lines.ensures.works)
 
 pub returns-clause-judged : goal.returns-clause-judged
-returns-clause-judged g c = judged_text (lines_of_advice c.args.repeated) c.args.limits _ _ g.W.Target.contents c.args.writer c.write_report-writer.result.0 c.write_report-writer.result.1 (returns-clause-reported g c)
+returns-clause-judged g c =
+    judged_text (lines_of_advice c.args.repeated) c.args.limits _ _ g.W.Target.contents c.args.writer
+    c.write_report-writer.result.0 c.write_report-writer.result.1 (returns-clause-reported g c)
 
 pub returns-clause-accepted : goal.returns-clause-accepted
-returns-clause-accepted g c = accepted_reports (lines_of_advice c.args.repeated) c.args.limits _ _ g.W.Target.contents c.args.writer c.write_report-writer.result.0 c.write_report-writer.result.1 (returns-clause-reported g c)
+returns-clause-accepted g c =
+    accepted_reports (lines_of_advice c.args.repeated) c.args.limits _ _ g.W.Target.contents c.args.writer
+    c.write_report-writer.result.0 c.write_report-writer.result.1 (returns-clause-reported g c)
 
 pub returns-clause-canonical : goal.returns-clause-canonical
-returns-clause-canonical g c = canonical_reports (lines_of_advice c.args.repeated) c.args.limits _ _ g.W.Target.contents c.args.writer c.write_report-writer.result.0 c.write_report-writer.result.1 (returns-clause-reported g c)
+returns-clause-canonical g c =
+    canonical_reports (lines_of_advice c.args.repeated) c.args.limits _ _ g.W.Target.contents c.args.writer
+    c.write_report-writer.result.0 c.write_report-writer.result.1 (returns-clause-reported g c)

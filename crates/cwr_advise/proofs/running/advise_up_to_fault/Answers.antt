@@ -5,16 +5,27 @@ use Rattle.cwr_advise.proofs.Begun.{begun_lines, said_after}
 use Rattle.cwr_advise.proofs.running.advise_up_to_fault.Goals as goal
 
 pub write_report-writer-requires : goal.write_report-writer-requires
-write_report-writer-requires g c = (lines_advised c.args.explained true 0, begun_lines c.new-lines.result c.args.explained true 0 c.new-lines.ensures.explained c.new-lines.ensures.up_to_fault c.new-lines.ensures.repeated c.new-lines.ensures.before c.new-lines.ensures.works)
+write_report-writer-requires g c = (
+  lines_advised c.args.explained true 0,
+  begun_lines c.new-lines.result c.args.explained true 0 c.new-lines.ensures.explained
+      c.new-lines.ensures.up_to_fault c.new-lines.ensures.repeated c.new-lines.ensures.before c.new-lines.ensures.works,
+)
 
 pub returns-clause-reported : goal.returns-clause-reported
-returns-clause-reported g c = c.write_report-writer.ensures.reported (lines_advised c.args.explained true 0) (begun_lines c.new-lines.result c.args.explained true 0 c.new-lines.ensures.explained c.new-lines.ensures.up_to_fault c.new-lines.ensures.repeated c.new-lines.ensures.before c.new-lines.ensures.works)
+returns-clause-reported g c =
+    c.write_report-writer.ensures.reported (lines_advised c.args.explained true 0) (begun_lines c.new-lines.result
+    c.args.explained true 0 c.new-lines.ensures.explained c.new-lines.ensures.up_to_fault c.new-lines.ensures.repeated
+    c.new-lines.ensures.before c.new-lines.ensures.works)
 
 pub returns-clause-judged : goal.returns-clause-judged
-returns-clause-judged g c = judged_text (lines_advised c.args.explained true 0) c.args.limits _ _ g.W.Target.contents c.args.writer c.write_report-writer.result.0 c.write_report-writer.result.1 (returns-clause-reported g c)
+returns-clause-judged g c =
+    judged_text (lines_advised c.args.explained true 0) c.args.limits _ _ g.W.Target.contents c.args.writer
+    c.write_report-writer.result.0 c.write_report-writer.result.1 (returns-clause-reported g c)
 
 pub returns-clause-said : goal.returns-clause-said
 returns-clause-said g c =
     said_after c.write_report-writer.result.1 c.args.limits _ _ _ _
     (λ given stands. c.said-said.ensures given stands.1)
-    (c.write_report-writer.ensures.stands (lines_advised c.args.explained true 0) (begun_lines c.new-lines.result c.args.explained true 0 c.new-lines.ensures.explained c.new-lines.ensures.up_to_fault c.new-lines.ensures.repeated c.new-lines.ensures.before c.new-lines.ensures.works))
+    (c.write_report-writer.ensures.stands (lines_advised c.args.explained true 0) (begun_lines c.new-lines.result c.args.explained
+    true 0 c.new-lines.ensures.explained c.new-lines.ensures.up_to_fault c.new-lines.ensures.repeated
+    c.new-lines.ensures.before c.new-lines.ensures.works))

@@ -4,7 +4,8 @@ use Rattle.cwr_c.proofs.listing.list_items.Given as goal
 
 abbrev pub invariant-items : goal.invariant-items
 invariant-items g l = record {
-  listing : IsListing l.fn.limits l.reading.decoder (g.R.Source.remaining l.fn.reader) (g.R.Source.remaining l.reading.reader.now) l.numbers l.fn.entries l.entries l.at;
+  listing : IsListing l.fn.limits l.reading.decoder (g.R.Source.remaining l.fn.reader) (g.R.Source.remaining l.reading.reader.now)
+      l.numbers l.fn.entries l.entries l.at;
   same : l.reading.reader.ghost_name ≡ l.initial.reading.reader.ghost_name;
 }
 

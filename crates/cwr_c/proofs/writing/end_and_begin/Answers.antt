@@ -6,5 +6,6 @@ use Rattle.cwr_c.proofs.writing.end_and_begin.Goals as goal
 
 pub returns : goal.returns
 returns g c =
-    begins_after g.W.Target.contents (c.args.value.now ∷ []) c.args.held.now c.args.encoder.now c.put_whole.new.encoder c.begin.result c.in_ok-put_whole.ensures
+    begins_after g.W.Target.contents (c.args.value.now ∷ []) c.args.held.now c.args.encoder.now c.put_whole.new.encoder
+    c.begin.result c.in_ok-put_whole.ensures
     (subst (λ (r : RecordValue). IfOk c.begin.result (λ left. left ≡ r ∷ [])) c.view.ensures.value c.begin.ensures)

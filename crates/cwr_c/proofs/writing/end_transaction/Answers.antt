@@ -6,4 +6,6 @@ use Rattle.cwr_c.proofs.writing.end_transaction.Goals as goal
 
 pub returns-in-Some : goal.returns-in-Some
 returns-in-Some g c =
-    subst (λ (o : Option (List RecordValue)). OnOk c.put_whole.result (GoesOn g.W.Target.contents (held_records o) c.args.encoder.now c.put_whole.new.encoder)) (sym c.in-Some.is) c.put_whole.ensures
+    subst (λ (o : Option (List RecordValue)). OnOk c.put_whole.result
+    (GoesOn g.W.Target.contents (held_records o) c.args.encoder.now c.put_whole.new.encoder)) (sym
+    c.in-Some.is) c.put_whole.ensures

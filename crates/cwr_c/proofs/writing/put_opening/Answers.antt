@@ -4,4 +4,6 @@ use Rattle.cwr_c.proofs.WrittenRecords.{added}
 use Rattle.cwr_c.proofs.writing.put_opening.Goals as goal
 
 pub returns : goal.returns
-returns g c = on_ok_weaker c.encoded.result (added g.W.Target.contents g.W.Target.failures (c.args.value.now ∷ []) c.open.result c.args.encoder.now c.open.new.self c.open.ensures.adds c.open.ensures.limits) c.encoded.ensures
+returns g c =
+    on_ok_weaker c.encoded.result (added g.W.Target.contents g.W.Target.failures (c.args.value.now ∷ []) c.open.result
+    c.args.encoder.now c.open.new.self c.open.ensures.adds c.open.ensures.limits) c.encoded.ensures

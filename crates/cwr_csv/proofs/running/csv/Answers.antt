@@ -7,13 +7,20 @@ pub write_report-writer-requires : goal.write_report-writer-requires
 write_report-writer-requires g c = (lines_of_table c.args.table, ap lines_of_table (sym c.new-rows.ensures))
 
 pub returns-clause-reported : goal.returns-clause-reported
-returns-clause-reported g c = c.write_report-writer.ensures.reported (lines_of_table c.args.table) (ap lines_of_table (sym c.new-rows.ensures))
+returns-clause-reported g c =
+    c.write_report-writer.ensures.reported (lines_of_table c.args.table) (ap lines_of_table (sym c.new-rows.ensures))
 
 pub returns-clause-judged : goal.returns-clause-judged
-returns-clause-judged g c = judged_text (lines_of_table c.args.table) c.args.limits _ _ g.W.Target.contents c.args.writer c.write_report-writer.result.0 c.write_report-writer.result.1 (returns-clause-reported g c)
+returns-clause-judged g c =
+    judged_text (lines_of_table c.args.table) c.args.limits _ _ g.W.Target.contents c.args.writer c.write_report-writer.result.0
+    c.write_report-writer.result.1 (returns-clause-reported g c)
 
 pub returns-clause-accepted : goal.returns-clause-accepted
-returns-clause-accepted g c = accepted_reports (lines_of_table c.args.table) c.args.limits _ _ g.W.Target.contents c.args.writer c.write_report-writer.result.0 c.write_report-writer.result.1 (returns-clause-reported g c)
+returns-clause-accepted g c =
+    accepted_reports (lines_of_table c.args.table) c.args.limits _ _ g.W.Target.contents c.args.writer
+    c.write_report-writer.result.0 c.write_report-writer.result.1 (returns-clause-reported g c)
 
 pub returns-clause-canonical : goal.returns-clause-canonical
-returns-clause-canonical g c = canonical_reports (lines_of_table c.args.table) c.args.limits _ _ g.W.Target.contents c.args.writer c.write_report-writer.result.0 c.write_report-writer.result.1 (returns-clause-reported g c)
+returns-clause-canonical g c =
+    canonical_reports (lines_of_table c.args.table) c.args.limits _ _ g.W.Target.contents c.args.writer
+    c.write_report-writer.result.0 c.write_report-writer.result.1 (returns-clause-reported g c)

@@ -7,7 +7,8 @@ use Rattle.cwr_decode.specs.Format.Entries.{EndsWith}
 use Rattle.cwr_decode.specs.Format.Headline.{HasEnd}
 use Rattle.cwr_decode.proofs.endings.end_of.Goals as goal
 
-has_end : (limits : LimitValues) (text : List ℕ) (records : List RecordValue) (end : End) → EndsWith limits text records end → HasEnd limits text end
+has_end : (limits : LimitValues) (text : List ℕ) (records : List RecordValue) (end : End) → EndsWith limits text records end
+    → HasEnd limits text end
 has_end limits text records (ends.Accepted used) e = (e.0, e.1)
 has_end limits text records (ends.Refused refusal) e = e.0
 has_end limits text records (ends.Truncated count) e = e.0

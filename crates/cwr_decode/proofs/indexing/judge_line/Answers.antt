@@ -10,7 +10,9 @@ pub returns-in-Ok-clause-ok : goal.returns-in-Ok-clause-ok
 returns-in-Ok-clause-ok c = λ xs s. record {
   symbol = c.in-Ok.symbol;
   accepted = c.in-Ok.field-0-1;
-  next = subst (λ (h : HeldLine). IsNext c.args.tally.now.limits xs h c.in-Ok.symbol c.in-Ok.field-0-1) c.cut-cut.ensures (c.in-Ok.ensures.ok xs s);
+  next =
+      subst (λ (h : HeldLine). IsNext c.args.tally.now.limits xs h c.in-Ok.symbol c.in-Ok.field-0-1) c.cut-cut.ensures
+      (c.in-Ok.ensures.ok xs s);
   limits = c.step.ensures.limits;
   stands = c.step.ensures.stands xs s;
   trailer = c.is_trailer.ensures;
@@ -19,7 +21,11 @@ returns-in-Ok-clause-ok c = λ xs s. record {
 pub returns-in-Err-clause-err : goal.returns-in-Err-clause-err
 returns-in-Err-clause-err c = λ xs s. record {
   none = subst (λ (h : HeldLine). IsOfNone c.args.tally.now.limits xs h) c.cut-cut.ensures (c.in-Err.ensures.err xs s);
-  first = subst (λ (h : HeldLine). IsFirstFault c.args.tally.now.limits xs h c.in-Err.fault.field c.in-Err.fault.reason) c.cut-cut.ensures (c.in-Err.ensures.first xs s);
+  first =
+      subst (λ (h : HeldLine). IsFirstFault c.args.tally.now.limits xs h c.in-Err.fault.field c.in-Err.fault.reason)
+      c.cut-cut.ensures (c.in-Err.ensures.first xs s);
   number = ap (λ (n : ℕ). n + 1) (c.records.ensures.counted xs s);
-  level = c.level.ensures ∙ ap₂ (λ (k : Option Kind) (p : Scope). level_of k c.in-Err.fault.field c.in-Err.fault.reason p) (c.kind.ensures ∙ ap held_kind c.cut-cut.ensures) (c.scope.ensures xs s);
+  level =
+      c.level.ensures ∙ ap₂ (λ (k : Option Kind) (p : Scope). level_of k c.in-Err.fault.field c.in-Err.fault.reason p)
+      (c.kind.ensures ∙ ap held_kind c.cut-cut.ensures) (c.scope.ensures xs s);
 }

@@ -7,4 +7,6 @@ use Rattle.cwr_decode.proofs.indexing.take_line.Goals as goal
 
 pub returns-in-None-clause-some : goal.returns-in-None-clause-some
 returns-in-None-clause-some c =
-    subst (λ (t : TallyValue). (xs : List Symbol) → IsTallyOf t xs → IfOk c.take_slowly.result (λ found. IfSome found (λ got. TakesLine t xs c.args.text.now got c.take_slowly.new.tally))) (c.in-None.ensures.none refl) c.take_slowly.ensures.some
+    subst (λ (t : TallyValue). (xs : List Symbol) → IsTallyOf t xs → IfOk c.take_slowly.result
+    (λ found. IfSome found (λ got. TakesLine t xs c.args.text.now got c.take_slowly.new.tally))) (c.in-None.ensures.none
+    refl) c.take_slowly.ensures.some

@@ -13,7 +13,8 @@ use Rattle.cwr_judge.specs.Format.FormerEnds.{IsAcceptedIn}
 use Rattle.cwr_decode.proofs.laws.accepted_in_former_orders.Goals as goal
 
 accepted : (order : Order) → ((ty : TransactionType) (xs : List Symbol) → order ty xs → IsShape ty xs)
-    → (limits : Limits) (text : List ℕ) (v : TransmissionValue) (n : ℕ) → IsAcceptedIn order limits text v n → IsAccepted limits text v n
+    → (limits : Limits) (text : List ℕ) (v : TransmissionValue) (n : ℕ) → IsAcceptedIn order limits text v n
+    → IsAccepted limits text v n
 accepted order kept limits text v n h = record {
   whole = transmission_kept order kept v h.whole;
   within = h.within;

@@ -13,4 +13,5 @@ where_fails (Err e) P Q p f = f p
 pub returns-in-Some-clause-asks : goal.returns-in-Some-clause-asks
 returns-in-Some-clause-asks c =
     where_fails c.unless_misplaced.result _ _ c.unless_misplaced.ensures.memory
-    (λ e. subst (λ (held : Option (List RecordValue)). AsksMemory (held_list held) c.args.accepted) (sym c.in-Some.is) (c.push.ensures.memory e))
+    (λ e. subst (λ (held : Option (List RecordValue)). AsksMemory (held_list held) c.args.accepted) (sym c.in-Some.is)
+    (c.push.ensures.memory e))

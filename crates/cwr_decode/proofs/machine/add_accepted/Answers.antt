@@ -5,4 +5,5 @@ use Rattle.cwr_decode.proofs.machine.add_accepted.Goals as goal
 pub add-requires : goal.add-requires
 add-requires c =
     let now = c.kind.ensures.value in
-    c.requires (inside_unless c.args.accepted.kind (λ e. c.in_default.not-Hdr (now ∙ e)) (λ e. c.in_default.not-Grh (now ∙ e)) (λ e. c.in_default.not-Grt (now ∙ e)) (λ e. c.in_default.not-Trl (now ∙ e)))
+    c.requires (inside_unless c.args.accepted.kind (λ e. c.in_default.not-Hdr (now ∙ e)) (λ e. c.in_default.not-Grh (now ∙ e))
+    (λ e. c.in_default.not-Grt (now ∙ e)) (λ e. c.in_default.not-Trl (now ∙ e)))

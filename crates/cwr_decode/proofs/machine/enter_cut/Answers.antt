@@ -14,21 +14,28 @@ known_record-requires c =
 
 pub returns-then-not-stays_open : goal.returns-then-not-stays_open
 returns-then-not-stays_open c = λ state finished.
-    let d : Standing = record { line = c.args.cut.now; tally = c.args.tally.now; held = c.args.held.now; state = state; finished = finished } in
+    let d : Standing =
+    record { line = c.args.cut.now; tally = c.args.tally.now; held = c.args.held.now; state = state; finished = finished } in
     let q = c.count_quickly.ensures.counted c.if-not-count_quickly.false in
-    waits_now d c.count_quickly.new.tally c.args.cut.now q.symbol q.accepted c.stays_open.result c.in-Some-held.transaction (Some c.in-Some-held.transaction) None refl
+    waits_now d c.count_quickly.new.tally c.args.cut.now q.symbol q.accepted c.stays_open.result c.in-Some-held.transaction
+    (Some c.in-Some-held.transaction) None refl
     (q.carried, q.in_order, q.excess) q.next q.limits q.stands
     (λ xs st. c.stays_open.ensures xs q.symbol st (q.stands xs st))
-    (subst (λ (b : Bool). HandsOut b c.args.held.now (Some c.in-Some-held.transaction) None) (sym c.if-not-stays_open.true) (sym c.in-Some-held.is, refl)) refl
+    (subst (λ (b : Bool). HandsOut b c.args.held.now (Some c.in-Some-held.transaction) None) (sym c.if-not-stays_open.true)
+    (sym c.in-Some-held.is, refl)) refl
 
 pub returns : goal.returns
 returns c = λ state finished.
-    let d : Standing = record { line = c.args.cut.now; tally = c.args.tally.now; held = c.args.held.now; state = state; finished = finished } in
+    let d : Standing =
+    record { line = c.args.cut.now; tally = c.args.tally.now; held = c.args.held.now; state = state; finished = finished } in
     let q = c.count_quickly.ensures.counted c.if-not-count_quickly.false in
-    let e : q.accepted ≡ c.known_record.result = same_record c.args.cut.now q.accepted c.known_record.result q.carried c.known_record.ensures in
+    let e : q.accepted ≡ c.known_record.result =
+    same_record c.args.cut.now q.accepted c.known_record.result q.carried c.known_record.ensures in
     added_now d c.count_quickly.new.tally c.args.cut.now q.symbol q.accepted c.stays_open.result c.in-Some-held.transaction
     (reading (with_tally d c.count_quickly.new.tally) (Some c.adds_known.new.transaction)) refl
-    (subst (λ (q : Option Kind). IsSomeAnd q (λ kind. is_in_transaction kind ≡ true)) (sym c.in-Some.is ∙ c.kind.ensures) (sym c.is_in_transaction.ensures ∙ c.if-not-is_in_transaction.false))
+    (subst (λ (q : Option Kind). IsSomeAnd q (λ kind. is_in_transaction kind ≡ true)) (sym c.in-Some.is ∙ c.kind.ensures)
+    (sym c.is_in_transaction.ensures ∙ c.if-not-is_in_transaction.false))
     (q.carried, q.in_order, q.excess) q.next q.limits q.stands
     (λ xs st. c.stays_open.ensures xs q.symbol st (q.stands xs st)) c.if-not-stays_open.false c.in-Some-held.is
-    (ap (λ (xs : List RecordValue). reading (with_tally d c.count_quickly.new.tally) (Some xs)) (c.adds_known.ensures.added c.if-not-adds_known.false ∙ ap (λ (r : RecordValue). c.in-Some-held.transaction ++ r ∷ []) (sym e)))
+    (ap (λ (xs : List RecordValue). reading (with_tally d c.count_quickly.new.tally) (Some xs)) (c.adds_known.ensures.added
+    c.if-not-adds_known.false ∙ ap (λ (r : RecordValue). c.in-Some-held.transaction ++ r ∷ []) (sym e)))

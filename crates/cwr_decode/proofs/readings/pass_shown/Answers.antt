@@ -5,12 +5,16 @@ use Rattle.cwr_decode.proofs.PassedOver.{passes_nothing, passes_shown}
 use Rattle.cwr_decode.proofs.readings.pass_shown.Goals as goal
 
 pub returns-then-not-is_settled-clause-passes : goal.returns-then-not-is_settled-clause-passes
-returns-then-not-is_settled-clause-passes g c = passes_nothing _ c.args.decoder.now _ _ c.nothing.result c.nothing.ensures (c.is_settled.ensures.kept c.if-not-is_settled.true)
+returns-then-not-is_settled-clause-passes g c =
+    passes_nothing _ c.args.decoder.now _ _ c.nothing.result c.nothing.ensures
+    (c.is_settled.ensures.kept c.if-not-is_settled.true)
 
 pub returns-in-Err-clause-passes : goal.returns-in-Err-clause-passes
 returns-in-Err-clause-passes g c =
-    let on = c.is_settled.ensures.continues c.if-not-is_settled.false in
-    (reads_after 0 _ _ _ _ _ _ _ (on _) (reads_failed c.is_settled.new.self _ _ (on None).reading c.fill.follows.holds-at-none.0), (on None).live)
+    let on = c.is_settled.ensures.continues c.if-not-is_settled.false in (
+      reads_after 0 _ _ _ _ _ _ _ (on _) (reads_failed c.is_settled.new.self _ _ (on None).reading c.fill.follows.holds-at-none.0),
+      (on None).live,
+    )
 
 pub pass-passed-requires-clause-reading : goal.pass-passed-requires-clause-reading
 pass-passed-requires-clause-reading g c = (c.is_settled.ensures.continues c.if-not-is_settled.false None).reading
@@ -21,12 +25,16 @@ pass-passed-requires-clause-fresh g c = (c.is_settled.ensures.continues c.if-not
 pub returns-clause-passes : goal.returns-clause-passes
 returns-clause-passes g c =
     let on = c.is_settled.ensures.continues c.if-not-is_settled.false in
-    passes_shown _ c.args.decoder.now c.is_settled.new.self c.pass-passed.new.self _ _ c.in-Ok.piece.now c.pass-passed.result (on _) c.pass-passed.ensures
-    (consumes_taken _ _ _ c.in-Ok.piece.now c.pass-passed.result.used c.fill.follows.holds-at-none.0 c.in-Ok.ensures.front c.pass-passed.ensures.within c.consume.ensures.bytes)
+    passes_shown _ c.args.decoder.now c.is_settled.new.self c.pass-passed.new.self _ _ c.in-Ok.piece.now c.pass-passed.result
+    (on _) c.pass-passed.ensures
+    (consumes_taken _ _ _ c.in-Ok.piece.now c.pass-passed.result.used c.fill.follows.holds-at-none.0 c.in-Ok.ensures.front
+    c.pass-passed.ensures.within c.consume.ensures.bytes)
 
 pub returns-clause-last : goal.returns-clause-last
 returns-clause-last g c = record {
   bytes = take c.pass-passed.result.used c.in-Ok.piece.now;
-  consumed = consumes_taken _ _ _ c.in-Ok.piece.now c.pass-passed.result.used c.fill.follows.holds-at-none.0 c.in-Ok.ensures.front c.pass-passed.ensures.within c.consume.ensures.bytes;
+  consumed =
+      consumes_taken _ _ _ c.in-Ok.piece.now c.pass-passed.result.used c.fill.follows.holds-at-none.0 c.in-Ok.ensures.front
+      c.pass-passed.ensures.within c.consume.ensures.bytes;
   held = c.keep_last.ensures;
 }

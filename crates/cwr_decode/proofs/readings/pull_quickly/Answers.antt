@@ -19,10 +19,16 @@ returns-in-Some-clause-reads g c =
     let out : Outcome = outcomes.Item (items.Transaction c.in-Some.whole) in
     let way = c.feed_quickly-used.ensures.under_way in
     let f : Feeds c.args.decoder.now c.in-Ok.piece.now c.feed_quickly-used.result.0 out c.feed_quickly-used.new.self =
-    subst (λ (o : Option (List RecordValue)). IfSome o (λ whole. Feeds c.args.decoder.now c.in-Ok.piece.now c.feed_quickly-used.result.0 (outcomes.Item (items.Transaction whole)) c.feed_quickly-used.new.self)) c.in-Some.is c.feed_quickly-used.ensures.some in
-    reads_fed c.args.decoder.now c.feed_quickly-used.new.self _ _ c.in-Ok.piece.now c.feed_quickly-used.result.0 out _ refl way c.requires.fresh c.in-Ok.ensures.front f.within
-    (consumes_taken _ _ _ c.in-Ok.piece.now c.feed_quickly-used.result.0 c.fill.follows.holds-at-none.0 c.in-Ok.ensures.front f.within c.consume.ensures.bytes)
-    f.stands f.right f.leaves (f.empties way.input way.given way.stands) (subst (λ (s : State). IfSome (again s) (λ o. out ≡ o)) (sym c.requires.reading) tt) (λ is. absurd (cc is)) f.finished f.limits
+    subst (λ (o : Option (List RecordValue)). IfSome o (λ whole. Feeds c.args.decoder.now c.in-Ok.piece.now
+    c.feed_quickly-used.result.0 (outcomes.Item (items.Transaction whole))
+    c.feed_quickly-used.new.self)) c.in-Some.is c.feed_quickly-used.ensures.some in
+    reads_fed c.args.decoder.now c.feed_quickly-used.new.self _ _ c.in-Ok.piece.now c.feed_quickly-used.result.0 out _ refl way
+    c.requires.fresh c.in-Ok.ensures.front f.within
+    (consumes_taken _ _ _ c.in-Ok.piece.now c.feed_quickly-used.result.0 c.fill.follows.holds-at-none.0 c.in-Ok.ensures.front
+    f.within c.consume.ensures.bytes)
+    f.stands f.right f.leaves (f.empties way.input way.given way.stands)
+    (subst (λ (s : State). IfSome (again s) (λ o. out ≡ o)) (sym c.requires.reading) tt) (λ is. absurd (cc is)) f.finished
+    f.limits
 
 pub returns-in-None-clause-reads : goal.returns-in-None-clause-reads
 returns-in-None-clause-reads g c =
@@ -31,7 +37,9 @@ returns-in-None-clause-reads g c =
     record {
       bytes = take c.feed_quickly-used.result.0 c.in-Ok.piece.now;
       count = omega arith;
-      consumed = consumes_taken _ _ _ c.in-Ok.piece.now c.feed_quickly-used.result.0 c.fill.follows.holds-at-none.0 c.in-Ok.ensures.front f.within c.consume.ensures.bytes;
+      consumed =
+          consumes_taken _ _ _ c.in-Ok.piece.now c.feed_quickly-used.result.0 c.fill.follows.holds-at-none.0 c.in-Ok.ensures.front
+          f.within c.consume.ensures.bytes;
       stands = f.stands;
       live = f.live;
       reading = f.reading;
@@ -42,11 +50,16 @@ returns-in-None-clause-reads g c =
 
 pub returns-in-Some-clause-last : goal.returns-in-Some-clause-last
 returns-in-Some-clause-last g c =
-    let f : Feeds c.args.decoder.now c.in-Ok.piece.now c.feed_quickly-used.result.0 (outcomes.Item (items.Transaction c.in-Some.whole)) c.feed_quickly-used.new.self =
-    subst (λ (o : Option (List RecordValue)). IfSome o (λ whole. Feeds c.args.decoder.now c.in-Ok.piece.now c.feed_quickly-used.result.0 (outcomes.Item (items.Transaction whole)) c.feed_quickly-used.new.self)) c.in-Some.is c.feed_quickly-used.ensures.some in
+    let f : Feeds c.args.decoder.now c.in-Ok.piece.now c.feed_quickly-used.result.0
+    (outcomes.Item (items.Transaction c.in-Some.whole)) c.feed_quickly-used.new.self =
+    subst (λ (o : Option (List RecordValue)). IfSome o (λ whole. Feeds c.args.decoder.now c.in-Ok.piece.now
+    c.feed_quickly-used.result.0 (outcomes.Item (items.Transaction whole))
+    c.feed_quickly-used.new.self)) c.in-Some.is c.feed_quickly-used.ensures.some in
     record {
       bytes = take c.feed_quickly-used.result.0 c.in-Ok.piece.now;
-      consumed = consumes_taken _ _ _ c.in-Ok.piece.now c.feed_quickly-used.result.0 c.fill.follows.holds-at-none.0 c.in-Ok.ensures.front f.within c.consume.ensures.bytes;
+      consumed =
+          consumes_taken _ _ _ c.in-Ok.piece.now c.feed_quickly-used.result.0 c.fill.follows.holds-at-none.0 c.in-Ok.ensures.front
+          f.within c.consume.ensures.bytes;
       held = c.keep_last.ensures;
     }
 
@@ -55,6 +68,8 @@ returns-in-None-clause-last g c =
     let f = c.feed_quickly-used.ensures.none (subst (λ (o : Option (List RecordValue)). IsNone o) (sym c.in-None.is) refl) in
     record {
       bytes = take c.feed_quickly-used.result.0 c.in-Ok.piece.now;
-      consumed = consumes_taken _ _ _ c.in-Ok.piece.now c.feed_quickly-used.result.0 c.fill.follows.holds-at-none.0 c.in-Ok.ensures.front f.within c.consume.ensures.bytes;
+      consumed =
+          consumes_taken _ _ _ c.in-Ok.piece.now c.feed_quickly-used.result.0 c.fill.follows.holds-at-none.0 c.in-Ok.ensures.front
+          f.within c.consume.ensures.bytes;
       held = c.keep_last.ensures;
     }

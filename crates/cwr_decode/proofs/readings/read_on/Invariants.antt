@@ -6,7 +6,8 @@ use Rattle.cwr_decode.specs.Steps.Represents.{RepresentsSome}
 use Rattle.cwr_decode.proofs.readings.read_on.Given as goal
 
 abbrev pub invariant-loop-reported : goal.invariant-loop-reported
-invariant-loop-reported g l = FeedsOn l.pieces l.initial.decoder (g.R.Source.remaining l.initial.reader) l.decoder (g.R.Source.remaining l.reader)
+invariant-loop-reported g l =
+    FeedsOn l.pieces l.initial.decoder (g.R.Source.remaining l.initial.reader) l.decoder (g.R.Source.remaining l.reader)
     × (g.R.Source.failures l.reader ≡ g.R.Source.failures l.initial.reader)
     × ((l.decoder ≡ l.initial.decoder) ⊎ RepresentsSome l.initial.decoder)
     × ReadsLast (g.R.Source.remaining l.initial.reader) (g.R.Source.remaining l.reader) l.initial.last l.last

@@ -19,7 +19,8 @@ pub add_group-requires : goal.add_group-requires
 add_group-requires c =
     let here : into_iter_items c.groups.items ≡ GroupOpened c.in-GroupOpened.head ∷ into_iter_items c.next-in-groups.new.self
     = c.in-Some-next.ensures.items ∙ ap (λ (x : Item). x ∷ into_iter_items c.next-in-groups.new.self) c.in-GroupOpened.is in
-    (group_ends c.in-GroupOpened.head (into_iter_items c.next-in-groups.new.self) c.in_ok-group-in-GroupOpened.group (into_iter_items c.collect_group.new.items)
+    (group_ends c.in-GroupOpened.head (into_iter_items c.next-in-groups.new.self) c.in_ok-group-in-GroupOpened.group
+    (into_iter_items c.collect_group.new.items)
     (subst AreGroups here c.groups.invariant.left) c.in_ok-group-in-GroupOpened.ensures.items).0
 
 pub groups-preserved : goal.groups-preserved
@@ -29,12 +30,18 @@ groups-preserved c =
     let group = c.in_ok-group-in-GroupOpened.group in
     let rest : List Item = into_iter_items c.collect_group.new.items in
     let whole : into_iter_items c.groups.items ≡ GroupOpened group.head ∷ (group_rest group ++ rest)
-    = here ∙ ap (λ (r : RecordValue). GroupOpened r ∷ into_iter_items c.next-in-groups.new.self) (sym c.in_ok-group-in-GroupOpened.ensures.head)
+    = here ∙ ap (λ (r : RecordValue). GroupOpened r ∷ into_iter_items c.next-in-groups.new.self)
+    (sym c.in_ok-group-in-GroupOpened.ensures.head)
     ∙ ap (λ (l : List Item). GroupOpened group.head ∷ l) c.in_ok-group-in-GroupOpened.ensures.items in
     let pushed = c.in_ok-add_group-in-GroupOpened.ensures in
     record {
-      left = (group_ends c.in-GroupOpened.head (into_iter_items c.next-in-groups.new.self) group rest (subst AreGroups here c.groups.invariant.left) c.in_ok-group-in-GroupOpened.ensures.items).1;
-      taken = c.groups.invariant.taken ∙ ap (λ (l : List Item). Opened c.groups.transmission.opening ∷ (flat_map group_items c.groups.transmission.groups ++ l)) whole
+      left =
+          (group_ends c.in-GroupOpened.head (into_iter_items c.next-in-groups.new.self) group rest
+          (subst AreGroups here c.groups.invariant.left) c.in_ok-group-in-GroupOpened.ensures.items).1;
+      taken =
+          c.groups.invariant.taken ∙ ap
+          (λ (l : List Item). Opened c.groups.transmission.opening ∷ (flat_map group_items c.groups.transmission.groups ++ l))
+          whole
           ∙ ap (λ (l : List Item). Opened c.groups.transmission.opening ∷ l) (more_groups c.groups.transmission.groups group rest)
           ∙ ap (λ (t : TransmissionValue). Opened t.opening ∷ (flat_map group_items t.groups ++ rest)) (sym pushed);
     }
@@ -44,8 +51,12 @@ returns-in-Ended c =
     let here : into_iter_items c.groups.items ≡ Ended ∷ into_iter_items c.next-in-groups.new.self
     = c.in-Some-next.ensures.items ∙ ap (λ (x : Item). x ∷ into_iter_items c.next-in-groups.new.self) c.in-Ended.is in
     let none = groups_end (into_iter_items c.next-in-groups.new.self) (subst AreGroups here c.groups.invariant.left) in
-    c.groups.invariant.taken ∙ ap (λ (l : List Item). Opened c.groups.transmission.opening ∷ (flat_map group_items c.groups.transmission.groups ++ l)) (here ∙ ap (λ (l : List Item). Ended ∷ l) none)
+    c.groups.invariant.taken ∙ ap
+    (λ (l : List Item). Opened c.groups.transmission.opening ∷ (flat_map group_items c.groups.transmission.groups ++ l))
+    (here ∙ ap (λ (l : List Item). Ended ∷ l) none)
 
 pub unreachable-requires-in_default-item : goal.unreachable-requires-in_default-item
 unreachable-requires-in_default-item c =
-    next_group c.in-Some-next.item (into_iter_items c.next-in-groups.new.self) (subst AreGroups c.in-Some-next.ensures.items c.groups.invariant.left) c.in_default-item.not-GroupOpened c.in_default-item.not-Ended
+    next_group c.in-Some-next.item (into_iter_items c.next-in-groups.new.self)
+    (subst AreGroups c.in-Some-next.ensures.items c.groups.invariant.left) c.in_default-item.not-GroupOpened
+    c.in_default-item.not-Ended

@@ -9,7 +9,8 @@ use Rattle.cwr_decode.proofs.whole.collect.Given as goal
 abbrev pub invariant-groups : goal.invariant-groups
 invariant-groups l = record {
   left : AreGroups (into_iter_items l.items);
-  taken : l.fn.items.items ≡ Opened l.transmission.opening ∷ (flat_map group_items l.transmission.groups ++ into_iter_items l.items);
+  taken : l.fn.items.items
+      ≡ Opened l.transmission.opening ∷ (flat_map group_items l.transmission.groups ++ into_iter_items l.items);
 }
 
 abbrev pub decreases-groups : goal.decreases-groups

@@ -4,7 +4,8 @@ use Rattle.cwr_decode.proofs.whole.read_items.Given as goal
 
 abbrev pub invariant-items : goal.invariant-items
 invariant-items g l = record {
-  reading : IsReadingOn l.fn.limits l.reading.decoder (g.R.Source.remaining l.fn.reader) (g.R.Source.remaining l.reading.reader.now) l.items.items;
+  reading : IsReadingOn l.fn.limits l.reading.decoder (g.R.Source.remaining l.fn.reader)
+      (g.R.Source.remaining l.reading.reader.now) l.items.items;
   failures : g.R.Source.failures l.reading.reader.now ≡ g.R.Source.failures l.fn.reader;
   same : l.reading.reader.ghost_name ≡ l.initial.reading.reader.ghost_name;
 }

@@ -6,4 +6,8 @@ pub returns-in_err-follow_piece-clause-taken : goal.returns-in_err-follow_piece-
 returns-in_err-follow_piece-clause-taken g c = takes_both _ _ _ c.loop.invariant.0 c.in_err-follow_piece.ensures.err
 
 pub loop-preserved : goal.loop-preserved
-loop-preserved g c = (takes_both _ _ _ c.loop.invariant.0 c.in_ok-follow_piece.ensures.ok, c.in_ok-follow_piece.ensures.failures ∙ c.loop.invariant.1)
+loop-preserved g c = (
+  takes_both _ _ _ c.loop.invariant.0 c.in_ok-follow_piece.ensures.ok,
+  c.in_ok-follow_piece.ensures.failures
+      ∙ c.loop.invariant.1,
+)

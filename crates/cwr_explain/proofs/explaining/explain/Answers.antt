@@ -9,12 +9,16 @@ use Rattle.cwr_explain.proofs.explaining.explain.Goals as goal
 
 pub returns-in-Err-clause-explains : goal.returns-in-Err-clause-explains
 returns-in-Err-clause-explains g c =
-    explains_after c.args.limits _ _ _ g.W.Target.contents c.args.writer c.check_explained-writer.result.0 c.check_explained-writer.result.0 c.check_explained-writer.result.1 (Err c.in-Err.fault)
+    explains_after c.args.limits _ _ _ g.W.Target.contents c.args.writer c.check_explained-writer.result.0
+    c.check_explained-writer.result.0 c.check_explained-writer.result.1 (Err c.in-Err.fault)
     c.check_explained-writer.ensures.reported (no_words g.W.Target.contents c.check_explained-writer.result.0) (no_more _)
     (subst (λ (r : Result Verdict ToolFault). IsAnswerAfter r (Err c.in-Err.fault)) (sym c.in-Err.is) refl)
 
 pub returns-in-Some-clause-found : goal.returns-in-Some-clause-found
 returns-in-Some-clause-found g c =
-    finds_after c.args.limits _ _ _ g.W.Target.contents c.args.writer c.check_explained-writer.result.0 c.in-Ok.verdict c.add_explanation.result.1 c.add_explanation.result.2
-    (subst (λ (r : Result Verdict ToolFault). IfOk r (JudgesAccepted lines_of_explained c.args.limits (g.R.Source.remaining c.args.reader.now) (g.R.Source.remaining c.check_explained-writer.new.reader) g.W.Target.contents c.args.writer c.check_explained-writer.result.0)) c.in-Ok.is c.check_explained-writer.ensures.accepted)
+    finds_after c.args.limits _ _ _ g.W.Target.contents c.args.writer c.check_explained-writer.result.0 c.in-Ok.verdict
+    c.add_explanation.result.1 c.add_explanation.result.2
+    (subst (λ (r : Result Verdict ToolFault). IfOk r (JudgesAccepted lines_of_explained c.args.limits
+    (g.R.Source.remaining c.args.reader.now) (g.R.Source.remaining c.check_explained-writer.new.reader) g.W.Target.contents
+    c.args.writer c.check_explained-writer.result.0)) c.in-Ok.is c.check_explained-writer.ensures.accepted)
     c.add_explanation.ensures.found

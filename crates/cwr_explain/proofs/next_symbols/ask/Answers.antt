@@ -10,7 +10,9 @@ returns-in_ok-push-clause-ok c = λ asked h.
     (one_comes c.args.stage asked c.args.found.now.items c.args.symbol c.may_come.result h c.may_come.ensures c.if-may_come.true)
 
 pub returns-else-may_come-clause-ok : goal.returns-else-may_come-clause-ok
-returns-else-may_come-clause-ok c = λ asked h. one_stays c.args.stage asked c.args.found.now.items c.args.symbol c.may_come.result h c.may_come.ensures c.if-may_come.false
+returns-else-may_come-clause-ok c =
+    λ asked h. one_stays c.args.stage asked c.args.found.now.items c.args.symbol c.may_come.result h c.may_come.ensures
+    c.if-may_come.false
 
 pub returns-in_err-push-clause-err : goal.returns-in_err-push-clause-err
 returns-in_err-push-clause-err c =

@@ -10,7 +10,9 @@ loop-at-preserved c =
     record {
       within = before.within;
       near = omega (arith, c.loop-at-test.true);
-      found = ap₂ (λ (a b : Bool). a || b) before.found c.has_control_in_lanes-found.ensures ∙ one_block is_control c.loop-at.at 32 c.args.text.now;
+      found =
+          ap₂ (λ (a b : Bool). a || b) before.found c.has_control_in_lanes-found.ensures
+          ∙ one_block is_control c.loop-at.at 32 c.args.text.now;
     }
 
 pub returns : goal.returns

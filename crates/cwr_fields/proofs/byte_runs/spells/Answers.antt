@@ -3,8 +3,11 @@ use Rattle.cwr_fields.proofs.DigitsFromTheEnd.{spells-front, spells-wrong, spell
 use Rattle.cwr_fields.proofs.byte_runs.spells.Goals as goal
 
 pub returns-then-last-rest : goal.returns-then-last-rest
-returns-then-last-rest c =
-    (λ t. absurd (true≢false (sym t)), λ e. absurd (spells-wrong c.loop-text.text.now _ c.loop-text.rest c.in-len1-up.len_at_least refl c.if-last-rest.true (c.loop-text.invariant.1 e)))
+returns-then-last-rest c = (
+  λ t. absurd (true≢false (sym t)),
+  λ e. absurd (spells-wrong c.loop-text.text.now _ c.loop-text.rest c.in-len1-up.len_at_least
+      refl c.if-last-rest.true (c.loop-text.invariant.1 e)),
+)
 
 pub loop-text-preserved : goal.loop-text-preserved
 loop-text-preserved c =

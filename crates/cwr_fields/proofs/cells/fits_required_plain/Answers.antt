@@ -6,5 +6,6 @@ use Rattle.cwr_fields.proofs.cells.fits_required_plain.Goals as goal
 
 pub returns-then-is_spaces-clause-err : goal.returns-then-is_spaces-clause-err
 returns-then-is_spaces-clause-err c =
-    let plain : is_plain c.args.cell.now ≡ not (has_control c.args.cell.now) = plain_unless_control c.args.cell.now (λ k. omega (arith, c.type_inv.cell k)) in
+    let plain : is_plain c.args.cell.now ≡ not (has_control c.args.cell.now) =
+    plain_unless_control c.args.cell.now (λ k. omega (arith, c.type_inv.cell k)) in
     grind (arith, common_steps, plain)

@@ -4,12 +4,14 @@ use Rattle.cwr_fields.proofs.coded.member_of.Goals as goal
 
 pub returns-then-is_filled : goal.returns-then-is_filled
 returns-then-is_filled g c =
-    sym (c.loop-member.invariant ∙ found_at c.args.list.now c.args.cell.now c.loop-member.member-index c.loop-member-item.result c.loop-member-test.true c.loop-member-item.is (c.is_filled.ensures.0 c.if-is_filled.true))
+    sym (c.loop-member.invariant ∙ found_at c.args.list.now c.args.cell.now c.loop-member.member-index c.loop-member-item.result
+    c.loop-member-test.true c.loop-member-item.is (c.is_filled.ensures.0 c.if-is_filled.true))
 
 pub loop-member-preserved : goal.loop-member-preserved
 loop-member-preserved g c =
     c.loop-member.invariant
-    ∙ passed_at c.args.list.now c.args.cell.now c.loop-member.member-index c.loop-member-item.result c.loop-member-test.true c.loop-member-item.is
+    ∙ passed_at c.args.list.now c.args.cell.now c.loop-member.member-index c.loop-member-item.result c.loop-member-test.true
+    c.loop-member-item.is
     (λ e. true≢false (sym (c.is_filled.ensures.1 e) ∙ c.if-is_filled.false))
 
 pub returns : goal.returns

@@ -9,8 +9,23 @@ whatever_fails (Err e) P p = p
 pub returns-clause-asks : goal.returns-clause-asks
 returns-clause-asks g c =
     let room = c.requires.room in
-    let count : length c.args.list.now.items ≡ vec_len c.args.list.now = ap length (sym c.as_slice-len.ensures.value) ∙ c.as_slice-len.ensures.len in
+    let count : length c.args.list.now.items ≡ vec_len c.args.list.now =
+    ap length (sym c.as_slice-len.ensures.value) ∙ c.as_slice-len.ensures.len in
     whatever_fails c.grow.result _ (λ some. (
       c.args.room,
-      (room.power (omega (arith, some, count, room.holds)), (room.enough (omega (arith, some, count, room.holds)), (omega (arith, count, room.holds), omega (arith, count, room.holds, c.as_slice-len.ensures.len, c.if-more-room.false)))),
+      (
+        room.power (omega (
+          arith,
+          some,
+          count,
+          room.holds,
+        )),
+        (
+          room.enough (omega (arith, some, count, room.holds)),
+          (
+            omega (arith, count, room.holds),
+            omega (arith, count, room.holds, c.as_slice-len.ensures.len, c.if-more-room.false),
+          ),
+        ),
+      ),
     ))

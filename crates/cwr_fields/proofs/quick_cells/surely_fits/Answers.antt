@@ -13,7 +13,9 @@ pub is_blank_or_fits-requires-clause-blank : goal.is_blank_or_fits-requires-clau
 is_blank_or_fits-requires-clause-blank c = blank_holds 8 c.args.cell.now (c.requires.width 8 (ap type_width c.in-OptDate.is))
 
 pub is_blank_or_fits-requires-in-OptTime-clause-blank : goal.is_blank_or_fits-requires-in-OptTime-clause-blank
-is_blank_or_fits-requires-in-OptTime-clause-blank c = blank_holds 6 c.args.cell.now (c.requires.width 6 (ap type_width c.in-OptTime.is))
+is_blank_or_fits-requires-in-OptTime-clause-blank c =
+    blank_holds 6 c.args.cell.now (c.requires.width 6 (ap type_width c.in-OptTime.is))
 
 pub is_blank_or_fits-requires-in-OptDuration-clause-blank : goal.is_blank_or_fits-requires-in-OptDuration-clause-blank
-is_blank_or_fits-requires-in-OptDuration-clause-blank c = blank_holds 6 c.args.cell.now (c.requires.width 6 (ap type_width c.in-OptDuration.is))
+is_blank_or_fits-requires-in-OptDuration-clause-blank c =
+    blank_holds 6 c.args.cell.now (c.requires.width 6 (ap type_width c.in-OptDuration.is))

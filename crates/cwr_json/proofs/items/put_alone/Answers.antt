@@ -5,4 +5,5 @@ use Rattle.cwr_json.proofs.items.put_alone.Goals as goal
 
 pub returns-clause-puts : goal.returns-clause-puts
 returns-clause-puts g c =
-    puts_as g.W.Target.contents g.W.Target.failures _ _ _ _ _ (c.set_listed.ensures ∙ sym (append-nil (listed_text c.args.encoding 0 c.args.shown.now))) c.put_text.ensures.puts
+    puts_as g.W.Target.contents g.W.Target.failures _ _ _ _ _
+    (c.set_listed.ensures ∙ sym (append-nil (listed_text c.args.encoding 0 c.args.shown.now))) c.put_text.ensures.puts

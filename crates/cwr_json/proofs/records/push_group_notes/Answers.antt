@@ -8,5 +8,6 @@ pub returns-in-Transaction-clause-value : goal.returns-in-Transaction-clause-val
 returns-in-Transaction-clause-value c =
     let first : List ℕ = note_text (codes "\"_group\":") c.args.notes.now.group in
     let second : List ℕ = note_text (codes "\"_transaction\":") c.args.notes.now.transaction in
-    c.push_note-in-Transaction.ensures.value ∙ ap (λ (l : List ℕ). l ++ second) c.push_note.ensures.value ∙ append_assoc c.args.text.now.items first second
+    c.push_note-in-Transaction.ensures.value ∙ ap (λ (l : List ℕ). l ++ second) c.push_note.ensures.value
+    ∙ append_assoc c.args.text.now.items first second
     ∙ ap (λ (item : Item). c.args.text.now.items ++ group_notes_text c.args.notes.now item) (sym c.in-Transaction.is)

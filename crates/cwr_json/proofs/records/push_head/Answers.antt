@@ -9,5 +9,6 @@ returns-clause-value c =
     let opening : List ℕ = codes "{\"record_type\":\"" in
     let named : List ℕ = letters c.args.kind in
     c.push-3.ensures.value ∙ ap (λ (l : List ℕ). l ++ codes "\"")
-    (c.push-2.ensures.value ∙ ap (λ (l : List ℕ). l ++ c.letters.result.now) c.push.ensures.value ∙ ap (λ (l : List ℕ). (before ++ opening) ++ l) c.letters.ensures ∙ append_assoc before opening named)
+    (c.push-2.ensures.value ∙ ap (λ (l : List ℕ). l ++ c.letters.result.now) c.push.ensures.value
+    ∙ ap (λ (l : List ℕ). (before ++ opening) ++ l) c.letters.ensures ∙ append_assoc before opening named)
     ∙ append_assoc before (opening ++ named) (codes "\"")

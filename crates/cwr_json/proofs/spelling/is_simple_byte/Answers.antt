@@ -9,4 +9,5 @@ returns c h =
     let p = and_parts _ _ h in
     let q = and_parts _ _ p.0 in
     let r = and_parts _ _ q.0 in
-    simple_byte c.args.b (leb-true 32 c.args.b r.0) (ltb-true c.args.b 128 r.1) (eqb-false c.args.b 34 (not-true (nat_eq c.args.b 34) q.1)) (eqb-false c.args.b 92 (not-true (nat_eq c.args.b 92) p.1))
+    simple_byte c.args.b (leb-true 32 c.args.b r.0) (ltb-true c.args.b 128 r.1)
+    (eqb-false c.args.b 34 (not-true (nat_eq c.args.b 34) q.1)) (eqb-false c.args.b 92 (not-true (nat_eq c.args.b 92) p.1))

@@ -3,7 +3,11 @@ use Rattle.cwr_json.proofs.Spelled.{spelled_high, spelled_low}
 use Rattle.cwr_json.proofs.spelling.push_byte.Goals as goal
 
 pub returns-then-b-lt128-clause-value : goal.returns-then-b-lt128-clause-value
-returns-then-b-lt128-clause-value c = c.push_escaped.ensures.value ∙ ap (λ (l : List ℕ). c.args.text.now.items ++ l) (sym (spelled_low c.args.encoding c.args.b c.if-b-lt128.true))
+returns-then-b-lt128-clause-value c =
+    c.push_escaped.ensures.value
+    ∙ ap (λ (l : List ℕ). c.args.text.now.items ++ l) (sym (spelled_low c.args.encoding c.args.b c.if-b-lt128.true))
 
 pub returns-else-b-lt128-clause-value : goal.returns-else-b-lt128-clause-value
-returns-else-b-lt128-clause-value c = c.push_high.ensures.value ∙ ap (λ (l : List ℕ). c.args.text.now.items ++ l) (sym (spelled_high c.args.encoding c.args.b c.if-b-lt128.false))
+returns-else-b-lt128-clause-value c =
+    c.push_high.ensures.value
+    ∙ ap (λ (l : List ℕ). c.args.text.now.items ++ l) (sym (spelled_high c.args.encoding c.args.b c.if-b-lt128.false))

@@ -9,4 +9,5 @@ returns-then-b-eq92-clause-value c =
 
 pub returns-else-b-eq92-clause-value : goal.returns-else-b-eq92-clause-value
 returns-else-b-eq92-clause-value c =
-    c.push-else-b-eq92.ensures.value ∙ ap (λ (l : List ℕ). c.args.text.now.items ++ l) (sym (escaped_same c.args.b c.requires.high c.if-b-eq92.false.0 c.if-b-eq92.false.1))
+    c.push-else-b-eq92.ensures.value ∙ ap (λ (l : List ℕ). c.args.text.now.items ++ l)
+    (sym (escaped_same c.args.b c.requires.high c.if-b-eq92.false.0 c.if-b-eq92.false.1))

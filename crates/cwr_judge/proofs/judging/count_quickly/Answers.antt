@@ -6,7 +6,8 @@ use Rattle.cwr_judge.proofs.NumberCells.{known_of}
 use Rattle.cwr_judge.proofs.judging.count_quickly.Goals as goal
 
 pub surely_has_numbers-requires : goal.surely_has_numbers-requires
-surely_has_numbers-requires c = known_of c.args.line.now c.in-Some.record c.in-Some.ensures.value ∙ ap Some (sym c.kind.ensures.value)
+surely_has_numbers-requires c =
+    known_of c.args.line.now c.in-Some.record c.in-Some.ensures.value ∙ ap Some (sym c.kind.ensures.value)
 
 pub returns-clause-counted : goal.returns-clause-counted
 returns-clause-counted c = λ yes.
@@ -22,7 +23,9 @@ returns-clause-counted c = λ yes.
         in_order = c.kind.ensures.fits;
         symbol = sym c.symbol_of-symbol.ensures;
         may_come = c.admit.ensures.may_come yes xs st;
-        numbers = subst (λ (k : Kind). HasNumbers xs c.args.line.now k) c.kind.ensures.value (c.surely_has_numbers.ensures xs st c.if-not-surely_has_numbers.false);
+        numbers =
+            subst (λ (k : Kind). HasNumbers xs c.args.line.now k) c.kind.ensures.value
+            (c.surely_has_numbers.ensures xs st c.if-not-surely_has_numbers.false);
         excess = excess;
       };
       limits = c.admit.ensures.limits;

@@ -5,4 +5,5 @@ use Rattle.cwr_judge.specs.Steps.Judged.{IsGoodAt}
 use Rattle.cwr_judge.proofs.judging.first_fault.Given as goal
 
 abbrev pub invariant-loop-j : goal.invariant-loop-j
-invariant-loop-j l = (xs : List Symbol) → IsTallyOf l.tally xs → (i : ℕ) → 2 ≤ i → i < l.j → IsGoodAt l.tally.limits xs l.line l.kind i
+invariant-loop-j l =
+    (xs : List Symbol) → IsTallyOf l.tally xs → (i : ℕ) → 2 ≤ i → i < l.j → IsGoodAt l.tally.limits xs l.line l.kind i

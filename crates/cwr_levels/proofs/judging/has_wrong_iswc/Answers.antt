@@ -15,9 +15,13 @@ returns-in-Nwr c = λ t k. c.is_wrong_iswc.ensures ∙ ap (λ (x : List ℕ). no
     ]
 
 pub returns-in-Ewt : goal.returns-in-Ewt
-returns-in-Ewt c = λ t k. c.is_wrong_iswc-in-Ewt.ensures ∙ ap (λ (x : List ℕ). not (is_spaces x) && not (is_iswc x)) c.cell-in-Ewt.ensures.value
+returns-in-Ewt c =
+    λ t k. c.is_wrong_iswc-in-Ewt.ensures ∙ ap (λ (x : List ℕ). not (is_spaces x) && not (is_iswc x)) c.cell-in-Ewt.ensures.value
     ∙ elim c.in-Ewt.is [
-      | inl e ↦ wrong_iswc kinds.Ewt 5 c.args.shown.now t k iswc_of_ewt refl (sym c.kind.ensures.value ∙ e) c.cell-in-Ewt.ensures.fits
-      | inr (inl e) ↦ wrong_iswc kinds.Ver 5 c.args.shown.now t k iswc_of_ver refl (sym c.kind.ensures.value ∙ e) c.cell-in-Ewt.ensures.fits
-      | inr (inr e) ↦ wrong_iswc kinds.Com 5 c.args.shown.now t k iswc_of_com refl (sym c.kind.ensures.value ∙ e) c.cell-in-Ewt.ensures.fits
+      | inl e ↦ wrong_iswc kinds.Ewt 5 c.args.shown.now t k iswc_of_ewt refl (sym c.kind.ensures.value ∙ e)
+          c.cell-in-Ewt.ensures.fits
+      | inr (inl e) ↦ wrong_iswc kinds.Ver 5 c.args.shown.now t k iswc_of_ver refl (sym c.kind.ensures.value ∙ e)
+          c.cell-in-Ewt.ensures.fits
+      | inr (inr e) ↦ wrong_iswc kinds.Com 5 c.args.shown.now t k iswc_of_com refl (sym c.kind.ensures.value ∙ e)
+          c.cell-in-Ewt.ensures.fits
     ]

@@ -6,10 +6,14 @@ use Rattle.cwr_levels.proofs.judging.names_another_party.Goals as goal
 
 pub returns-in-Spt : goal.returns-in-Spt
 returns-in-Spt c = λ t k work h.
-    ap not (c.is_number.ensures ∙ ap (λ (x : List ℕ). is_number x (option_map (λ cell. cell.now) c.args.before.now.publisher)) c.cell.ensures.value)
-    ∙ other_publisher c.args.shown.now t k (option_map (λ cell. cell.now) c.args.before.now.publisher) work (sym c.kind.ensures.value ∙ c.in-Spt.is) c.cell.ensures.fits h.publisher
+    ap not (c.is_number.ensures
+    ∙ ap (λ (x : List ℕ). is_number x (option_map (λ cell. cell.now) c.args.before.now.publisher)) c.cell.ensures.value)
+    ∙ other_publisher c.args.shown.now t k (option_map (λ cell. cell.now) c.args.before.now.publisher) work
+    (sym c.kind.ensures.value ∙ c.in-Spt.is) c.cell.ensures.fits h.publisher
 
 pub returns-in-Swt : goal.returns-in-Swt
 returns-in-Swt c = λ t k work h.
-    ap not (c.is_number-in-Swt.ensures ∙ ap (λ (x : List ℕ). is_number x (option_map (λ cell. cell.now) c.args.before.now.writer)) c.cell-in-Swt.ensures.value)
-    ∙ other_writer c.args.shown.now t k (option_map (λ cell. cell.now) c.args.before.now.writer) work (sym c.kind.ensures.value ∙ c.in-Swt.is) c.cell-in-Swt.ensures.fits h.writer
+    ap not (c.is_number-in-Swt.ensures
+    ∙ ap (λ (x : List ℕ). is_number x (option_map (λ cell. cell.now) c.args.before.now.writer)) c.cell-in-Swt.ensures.value)
+    ∙ other_writer c.args.shown.now t k (option_map (λ cell. cell.now) c.args.before.now.writer) work
+    (sym c.kind.ensures.value ∙ c.in-Swt.is) c.cell-in-Swt.ensures.fits h.writer

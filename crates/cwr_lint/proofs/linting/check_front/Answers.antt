@@ -8,11 +8,17 @@ use Rattle.cwr_lint.proofs.linting.check_front.Goals as goal
 
 pub returns-in-true-clause-said : goal.returns-in-true-clause-said
 returns-in-true-clause-said g c =
-    subst (λ (b : Bool). IfOk c.advise_up_to_fault-writer.result.1 (StandsAfter (λ given. Some c.advise_up_to_fault-writer.result.3 ≡ said_when b (said_in given)) c.args.limits (g.R.Source.remaining c.args.reader.now) (g.R.Source.remaining c.advise_up_to_fault-writer.new.reader)))
+    subst (λ (b : Bool). IfOk c.advise_up_to_fault-writer.result.1 (StandsAfter
+    (λ given. Some c.advise_up_to_fault-writer.result.3 ≡ said_when b (said_in given)) c.args.limits
+    (g.R.Source.remaining c.args.reader.now) (g.R.Source.remaining c.advise_up_to_fault-writer.new.reader)))
     (sym c.in-true.is)
-    (something_said_when c.advise_up_to_fault-writer.result.1 c.args.limits (g.R.Source.remaining c.args.reader.now) (g.R.Source.remaining c.advise_up_to_fault-writer.new.reader) c.advise_up_to_fault-writer.result.3 c.advise_up_to_fault-writer.ensures.said)
+    (something_said_when c.advise_up_to_fault-writer.result.1 c.args.limits (g.R.Source.remaining c.args.reader.now)
+    (g.R.Source.remaining c.advise_up_to_fault-writer.new.reader) c.advise_up_to_fault-writer.result.3
+    c.advise_up_to_fault-writer.ensures.said)
 
 pub returns-in-false-clause-reported : goal.returns-in-false-clause-reported
 returns-in-false-clause-reported g c =
-    subst (λ (b : Bool). Reports (lines_before_fault b c.args.explained) c.args.limits (g.R.Source.remaining c.args.reader.now) (g.R.Source.remaining c.check_up_to_fault-writer.new.reader) g.W.Target.contents c.args.writer c.check_up_to_fault-writer.result.0 c.check_up_to_fault-writer.result.1)
+    subst (λ (b : Bool). Reports (lines_before_fault b c.args.explained) c.args.limits (g.R.Source.remaining c.args.reader.now)
+    (g.R.Source.remaining c.check_up_to_fault-writer.new.reader) g.W.Target.contents c.args.writer
+    c.check_up_to_fault-writer.result.0 c.check_up_to_fault-writer.result.1)
     (sym c.in-false.is) c.check_up_to_fault-writer.ensures.reported

@@ -5,44 +5,99 @@ use Rattle.cwr_tools.specs.declared.verdicts.Verdict.TheVariants.{Refused}
 use Rattle.cwr_tools.specs.Format.Verdicts.{JudgesText}
 use Rattle.cwr_lint.specs.Format.Wanted.{wanting}
 use Rattle.cwr_lint.specs.Steps.Runs.{asking_of}
-use Rattle.cwr_lint.proofs.Tells.{IsUnrefused, accepted_after, accepted_at, faults_at, hears, known_ok, lints_at, read_last, refused_at, unrefused_at}
+use Rattle.cwr_lint.proofs.Tells.{IsUnrefused, accepted_after, accepted_at, faults_at, hears, known_ok, lints_at, read_last}
+use Rattle.cwr_lint.proofs.Tells.{refused_at, unrefused_at}
 use Rattle.cwr_lint.proofs.linting.lint.Goals as goal
 
 pub returns-in-Err-clause-lints : goal.returns-in-Err-clause-lints
-returns-in-Err-clause-lints g c = lints_at (wanting c.is_some.result c.args.advised) (wanting (is_some c.args.name) c.args.advised) c.args.limits (g.R.Source.remaining c.args.reader.now) (g.R.Source.remaining c.check_front-writer.new.reader) g.W.Target.contents c.args.writer c.check_front-writer.result.0 c.check_front-writer.result.1 (Err c.in-Err.fault) (ap (λ (b : Bool). wanting b c.args.advised) c.is_some.ensures) c.check_front-writer.ensures.reported c.in-Err.is
+returns-in-Err-clause-lints g c =
+    lints_at (wanting c.is_some.result c.args.advised) (wanting (is_some c.args.name) c.args.advised) c.args.limits
+    (g.R.Source.remaining c.args.reader.now) (g.R.Source.remaining c.check_front-writer.new.reader) g.W.Target.contents
+    c.args.writer c.check_front-writer.result.0 c.check_front-writer.result.1 (Err c.in-Err.fault)
+    (ap (λ (b : Bool). wanting b c.args.advised) c.is_some.ensures) c.check_front-writer.ensures.reported c.in-Err.is
 
 pub returns-in-Some-clause-lints : goal.returns-in-Some-clause-lints
-returns-in-Some-clause-lints g c = faults_at (wanting c.is_some.result c.args.advised) (wanting (is_some c.args.name) c.args.advised) c.args.limits (g.R.Source.remaining c.args.reader.now) (g.R.Source.remaining c.check_front-writer.new.reader) (g.R.Source.remaining c.tell_faults.new.reader) g.W.Target.contents c.args.writer c.check_front-writer.result.0 c.tell_faults.result.0 c.in-Refused.refusal c.check_front-writer.result.1 c.tell_faults.result.1
-    (ap (λ (b : Bool). wanting b c.args.advised) c.is_some.ensures) c.check_front-writer.ensures.reported (known_ok c.check_front-writer.result.1 c.in-Ok.verdict (Refused c.in-Refused.refusal) c.in-Ok.is c.in-Refused.is) c.tell_faults.ensures.words c.tell_faults.ensures.taken c.tell_faults.ensures.answered
+returns-in-Some-clause-lints g c =
+    faults_at (wanting c.is_some.result c.args.advised) (wanting (is_some c.args.name) c.args.advised) c.args.limits
+    (g.R.Source.remaining c.args.reader.now) (g.R.Source.remaining c.check_front-writer.new.reader)
+    (g.R.Source.remaining c.tell_faults.new.reader) g.W.Target.contents c.args.writer c.check_front-writer.result.0
+    c.tell_faults.result.0 c.in-Refused.refusal c.check_front-writer.result.1 c.tell_faults.result.1
+    (ap (λ (b : Bool). wanting b c.args.advised) c.is_some.ensures) c.check_front-writer.ensures.reported
+    (known_ok c.check_front-writer.result.1 c.in-Ok.verdict (Refused c.in-Refused.refusal) c.in-Ok.is c.in-Refused.is)
+    c.tell_faults.ensures.words c.tell_faults.ensures.taken c.tell_faults.ensures.answered
 
 pub returns-in-Some-clause-tells : goal.returns-in-Some-clause-tells
-returns-in-Some-clause-tells g c = refused_at (wanting c.is_some.result c.args.advised) (wanting (is_some c.args.name) c.args.advised) c.args.limits (g.R.Source.remaining c.args.reader.now) (g.R.Source.remaining c.check_front-writer.new.reader) (g.R.Source.remaining c.tell_faults.new.reader) g.W.Target.contents c.args.writer c.check_front-writer.result.0 c.tell_faults.result.0 c.in-Refused.refusal (asking_of (record { alloc = c.args.alloc; limits = c.args.limits; name = c.args.name; said = c.check_front-writer.result.3 })) c.in-Some.last c.check_front-writer.result.1 c.tell_faults.result.1
+returns-in-Some-clause-tells g c =
+    refused_at (wanting c.is_some.result c.args.advised) (wanting (is_some c.args.name) c.args.advised) c.args.limits
+    (g.R.Source.remaining c.args.reader.now) (g.R.Source.remaining c.check_front-writer.new.reader)
+    (g.R.Source.remaining c.tell_faults.new.reader) g.W.Target.contents c.args.writer c.check_front-writer.result.0
+    c.tell_faults.result.0 c.in-Refused.refusal
+    (asking_of (record { alloc = c.args.alloc; limits = c.args.limits; name = c.args.name; said = c.check_front-writer.result.3 }))
+    c.in-Some.last c.check_front-writer.result.1 c.tell_faults.result.1
     (ap (λ (b : Bool). wanting b c.args.advised) c.is_some.ensures) c.check_front-writer.ensures.reported
-    (read_last c.args.limits (g.R.Source.remaining c.args.reader.now) (g.R.Source.remaining c.check_front-writer.new.reader) c.check_front-writer.result.1 c.in-Refused.refusal c.check_front-writer.result.2.last c.in-Some.last c.check_front-writer.ensures.last (known_ok c.check_front-writer.result.1 c.in-Ok.verdict (Refused c.in-Refused.refusal) c.in-Ok.is c.in-Refused.is) c.in-Some.is)
-    (hears c.check_front-writer.result.1 c.in-Refused.refusal (wanting (is_some c.args.name) c.args.advised) c.args.limits (g.R.Source.remaining c.args.reader.now) (g.R.Source.remaining c.check_front-writer.new.reader) (asking_of (record { alloc = c.args.alloc; limits = c.args.limits; name = c.args.name; said = c.check_front-writer.result.3 })) c.check_front-writer.result.3
-    (known_ok c.check_front-writer.result.1 c.in-Ok.verdict (Refused c.in-Refused.refusal) c.in-Ok.is c.in-Refused.is) refl c.check_front-writer.ensures.said) (known_ok c.check_front-writer.result.1 c.in-Ok.verdict (Refused c.in-Refused.refusal) c.in-Ok.is c.in-Refused.is) c.tell_faults.ensures.answered c.tell_faults.ensures.told
+    (read_last c.args.limits (g.R.Source.remaining c.args.reader.now) (g.R.Source.remaining c.check_front-writer.new.reader)
+    c.check_front-writer.result.1 c.in-Refused.refusal c.check_front-writer.result.2.last c.in-Some.last
+    c.check_front-writer.ensures.last
+    (known_ok c.check_front-writer.result.1 c.in-Ok.verdict (Refused c.in-Refused.refusal) c.in-Ok.is c.in-Refused.is)
+    c.in-Some.is)
+    (hears c.check_front-writer.result.1 c.in-Refused.refusal (wanting (is_some c.args.name) c.args.advised) c.args.limits
+    (g.R.Source.remaining c.args.reader.now) (g.R.Source.remaining c.check_front-writer.new.reader)
+    (asking_of (record { alloc = c.args.alloc; limits = c.args.limits; name = c.args.name; said = c.check_front-writer.result.3 }))
+    c.check_front-writer.result.3
+    (known_ok c.check_front-writer.result.1 c.in-Ok.verdict (Refused c.in-Refused.refusal) c.in-Ok.is c.in-Refused.is) refl
+    c.check_front-writer.ensures.said) (known_ok c.check_front-writer.result.1 c.in-Ok.verdict (Refused c.in-Refused.refusal)
+    c.in-Ok.is c.in-Refused.is) c.tell_faults.ensures.answered c.tell_faults.ensures.told
 
 pub returns-in-Some-clause-accepted : goal.returns-in-Some-clause-accepted
-returns-in-Some-clause-accepted g c = accepted_after (wanting (is_some c.args.name) c.args.advised) c.args.limits (g.R.Source.remaining c.args.reader.now) (g.R.Source.remaining c.tell_faults.new.reader) g.W.Target.contents c.args.writer c.tell_faults.result.0 c.in-Refused.refusal c.check_front-writer.result.1 c.tell_faults.result.1 (known_ok c.check_front-writer.result.1 c.in-Ok.verdict (Refused c.in-Refused.refusal) c.in-Ok.is c.in-Refused.is) c.check_front-writer.ensures.judged c.tell_faults.ensures.answered
+returns-in-Some-clause-accepted g c =
+    accepted_after (wanting (is_some c.args.name) c.args.advised) c.args.limits (g.R.Source.remaining c.args.reader.now)
+    (g.R.Source.remaining c.tell_faults.new.reader) g.W.Target.contents c.args.writer c.tell_faults.result.0 c.in-Refused.refusal
+    c.check_front-writer.result.1 c.tell_faults.result.1
+    (known_ok c.check_front-writer.result.1 c.in-Ok.verdict (Refused c.in-Refused.refusal) c.in-Ok.is c.in-Refused.is)
+    c.check_front-writer.ensures.judged c.tell_faults.ensures.answered
 
 pub returns-in-Good-clause-lints : goal.returns-in-Good-clause-lints
-returns-in-Good-clause-lints g c = lints_at (wanting c.is_some.result c.args.advised) (wanting (is_some c.args.name) c.args.advised) c.args.limits (g.R.Source.remaining c.args.reader.now) (g.R.Source.remaining c.check_front-writer.new.reader) g.W.Target.contents c.args.writer c.check_front-writer.result.0 c.check_front-writer.result.1 (Ok c.in-Ok.verdict) (ap (λ (b : Bool). wanting b c.args.advised) c.is_some.ensures) c.check_front-writer.ensures.reported c.in-Ok.is
+returns-in-Good-clause-lints g c =
+    lints_at (wanting c.is_some.result c.args.advised) (wanting (is_some c.args.name) c.args.advised) c.args.limits
+    (g.R.Source.remaining c.args.reader.now) (g.R.Source.remaining c.check_front-writer.new.reader) g.W.Target.contents
+    c.args.writer c.check_front-writer.result.0 c.check_front-writer.result.1 (Ok c.in-Ok.verdict)
+    (ap (λ (b : Bool). wanting b c.args.advised) c.is_some.ensures) c.check_front-writer.ensures.reported c.in-Ok.is
 
 pub returns-in-Good-clause-tells : goal.returns-in-Good-clause-tells
-returns-in-Good-clause-tells g c = unrefused_at (wanting c.is_some.result c.args.advised) (wanting (is_some c.args.name) c.args.advised) c.args.limits (g.R.Source.remaining c.args.reader.now) (g.R.Source.remaining c.check_front-writer.new.reader) g.W.Target.contents c.args.writer c.check_front-writer.result.0 c.check_front-writer.result.1 c.in-Ok.verdict (ap (λ (b : Bool). wanting b c.args.advised) c.is_some.ensures) c.check_front-writer.ensures.reported c.in-Ok.is
+returns-in-Good-clause-tells g c =
+    unrefused_at (wanting c.is_some.result c.args.advised) (wanting (is_some c.args.name) c.args.advised) c.args.limits
+    (g.R.Source.remaining c.args.reader.now) (g.R.Source.remaining c.check_front-writer.new.reader) g.W.Target.contents
+    c.args.writer c.check_front-writer.result.0 c.check_front-writer.result.1 c.in-Ok.verdict
+    (ap (λ (b : Bool). wanting b c.args.advised) c.is_some.ensures) c.check_front-writer.ensures.reported c.in-Ok.is
     (subst IsUnrefused (sym c.in-Good.is) tt)
 
 pub returns-in-Good-clause-accepted : goal.returns-in-Good-clause-accepted
-returns-in-Good-clause-accepted g c = accepted_at (wanting (is_some c.args.name) c.args.advised) c.args.limits (g.R.Source.remaining c.args.reader.now) (g.R.Source.remaining c.check_front-writer.new.reader) g.W.Target.contents c.args.writer c.check_front-writer.result.0 c.in-Ok.verdict (Ok c.in-Ok.verdict) refl
-    (subst (JudgesText c.args.limits (g.R.Source.remaining c.args.reader.now)) c.in-Ok.is c.check_front-writer.ensures.judged) (returns-in-Good-clause-tells g c)
+returns-in-Good-clause-accepted g c =
+    accepted_at (wanting (is_some c.args.name) c.args.advised) c.args.limits (g.R.Source.remaining c.args.reader.now)
+    (g.R.Source.remaining c.check_front-writer.new.reader) g.W.Target.contents c.args.writer c.check_front-writer.result.0
+    c.in-Ok.verdict (Ok c.in-Ok.verdict) refl
+    (subst (JudgesText c.args.limits (g.R.Source.remaining c.args.reader.now)) c.in-Ok.is c.check_front-writer.ensures.judged)
+    (returns-in-Good-clause-tells g c)
 
 pub returns-in-Truncated-clause-lints : goal.returns-in-Truncated-clause-lints
-returns-in-Truncated-clause-lints g c = lints_at (wanting c.is_some.result c.args.advised) (wanting (is_some c.args.name) c.args.advised) c.args.limits (g.R.Source.remaining c.args.reader.now) (g.R.Source.remaining c.check_front-writer.new.reader) g.W.Target.contents c.args.writer c.check_front-writer.result.0 c.check_front-writer.result.1 (Ok c.in-Ok.verdict) (ap (λ (b : Bool). wanting b c.args.advised) c.is_some.ensures) c.check_front-writer.ensures.reported c.in-Ok.is
+returns-in-Truncated-clause-lints g c =
+    lints_at (wanting c.is_some.result c.args.advised) (wanting (is_some c.args.name) c.args.advised) c.args.limits
+    (g.R.Source.remaining c.args.reader.now) (g.R.Source.remaining c.check_front-writer.new.reader) g.W.Target.contents
+    c.args.writer c.check_front-writer.result.0 c.check_front-writer.result.1 (Ok c.in-Ok.verdict)
+    (ap (λ (b : Bool). wanting b c.args.advised) c.is_some.ensures) c.check_front-writer.ensures.reported c.in-Ok.is
 
 pub returns-in-Truncated-clause-tells : goal.returns-in-Truncated-clause-tells
-returns-in-Truncated-clause-tells g c = unrefused_at (wanting c.is_some.result c.args.advised) (wanting (is_some c.args.name) c.args.advised) c.args.limits (g.R.Source.remaining c.args.reader.now) (g.R.Source.remaining c.check_front-writer.new.reader) g.W.Target.contents c.args.writer c.check_front-writer.result.0 c.check_front-writer.result.1 c.in-Ok.verdict (ap (λ (b : Bool). wanting b c.args.advised) c.is_some.ensures) c.check_front-writer.ensures.reported c.in-Ok.is
+returns-in-Truncated-clause-tells g c =
+    unrefused_at (wanting c.is_some.result c.args.advised) (wanting (is_some c.args.name) c.args.advised) c.args.limits
+    (g.R.Source.remaining c.args.reader.now) (g.R.Source.remaining c.check_front-writer.new.reader) g.W.Target.contents
+    c.args.writer c.check_front-writer.result.0 c.check_front-writer.result.1 c.in-Ok.verdict
+    (ap (λ (b : Bool). wanting b c.args.advised) c.is_some.ensures) c.check_front-writer.ensures.reported c.in-Ok.is
     (subst IsUnrefused (sym c.in-Truncated.is) tt)
 
 pub returns-in-Truncated-clause-accepted : goal.returns-in-Truncated-clause-accepted
-returns-in-Truncated-clause-accepted g c = accepted_at (wanting (is_some c.args.name) c.args.advised) c.args.limits (g.R.Source.remaining c.args.reader.now) (g.R.Source.remaining c.check_front-writer.new.reader) g.W.Target.contents c.args.writer c.check_front-writer.result.0 c.in-Ok.verdict (Ok c.in-Ok.verdict) refl
-    (subst (JudgesText c.args.limits (g.R.Source.remaining c.args.reader.now)) c.in-Ok.is c.check_front-writer.ensures.judged) (returns-in-Truncated-clause-tells g c)
+returns-in-Truncated-clause-accepted g c =
+    accepted_at (wanting (is_some c.args.name) c.args.advised) c.args.limits (g.R.Source.remaining c.args.reader.now)
+    (g.R.Source.remaining c.check_front-writer.new.reader) g.W.Target.contents c.args.writer c.check_front-writer.result.0
+    c.in-Ok.verdict (Ok c.in-Ok.verdict) refl
+    (subst (JudgesText c.args.limits (g.R.Source.remaining c.args.reader.now)) c.in-Ok.is c.check_front-writer.ensures.judged)
+    (returns-in-Truncated-clause-tells g c)

@@ -12,25 +12,35 @@ run-told-requires-clause-unfailed g c = c.new-sink.ensures.unfailed
 
 pub returns-clause-told : goal.returns-clause-told
 returns-clause-told g c = let told = c.run-told.ensures in
-    ends_told (TellsRun (asking_of c.args.asked.now) (state_at c.args.last.now.stage c.args.last.now.counts (c.args.refusal.rec - 1)) c.args.refusal c.args.last.now.bytes (g.R.Source.remaining c.args.reader.now) (g.R.Source.remaining c.run-told.new.reader)) g.W.Target.contents (g.W.Target.contents c.args.writer) c.finish.result.0 c.args.refusal told.0 c.run-told.new.sink c.run-told.result _ _ c.finish.result.1
-    (subst (λ (s : LintState). IfOk c.run-told.result (λ (u : Unit {0}). TellsRun (asking_of c.args.asked.now) s c.args.refusal c.args.last.now.bytes (g.R.Source.remaining c.args.reader.now) (g.R.Source.remaining c.run-told.new.reader) told.0)) c.state_before-begins.ensures.is told.2)
+    ends_told (TellsRun (asking_of c.args.asked.now)
+    (state_at c.args.last.now.stage c.args.last.now.counts (c.args.refusal.rec - 1)) c.args.refusal c.args.last.now.bytes
+    (g.R.Source.remaining c.args.reader.now)
+    (g.R.Source.remaining c.run-told.new.reader)) g.W.Target.contents (g.W.Target.contents
+    c.args.writer) c.finish.result.0 c.args.refusal told.0 c.run-told.new.sink c.run-told.result _ _ c.finish.result.1
+    (subst (λ (s : LintState). IfOk c.run-told.result (λ (u : Unit {0}). TellsRun (asking_of c.args.asked.now) s c.args.refusal
+    c.args.last.now.bytes (g.R.Source.remaining c.args.reader.now) (g.R.Source.remaining c.run-told.new.reader)
+    told.0)) c.state_before-begins.ensures.is told.2)
     told.1.unfailed c.finish.ensures.kept
     (told.1.written (g.W.Target.contents c.args.writer) [] c.new-sink.ensures.empty) c.finish.ensures.answer
 
 pub returns-clause-words : goal.returns-clause-words
 returns-clause-words g c = let told = c.run-told.ensures in
-    ends_words g.W.Target.contents c.args.writer c.finish.result.0 told.0 c.run-told.new.sink c.finish.ensures.kept (told.1.written (g.W.Target.contents c.args.writer) [] c.new-sink.ensures.empty)
+    ends_words g.W.Target.contents c.args.writer c.finish.result.0 told.0 c.run-told.new.sink c.finish.ensures.kept
+    (told.1.written (g.W.Target.contents c.args.writer) [] c.new-sink.ensures.empty)
 
 pub returns-clause-taken : goal.returns-clause-taken
 returns-clause-taken g c = c.run-told.ensures.1.taken
 
 pub returns-clause-answered : goal.returns-clause-answered
-returns-clause-answered g c = ends_answer c.args.refusal c.run-told.result c.finish.result.1 _ _ _ _ _ c.run-told.ensures.1.counts c.finish.ensures.answer
+returns-clause-answered g c =
+    ends_answer c.args.refusal c.run-told.result c.finish.result.1 _ _ _ _ _ c.run-told.ensures.1.counts c.finish.ensures.answer
 
 pub returns-clause-reader_failures : goal.returns-clause-reader_failures
-returns-clause-reader_failures g c = ends_reader c.args.refusal c.run-told.result c.finish.result.1 _ _ _ _ _ c.run-told.ensures.1.counts c.finish.ensures.answer
+returns-clause-reader_failures g c =
+    ends_reader c.args.refusal c.run-told.result c.finish.result.1 _ _ _ _ _ c.run-told.ensures.1.counts c.finish.ensures.answer
 
 pub returns-clause-writer_failures : goal.returns-clause-writer_failures
 returns-clause-writer_failures g c =
-    subst (λ (w : _). CountsWriterFault c.finish.result.1 (g.W.Target.failures w) (g.W.Target.failures c.finish.result.0)) c.new-sink.ensures.writer
+    subst (λ (w : _). CountsWriterFault c.finish.result.1 (g.W.Target.failures w) (g.W.Target.failures c.finish.result.0))
+    c.new-sink.ensures.writer
     (ends_writer c.args.refusal c.run-told.result c.finish.result.1 _ _ _ _ _ c.run-told.ensures.1.counts c.finish.ensures.answer)

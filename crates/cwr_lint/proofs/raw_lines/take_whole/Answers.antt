@@ -5,4 +5,5 @@ use Rattle.cwr_lint.proofs.raw_lines.take_whole.Goals as goal
 
 pub returns : goal.returns
 returns c = taken_whole c.args.bytes.now c.take.result.used c.take.new.self
-    (subst (λ (l : HeldLine). Takes l c.args.bytes.now c.take.result.used c.take.new.self) c.requires.empty c.take.ensures.takes) c.take.ensures.held c.requires.short c.requires.no_lf
+    (subst (λ (l : HeldLine). Takes l c.args.bytes.now c.take.result.used c.take.new.self) c.requires.empty c.take.ensures.takes)
+    c.take.ensures.held c.requires.short c.requires.no_lf

@@ -11,4 +11,6 @@ none_of None e = refl
 none_of (Some x) e = absurd (cc e)
 
 pub returns-in-None : goal.returns-in-None
-returns-in-None c = none_of (type_in c.args.cell.now) (no_type GrhKind 2 c.args.cell.now refl refl (λ q. true≢false (sym (c.in-None.ensures.some.1 q))))
+returns-in-None c =
+    none_of (type_in c.args.cell.now)
+    (no_type GrhKind 2 c.args.cell.now refl refl (λ q. true≢false (sym (c.in-None.ensures.some.1 q))))

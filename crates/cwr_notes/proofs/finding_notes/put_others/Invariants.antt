@@ -10,7 +10,8 @@ invariant-loop-position g l = record {
   unfailed : has_failed l.sink ≡ false;
   counts : g.W.Target.failures (writer_of l.sink) ≡ g.W.Target.failures (writer_of l.initial.sink);
   written : (start : Option (List ℕ)) (before : List ℕ) → HasWritten g.W.Target.contents start before l.initial.sink
-      → HasWritten g.W.Target.contents start (before ++ flat_map (noted_at l.first l.transaction l.rule) (take l.i l.positions)) l.sink;
+      → HasWritten g.W.Target.contents start (before ++ flat_map (noted_at l.first l.transaction l.rule) (take l.i l.positions))
+      l.sink;
 }
 
 abbrev pub decreases-loop-position : goal.decreases-loop-position

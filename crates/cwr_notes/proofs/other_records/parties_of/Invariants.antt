@@ -4,4 +4,6 @@ use Rattle.cwr_notes.specs.Steps.OtherRecords.{AreListed}
 use Rattle.cwr_notes.proofs.other_records.parties_of.Given as goal
 
 abbrev pub invariant-loop-at : goal.invariant-loop-at
-invariant-loop-at l = (seen : List ℕ) × AreListed seen l.found × (seen ++ parties_from l.among_parties l.at (drop l.at l.transaction) ≡ parties_from false (l.first + 1) (drop (l.first + 1) l.transaction)) × (l.found.count ≤ l.at)
+invariant-loop-at l =
+    (seen : List ℕ) × AreListed seen l.found × (seen ++ parties_from l.among_parties l.at (drop l.at l.transaction)
+    ≡ parties_from false (l.first + 1) (drop (l.first + 1) l.transaction)) × (l.found.count ≤ l.at)

@@ -6,15 +6,21 @@ use Rattle.cwr_tools.specs.declared.verdicts.ToolFault.{ToolFault}
 use Rattle.cwr_tools.specs.Steps.Verdicts.{StopsAfter}
 use Rattle.cwr_parts.specs.Steps.Joined.{AddsInput}
 use Rattle.cwr_tools.proofs.ReportsOn.{same_fault, stops_after}
-use Rattle.cwr_parts.proofs.OneInputJoined.{few_handed_out, input_joined, item_added, item_refused, may_add, next_handed_out, none_yet, reading_stopped}
+use Rattle.cwr_parts.proofs.OneInputJoined.{few_handed_out, input_joined, item_added, item_refused, may_add, next_handed_out}
+use Rattle.cwr_parts.proofs.OneInputJoined.{none_yet, reading_stopped}
 use Rattle.cwr_parts.proofs.joining.add_input.Goals as goal
 
 pub items-init : goal.items-init
 items-init g c =
     let new = c.new-reading.ensures in
-    let reading = nothing_read_yet c.args.limits c.new-reading.result.decoder (g.R.Source.remaining c.args.reader.now) (g.R.Source.remaining c.new-reading.result.reader.now) new.represents new.limits new.open new.fresh (ap g.R.Source.remaining new.kept) in
+    let reading =
+    nothing_read_yet c.args.limits c.new-reading.result.decoder (g.R.Source.remaining c.args.reader.now)
+    (g.R.Source.remaining c.new-reading.result.reader.now) new.represents new.limits new.open new.fresh
+    (ap g.R.Source.remaining new.kept) in
     record {
-      joining = none_yet c.args.limits c.args.first c.new-reading.result.decoder (g.R.Source.remaining c.args.reader.now) (g.R.Source.remaining c.new-reading.result.reader.now) g.W.Target.contents g.W.Target.failures
+      joining =
+          none_yet c.args.limits c.args.first c.new-reading.result.decoder (g.R.Source.remaining c.args.reader.now)
+          (g.R.Source.remaining c.new-reading.result.reader.now) g.W.Target.contents g.W.Target.failures
           c.args.joined.now reading c.requires.unfailed;
       failures = ap g.R.Source.failures new.kept;
       same = refl;
@@ -25,37 +31,62 @@ add-requires-clause-unfailed g c = c.items.invariant.joining.on.unfailed
 
 pub add-requires-clause-may : goal.add-requires-clause-may
 add-requires-clause-may g c =
-    let reading = next_handed_out c.args.limits c.args.first c.items.reading.decoder c.next_item.new.self.decoder (g.R.Source.remaining c.args.reader.now) _ _ g.W.Target.contents g.W.Target.failures c.items.handed_out c.args.joined.now c.items.joined
-    c.in-Ok-Some.field-0 c.in-Ok-Some.item _ _ c.in-Ok-Some.field-0-is c.items.invariant.joining c.in-Ok-Some.ensures.reads c.in-Ok-Some.ensures.again in
-    may_add c.args.limits c.args.first c.items.reading.decoder c.next_item.new.self.decoder (g.R.Source.remaining c.args.reader.now) _ _ g.W.Target.contents g.W.Target.failures c.items.handed_out c.args.joined.now c.items.joined
+    let reading =
+    next_handed_out c.args.limits c.args.first c.items.reading.decoder c.next_item.new.self.decoder
+    (g.R.Source.remaining c.args.reader.now) _ _ g.W.Target.contents g.W.Target.failures c.items.handed_out c.args.joined.now
+    c.items.joined
+    c.in-Ok-Some.field-0 c.in-Ok-Some.item _ _ c.in-Ok-Some.field-0-is c.items.invariant.joining c.in-Ok-Some.ensures.reads
+    c.in-Ok-Some.ensures.again in
+    may_add c.args.limits c.args.first c.items.reading.decoder c.next_item.new.self.decoder
+    (g.R.Source.remaining c.args.reader.now) _ _ g.W.Target.contents g.W.Target.failures c.items.handed_out c.args.joined.now
+    c.items.joined
     c.in-Ok-Some.item c.requires.between c.requires.limits c.items.invariant.joining reading
 
 pub overflow_add-handed_out : goal.overflow_add-handed_out
 overflow_add-handed_out g c =
-    let reading = next_handed_out c.args.limits c.args.first c.items.reading.decoder c.next_item.new.self.decoder (g.R.Source.remaining c.args.reader.now) _ _ g.W.Target.contents g.W.Target.failures c.items.handed_out c.args.joined.now c.items.joined
-    c.in-Ok-Some.field-0 c.in-Ok-Some.item _ _ c.in-Ok-Some.field-0-is c.items.invariant.joining c.in-Ok-Some.ensures.reads c.in-Ok-Some.ensures.again in
+    let reading =
+    next_handed_out c.args.limits c.args.first c.items.reading.decoder c.next_item.new.self.decoder
+    (g.R.Source.remaining c.args.reader.now) _ _ g.W.Target.contents g.W.Target.failures c.items.handed_out c.args.joined.now
+    c.items.joined
+    c.in-Ok-Some.field-0 c.in-Ok-Some.item _ _ c.in-Ok-Some.field-0-is c.items.invariant.joining c.in-Ok-Some.ensures.reads
+    c.in-Ok-Some.ensures.again in
     omega (
       arith,
-      few_handed_out c.args.limits c.args.first c.items.reading.decoder c.next_item.new.self.decoder (g.R.Source.remaining c.args.reader.now) _ _ g.W.Target.contents g.W.Target.failures c.items.handed_out c.args.joined.now c.items.joined
+      few_handed_out c.args.limits c.args.first c.items.reading.decoder c.next_item.new.self.decoder
+          (g.R.Source.remaining c.args.reader.now) _ _ g.W.Target.contents g.W.Target.failures c.items.handed_out
+          c.args.joined.now c.items.joined
           c.in-Ok-Some.item c.items.invariant.joining reading,
     )
 
 pub items-smaller-in_ok-add-in-Ok-Some : goal.items-smaller-in_ok-add-in-Ok-Some
 items-smaller-in_ok-add-in-Ok-Some g c =
-    let reading = next_handed_out c.args.limits c.args.first c.items.reading.decoder c.next_item.new.self.decoder (g.R.Source.remaining c.args.reader.now) _ _ g.W.Target.contents g.W.Target.failures c.items.handed_out c.args.joined.now c.items.joined
-    c.in-Ok-Some.field-0 c.in-Ok-Some.item _ _ c.in-Ok-Some.field-0-is c.items.invariant.joining c.in-Ok-Some.ensures.reads c.in-Ok-Some.ensures.again in
+    let reading =
+    next_handed_out c.args.limits c.args.first c.items.reading.decoder c.next_item.new.self.decoder
+    (g.R.Source.remaining c.args.reader.now) _ _ g.W.Target.contents g.W.Target.failures c.items.handed_out c.args.joined.now
+    c.items.joined
+    c.in-Ok-Some.field-0 c.in-Ok-Some.item _ _ c.in-Ok-Some.field-0-is c.items.invariant.joining c.in-Ok-Some.ensures.reads
+    c.in-Ok-Some.ensures.again in
     omega (
       arith,
-      few_handed_out c.args.limits c.args.first c.items.reading.decoder c.next_item.new.self.decoder (g.R.Source.remaining c.args.reader.now) _ _ g.W.Target.contents g.W.Target.failures c.items.handed_out c.args.joined.now c.items.joined
+      few_handed_out c.args.limits c.args.first c.items.reading.decoder c.next_item.new.self.decoder
+          (g.R.Source.remaining c.args.reader.now) _ _ g.W.Target.contents g.W.Target.failures c.items.handed_out
+          c.args.joined.now c.items.joined
           c.in-Ok-Some.item c.items.invariant.joining reading,
     )
 
 pub items-preserved-in_ok-add-in-Ok-Some : goal.items-preserved-in_ok-add-in-Ok-Some
 items-preserved-in_ok-add-in-Ok-Some g c =
-    let reading = next_handed_out c.args.limits c.args.first c.items.reading.decoder c.next_item.new.self.decoder (g.R.Source.remaining c.args.reader.now) _ _ g.W.Target.contents g.W.Target.failures c.items.handed_out c.args.joined.now c.items.joined
-    c.in-Ok-Some.field-0 c.in-Ok-Some.item _ _ c.in-Ok-Some.field-0-is c.items.invariant.joining c.in-Ok-Some.ensures.reads c.in-Ok-Some.ensures.again in
+    let reading =
+    next_handed_out c.args.limits c.args.first c.items.reading.decoder c.next_item.new.self.decoder
+    (g.R.Source.remaining c.args.reader.now) _ _ g.W.Target.contents g.W.Target.failures c.items.handed_out c.args.joined.now
+    c.items.joined
+    c.in-Ok-Some.field-0 c.in-Ok-Some.item _ _ c.in-Ok-Some.field-0-is c.items.invariant.joining c.in-Ok-Some.ensures.reads
+    c.in-Ok-Some.ensures.again in
     record {
-      joining = item_added c.args.limits c.args.first c.items.reading.decoder c.next_item.new.self.decoder (g.R.Source.remaining c.args.reader.now) _ _ g.W.Target.contents g.W.Target.failures c.items.handed_out c.args.joined.now c.items.joined
+      joining =
+          item_added c.args.limits c.args.first c.items.reading.decoder c.next_item.new.self.decoder
+          (g.R.Source.remaining c.args.reader.now) _ _ g.W.Target.contents g.W.Target.failures c.items.handed_out
+          c.args.joined.now c.items.joined
           c.add.new.self c.in-Ok-Some.item tt c.items.invariant.joining reading c.in_ok-add-in-Ok-Some.ensures;
       failures = c.in-Ok-Some.ensures.failures ∙ c.items.invariant.failures;
       same = c.in-Ok-Some.ensures.same_reference ∙ c.items.invariant.same;
@@ -63,20 +94,33 @@ items-preserved-in_ok-add-in-Ok-Some g c =
 
 pub items-smaller : goal.items-smaller
 items-smaller g c =
-    let reading = next_handed_out c.args.limits c.args.first c.items.reading.decoder c.next_item.new.self.decoder (g.R.Source.remaining c.args.reader.now) _ _ g.W.Target.contents g.W.Target.failures c.items.handed_out c.args.joined.now c.items.joined
-    c.in-Ok-Some.field-0 c.in-Ok-Some.item _ _ c.in-Ok-Some.field-0-is c.items.invariant.joining c.in-Ok-Some.ensures.reads c.in-Ok-Some.ensures.again in
+    let reading =
+    next_handed_out c.args.limits c.args.first c.items.reading.decoder c.next_item.new.self.decoder
+    (g.R.Source.remaining c.args.reader.now) _ _ g.W.Target.contents g.W.Target.failures c.items.handed_out c.args.joined.now
+    c.items.joined
+    c.in-Ok-Some.field-0 c.in-Ok-Some.item _ _ c.in-Ok-Some.field-0-is c.items.invariant.joining c.in-Ok-Some.ensures.reads
+    c.in-Ok-Some.ensures.again in
     omega (
       arith,
-      few_handed_out c.args.limits c.args.first c.items.reading.decoder c.next_item.new.self.decoder (g.R.Source.remaining c.args.reader.now) _ _ g.W.Target.contents g.W.Target.failures c.items.handed_out c.args.joined.now c.items.joined
+      few_handed_out c.args.limits c.args.first c.items.reading.decoder c.next_item.new.self.decoder
+          (g.R.Source.remaining c.args.reader.now) _ _ g.W.Target.contents g.W.Target.failures c.items.handed_out
+          c.args.joined.now c.items.joined
           c.in-Ok-Some.item c.items.invariant.joining reading,
     )
 
 pub items-preserved : goal.items-preserved
 items-preserved g c =
-    let reading = next_handed_out c.args.limits c.args.first c.items.reading.decoder c.next_item.new.self.decoder (g.R.Source.remaining c.args.reader.now) _ _ g.W.Target.contents g.W.Target.failures c.items.handed_out c.args.joined.now c.items.joined
-    c.in-Ok-Some.field-0 c.in-Ok-Some.item _ _ c.in-Ok-Some.field-0-is c.items.invariant.joining c.in-Ok-Some.ensures.reads c.in-Ok-Some.ensures.again in
+    let reading =
+    next_handed_out c.args.limits c.args.first c.items.reading.decoder c.next_item.new.self.decoder
+    (g.R.Source.remaining c.args.reader.now) _ _ g.W.Target.contents g.W.Target.failures c.items.handed_out c.args.joined.now
+    c.items.joined
+    c.in-Ok-Some.field-0 c.in-Ok-Some.item _ _ c.in-Ok-Some.field-0-is c.items.invariant.joining c.in-Ok-Some.ensures.reads
+    c.in-Ok-Some.ensures.again in
     record {
-      joining = item_added c.args.limits c.args.first c.items.reading.decoder c.next_item.new.self.decoder (g.R.Source.remaining c.args.reader.now) _ _ g.W.Target.contents g.W.Target.failures c.items.handed_out c.args.joined.now c.items.joined
+      joining =
+          item_added c.args.limits c.args.first c.items.reading.decoder c.next_item.new.self.decoder
+          (g.R.Source.remaining c.args.reader.now) _ _ g.W.Target.contents g.W.Target.failures c.items.handed_out
+          c.args.joined.now c.items.joined
           c.add.new.self c.in-Ok-Some.item tt c.items.invariant.joining reading c.in_ok-add-in-Ok-Some.ensures;
       failures = c.in-Ok-Some.ensures.failures ∙ c.items.invariant.failures;
       same = c.in-Ok-Some.ensures.same_reference ∙ c.items.invariant.same;
@@ -84,30 +128,53 @@ items-preserved g c =
 
 pub returns-in_err-add-in-Ok-Some-clause-adds : goal.returns-in_err-add-in-Ok-Some-clause-adds
 returns-in_err-add-in-Ok-Some-clause-adds g c =
-    let reading = next_handed_out c.args.limits c.args.first c.items.reading.decoder c.next_item.new.self.decoder (g.R.Source.remaining c.args.reader.now) _ _ g.W.Target.contents g.W.Target.failures c.items.handed_out c.args.joined.now c.items.joined
-    c.in-Ok-Some.field-0 c.in-Ok-Some.item _ _ c.in-Ok-Some.field-0-is c.items.invariant.joining c.in-Ok-Some.ensures.reads c.in-Ok-Some.ensures.again in
-    let faulty : AddsInput c.args.limits g.W.Target.contents g.W.Target.failures c.args.first (g.R.Source.remaining c.args.reader.now) (g.R.Source.remaining c.next_item.new.self.reader.now) c.from_residual.result c.args.joined.now c.add.new.self
-    = subst (λ (r : Result (Unit {0}) ToolFault). AddsInput c.args.limits g.W.Target.contents g.W.Target.failures c.args.first (g.R.Source.remaining c.args.reader.now) (g.R.Source.remaining c.next_item.new.self.reader.now) r c.args.joined.now c.add.new.self)
+    let reading =
+    next_handed_out c.args.limits c.args.first c.items.reading.decoder c.next_item.new.self.decoder
+    (g.R.Source.remaining c.args.reader.now) _ _ g.W.Target.contents g.W.Target.failures c.items.handed_out c.args.joined.now
+    c.items.joined
+    c.in-Ok-Some.field-0 c.in-Ok-Some.item _ _ c.in-Ok-Some.field-0-is c.items.invariant.joining c.in-Ok-Some.ensures.reads
+    c.in-Ok-Some.ensures.again in
+    let faulty : AddsInput c.args.limits g.W.Target.contents g.W.Target.failures c.args.first
+    (g.R.Source.remaining c.args.reader.now) (g.R.Source.remaining c.next_item.new.self.reader.now) c.from_residual.result
+    c.args.joined.now c.add.new.self
+    = subst (λ (r : Result (Unit {0}) ToolFault). AddsInput c.args.limits g.W.Target.contents g.W.Target.failures c.args.first
+    (g.R.Source.remaining c.args.reader.now) (g.R.Source.remaining c.next_item.new.self.reader.now) r c.args.joined.now
+    c.add.new.self)
     (sym (same_fault c.from_residual.result c.in_err-add-in-Ok-Some.field-0.0 c.from_residual.ensures.1))
-    (item_refused c.args.limits c.args.first c.items.reading.decoder c.next_item.new.self.decoder (g.R.Source.remaining c.args.reader.now) _ _ g.W.Target.contents g.W.Target.failures c.items.handed_out c.args.joined.now c.items.joined c.add.new.self
-    c.in-Ok-Some.item c.in_err-add-in-Ok-Some.field-0.0 c.requires.limits c.items.invariant.joining reading c.in_err-add-in-Ok-Some.ensures) in
+    (item_refused c.args.limits c.args.first c.items.reading.decoder c.next_item.new.self.decoder
+    (g.R.Source.remaining c.args.reader.now) _ _ g.W.Target.contents g.W.Target.failures c.items.handed_out c.args.joined.now
+    c.items.joined c.add.new.self
+    c.in-Ok-Some.item c.in_err-add-in-Ok-Some.field-0.0 c.requires.limits c.items.invariant.joining reading
+    c.in_err-add-in-Ok-Some.ensures) in
     search rules
 
 pub returns-in-Ok-None-clause-adds : goal.returns-in-Ok-None-clause-adds
 returns-in-Ok-None-clause-adds g c =
-    let all : HasReadAll c.args.limits (g.R.Source.remaining c.args.reader.now) (g.R.Source.remaining c.next_item.new.self.reader.now) c.items.invariant.joining.given
-    = none_read c.args.limits c.items.reading.decoder c.next_item.new.self.decoder (g.R.Source.remaining c.args.reader.now) _ _ c.items.invariant.joining.given c.in-Ok-None.field-0 _ c.in-Ok-None.field-0-is
+    let all : HasReadAll c.args.limits (g.R.Source.remaining c.args.reader.now)
+    (g.R.Source.remaining c.next_item.new.self.reader.now) c.items.invariant.joining.given
+    = none_read c.args.limits c.items.reading.decoder c.next_item.new.self.decoder (g.R.Source.remaining c.args.reader.now) _ _
+    c.items.invariant.joining.given c.in-Ok-None.field-0 _ c.in-Ok-None.field-0-is
     c.items.invariant.joining.reading c.in-Ok-None.ensures.reads c.in-Ok-None.ensures.again (λ e. ap g.R.Source.remaining e) in
-    let good : AddsInput c.args.limits g.W.Target.contents g.W.Target.failures c.args.first (g.R.Source.remaining c.args.reader.now) (g.R.Source.remaining c.next_item.new.self.reader.now) (Ok tt) c.args.joined.now c.items.joined
-    = input_joined c.args.limits c.args.first _ _ g.W.Target.contents g.W.Target.failures c.args.joined.now c.items.joined c.items.invariant.joining.given tt all c.items.invariant.joining.on in
+    let good : AddsInput c.args.limits g.W.Target.contents g.W.Target.failures c.args.first
+    (g.R.Source.remaining c.args.reader.now) (g.R.Source.remaining c.next_item.new.self.reader.now) (Ok tt) c.args.joined.now
+    c.items.joined
+    = input_joined c.args.limits c.args.first _ _ g.W.Target.contents g.W.Target.failures c.args.joined.now c.items.joined
+    c.items.invariant.joining.given tt all c.items.invariant.joining.on in
     search rules
 
 pub returns-in-Err-clause-adds : goal.returns-in-Err-clause-adds
 returns-in-Err-clause-adds g c =
-    let stop : StopsAfter c.args.limits c.in-Err.fault (g.R.Source.remaining c.args.reader.now) (g.R.Source.remaining c.next_item.new.self.reader.now) c.items.invariant.joining.given
-    = stops_after c.args.limits c.items.reading.decoder c.next_item.new.self.decoder (g.R.Source.remaining c.args.reader.now) _ _ c.items.invariant.joining.given c.in-Err.fault _ _
+    let stop : StopsAfter c.args.limits c.in-Err.fault (g.R.Source.remaining c.args.reader.now)
+    (g.R.Source.remaining c.next_item.new.self.reader.now) c.items.invariant.joining.given
+    = stops_after c.args.limits c.items.reading.decoder c.next_item.new.self.decoder (g.R.Source.remaining c.args.reader.now) _ _
+    c.items.invariant.joining.given c.in-Err.fault _ _
     c.items.invariant.joining.reading c.in-Err.ensures.reads c.in-Err.ensures.again in
-    let stopped : AddsInput c.args.limits g.W.Target.contents g.W.Target.failures c.args.first (g.R.Source.remaining c.args.reader.now) (g.R.Source.remaining c.next_item.new.self.reader.now) (Err c.reading_fault.result) c.args.joined.now c.items.joined
-    = subst (λ (f : ToolFault). AddsInput c.args.limits g.W.Target.contents g.W.Target.failures c.args.first (g.R.Source.remaining c.args.reader.now) (g.R.Source.remaining c.next_item.new.self.reader.now) (Err f) c.args.joined.now c.items.joined)
-    (sym c.reading_fault.ensures) (reading_stopped c.args.limits c.args.first _ _ g.W.Target.contents g.W.Target.failures c.args.joined.now c.items.joined c.items.invariant.joining.given c.in-Err.fault stop c.items.invariant.joining.on) in
+    let stopped : AddsInput c.args.limits g.W.Target.contents g.W.Target.failures c.args.first
+    (g.R.Source.remaining c.args.reader.now) (g.R.Source.remaining c.next_item.new.self.reader.now)
+    (Err c.reading_fault.result) c.args.joined.now c.items.joined
+    = subst (λ (f : ToolFault). AddsInput c.args.limits g.W.Target.contents g.W.Target.failures c.args.first
+    (g.R.Source.remaining c.args.reader.now) (g.R.Source.remaining c.next_item.new.self.reader.now) (Err f) c.args.joined.now
+    c.items.joined)
+    (sym c.reading_fault.ensures) (reading_stopped c.args.limits c.args.first _ _ g.W.Target.contents g.W.Target.failures
+    c.args.joined.now c.items.joined c.items.invariant.joining.given c.in-Err.fault stop c.items.invariant.joining.on) in
     search rules

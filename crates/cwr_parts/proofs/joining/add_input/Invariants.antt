@@ -4,7 +4,8 @@ use Rattle.cwr_parts.proofs.joining.add_input.Given as goal
 
 abbrev pub invariant-items : goal.invariant-items
 invariant-items g l = record {
-  joining : IsJoining l.fn.limits l.first l.reading.decoder (g.R.Source.remaining l.fn.reader) (g.R.Source.remaining l.reading.reader.now) g.W.Target.contents g.W.Target.failures l.handed_out l.fn.joined l.joined;
+  joining : IsJoining l.fn.limits l.first l.reading.decoder (g.R.Source.remaining l.fn.reader)
+      (g.R.Source.remaining l.reading.reader.now) g.W.Target.contents g.W.Target.failures l.handed_out l.fn.joined l.joined;
   failures : g.R.Source.failures l.reading.reader.now ≡ g.R.Source.failures l.fn.reader;
   same : l.reading.reader.ghost_name ≡ l.initial.reading.reader.ghost_name;
 }

@@ -3,7 +3,9 @@ use Rattle.cwr_parts.proofs.InputsJoined.{AreJoinedSoFar}
 use Rattle.cwr_parts.proofs.joining.add_inputs.Given as goal
 
 abbrev pub invariant-inputs : goal.invariant-inputs
-invariant-inputs g l = AreJoinedSoFar l.fn.limits g.R.Source.remaining g.R.Source.failures g.W.Target.contents g.W.Target.failures l.i l.fn.readers l.readers l.fn.joined l.joined
+invariant-inputs g l =
+    AreJoinedSoFar l.fn.limits g.R.Source.remaining g.R.Source.failures g.W.Target.contents g.W.Target.failures l.i l.fn.readers
+    l.readers l.fn.joined l.joined
 
 abbrev pub decreases-inputs : goal.decreases-inputs
 decreases-inputs g l = length l.initial.readers - l.i

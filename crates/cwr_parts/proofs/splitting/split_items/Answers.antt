@@ -17,9 +17,15 @@ use Rattle.cwr_parts.proofs.splitting.split_items.Goals as goal
 pub items-init : goal.items-init
 items-init g c =
     let new = c.new-reading.ensures in
-    let reading = nothing_read_yet c.args.limits c.new-reading.result.decoder (g.R.Source.remaining c.args.reader.now) (g.R.Source.remaining c.new-reading.result.reader.now) new.represents new.limits new.open new.fresh (ap g.R.Source.remaining new.kept) in
+    let reading =
+    nothing_read_yet c.args.limits c.new-reading.result.decoder (g.R.Source.remaining c.args.reader.now)
+    (g.R.Source.remaining c.new-reading.result.reader.now) new.represents new.limits new.open new.fresh
+    (ap g.R.Source.remaining new.kept) in
     record {
-      splitting = none_split c.args.limits c.args.splitting.now.size c.new-reading.result.decoder (g.R.Source.remaining c.args.reader.now) (g.R.Source.remaining c.new-reading.result.reader.now) (told_by g.O.Outputs.texts g.O.Outputs.failures g.O.Outputs.given_up) g.O.W.Target.contents g.O.W.Target.failures
+      splitting =
+          none_split c.args.limits c.args.splitting.now.size c.new-reading.result.decoder (g.R.Source.remaining c.args.reader.now)
+          (g.R.Source.remaining c.new-reading.result.reader.now)
+          (told_by g.O.Outputs.texts g.O.Outputs.failures g.O.Outputs.given_up) g.O.W.Target.contents g.O.W.Target.failures
           c.args.splitting.now c.args.outputs.now c.requires.fresh reading;
       lent = λ others e. e;
       began = λ known e b. b;
@@ -29,43 +35,78 @@ items-init g c =
 
 pub take_item-requires : goal.take_item-requires
 take_item-requires g c =
-    let reading = next_item c.args.limits c.args.splitting.now.size c.items.reading.decoder c.next_item.new.self.decoder (g.R.Source.remaining c.args.reader.now) _ _ (told_by g.O.Outputs.texts g.O.Outputs.failures g.O.Outputs.given_up) g.O.W.Target.contents g.O.W.Target.failures c.items.handed_out c.args.outputs.now c.items.splitting c.items.outputs
-    c.in-Ok-Some.field-0 c.in-Ok-Some.item _ _ c.in-Ok-Some.field-0-is c.items.invariant.splitting c.in-Ok-Some.ensures.reads c.in-Ok-Some.ensures.again in
-    (may_take c.args.limits c.args.splitting.now.size c.items.reading.decoder c.next_item.new.self.decoder (g.R.Source.remaining c.args.reader.now) _ _ (told_by g.O.Outputs.texts g.O.Outputs.failures g.O.Outputs.given_up) g.O.W.Target.contents g.O.W.Target.failures c.items.handed_out c.args.outputs.now c.items.splitting c.items.outputs c.in-Ok-Some.item
+    let reading =
+    next_item c.args.limits c.args.splitting.now.size c.items.reading.decoder c.next_item.new.self.decoder
+    (g.R.Source.remaining c.args.reader.now) _ _ (told_by g.O.Outputs.texts g.O.Outputs.failures g.O.Outputs.given_up)
+    g.O.W.Target.contents g.O.W.Target.failures c.items.handed_out c.args.outputs.now c.items.splitting c.items.outputs
+    c.in-Ok-Some.field-0 c.in-Ok-Some.item _ _ c.in-Ok-Some.field-0-is c.items.invariant.splitting c.in-Ok-Some.ensures.reads
+    c.in-Ok-Some.ensures.again in
+    (may_take c.args.limits c.args.splitting.now.size c.items.reading.decoder c.next_item.new.self.decoder
+    (g.R.Source.remaining c.args.reader.now) _ _ (told_by g.O.Outputs.texts g.O.Outputs.failures g.O.Outputs.given_up)
+    g.O.W.Target.contents g.O.W.Target.failures c.items.handed_out c.args.outputs.now c.items.splitting c.items.outputs
+    c.in-Ok-Some.item
     c.requires.some c.items.invariant.splitting reading).0
 
 pub overflow_add-handed_out : goal.overflow_add-handed_out
 overflow_add-handed_out g c =
-    let reading = next_item c.args.limits c.args.splitting.now.size c.items.reading.decoder c.next_item.new.self.decoder (g.R.Source.remaining c.args.reader.now) _ _ (told_by g.O.Outputs.texts g.O.Outputs.failures g.O.Outputs.given_up) g.O.W.Target.contents g.O.W.Target.failures c.items.handed_out c.args.outputs.now c.items.splitting c.items.outputs
-    c.in-Ok-Some.field-0 c.in-Ok-Some.item _ _ c.in-Ok-Some.field-0-is c.items.invariant.splitting c.in-Ok-Some.ensures.reads c.in-Ok-Some.ensures.again in
+    let reading =
+    next_item c.args.limits c.args.splitting.now.size c.items.reading.decoder c.next_item.new.self.decoder
+    (g.R.Source.remaining c.args.reader.now) _ _ (told_by g.O.Outputs.texts g.O.Outputs.failures g.O.Outputs.given_up)
+    g.O.W.Target.contents g.O.W.Target.failures c.items.handed_out c.args.outputs.now c.items.splitting c.items.outputs
+    c.in-Ok-Some.field-0 c.in-Ok-Some.item _ _ c.in-Ok-Some.field-0-is c.items.invariant.splitting c.in-Ok-Some.ensures.reads
+    c.in-Ok-Some.ensures.again in
     omega (
       arith,
-      few_handed_out c.args.limits c.args.splitting.now.size c.items.reading.decoder c.next_item.new.self.decoder (g.R.Source.remaining c.args.reader.now) _ _ (told_by g.O.Outputs.texts g.O.Outputs.failures g.O.Outputs.given_up) g.O.W.Target.contents g.O.W.Target.failures c.items.handed_out c.args.outputs.now c.items.splitting c.items.outputs
+      few_handed_out c.args.limits c.args.splitting.now.size c.items.reading.decoder c.next_item.new.self.decoder
+          (g.R.Source.remaining c.args.reader.now) _ _ (told_by g.O.Outputs.texts g.O.Outputs.failures g.O.Outputs.given_up)
+          g.O.W.Target.contents g.O.W.Target.failures c.items.handed_out c.args.outputs.now c.items.splitting c.items.outputs
           c.in-Ok-Some.item c.items.invariant.splitting reading,
     )
 
 pub items-smaller : goal.items-smaller
 items-smaller g c =
-    let reading = next_item c.args.limits c.args.splitting.now.size c.items.reading.decoder c.next_item.new.self.decoder (g.R.Source.remaining c.args.reader.now) _ _ (told_by g.O.Outputs.texts g.O.Outputs.failures g.O.Outputs.given_up) g.O.W.Target.contents g.O.W.Target.failures c.items.handed_out c.args.outputs.now c.items.splitting c.items.outputs
-    c.in-Ok-Some.field-0 c.in-Ok-Some.item _ _ c.in-Ok-Some.field-0-is c.items.invariant.splitting c.in-Ok-Some.ensures.reads c.in-Ok-Some.ensures.again in
+    let reading =
+    next_item c.args.limits c.args.splitting.now.size c.items.reading.decoder c.next_item.new.self.decoder
+    (g.R.Source.remaining c.args.reader.now) _ _ (told_by g.O.Outputs.texts g.O.Outputs.failures g.O.Outputs.given_up)
+    g.O.W.Target.contents g.O.W.Target.failures c.items.handed_out c.args.outputs.now c.items.splitting c.items.outputs
+    c.in-Ok-Some.field-0 c.in-Ok-Some.item _ _ c.in-Ok-Some.field-0-is c.items.invariant.splitting c.in-Ok-Some.ensures.reads
+    c.in-Ok-Some.ensures.again in
     omega (
       arith,
-      few_handed_out c.args.limits c.args.splitting.now.size c.items.reading.decoder c.next_item.new.self.decoder (g.R.Source.remaining c.args.reader.now) _ _ (told_by g.O.Outputs.texts g.O.Outputs.failures g.O.Outputs.given_up) g.O.W.Target.contents g.O.W.Target.failures c.items.handed_out c.args.outputs.now c.items.splitting c.items.outputs
+      few_handed_out c.args.limits c.args.splitting.now.size c.items.reading.decoder c.next_item.new.self.decoder
+          (g.R.Source.remaining c.args.reader.now) _ _ (told_by g.O.Outputs.texts g.O.Outputs.failures g.O.Outputs.given_up)
+          g.O.W.Target.contents g.O.W.Target.failures c.items.handed_out c.args.outputs.now c.items.splitting c.items.outputs
           c.in-Ok-Some.item c.items.invariant.splitting reading,
     )
 
 pub items-preserved : goal.items-preserved
 items-preserved g c =
-    let reading = next_item c.args.limits c.args.splitting.now.size c.items.reading.decoder c.next_item.new.self.decoder (g.R.Source.remaining c.args.reader.now) _ _ (told_by g.O.Outputs.texts g.O.Outputs.failures g.O.Outputs.given_up) g.O.W.Target.contents g.O.W.Target.failures c.items.handed_out c.args.outputs.now c.items.splitting c.items.outputs
-    c.in-Ok-Some.field-0 c.in-Ok-Some.item _ _ c.in-Ok-Some.field-0-is c.items.invariant.splitting c.in-Ok-Some.ensures.reads c.in-Ok-Some.ensures.again in
-    let may = may_take c.args.limits c.args.splitting.now.size c.items.reading.decoder c.next_item.new.self.decoder (g.R.Source.remaining c.args.reader.now) _ _ (told_by g.O.Outputs.texts g.O.Outputs.failures g.O.Outputs.given_up) g.O.W.Target.contents g.O.W.Target.failures c.items.handed_out c.args.outputs.now c.items.splitting c.items.outputs c.in-Ok-Some.item
+    let reading =
+    next_item c.args.limits c.args.splitting.now.size c.items.reading.decoder c.next_item.new.self.decoder
+    (g.R.Source.remaining c.args.reader.now) _ _ (told_by g.O.Outputs.texts g.O.Outputs.failures g.O.Outputs.given_up)
+    g.O.W.Target.contents g.O.W.Target.failures c.items.handed_out c.args.outputs.now c.items.splitting c.items.outputs
+    c.in-Ok-Some.field-0 c.in-Ok-Some.item _ _ c.in-Ok-Some.field-0-is c.items.invariant.splitting c.in-Ok-Some.ensures.reads
+    c.in-Ok-Some.ensures.again in
+    let may =
+    may_take c.args.limits c.args.splitting.now.size c.items.reading.decoder c.next_item.new.self.decoder
+    (g.R.Source.remaining c.args.reader.now) _ _ (told_by g.O.Outputs.texts g.O.Outputs.failures g.O.Outputs.given_up)
+    g.O.W.Target.contents g.O.W.Target.failures c.items.handed_out c.args.outputs.now c.items.splitting c.items.outputs
+    c.in-Ok-Some.item
     c.requires.some c.items.invariant.splitting reading in
     record {
-      splitting = item_taken c.args.limits c.args.splitting.now.size c.items.reading.decoder c.next_item.new.self.decoder (g.R.Source.remaining c.args.reader.now) _ _ (told_by g.O.Outputs.texts g.O.Outputs.failures g.O.Outputs.given_up) g.O.W.Target.contents g.O.W.Target.failures c.items.handed_out c.args.outputs.now c.items.splitting c.take_item.new.splitting c.items.outputs
-          c.take_item.new.outputs c.in-Ok-Some.item c.requires.some c.items.invariant.splitting reading (leaves_item c.in-Ok-Some.field-0 c.in-Ok-Some.item c.next_item.new.self.decoder.state c.in-Ok-Some.field-0-is c.in-Ok-Some.ensures.reads.leaves) may.0.stage may.1 (c.in_ok-take_item-in-Ok-Some.ensures.takes may.0);
+      splitting =
+          item_taken c.args.limits c.args.splitting.now.size c.items.reading.decoder c.next_item.new.self.decoder
+          (g.R.Source.remaining c.args.reader.now) _ _ (told_by g.O.Outputs.texts g.O.Outputs.failures g.O.Outputs.given_up)
+          g.O.W.Target.contents g.O.W.Target.failures c.items.handed_out c.args.outputs.now c.items.splitting
+          c.take_item.new.splitting c.items.outputs
+          c.take_item.new.outputs c.in-Ok-Some.item c.requires.some c.items.invariant.splitting reading (leaves_item
+          c.in-Ok-Some.field-0 c.in-Ok-Some.item c.next_item.new.self.decoder.state c.in-Ok-Some.field-0-is
+          c.in-Ok-Some.ensures.reads.leaves) may.0.stage may.1 (c.in_ok-take_item-in-Ok-Some.ensures.takes may.0);
       lent = λ others e. c.in_ok-take_item-in-Ok-Some.ensures.lent others (c.items.invariant.lent others e);
       began = λ known e b.
-          let now = known_still (g.O.Outputs.texts c.args.outputs.now) (g.O.Outputs.texts c.items.outputs) _ known e c.items.invariant.splitting.texts in
+          let now =
+          known_still (g.O.Outputs.texts c.args.outputs.now) (g.O.Outputs.texts c.items.outputs) _ known e
+          c.items.invariant.splitting.texts in
           (c.in_ok-take_item-in-Ok-Some.ensures.written now.0 now.1 (c.items.invariant.began known e b)).0;
       failures = c.in-Ok-Some.ensures.failures ∙ c.items.invariant.failures;
       same = c.in-Ok-Some.ensures.same_reference ∙ c.items.invariant.same;
@@ -73,57 +114,100 @@ items-preserved g c =
 
 pub returns-in_err-take_item-in-Ok-Some-clause-splits : goal.returns-in_err-take_item-in-Ok-Some-clause-splits
 returns-in_err-take_item-in-Ok-Some-clause-splits g c =
-    let reading = next_item c.args.limits c.args.splitting.now.size c.items.reading.decoder c.next_item.new.self.decoder (g.R.Source.remaining c.args.reader.now) _ _ (told_by g.O.Outputs.texts g.O.Outputs.failures g.O.Outputs.given_up) g.O.W.Target.contents g.O.W.Target.failures c.items.handed_out c.args.outputs.now c.items.splitting c.items.outputs
-    c.in-Ok-Some.field-0 c.in-Ok-Some.item _ _ c.in-Ok-Some.field-0-is c.items.invariant.splitting c.in-Ok-Some.ensures.reads c.in-Ok-Some.ensures.again in
-    let stopped : Splits c.args.limits c.args.splitting.now.size (g.R.Source.remaining c.args.reader.now) (g.R.Source.remaining c.next_item.new.self.reader.now) (g.O.Outputs.texts c.args.outputs.now) (g.O.Outputs.texts c.take_item.new.outputs) (Err c.in_err-take_item-in-Ok-Some.field-0.0)
-    = output_stopped c.args.limits c.args.splitting.now.size c.items.reading.decoder c.next_item.new.self.decoder (g.R.Source.remaining c.args.reader.now) _ (g.R.Source.remaining c.next_item.new.self.reader.now) (told_by g.O.Outputs.texts g.O.Outputs.failures g.O.Outputs.given_up) g.O.W.Target.contents g.O.W.Target.failures c.items.handed_out c.args.outputs.now c.items.splitting c.items.outputs c.take_item.new.outputs
-    c.in-Ok-Some.item c.in_err-take_item-in-Ok-Some.field-0.0 _ c.requires.some c.items.invariant.splitting reading c.in_err-take_item-in-Ok-Some.ensures.takes in
-    let faulty : SplitsItems c.args.limits c.args.splitting.now.size (g.R.Source.remaining c.args.reader.now) (g.R.Source.remaining c.next_item.new.self.reader.now) (g.O.Outputs.texts c.args.outputs.now) (g.O.Outputs.texts c.take_item.new.outputs) c.take_item.new.splitting.report c.from_residual.result
-    = subst (λ (r : Result (Unit {0}) ToolFault). SplitsItems c.args.limits c.args.splitting.now.size (g.R.Source.remaining c.args.reader.now) (g.R.Source.remaining c.next_item.new.self.reader.now) (g.O.Outputs.texts c.args.outputs.now) (g.O.Outputs.texts c.take_item.new.outputs) c.take_item.new.splitting.report r)
+    let reading =
+    next_item c.args.limits c.args.splitting.now.size c.items.reading.decoder c.next_item.new.self.decoder
+    (g.R.Source.remaining c.args.reader.now) _ _ (told_by g.O.Outputs.texts g.O.Outputs.failures g.O.Outputs.given_up)
+    g.O.W.Target.contents g.O.W.Target.failures c.items.handed_out c.args.outputs.now c.items.splitting c.items.outputs
+    c.in-Ok-Some.field-0 c.in-Ok-Some.item _ _ c.in-Ok-Some.field-0-is c.items.invariant.splitting c.in-Ok-Some.ensures.reads
+    c.in-Ok-Some.ensures.again in
+    let stopped : Splits c.args.limits c.args.splitting.now.size (g.R.Source.remaining c.args.reader.now)
+    (g.R.Source.remaining c.next_item.new.self.reader.now) (g.O.Outputs.texts c.args.outputs.now)
+    (g.O.Outputs.texts c.take_item.new.outputs) (Err c.in_err-take_item-in-Ok-Some.field-0.0)
+    = output_stopped c.args.limits c.args.splitting.now.size c.items.reading.decoder c.next_item.new.self.decoder
+    (g.R.Source.remaining c.args.reader.now) _ (g.R.Source.remaining c.next_item.new.self.reader.now)
+    (told_by g.O.Outputs.texts g.O.Outputs.failures g.O.Outputs.given_up) g.O.W.Target.contents g.O.W.Target.failures
+    c.items.handed_out c.args.outputs.now c.items.splitting c.items.outputs c.take_item.new.outputs
+    c.in-Ok-Some.item c.in_err-take_item-in-Ok-Some.field-0.0 _ c.requires.some c.items.invariant.splitting reading
+    c.in_err-take_item-in-Ok-Some.ensures.takes in
+    let faulty : SplitsItems c.args.limits c.args.splitting.now.size (g.R.Source.remaining c.args.reader.now)
+    (g.R.Source.remaining c.next_item.new.self.reader.now) (g.O.Outputs.texts c.args.outputs.now)
+    (g.O.Outputs.texts c.take_item.new.outputs) c.take_item.new.splitting.report c.from_residual.result
+    = subst (λ (r : Result (Unit {0}) ToolFault). SplitsItems c.args.limits c.args.splitting.now.size
+    (g.R.Source.remaining c.args.reader.now) (g.R.Source.remaining c.next_item.new.self.reader.now)
+    (g.O.Outputs.texts c.args.outputs.now) (g.O.Outputs.texts c.take_item.new.outputs) c.take_item.new.splitting.report r)
     (sym (same_fault c.from_residual.result c.in_err-take_item-in-Ok-Some.field-0.0 c.from_residual.ensures.1)) stopped in
     search rules
 
 pub returns-in-Ok-None-clause-splits : goal.returns-in-Ok-None-clause-splits
 returns-in-Ok-None-clause-splits g c =
-    let all : HasReadAll c.args.limits (g.R.Source.remaining c.args.reader.now) (g.R.Source.remaining c.next_item.new.self.reader.now) c.items.invariant.splitting.given
-    = none_read c.args.limits c.items.reading.decoder c.next_item.new.self.decoder (g.R.Source.remaining c.args.reader.now) _ _ c.items.invariant.splitting.given c.in-Ok-None.field-0 _ c.in-Ok-None.field-0-is
+    let all : HasReadAll c.args.limits (g.R.Source.remaining c.args.reader.now)
+    (g.R.Source.remaining c.next_item.new.self.reader.now) c.items.invariant.splitting.given
+    = none_read c.args.limits c.items.reading.decoder c.next_item.new.self.decoder (g.R.Source.remaining c.args.reader.now) _ _
+    c.items.invariant.splitting.given c.in-Ok-None.field-0 _ c.in-Ok-None.field-0-is
     c.items.invariant.splitting.reading c.in-Ok-None.ensures.reads c.in-Ok-None.ensures.again (λ e. ap g.R.Source.remaining e) in
-    let good : SplitsItems c.args.limits c.args.splitting.now.size (g.R.Source.remaining c.args.reader.now) (g.R.Source.remaining c.next_item.new.self.reader.now) (g.O.Outputs.texts c.args.outputs.now) (g.O.Outputs.texts c.items.outputs) c.items.splitting.report (Ok tt)
-    = all_split c.args.limits c.args.splitting.now.size c.items.reading.decoder (g.R.Source.remaining c.args.reader.now) _ (g.R.Source.remaining c.next_item.new.self.reader.now) (told_by g.O.Outputs.texts g.O.Outputs.failures g.O.Outputs.given_up) g.O.W.Target.contents g.O.W.Target.failures c.items.handed_out c.args.outputs.now c.items.splitting c.items.outputs c.requires.some c.items.invariant.splitting all in
+    let good : SplitsItems c.args.limits c.args.splitting.now.size (g.R.Source.remaining c.args.reader.now)
+    (g.R.Source.remaining c.next_item.new.self.reader.now) (g.O.Outputs.texts c.args.outputs.now)
+    (g.O.Outputs.texts c.items.outputs) c.items.splitting.report (Ok tt)
+    = all_split c.args.limits c.args.splitting.now.size c.items.reading.decoder (g.R.Source.remaining c.args.reader.now) _
+    (g.R.Source.remaining c.next_item.new.self.reader.now)
+    (told_by g.O.Outputs.texts g.O.Outputs.failures g.O.Outputs.given_up) g.O.W.Target.contents g.O.W.Target.failures
+    c.items.handed_out c.args.outputs.now c.items.splitting c.items.outputs c.requires.some c.items.invariant.splitting all in
     search rules
 
 pub returns-in-Err-clause-splits : goal.returns-in-Err-clause-splits
 returns-in-Err-clause-splits g c =
-    let stop : StopsAfter c.args.limits c.in-Err.fault (g.R.Source.remaining c.args.reader.now) (g.R.Source.remaining c.next_item.new.self.reader.now) c.items.invariant.splitting.given
-    = stops_after c.args.limits c.items.reading.decoder c.next_item.new.self.decoder (g.R.Source.remaining c.args.reader.now) _ _ c.items.invariant.splitting.given c.in-Err.fault _ _
+    let stop : StopsAfter c.args.limits c.in-Err.fault (g.R.Source.remaining c.args.reader.now)
+    (g.R.Source.remaining c.next_item.new.self.reader.now) c.items.invariant.splitting.given
+    = stops_after c.args.limits c.items.reading.decoder c.next_item.new.self.decoder (g.R.Source.remaining c.args.reader.now) _ _
+    c.items.invariant.splitting.given c.in-Err.fault _ _
     c.items.invariant.splitting.reading c.in-Err.ensures.reads c.in-Err.ensures.again in
-    let stopped : Splits c.args.limits c.args.splitting.now.size (g.R.Source.remaining c.args.reader.now) (g.R.Source.remaining c.next_item.new.self.reader.now) (g.O.Outputs.texts c.args.outputs.now) (g.O.Outputs.texts c.items.outputs) (Err c.reading_fault.result)
-    = subst (λ (f : ToolFault). Splits c.args.limits c.args.splitting.now.size (g.R.Source.remaining c.args.reader.now) (g.R.Source.remaining c.next_item.new.self.reader.now) (g.O.Outputs.texts c.args.outputs.now) (g.O.Outputs.texts c.items.outputs) (Err f))
-    (sym c.reading_fault.ensures) (reading_stopped c.args.limits c.args.splitting.now.size c.items.reading.decoder (g.R.Source.remaining c.args.reader.now) _ (g.R.Source.remaining c.next_item.new.self.reader.now) (told_by g.O.Outputs.texts g.O.Outputs.failures g.O.Outputs.given_up) g.O.W.Target.contents g.O.W.Target.failures c.items.handed_out c.args.outputs.now c.items.splitting c.items.outputs c.in-Err.fault _ _ c.requires.some c.items.invariant.splitting
+    let stopped : Splits c.args.limits c.args.splitting.now.size (g.R.Source.remaining c.args.reader.now)
+    (g.R.Source.remaining c.next_item.new.self.reader.now) (g.O.Outputs.texts c.args.outputs.now)
+    (g.O.Outputs.texts c.items.outputs) (Err c.reading_fault.result)
+    = subst (λ (f : ToolFault). Splits c.args.limits c.args.splitting.now.size (g.R.Source.remaining c.args.reader.now)
+    (g.R.Source.remaining c.next_item.new.self.reader.now) (g.O.Outputs.texts c.args.outputs.now)
+    (g.O.Outputs.texts c.items.outputs) (Err f))
+    (sym c.reading_fault.ensures) (reading_stopped c.args.limits c.args.splitting.now.size c.items.reading.decoder
+    (g.R.Source.remaining c.args.reader.now) _ (g.R.Source.remaining c.next_item.new.self.reader.now)
+    (told_by g.O.Outputs.texts g.O.Outputs.failures g.O.Outputs.given_up) g.O.W.Target.contents g.O.W.Target.failures
+    c.items.handed_out c.args.outputs.now c.items.splitting c.items.outputs c.in-Err.fault _ _ c.requires.some
+    c.items.invariant.splitting
     c.in-Err.ensures.again stop) in
     search rules
 
 pub returns-in-Ok-None-clause-ended : goal.returns-in-Ok-None-clause-ended
 returns-in-Ok-None-clause-ended g c =
-    let all : HasReadAll c.args.limits (g.R.Source.remaining c.args.reader.now) (g.R.Source.remaining c.next_item.new.self.reader.now) c.items.invariant.splitting.given
-    = none_read c.args.limits c.items.reading.decoder c.next_item.new.self.decoder (g.R.Source.remaining c.args.reader.now) _ _ c.items.invariant.splitting.given c.in-Ok-None.field-0 _ c.in-Ok-None.field-0-is
+    let all : HasReadAll c.args.limits (g.R.Source.remaining c.args.reader.now)
+    (g.R.Source.remaining c.next_item.new.self.reader.now) c.items.invariant.splitting.given
+    = none_read c.args.limits c.items.reading.decoder c.next_item.new.self.decoder (g.R.Source.remaining c.args.reader.now) _ _
+    c.items.invariant.splitting.given c.in-Ok-None.field-0 _ c.in-Ok-None.field-0-is
     c.items.invariant.splitting.reading c.in-Ok-None.ensures.reads c.in-Ok-None.ensures.again (λ e. ap g.R.Source.remaining e) in
-    no_output_left c.args.limits c.args.splitting.now.size c.items.reading.decoder (g.R.Source.remaining c.args.reader.now) _ (g.R.Source.remaining c.next_item.new.self.reader.now) (told_by g.O.Outputs.texts g.O.Outputs.failures g.O.Outputs.given_up) g.O.W.Target.contents g.O.W.Target.failures c.items.handed_out c.args.outputs.now c.items.splitting c.items.outputs c.requires.some c.items.invariant.splitting all
+    no_output_left c.args.limits c.args.splitting.now.size c.items.reading.decoder (g.R.Source.remaining c.args.reader.now) _
+    (g.R.Source.remaining c.next_item.new.self.reader.now)
+    (told_by g.O.Outputs.texts g.O.Outputs.failures g.O.Outputs.given_up) g.O.W.Target.contents g.O.W.Target.failures
+    c.items.handed_out c.args.outputs.now c.items.splitting c.items.outputs c.requires.some c.items.invariant.splitting all
 
 pub returns-in_err-take_item-in-Ok-Some-clause-lent : goal.returns-in_err-take_item-in-Ok-Some-clause-lent
-returns-in_err-take_item-in-Ok-Some-clause-lent g c = λ others e. c.in_err-take_item-in-Ok-Some.ensures.lent others (c.items.invariant.lent others e)
+returns-in_err-take_item-in-Ok-Some-clause-lent g c =
+    λ others e. c.in_err-take_item-in-Ok-Some.ensures.lent others (c.items.invariant.lent others e)
 
 pub returns-in-Ok-None-clause-written : goal.returns-in-Ok-None-clause-written
-returns-in-Ok-None-clause-written g c = λ known e b. (c.items.invariant.began known e b, ok_tells tt c.items.splitting.output (g.O.Outputs.had c.items.outputs))
+returns-in-Ok-None-clause-written g c =
+    λ known e b. (c.items.invariant.began known e b, ok_tells tt c.items.splitting.output (g.O.Outputs.had c.items.outputs))
 
 pub returns-in-Err-clause-written : goal.returns-in-Err-clause-written
 returns-in-Err-clause-written g c = λ known e b. (
   c.items.invariant.began known e b,
-  subst (λ (f : ToolFault). TellsOpen (Err f) c.items.splitting.output (g.O.Outputs.had c.items.outputs)) (sym c.reading_fault.ensures) (reading_tells c.in-Err.fault c.items.splitting.output (g.O.Outputs.had c.items.outputs)),
+  subst (λ (f : ToolFault). TellsOpen (Err f) c.items.splitting.output (g.O.Outputs.had c.items.outputs))
+      (sym c.reading_fault.ensures) (reading_tells c.in-Err.fault c.items.splitting.output (g.O.Outputs.had c.items.outputs)),
 )
 
 pub returns-in_err-take_item-in-Ok-Some-clause-written : goal.returns-in_err-take_item-in-Ok-Some-clause-written
 returns-in_err-take_item-in-Ok-Some-clause-written g c = λ known e b.
-    let now = known_still (g.O.Outputs.texts c.args.outputs.now) (g.O.Outputs.texts c.items.outputs) _ known e c.items.invariant.splitting.texts in
-    open_failed g.O.W.Target.contents c.items.splitting.output c.take_item.new.splitting.output (g.O.Outputs.had c.take_item.new.outputs) c.in_err-take_item-in-Ok-Some.field-0.0 c.from_residual.result c.from_residual.ensures.1
+    let now =
+    known_still (g.O.Outputs.texts c.args.outputs.now) (g.O.Outputs.texts c.items.outputs) _ known e
+    c.items.invariant.splitting.texts in
+    open_failed g.O.W.Target.contents c.items.splitting.output c.take_item.new.splitting.output
+    (g.O.Outputs.had c.take_item.new.outputs) c.in_err-take_item-in-Ok-Some.field-0.0 c.from_residual.result
+    c.from_residual.ensures.1
     (c.in_err-take_item-in-Ok-Some.ensures.written now.0 now.1) (c.items.invariant.began known e b)

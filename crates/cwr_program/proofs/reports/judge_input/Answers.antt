@@ -8,10 +8,14 @@ use Rattle.cwr_program.proofs.reports.judge_input.Goals as goal
 
 pub returns-clause-judges : goal.returns-clause-judges
 returns-clause-judges g c =
-    from_source (λ (known : Option (List ℕ)). JudgesOn c.args.asked.now.limits c.args.asked.now.wanted known c.judge_source-writer.result.1) (remaining_of g.F.Read.remaining g.I.Read.remaining) c.args.input c.new-reader.result.inner _ c.new-reader.ensures.inner c.new-reader.ensures.ahead
+    from_source (λ (known : Option (List ℕ)). JudgesOn c.args.asked.now.limits c.args.asked.now.wanted known
+    c.judge_source-writer.result.1) (remaining_of g.F.Read.remaining
+    g.I.Read.remaining) c.args.input c.new-reader.result.inner _ c.new-reader.ensures.inner c.new-reader.ensures.ahead
     c.judge_source-writer.ensures.judges
 
 pub returns-clause-told : goal.returns-clause-told
 returns-clause-told g c =
-    from_source (λ (known : Option (List ℕ)). IfOk c.judge_source-writer.result.1 (λ judgement. TellsText c.args.telling c.args.asked.now.limits known g.W.Target.contents c.args.writer c.judge_source-writer.result.0 (Ok judgement.verdict)))
-    (remaining_of g.F.Read.remaining g.I.Read.remaining) c.args.input c.new-reader.result.inner _ c.new-reader.ensures.inner c.new-reader.ensures.ahead c.judge_source-writer.ensures.told
+    from_source (λ (known : Option (List ℕ)). IfOk c.judge_source-writer.result.1 (λ judgement. TellsText c.args.telling
+    c.args.asked.now.limits known g.W.Target.contents c.args.writer c.judge_source-writer.result.0 (Ok judgement.verdict)))
+    (remaining_of g.F.Read.remaining g.I.Read.remaining) c.args.input c.new-reader.result.inner _ c.new-reader.ensures.inner
+    c.new-reader.ensures.ahead c.judge_source-writer.ensures.told

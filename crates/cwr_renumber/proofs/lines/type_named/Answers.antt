@@ -14,5 +14,8 @@ none_named (Some ty) e = cc e
 
 pub returns-in-None : goal.returns-in-None
 returns-in-None c =
-    let none : type_in c.in-Some.cell.now ≡ None = none_named (type_in c.in-Some.cell.now) (no_type kinds.Grh 2 c.in-Some.cell.now refl refl (λ q. true≢false (sym (c.in-None.ensures.some.1 q)))) in
-    sym (ap (λ o. unwrap_or (option_and_then type_in o) Acknowledgement) (sym c.in-Some.ensures) ∙ ap (λ o. unwrap_or o Acknowledgement) none)
+    let none : type_in c.in-Some.cell.now ≡ None =
+    none_named (type_in c.in-Some.cell.now)
+    (no_type kinds.Grh 2 c.in-Some.cell.now refl refl (λ q. true≢false (sym (c.in-None.ensures.some.1 q)))) in
+    sym (ap (λ o. unwrap_or (option_and_then type_in o) Acknowledgement) (sym c.in-Some.ensures)
+    ∙ ap (λ o. unwrap_or o Acknowledgement) none)

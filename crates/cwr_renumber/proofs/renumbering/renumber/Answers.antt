@@ -5,13 +5,20 @@ use Rattle.cwr_renumber.proofs.renumbering.renumber.Goals as goal
 
 pub returns-clause-renumbers : goal.returns-clause-renumbers
 returns-clause-renumbers g c =
-    renumbers_one c.args.limits (λ s. left_of s (g.R.Source.remaining (inner_of s))) (λ s. g.R.Source.failures (inner_of s)) g.W.Target.contents c.new-source.result _ _ c.args.writer c.join-writer.result.0
-    (g.R.Source.remaining c.args.reader.now) c.join-writer.result.1 c.of_one.result c.from_mut.ensures.value (ap (λ r. left_of c.new-source.result (g.R.Source.remaining r)) c.new-source.ensures.inner ∙ c.new-source.ensures.left) c.of_one.ensures c.join-writer.ensures.joins
+    renumbers_one c.args.limits (λ s. left_of s (g.R.Source.remaining (inner_of s))) (λ s. g.R.Source.failures (inner_of s))
+    g.W.Target.contents c.new-source.result _ _ c.args.writer c.join-writer.result.0
+    (g.R.Source.remaining c.args.reader.now) c.join-writer.result.1 c.of_one.result c.from_mut.ensures.value
+    (ap (λ r. left_of c.new-source.result (g.R.Source.remaining r)) c.new-source.ensures.inner ∙ c.new-source.ensures.left)
+    c.of_one.ensures c.join-writer.ensures.joins
 
 pub returns-clause-accepted : goal.returns-clause-accepted
 returns-clause-accepted g c =
-    accepted_one c.args.limits (λ s. left_of s (g.R.Source.remaining (inner_of s))) g.W.Target.contents c.new-source.result _ c.args.writer c.join-writer.result.0
-    (g.R.Source.remaining c.args.reader.now) c.join-writer.result.1 c.of_one.result c.from_mut.ensures.value (ap (λ r. left_of c.new-source.result (g.R.Source.remaining r)) c.new-source.ensures.inner ∙ c.new-source.ensures.left) c.of_one.ensures c.join-writer.ensures.accepted
+    accepted_one c.args.limits (λ s. left_of s (g.R.Source.remaining (inner_of s))) g.W.Target.contents c.new-source.result _
+    c.args.writer c.join-writer.result.0
+    (g.R.Source.remaining c.args.reader.now) c.join-writer.result.1 c.of_one.result c.from_mut.ensures.value
+    (ap (λ r. left_of c.new-source.result (g.R.Source.remaining r)) c.new-source.ensures.inner ∙ c.new-source.ensures.left)
+    c.of_one.ensures c.join-writer.ensures.accepted
 
 pub returns-clause-writer_failures : goal.returns-clause-writer_failures
-returns-clause-writer_failures g c = writer_one c.join-writer.result.1 c.of_one.result _ _ c.of_one.ensures c.join-writer.ensures.writer_failures
+returns-clause-writer_failures g c =
+    writer_one c.join-writer.result.1 c.of_one.result _ _ c.of_one.ensures c.join-writer.ensures.writer_failures

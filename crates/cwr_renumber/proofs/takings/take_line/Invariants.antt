@@ -6,7 +6,8 @@ use Rattle.cwr_renumber.proofs.takings.take_line.Given as goal
 abbrev pub invariant-loop-piece : goal.invariant-loop-piece
 invariant-loop-piece g l = record {
   begun : l.line.ended ≡ Open;
-  text : IfSome (g.R.Source.remaining l.initial.inner) (λ left. IsSomeAnd (g.R.Source.remaining l.inner) (λ rest. l.line.bytes ++ rest ≡ l.initial.line.bytes ++ left));
+  text : IfSome (g.R.Source.remaining l.initial.inner)
+      (λ left. IsSomeAnd (g.R.Source.remaining l.inner) (λ rest. l.line.bytes ++ rest ≡ l.initial.line.bytes ++ left));
   failures : g.R.Source.failures l.inner ≡ g.R.Source.failures l.initial.inner;
 }
 

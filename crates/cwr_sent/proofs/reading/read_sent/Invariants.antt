@@ -7,7 +7,8 @@ use Rattle.cwr_sent.proofs.reading.read_sent.Given as goal
 abbrev pub invariant-items : goal.invariant-items
 invariant-items g l = record {
   given : List Item;
-  reading : IsReadingOn l.fn.limits l.reading.decoder (g.R.Source.remaining l.fn.reader) (g.R.Source.remaining l.reading.reader.now) given;
+  reading : IsReadingOn l.fn.limits l.reading.decoder (g.R.Source.remaining l.fn.reader)
+      (g.R.Source.remaining l.reading.reader.now) given;
   filled : filled_in l.sent ≡ filled_after given;
   counted : l.items ≡ length given;
   failures : g.R.Source.failures l.reading.reader.now ≡ g.R.Source.failures l.fn.reader;

@@ -10,5 +10,7 @@ returns-clause-value c =
     let before : List ℕ = c.args.text.now.items in
     let quote : List ℕ = codes "\"" in
     let inside : List ℕ = flat_map doubled c.args.cell.now in
-    c.push-2.ensures.value ∙ ap (λ (l : List ℕ). l ++ quote) (c.push_all_doubled.ensures.value ∙ ap (λ (l : List ℕ). l ++ inside) c.push.ensures.value ∙ append_assoc before quote inside)
-    ∙ append_assoc before (quote ++ inside) quote ∙ ap (λ (l : List ℕ). before ++ l) (sym (cell_quoted c.args.cell.now c.requires.quotes))
+    c.push-2.ensures.value ∙ ap (λ (l : List ℕ). l ++ quote) (c.push_all_doubled.ensures.value
+    ∙ ap (λ (l : List ℕ). l ++ inside) c.push.ensures.value ∙ append_assoc before quote inside)
+    ∙ append_assoc before (quote ++ inside) quote
+    ∙ ap (λ (l : List ℕ). before ++ l) (sym (cell_quoted c.args.cell.now c.requires.quotes))

@@ -14,4 +14,5 @@ loop-b-preserved c = λ h.
     let b : ℕ = get_or cell i 0 in
     let within : i < length cell = omega arith in
     let p = and_parts _ _ h in
-    characters_more cell i within ∙ ap₂ (λ (l m : List ℕ). l ++ m) (c.loop-b.invariant p.0) (character_low b (ltb-true b 128 p.1)) ∙ sym (take_more cell i 0 within)
+    characters_more cell i within ∙ ap₂ (λ (l m : List ℕ). l ++ m) (c.loop-b.invariant p.0) (character_low b (ltb-true b 128 p.1))
+    ∙ sym (take_more cell i 0 within)

@@ -16,7 +16,8 @@ loop-b-preserved c =
     let cell : List ℕ = c.args.cell.now in
     let within : i < length cell = omega arith in
     record {
-      value = c.push_character.ensures.value ∙ ap (λ (l : List ℕ). l ++ character Latin1 (get_or cell i 0)) c.loop-b.invariant.value
+      value =
+          c.push_character.ensures.value ∙ ap (λ (l : List ℕ). l ++ character Latin1 (get_or cell i 0)) c.loop-b.invariant.value
           ∙ append_assoc c.args.text.now.items (byte_by_byte Latin1 (take i cell)) (character Latin1 (get_or cell i 0))
           ∙ ap (λ (l : List ℕ). c.args.text.now.items ++ l) (sym (characters_more cell i within));
       len = omega (arith, c.push_character.ensures.len, c.loop-b.invariant.len);

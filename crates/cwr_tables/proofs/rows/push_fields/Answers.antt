@@ -13,20 +13,26 @@ push_field-requires c =
 
 pub loop-before-preserved : goal.loop-before-preserved
 loop-before-preserved c =
-    let fields : c.fields-before-end.result ≡ length (layout c.args.shown.now.kind) = c.fields-before-end.ensures ∙ ap (λ (kind : Kind). length (layout kind)) c.kind.ensures.value in
+    let fields : c.fields-before-end.result ≡ length (layout c.args.shown.now.kind) =
+    c.fields-before-end.ensures ∙ ap (λ (kind : Kind). length (layout kind)) c.kind.ensures.value in
     let within : c.loop-before.before < length (layout c.args.shown.now.kind) = omega (arith, c.loop-before-test.true, fields) in
     record {
-      value = c.push_field.ensures.value ∙ ap (λ (l : List ℕ). l ++ field_cell c.args.shown.now (c.loop-before.before + 1)) c.loop-before.invariant.value
-          ∙ append_assoc c.args.text.now.items (cells_before c.args.shown.now c.loop-before.before) (field_cell c.args.shown.now (c.loop-before.before + 1))
+      value =
+          c.push_field.ensures.value
+          ∙ ap (λ (l : List ℕ). l ++ field_cell c.args.shown.now (c.loop-before.before + 1)) c.loop-before.invariant.value
+          ∙ append_assoc c.args.text.now.items (cells_before c.args.shown.now c.loop-before.before)
+          (field_cell c.args.shown.now (c.loop-before.before + 1))
           ∙ ap (λ (l : List ℕ). c.args.text.now.items ++ l) (sym (cells_more c.args.shown.now c.loop-before.before within));
       len = omega (arith, c.push_field.ensures.len, c.loop-before.invariant.len);
     }
 
 pub returns-clause-value : goal.returns-clause-value
 returns-clause-value c =
-    let fields : c.fields-before-end.result ≡ length (layout c.args.shown.now.kind) = c.fields-before-end.ensures ∙ ap (λ (kind : Kind). length (layout kind)) c.kind.ensures.value in
+    let fields : c.fields-before-end.result ≡ length (layout c.args.shown.now.kind) =
+    c.fields-before-end.ensures ∙ ap (λ (kind : Kind). length (layout kind)) c.kind.ensures.value in
     let all : length (layout c.args.shown.now.kind) ≤ c.loop-before.before = omega (arith, c.loop-before-test.false, fields) in
-    c.loop-before.invariant.value ∙ ap (λ (l : List ℕ). c.args.text.now.items ++ l) (cells_whole c.args.shown.now c.loop-before.before c.kind.ensures.fits all)
+    c.loop-before.invariant.value ∙ ap (λ (l : List ℕ). c.args.text.now.items ++ l)
+    (cells_whole c.args.shown.now c.loop-before.before c.kind.ensures.fits all)
 
 pub returns-clause-len : goal.returns-clause-len
 returns-clause-len c =

@@ -3,10 +3,12 @@ use Rattle.cwr_json.proofs.FieldsShown.{length-trimmed-le}
 use Rattle.cwr_tables.proofs.rows.push_shown.Goals as goal
 
 pub push_next-requires : goal.push_next-requires
-push_next-requires c = omega (arith, c.requires.room, c.requires.short, length-trimmed-le c.args.cell.now, ap length c.trimmed-shown.ensures)
+push_next-requires c =
+    omega (arith, c.requires.room, c.requires.short, length-trimmed-le c.args.cell.now, ap length c.trimmed-shown.ensures)
 
 pub characters-requires : goal.characters-requires
 characters-requires c = omega (arith, c.requires.short, length-trimmed-le c.args.cell.now, ap length c.trimmed-shown.ensures)
 
 pub returns-then-is_ascii-clause-len : goal.returns-then-is_ascii-clause-len
-returns-then-is_ascii-clause-len c = omega (arith, c.requires.short, length-trimmed-le c.args.cell.now, ap length c.trimmed-shown.ensures, c.push_next.ensures.len)
+returns-then-is_ascii-clause-len c =
+    omega (arith, c.requires.short, length-trimmed-le c.args.cell.now, ap length c.trimmed-shown.ensures, c.push_next.ensures.len)

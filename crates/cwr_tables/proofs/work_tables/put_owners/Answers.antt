@@ -11,16 +11,22 @@ pub returns-in_err-put_begun-clause-puts : goal.returns-in_err-put_begun-clause-
 returns-in_err-put_begun-clause-puts g c =
     let q : Bool = c.need_quotes-quoted.result in
     let t : List ℕ = names c.args.side c.args.transaction.now in
-    let cell : ((codes "," ++ edge q) ++ within q t) ++ edge q ≡ next_cell t = ap (λ (b : Bool). ((codes "," ++ edge b) ++ within b t) ++ edge b) c.need_quotes-quoted.ensures ∙ names_cell c.args.side c.args.transaction.now in
+    let cell : ((codes "," ++ edge q) ++ within q t) ++ edge q ≡ next_cell t =
+    ap (λ (b : Bool). ((codes "," ++ edge b) ++ within b t) ++ edge b) c.need_quotes-quoted.ensures
+    ∙ names_cell c.args.side c.args.transaction.now in
     puts_as g.W.Target.contents g.W.Target.failures _ _ _ _ _ cell
-    (puts_cut g.W.Target.contents g.W.Target.failures ((codes "," ++ edge q) ++ within q t) (edge q) c.args.sink.now c.put_begun.new.sink
+    (puts_cut g.W.Target.contents g.W.Target.failures ((codes "," ++ edge q) ++ within q t) (edge q) c.args.sink.now
+    c.put_begun.new.sink
     c.in_err-put_begun.field-0.0 c.from_residual.result c.from_residual.ensures.0 c.in_err-put_begun.ensures.puts)
 
 pub returns-clause-puts : goal.returns-clause-puts
 returns-clause-puts g c =
     let q : Bool = c.need_quotes-quoted.result in
     let t : List ℕ = names c.args.side c.args.transaction.now in
-    let cell : ((codes "," ++ edge q) ++ within q t) ++ edge q ≡ next_cell t = ap (λ (b : Bool). ((codes "," ++ edge b) ++ within b t) ++ edge b) c.need_quotes-quoted.ensures ∙ names_cell c.args.side c.args.transaction.now in
+    let cell : ((codes "," ++ edge q) ++ within q t) ++ edge q ≡ next_cell t =
+    ap (λ (b : Bool). ((codes "," ++ edge b) ++ within b t) ++ edge b) c.need_quotes-quoted.ensures
+    ∙ names_cell c.args.side c.args.transaction.now in
     puts_as g.W.Target.contents g.W.Target.failures _ _ _ _ _ cell
-    (puts_both g.W.Target.contents g.W.Target.failures ((codes "," ++ edge q) ++ within q t) (edge q) c.args.sink.now c.put_begun.new.sink c.put_closing.new.sink
+    (puts_both g.W.Target.contents g.W.Target.failures ((codes "," ++ edge q) ++ within q t) (edge q) c.args.sink.now
+    c.put_begun.new.sink c.put_closing.new.sink
     tt c.put_closing.result c.in_ok-put_begun.ensures.puts c.put_closing.ensures.puts)

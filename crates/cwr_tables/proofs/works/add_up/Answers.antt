@@ -16,25 +16,42 @@ loop-shown-preserved c =
     let more = c.with_shares-sums.ensures in
     record {
       within = let h = found_within t i c.in-Some.shown c.in-Some.ensures.value in omega (arith, h);
-      performing = more.performing ∙ ap (λ (n : ℕ). n + cond on (share_of "pr share" c.in-Some.shown) 0) c.loop-shown.invariant.performing ∙ sym (sum_more "pr share" c.args.side t i c.in-Some.shown c.in-Some.ensures.value);
-      mechanical = more.mechanical ∙ ap (λ (n : ℕ). n + cond on (share_of "mr share" c.in-Some.shown) 0) c.loop-shown.invariant.mechanical ∙ sym (sum_more "mr share" c.args.side t i c.in-Some.shown c.in-Some.ensures.value);
-      synchronization = more.synchronization ∙ ap (λ (n : ℕ). n + cond on (share_of "sr share" c.in-Some.shown) 0) c.loop-shown.invariant.synchronization ∙ sym (sum_more "sr share" c.args.side t i c.in-Some.shown c.in-Some.ensures.value);
+      performing =
+          more.performing ∙ ap (λ (n : ℕ). n + cond on (share_of "pr share" c.in-Some.shown) 0) c.loop-shown.invariant.performing
+          ∙ sym (sum_more "pr share" c.args.side t i c.in-Some.shown c.in-Some.ensures.value);
+      mechanical =
+          more.mechanical ∙ ap (λ (n : ℕ). n + cond on (share_of "mr share" c.in-Some.shown) 0) c.loop-shown.invariant.mechanical
+          ∙ sym (sum_more "mr share" c.args.side t i c.in-Some.shown c.in-Some.ensures.value);
+      synchronization =
+          more.synchronization
+          ∙ ap (λ (n : ℕ). n + cond on (share_of "sr share" c.in-Some.shown) 0) c.loop-shown.invariant.synchronization
+          ∙ sym (sum_more "sr share" c.args.side t i c.in-Some.shown c.in-Some.ensures.value);
       performing_few = omega (arith, more.performing_few, c.loop-shown.invariant.performing_few);
       mechanical_few = omega (arith, more.mechanical_few, c.loop-shown.invariant.mechanical_few);
       synchronization_few = omega (arith, more.synchronization_few, c.loop-shown.invariant.synchronization_few);
     }
 
 pub with_shares-sums-requires-clause-performing : goal.with_shares-sums-requires-clause-performing
-with_shares-sums-requires-clause-performing c = let h = found_within c.args.transaction.now c.loop-shown.i c.in-Some.shown c.in-Some.ensures.value in omega (arith, h, c.requires, c.loop-shown.invariant.performing_few)
+with_shares-sums-requires-clause-performing c =
+    let h =
+    found_within c.args.transaction.now c.loop-shown.i c.in-Some.shown c.in-Some.ensures.value in
+    omega (arith, h, c.requires, c.loop-shown.invariant.performing_few)
 
 pub with_shares-sums-requires-clause-mechanical : goal.with_shares-sums-requires-clause-mechanical
-with_shares-sums-requires-clause-mechanical c = let h = found_within c.args.transaction.now c.loop-shown.i c.in-Some.shown c.in-Some.ensures.value in omega (arith, h, c.requires, c.loop-shown.invariant.mechanical_few)
+with_shares-sums-requires-clause-mechanical c =
+    let h =
+    found_within c.args.transaction.now c.loop-shown.i c.in-Some.shown c.in-Some.ensures.value in
+    omega (arith, h, c.requires, c.loop-shown.invariant.mechanical_few)
 
 pub with_shares-sums-requires-clause-synchronization : goal.with_shares-sums-requires-clause-synchronization
-with_shares-sums-requires-clause-synchronization c = let h = found_within c.args.transaction.now c.loop-shown.i c.in-Some.shown c.in-Some.ensures.value in omega (arith, h, c.requires, c.loop-shown.invariant.synchronization_few)
+with_shares-sums-requires-clause-synchronization c =
+    let h =
+    found_within c.args.transaction.now c.loop-shown.i c.in-Some.shown c.in-Some.ensures.value in
+    omega (arith, h, c.requires, c.loop-shown.invariant.synchronization_few)
 
 pub loop-shown-smaller : goal.loop-shown-smaller
-loop-shown-smaller c = let h = found_within c.args.transaction.now c.loop-shown.i c.in-Some.shown c.in-Some.ensures.value in omega (arith, h)
+loop-shown-smaller c =
+    let h = found_within c.args.transaction.now c.loop-shown.i c.in-Some.shown c.in-Some.ensures.value in omega (arith, h)
 
 pub returns : goal.returns
 returns c =
@@ -43,4 +60,5 @@ returns c =
     same_sums c.loop-shown.sums _ _ _
     (c.loop-shown.invariant.performing ∙ ap (λ (l : List RecordValue). sum_by (share_of "pr share") (owners c.args.side l)) all)
     (c.loop-shown.invariant.mechanical ∙ ap (λ (l : List RecordValue). sum_by (share_of "mr share") (owners c.args.side l)) all)
-    (c.loop-shown.invariant.synchronization ∙ ap (λ (l : List RecordValue). sum_by (share_of "sr share") (owners c.args.side l)) all)
+    (c.loop-shown.invariant.synchronization
+    ∙ ap (λ (l : List RecordValue). sum_by (share_of "sr share") (owners c.args.side l)) all)

@@ -13,22 +13,31 @@ pub writer_name-requires : goal.writer_name-requires
 writer_name-requires c = sym (ap (λ (side : Side). is_on side c.args.shown.now) c.in-Writers.is) ∙ c.requires
 
 pub returns-in-Writers-clause-value : goal.returns-in-Writers-clause-value
-returns-in-Writers-clause-value c = c.writer_name.ensures.value ∙ sym (ap (λ (side : Side). name_of_owner side c.args.shown.now) c.in-Writers.is)
+returns-in-Writers-clause-value c =
+    c.writer_name.ensures.value ∙ sym (ap (λ (side : Side). name_of_owner side c.args.shown.now) c.in-Writers.is)
 
 pub characters-requires : goal.characters-requires
 characters-requires c =
-    let on : is_on Publishers c.args.shown.now ≡ true = sym (ap (λ (side : Side). is_on side c.args.shown.now) c.in-Publishers.is) ∙ c.requires in
-    let h = trimmed_long "publisher name" c.args.shown.now 6 45 c.cell.result.now c.trimmed.result.now c.cell.ensures.value (publisher_name c.args.shown.now on) c.cell.ensures.fits c.trimmed.ensures in
+    let on : is_on Publishers c.args.shown.now ≡ true =
+    sym (ap (λ (side : Side). is_on side c.args.shown.now) c.in-Publishers.is) ∙ c.requires in
+    let h =
+    trimmed_long "publisher name" c.args.shown.now 6 45 c.cell.result.now c.trimmed.result.now c.cell.ensures.value
+    (publisher_name c.args.shown.now on) c.cell.ensures.fits c.trimmed.ensures in
     omega (arith, h)
 
 pub returns-in-Publishers-clause-value : goal.returns-in-Publishers-clause-value
 returns-in-Publishers-clause-value c =
-    let on : is_on Publishers c.args.shown.now ≡ true = sym (ap (λ (side : Side). is_on side c.args.shown.now) c.in-Publishers.is) ∙ c.requires in
-    c.characters.ensures.value ∙ ap (byte_by_byte Latin1) (c.trimmed.ensures ∙ ap trimmed (cell_is "publisher name" c.args.shown.now 6 45 c.cell.result.now c.cell.ensures.value (publisher_name c.args.shown.now on) c.cell.ensures.fits))
+    let on : is_on Publishers c.args.shown.now ≡ true =
+    sym (ap (λ (side : Side). is_on side c.args.shown.now) c.in-Publishers.is) ∙ c.requires in
+    c.characters.ensures.value ∙ ap (byte_by_byte Latin1) (c.trimmed.ensures ∙ ap trimmed (cell_is "publisher name"
+    c.args.shown.now 6 45 c.cell.result.now c.cell.ensures.value (publisher_name c.args.shown.now on) c.cell.ensures.fits))
     ∙ sym (ap (λ (side : Side). name_of_owner side c.args.shown.now) c.in-Publishers.is)
 
 pub returns-in-Publishers-clause-len : goal.returns-in-Publishers-clause-len
 returns-in-Publishers-clause-len c =
-    let on : is_on Publishers c.args.shown.now ≡ true = sym (ap (λ (side : Side). is_on side c.args.shown.now) c.in-Publishers.is) ∙ c.requires in
-    let h = trimmed_long "publisher name" c.args.shown.now 6 45 c.cell.result.now c.trimmed.result.now c.cell.ensures.value (publisher_name c.args.shown.now on) c.cell.ensures.fits c.trimmed.ensures in
+    let on : is_on Publishers c.args.shown.now ≡ true =
+    sym (ap (λ (side : Side). is_on side c.args.shown.now) c.in-Publishers.is) ∙ c.requires in
+    let h =
+    trimmed_long "publisher name" c.args.shown.now 6 45 c.cell.result.now c.trimmed.result.now c.cell.ensures.value
+    (publisher_name c.args.shown.now on) c.cell.ensures.fits c.trimmed.ensures in
     omega (arith, h, c.characters.ensures.len)

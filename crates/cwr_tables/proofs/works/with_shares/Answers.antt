@@ -27,9 +27,13 @@ pub returns-then-not-is_on : goal.returns-then-not-is_on
 returns-then-not-is_on c =
     let off : is_on c.args.side c.args.shown.now ≡ false = sym c.is_on.ensures ∙ c.if-not-is_on.true in
     record {
-      performing = nothing_added c.args.sums.performing (share_of "pr share" c.args.shown.now) (is_on c.args.side c.args.shown.now) off;
-      mechanical = nothing_added c.args.sums.mechanical (share_of "mr share" c.args.shown.now) (is_on c.args.side c.args.shown.now) off;
-      synchronization = nothing_added c.args.sums.synchronization (share_of "sr share" c.args.shown.now) (is_on c.args.side c.args.shown.now) off;
+      performing =
+          nothing_added c.args.sums.performing (share_of "pr share" c.args.shown.now) (is_on c.args.side c.args.shown.now) off;
+      mechanical =
+          nothing_added c.args.sums.mechanical (share_of "mr share" c.args.shown.now) (is_on c.args.side c.args.shown.now) off;
+      synchronization =
+          nothing_added c.args.sums.synchronization (share_of "sr share" c.args.shown.now) (is_on c.args.side c.args.shown.now)
+          off;
       performing_few = omega arith;
       mechanical_few = omega arith;
       synchronization_few = omega arith;
@@ -40,9 +44,18 @@ returns c =
     let on : is_on c.args.side c.args.shown.now ≡ true = sym c.is_on.ensures ∙ c.if-not-is_on.false in
     let shares = c.shares_of.ensures in
     record {
-      performing = added c.plus.result.performing c.args.sums.performing c.shares_of.result.performing (share_of "pr share" c.args.shown.now) (is_on c.args.side c.args.shown.now) on c.plus.ensures.performing shares.performing;
-      mechanical = added c.plus.result.mechanical c.args.sums.mechanical c.shares_of.result.mechanical (share_of "mr share" c.args.shown.now) (is_on c.args.side c.args.shown.now) on c.plus.ensures.mechanical shares.mechanical;
-      synchronization = added c.plus.result.synchronization c.args.sums.synchronization c.shares_of.result.synchronization (share_of "sr share" c.args.shown.now) (is_on c.args.side c.args.shown.now) on c.plus.ensures.synchronization shares.synchronization;
+      performing =
+          added c.plus.result.performing c.args.sums.performing c.shares_of.result.performing
+          (share_of "pr share" c.args.shown.now) (is_on c.args.side c.args.shown.now) on c.plus.ensures.performing
+          shares.performing;
+      mechanical =
+          added c.plus.result.mechanical c.args.sums.mechanical c.shares_of.result.mechanical
+          (share_of "mr share" c.args.shown.now) (is_on c.args.side c.args.shown.now) on c.plus.ensures.mechanical
+          shares.mechanical;
+      synchronization =
+          added c.plus.result.synchronization c.args.sums.synchronization c.shares_of.result.synchronization
+          (share_of "sr share" c.args.shown.now) (is_on c.args.side c.args.shown.now) on c.plus.ensures.synchronization
+          shares.synchronization;
       performing_few = omega (arith, c.plus.ensures.performing, shares.performing_small);
       mechanical_few = omega (arith, c.plus.ensures.mechanical, shares.mechanical_small);
       synchronization_few = omega (arith, c.plus.ensures.synchronization, shares.synchronization_small);

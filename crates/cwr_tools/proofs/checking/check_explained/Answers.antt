@@ -7,17 +7,34 @@ use Rattle.cwr_tools.proofs.WatchedRuns.{sees_accepted}
 use Rattle.cwr_tools.proofs.checking.check_explained.Goals as goal
 
 pub write_report-writer-requires : goal.write_report-writer-requires
-write_report-writer-requires g c = (lines_of_explained, (ap₂ lines_told (sym c.new-lines.ensures.explained) (sym c.new-lines.ensures.up_to_fault), worst_none _ c.new-lines.ensures.told))
+write_report-writer-requires g c = (
+  lines_of_explained,
+  (
+    ap₂ lines_told (sym c.new-lines.ensures.explained) (sym c.new-lines.ensures.up_to_fault),
+    worst_none _ c.new-lines.ensures.told,
+  ),
+)
 
 pub returns-clause-reported : goal.returns-clause-reported
-returns-clause-reported g c = c.write_report-writer.ensures.reported lines_of_explained (ap₂ lines_told (sym c.new-lines.ensures.explained) (sym c.new-lines.ensures.up_to_fault), worst_none _ c.new-lines.ensures.told)
+returns-clause-reported g c =
+    c.write_report-writer.ensures.reported lines_of_explained (
+      ap₂ lines_told (sym c.new-lines.ensures.explained)
+          (sym c.new-lines.ensures.up_to_fault),
+      worst_none _ c.new-lines.ensures.told,
+    )
 
 pub returns-clause-judged : goal.returns-clause-judged
-returns-clause-judged g c = judged_text lines_of_explained c.args.limits _ _ g.W.Target.contents c.args.writer c.write_report-writer.result.0 c.write_report-writer.result.1 (returns-clause-reported g c)
+returns-clause-judged g c =
+    judged_text lines_of_explained c.args.limits _ _ g.W.Target.contents c.args.writer c.write_report-writer.result.0
+    c.write_report-writer.result.1 (returns-clause-reported g c)
 
 pub returns-clause-accepted : goal.returns-clause-accepted
-returns-clause-accepted g c = accepted_reports lines_of_explained c.args.limits _ _ g.W.Target.contents c.args.writer c.write_report-writer.result.0 c.write_report-writer.result.1 (returns-clause-reported g c)
+returns-clause-accepted g c =
+    accepted_reports lines_of_explained c.args.limits _ _ g.W.Target.contents c.args.writer c.write_report-writer.result.0
+    c.write_report-writer.result.1 (returns-clause-reported g c)
 
 pub returns-clause-seen : goal.returns-clause-seen
 returns-clause-seen g c =
-    sees_accepted c.args.limits _ _ c.args.watch.now c.see.new.self c.write_report-writer.new.lines.told.worst _ c.write_report-writer.result.1 c.see.ensures (λ given here. here.1) (c.write_report-writer.ensures.stands lines_of_explained (ap₂ lines_told (sym c.new-lines.ensures.explained) (sym c.new-lines.ensures.up_to_fault), worst_none _ c.new-lines.ensures.told))
+    sees_accepted c.args.limits _ _ c.args.watch.now c.see.new.self c.write_report-writer.new.lines.told.worst _ c.write_report-writer.result.1 c.see.ensures (λ given
+    here. here.1) (c.write_report-writer.ensures.stands lines_of_explained
+    (ap₂ lines_told (sym c.new-lines.ensures.explained) (sym c.new-lines.ensures.up_to_fault), worst_none _ c.new-lines.ensures.told))

@@ -6,10 +6,24 @@ use Rattle.cwr_tools.proofs.RightReports.{judged_text}
 use Rattle.cwr_tools.proofs.checking.check_up_to_fault.Goals as goal
 
 pub write_report-writer-requires : goal.write_report-writer-requires
-write_report-writer-requires g c = (lines_up_to_fault c.args.explained, (ap₂ lines_told (sym c.new-lines.ensures.explained) (sym c.new-lines.ensures.up_to_fault), worst_none _ c.new-lines.ensures.told))
+write_report-writer-requires g c = (
+  lines_up_to_fault c.args.explained,
+  (
+    ap₂ lines_told (sym c.new-lines.ensures.explained)
+        (sym c.new-lines.ensures.up_to_fault),
+    worst_none _ c.new-lines.ensures.told,
+  ),
+)
 
 pub returns-clause-reported : goal.returns-clause-reported
-returns-clause-reported g c = c.write_report-writer.ensures.reported (lines_up_to_fault c.args.explained) (ap₂ lines_told (sym c.new-lines.ensures.explained) (sym c.new-lines.ensures.up_to_fault), worst_none _ c.new-lines.ensures.told)
+returns-clause-reported g c =
+    c.write_report-writer.ensures.reported (lines_up_to_fault c.args.explained) (
+      ap₂ lines_told
+          (sym c.new-lines.ensures.explained) (sym c.new-lines.ensures.up_to_fault),
+      worst_none _ c.new-lines.ensures.told,
+    )
 
 pub returns-clause-judged : goal.returns-clause-judged
-returns-clause-judged g c = judged_text (lines_up_to_fault c.args.explained) c.args.limits _ _ g.W.Target.contents c.args.writer c.write_report-writer.result.0 c.write_report-writer.result.1 (returns-clause-reported g c)
+returns-clause-judged g c =
+    judged_text (lines_up_to_fault c.args.explained) c.args.limits _ _ g.W.Target.contents c.args.writer
+    c.write_report-writer.result.0 c.write_report-writer.result.1 (returns-clause-reported g c)

@@ -10,11 +10,13 @@ pub returns-in-Some-first-2-clause-some : goal.returns-in-Some-first-2-clause-so
 returns-in-Some-first-2-clause-some c = let g = c.in-Some-first-2.ensures.some.0 refl in (λ t. (RevisedWork, g.0, g.1), λ b. refl)
 
 pub returns-in-Some-first-3-clause-some : goal.returns-in-Some-first-3-clause-some
-returns-in-Some-first-3-clause-some c = let g = c.in-Some-first-3.ensures.some.0 refl in (λ t. (Acknowledgement, g.0, g.1), λ b. refl)
+returns-in-Some-first-3-clause-some c =
+    let g = c.in-Some-first-3.ensures.some.0 refl in (λ t. (Acknowledgement, g.0, g.1), λ b. refl)
 
 pub returns-in-None-clause-some : goal.returns-in-None-clause-some
 returns-in-None-clause-some c = (
   λ t. absurd (true≢false (sym t)),
-  λ b. absurd (begins_none c.args.symbol c.first.result c.first-2.result c.first-3.result c.first-4.result c.in_default.is c.in_default-first.is c.in_default-first-2.is c.in-None.is
+  λ b. absurd (begins_none c.args.symbol c.first.result c.first-2.result c.first-3.result c.first-4.result c.in_default.is
+      c.in_default-first.is c.in_default-first-2.is c.in-None.is
       c.first.ensures.some c.first-2.ensures.some c.first-3.ensures.some c.first-4.ensures.some b),
 )

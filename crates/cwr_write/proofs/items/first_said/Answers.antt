@@ -8,5 +8,7 @@ loop-at-preserved c =
     record {
       from = omega (arith, c.loop-at.invariant.from);
       within = omega (arith, h);
-      same = c.loop-at.invariant.same ∙ none_said c.args.members.now.items c.loop-at.at c.index-member.result.now c.says.result h c.index-member.ensures (sym c.says.ensures) c.if-says.false;
+      same =
+          c.loop-at.invariant.same ∙ none_said c.args.members.now.items c.loop-at.at c.index-member.result.now c.says.result h
+          c.index-member.ensures (sym c.says.ensures) c.if-says.false;
     }

@@ -11,14 +11,23 @@ use Rattle.cwr_write.proofs.items.item_alone.Goals.{in-Hdr, in-Grh, in-Grt, in_d
 
 pub returns-clause-ok : goal.returns-clause-ok
 returns-clause-ok c =
-    let whole = data_all c.args.encoding c.args.values.now 1 (c.args.first ∷ []) (omega (arith, c.if-values-gt1.false)) (data_first c.args.encoding c.args.values.now c.args.first c.requires.data) in
+    let whole =
+    data_all c.args.encoding c.args.values.now 1 (c.args.first ∷ []) (omega (arith, c.if-values-gt1.false))
+    (data_first c.args.encoding c.args.values.now c.args.first c.requires.data) in
     elim c.match-kind.branch [
-      | in-Hdr w ↦ subst (λ (i : Item). AreRecordsData c.args.encoding (items_view c.args.values.now) (item_records i)) (sym w.result-is) whole
-      | in-Grh w ↦ subst (λ (i : Item). AreRecordsData c.args.encoding (items_view c.args.values.now) (item_records i)) (sym w.result-is) whole
-      | in-Grt w ↦ subst (λ (i : Item). AreRecordsData c.args.encoding (items_view c.args.values.now) (item_records i)) (sym w.result-is) whole
-      | in_default w ↦ subst (λ (i : Item). AreRecordsData c.args.encoding (items_view c.args.values.now) (item_records i)) (sym w.result-is)
-          (data_of_trailer c.args.encoding c.args.values.now c.args.first c.requires.data (c.requires.kind.0 ∙ alone_trailer c.args.kind c.requires.kind.1 w.in_default.not-Hdr w.in_default.not-Grh w.in_default.not-Grt) whole)
+      | in-Hdr w ↦ subst (λ (i : Item). AreRecordsData c.args.encoding (items_view c.args.values.now) (item_records i))
+          (sym w.result-is) whole
+      | in-Grh w ↦ subst (λ (i : Item). AreRecordsData c.args.encoding (items_view c.args.values.now) (item_records i))
+          (sym w.result-is) whole
+      | in-Grt w ↦ subst (λ (i : Item). AreRecordsData c.args.encoding (items_view c.args.values.now) (item_records i))
+          (sym w.result-is) whole
+      | in_default w ↦ subst (λ (i : Item). AreRecordsData c.args.encoding (items_view c.args.values.now) (item_records i))
+          (sym w.result-is)
+          (data_of_trailer c.args.encoding c.args.values.now c.args.first c.requires.data (c.requires.kind.0
+          ∙ alone_trailer c.args.kind c.requires.kind.1 w.in_default.not-Hdr w.in_default.not-Grh w.in_default.not-Grt) whole)
     ]
 
 pub returns-then-values-gt1-clause-none : goal.returns-then-values-gt1-clause-none
-returns-then-values-gt1-clause-none c = none_alone c.args.encoding c.args.values.now c.args.first c.requires.data (subst IsAlone (sym c.requires.kind.0) c.requires.kind.1) c.if-values-gt1.true
+returns-then-values-gt1-clause-none c =
+    none_alone c.args.encoding c.args.values.now c.args.first c.requires.data
+    (subst IsAlone (sym c.requires.kind.0) c.requires.kind.1) c.if-values-gt1.true

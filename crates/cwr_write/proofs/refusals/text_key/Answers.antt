@@ -13,8 +13,12 @@ swapped n m = omega arith
 pub returns : goal.returns
 returns c =
     let front : List ℕ = take c.min-count.result c.as_bytes-bytes.result.now in
-    let fits : length c.new-text.result.items + length front ≤ 40 = omega (arith, ap length c.new-text.ensures, length-take c.min-count.result c.as_bytes-bytes.result.now, c.min-count.ensures) in
-    on_ok c.try_extend_from_slice-fits.result _ (c.try_extend_from_slice-fits.ensures.variant.1 fits) c.try_extend_from_slice-fits.ensures.ok
+    let fits : length c.new-text.result.items + length front ≤ 40 =
+    omega
+    (arith, ap length c.new-text.ensures, length-take c.min-count.result c.as_bytes-bytes.result.now, c.min-count.ensures) in
+    on_ok c.try_extend_from_slice-fits.result _ (c.try_extend_from_slice-fits.ensures.variant.1 fits)
+    c.try_extend_from_slice-fits.ensures.ok
     ∙ ap (λ (l : List ℕ). l ++ front) c.new-text.ensures
-    ∙ ap (λ (n : ℕ). take n c.as_bytes-bytes.result.now) (c.min-count.ensures ∙ swapped (length c.as_bytes-bytes.result.now) 40) ∙ take_min 40 c.as_bytes-bytes.result.now
+    ∙ ap (λ (n : ℕ). take n c.as_bytes-bytes.result.now) (c.min-count.ensures ∙ swapped (length c.as_bytes-bytes.result.now) 40)
+    ∙ take_min 40 c.as_bytes-bytes.result.now
     ∙ ap (λ (l : List ℕ). take 40 l) c.as_bytes-bytes.ensures.value

@@ -13,13 +13,16 @@ use Rattle.cwr_write.proofs.writing.finish.Goals as goal
 pub returns-in-Err-clause-ended : goal.returns-in-Err-clause-ended
 returns-in-Err-clause-ended g c = λ start records e comes.
     finish_ended c.args.encoder.tally (map symbol_of records) c.args.lines c.in-Err.fault c.finish_fault.result e.counted comes
-    (subst (λ (r : Result ℕ EncodeFault). JudgesEnd (encoder_limits c.args.encoder) (map symbol_of records) r) c.in-Err.is (c.finish-writer.ensures.judged c.requires start records e))
+    (subst (λ (r : Result ℕ EncodeFault). JudgesEnd (encoder_limits c.args.encoder) (map symbol_of records) r) c.in-Err.is
+    (c.finish-writer.ensures.judged c.requires start records e))
     (subst (λ (r : Result ℕ EncodeFault). IsUnlimited r) c.in-Err.is c.finish-writer.ensures.unlimited) c.finish_fault.ensures
 
 pub returns-in-Err-clause-failures : goal.returns-in-Err-clause-failures
 returns-in-Err-clause-failures g c =
-    finish_counts g.W.Target.contents g.W.Target.failures c.args.encoder c.finish-writer.result.0 c.args.lines c.in-Err.fault c.finish_fault.result
-    (subst (λ (r : Result ℕ EncodeFault). FinishesWriting g.W.Target.contents g.W.Target.failures c.args.encoder c.finish-writer.result.0 r) c.in-Err.is (c.finish-writer.ensures.finishes c.requires)) c.finish_fault.ensures
+    finish_counts g.W.Target.contents g.W.Target.failures c.args.encoder c.finish-writer.result.0 c.args.lines c.in-Err.fault
+    c.finish_fault.result
+    (subst (λ (r : Result ℕ EncodeFault). FinishesWriting g.W.Target.contents g.W.Target.failures c.args.encoder
+    c.finish-writer.result.0 r) c.in-Err.is (c.finish-writer.ensures.finishes c.requires)) c.finish_fault.ensures
 
 pub returns-in-Err-clause-unread : goal.returns-in-Err-clause-unread
 returns-in-Err-clause-unread g c = finish_unread c.args.lines c.in-Err.fault c.finish_fault.result c.finish_fault.ensures

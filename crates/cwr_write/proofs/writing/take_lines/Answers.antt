@@ -9,31 +9,43 @@ use Rattle.cwr_write.specs.Format.Imports.{SaysItem, is_blank_line}
 use Rattle.cwr_write.specs.Steps.Lines.{TakesLineOf}
 use Rattle.cwr_write.proofs.LinesTaken.{said_all, said_blank, said_item, said_none, stops_line, stops_long}
 use Rattle.cwr_write.proofs.RunsEnded.{RunEnds, run_full, run_over, run_stopped, run_unread}
-use Rattle.cwr_write.proofs.TakenLines.{ReasonOf, ends_lines, ends_read, given_one_more, reads_stopped, reads_unread, represents_both, represents_none, stands_none, stops_at, stops_unread}
+use Rattle.cwr_write.proofs.TakenLines.{ReasonOf, ends_lines, ends_read, given_one_more, reads_stopped, reads_unread}
+use Rattle.cwr_write.proofs.TakenLines.{represents_both, represents_none, stands_none, stops_at, stops_unread}
 use Rattle.cwr_write.specs.Steps.Taking.{given_in, given_records}
 use Rattle.cwr_write.proofs.writing.take_lines.Goals as goal
 
 pub returns-in-Err-clause-takes : goal.returns-in-Err-clause-takes
-returns-in-Err-clause-takes g c = stops_unread c.args.encoding _ (g.R.Source.remaining c.args.reader.now) g.W.Target.contents g.W.Target.failures c.in-Err.fault c.unread_at.result c.args.encoder.now c.loop-before.encoder c.unread_at.ensures c.loop-before.invariant.counts
+returns-in-Err-clause-takes g c =
+    stops_unread c.args.encoding _ (g.R.Source.remaining c.args.reader.now) g.W.Target.contents g.W.Target.failures c.in-Err.fault
+    c.unread_at.result c.args.encoder.now c.loop-before.encoder c.unread_at.ensures c.loop-before.invariant.counts
 
 pub returns-in-Err-clause-reads : goal.returns-in-Err-clause-reads
-returns-in-Err-clause-reads g c = reads_unread _ c.in-Err.fault c.unread_at.result _ _ _ c.in-Err.ensures.failures c.unread_at.ensures c.loop-before.invariant.reads
+returns-in-Err-clause-reads g c =
+    reads_unread _ c.in-Err.fault c.unread_at.result _ _ _ c.in-Err.ensures.failures c.unread_at.ensures
+    c.loop-before.invariant.reads
 
 pub returns-in-Err-clause-ends : goal.returns-in-Err-clause-ends
 returns-in-Err-clause-ends g c =
     let i = c.loop-before.invariant in
     let left : Option (List ℕ) = g.R.Source.remaining c.args.reader.now in
     subst (λ (l : LimitValues). RunEnds c.args.encoding l c.args.most left (Err c.unread_at.result)) i.limits
-    (run_unread c.args.encoding (encoder_limits c.loop-before.encoder) c.args.most _ left c.in-Err.fault c.unread_at.result c.unread_at.ensures
-    (λ f why first long. stops_long c.args.encoding (encoder_limits c.loop-before.encoder) c.args.most c.loop-before.before f left (g.R.Source.remaining c.loop-before.reader) i.items why first i.said (c.in-Err.ensures.long long) i.stands.first))
+    (run_unread c.args.encoding (encoder_limits c.loop-before.encoder) c.args.most _ left c.in-Err.fault c.unread_at.result
+    c.unread_at.ensures
+    (λ f why first long. stops_long c.args.encoding (encoder_limits c.loop-before.encoder) c.args.most c.loop-before.before f left
+    (g.R.Source.remaining c.loop-before.reader) i.items why first i.said (c.in-Err.ensures.long long) i.stands.first))
 
 pub returns-in-Err-take_line-clause-reads : goal.returns-in-Err-take_line-clause-reads
-returns-in-Err-take_line-clause-reads g c = reads_stopped _ c.in-Err-take_line.fault c.fault_at.result _ _ c.fault_at.ensures (c.in-Ok-true.ensures.failures ∙ c.loop-before.invariant.reads)
+returns-in-Err-take_line-clause-reads g c =
+    reads_stopped _ c.in-Err-take_line.fault c.fault_at.result _ _ c.fault_at.ensures
+    (c.in-Ok-true.ensures.failures ∙ c.loop-before.invariant.reads)
 
 pub returns-in-Err-take_line-clause-takes : goal.returns-in-Err-take_line-clause-takes
 returns-in-Err-take_line-clause-takes g c =
-    stops_at c.args.encoding _ (SaysItem c.args.encoding c.as_slice-text.result.now) (ReasonOf c.args.encoding c.as_slice-text.result.now) c.loop-before.reached (g.R.Source.remaining c.args.reader.now) g.W.Target.contents g.W.Target.failures
-    c.in-Err-take_line.fault c.fault_at.result c.args.encoder.now c.loop-before.encoder c.take_line.new.encoder c.in-Err-take_line.ensures.takes c.fault_at.ensures c.loop-before.invariant.counts
+    stops_at c.args.encoding _ (SaysItem c.args.encoding c.as_slice-text.result.now)
+    (ReasonOf c.args.encoding c.as_slice-text.result.now) c.loop-before.reached (g.R.Source.remaining c.args.reader.now)
+    g.W.Target.contents g.W.Target.failures
+    c.in-Err-take_line.fault c.fault_at.result c.args.encoder.now c.loop-before.encoder c.take_line.new.encoder
+    c.in-Err-take_line.ensures.takes c.fault_at.ensures c.loop-before.invariant.counts
 
 pub returns-in-Err-take_line-clause-ends : goal.returns-in-Err-take_line-clause-ends
 returns-in-Err-take_line-clause-ends g c =
@@ -41,13 +53,20 @@ returns-in-Err-take_line-clause-ends g c =
     let left : Option (List ℕ) = g.R.Source.remaining c.args.reader.now in
     let limits : LimitValues = encoder_limits c.loop-before.encoder in
     subst (λ (l : LimitValues). RunEnds c.args.encoding l c.args.most left (Err c.fault_at.result)) i.limits
-    (run_stopped c.args.encoding _ c.args.most (SaysItem c.args.encoding c.as_slice-text.result.now) (ReasonOf c.args.encoding c.as_slice-text.result.now) c.loop-before.reached left g.W.Target.contents g.W.Target.failures _ i.items
-    c.in-Err-take_line.fault c.fault_at.result c.loop-before.encoder c.take_line.new.encoder c.in-Err-take_line.ensures.takes c.fault_at.ensures i.stands
-    (λ why none reason. stops_line c.args.encoding limits c.args.most c.loop-before.before why left (g.R.Source.remaining c.loop-before.reader) (g.R.Source.remaining c.next_line.new.reader) c.next_line.new.line.items i.items i.said
-    (subst (TakesLineOf (g.R.Source.remaining c.loop-before.reader) (g.R.Source.remaining c.next_line.new.reader) c.next_line.new.line.items) c.in-Ok-true.field-0-test c.in-Ok-true.ensures.taken)
+    (run_stopped c.args.encoding _ c.args.most (SaysItem c.args.encoding c.as_slice-text.result.now)
+    (ReasonOf c.args.encoding c.as_slice-text.result.now) c.loop-before.reached left g.W.Target.contents g.W.Target.failures _
+    i.items
+    c.in-Err-take_line.fault c.fault_at.result c.loop-before.encoder c.take_line.new.encoder c.in-Err-take_line.ensures.takes
+    c.fault_at.ensures i.stands
+    (λ why none reason. stops_line c.args.encoding limits c.args.most c.loop-before.before why left
+    (g.R.Source.remaining c.loop-before.reader) (g.R.Source.remaining c.next_line.new.reader) c.next_line.new.line.items
+    i.items i.said
+    (subst (TakesLineOf (g.R.Source.remaining c.loop-before.reader) (g.R.Source.remaining c.next_line.new.reader)
+    c.next_line.new.line.items) c.in-Ok-true.field-0-test c.in-Ok-true.ensures.taken)
     (ap is_blank_line (sym c.as_slice-text.ensures.value) ∙ sym c.is_blank.ensures ∙ c.if-is_blank.false) i.stands.first
     (λ item says. none item (subst (λ (l : List ℕ). SaysItem c.args.encoding l item) (sym c.as_slice-text.ensures.value) says))
-    (subst (λ (l : List ℕ). IsReason c.args.encoding limits c.args.most i.items l why) c.as_slice-text.ensures.value (reason c.args.most))))
+    (subst (λ (l : List ℕ). IsReason c.args.encoding limits c.args.most i.items l why) c.as_slice-text.ensures.value
+    (reason c.args.most))))
 
 pub loop-before-preserved : goal.loop-before-preserved
 loop-before-preserved g c =
@@ -57,13 +76,21 @@ loop-before-preserved g c =
     record {
       unfailed = taken.4;
       items = i.items ++ taken.0 ∷ [];
-      added = subst (λ (l : List RecordValue). RepresentsMore g.W.Target.contents l c.args.encoder.now c.take_line.new.encoder) (sym (given_one_more i.items taken.0))
-          (represents_both g.W.Target.contents (given_in i.items) (given_records taken.0) c.args.encoder.now c.loop-before.encoder c.take_line.new.encoder i.added taken.3);
+      added =
+          subst (λ (l : List RecordValue). RepresentsMore g.W.Target.contents l c.args.encoder.now c.take_line.new.encoder)
+          (sym (given_one_more i.items taken.0))
+          (represents_both g.W.Target.contents (given_in i.items) (given_records taken.0) c.args.encoder.now c.loop-before.encoder
+          c.take_line.new.encoder i.added taken.3);
       stands = grown;
-      said = said_item c.args.encoding c.args.most c.loop-before.before (g.R.Source.remaining c.args.reader.now) (g.R.Source.remaining c.loop-before.reader) (g.R.Source.remaining c.next_line.new.reader) c.next_line.new.line.items i.items taken.0
-          i.said (subst (TakesLineOf (g.R.Source.remaining c.loop-before.reader) (g.R.Source.remaining c.next_line.new.reader) c.next_line.new.line.items) c.in-Ok-true.field-0-test c.in-Ok-true.ensures.taken)
+      said =
+          said_item c.args.encoding c.args.most c.loop-before.before (g.R.Source.remaining c.args.reader.now)
+          (g.R.Source.remaining c.loop-before.reader) (g.R.Source.remaining c.next_line.new.reader) c.next_line.new.line.items
+          i.items taken.0
+          i.said (subst (TakesLineOf (g.R.Source.remaining c.loop-before.reader) (g.R.Source.remaining c.next_line.new.reader)
+          c.next_line.new.line.items) c.in-Ok-true.field-0-test c.in-Ok-true.ensures.taken)
           c.in-Ok-true.ensures.short
-          (ap is_blank_line (sym c.as_slice-text.ensures.value) ∙ sym c.is_blank.ensures ∙ c.if-is_blank.false) (subst (λ (l : List ℕ). SaysItem c.args.encoding l taken.0) c.as_slice-text.ensures.value taken.1);
+          (ap is_blank_line (sym c.as_slice-text.ensures.value) ∙ sym c.is_blank.ensures ∙ c.if-is_blank.false)
+          (subst (λ (l : List ℕ). SaysItem c.args.encoding l taken.0) c.as_slice-text.ensures.value taken.1);
       counts = taken.5 ∙ i.counts;
       limits = c.in-Ok.ensures.limits ∙ i.limits;
       reads = c.in-Ok-true.ensures.failures ∙ i.reads;
@@ -84,21 +111,31 @@ loop-before-init g c = record {
 pub returns-in-Ok-false-clause-takes : goal.returns-in-Ok-false-clause-takes
 returns-in-Ok-false-clause-takes g c =
     let i = c.loop-before.invariant in
-    ends_lines c.args.encoding c.loop-before.before (g.R.Source.remaining c.args.reader.now) g.W.Target.contents g.W.Target.failures _ c.loop-before.reached i.items c.ended_with.result c.args.encoder.now c.loop-before.encoder c.ended_with.ensures
+    ends_lines c.args.encoding c.loop-before.before (g.R.Source.remaining c.args.reader.now) g.W.Target.contents
+    g.W.Target.failures _ c.loop-before.reached i.items c.ended_with.result c.args.encoder.now c.loop-before.encoder
+    c.ended_with.ensures
     i.added i.unfailed i.counts i.stands
-    (said_all c.args.encoding c.args.most c.loop-before.before (g.R.Source.remaining c.args.reader.now) (g.R.Source.remaining c.loop-before.reader) (g.R.Source.remaining c.next_line.new.reader) c.next_line.new.line.items i.items i.said
-    (subst (TakesLineOf (g.R.Source.remaining c.loop-before.reader) (g.R.Source.remaining c.next_line.new.reader) c.next_line.new.line.items) c.in-Ok-false.field-0-test c.in-Ok-false.ensures.taken))
+    (said_all c.args.encoding c.args.most c.loop-before.before (g.R.Source.remaining c.args.reader.now)
+    (g.R.Source.remaining c.loop-before.reader) (g.R.Source.remaining c.next_line.new.reader) c.next_line.new.line.items
+    i.items i.said
+    (subst (TakesLineOf (g.R.Source.remaining c.loop-before.reader) (g.R.Source.remaining c.next_line.new.reader)
+    c.next_line.new.line.items) c.in-Ok-false.field-0-test c.in-Ok-false.ensures.taken))
 
 pub returns-in-Ok-false-clause-reads : goal.returns-in-Ok-false-clause-reads
-returns-in-Ok-false-clause-reads g c = ends_read c.loop-before.before c.loop-before.reached c.ended_with.result _ _ c.ended_with.ensures (c.in-Ok-false.ensures.failures ∙ c.loop-before.invariant.reads)
+returns-in-Ok-false-clause-reads g c =
+    ends_read c.loop-before.before c.loop-before.reached c.ended_with.result _ _ c.ended_with.ensures
+    (c.in-Ok-false.ensures.failures ∙ c.loop-before.invariant.reads)
 
 pub returns-in-Ok-false-clause-ends : goal.returns-in-Ok-false-clause-ends
 returns-in-Ok-false-clause-ends g c =
     let i = c.loop-before.invariant in
     let left : Option (List ℕ) = g.R.Source.remaining c.args.reader.now in
     subst (λ (l : LimitValues). RunEnds c.args.encoding l c.args.most left c.ended_with.result) i.limits
-    (run_over c.args.encoding c.loop-before.before c.args.most c.loop-before.reached left (g.R.Source.remaining c.loop-before.reader) (g.R.Source.remaining c.next_line.new.reader) c.next_line.new.line.items g.W.Target.contents _ i.items c.ended_with.result c.loop-before.encoder c.ended_with.ensures i.said
-    (subst (TakesLineOf (g.R.Source.remaining c.loop-before.reader) (g.R.Source.remaining c.next_line.new.reader) c.next_line.new.line.items) c.in-Ok-false.field-0-test c.in-Ok-false.ensures.taken) i.stands)
+    (run_over c.args.encoding c.loop-before.before c.args.most c.loop-before.reached left
+    (g.R.Source.remaining c.loop-before.reader) (g.R.Source.remaining c.next_line.new.reader) c.next_line.new.line.items
+    g.W.Target.contents _ i.items c.ended_with.result c.loop-before.encoder c.ended_with.ensures i.said
+    (subst (TakesLineOf (g.R.Source.remaining c.loop-before.reader) (g.R.Source.remaining c.next_line.new.reader)
+    c.next_line.new.line.items) c.in-Ok-false.field-0-test c.in-Ok-false.ensures.taken) i.stands)
 
 pub loop-before-preserved-then-is_blank : goal.loop-before-preserved-then-is_blank
 loop-before-preserved-then-is_blank g c =
@@ -108,8 +145,12 @@ loop-before-preserved-then-is_blank g c =
       items = i.items;
       added = i.added;
       stands = i.stands;
-      said = said_blank c.args.encoding c.args.most c.loop-before.before (g.R.Source.remaining c.args.reader.now) (g.R.Source.remaining c.loop-before.reader) (g.R.Source.remaining c.next_line.new.reader) c.next_line.new.line.items i.items i.said
-          (subst (TakesLineOf (g.R.Source.remaining c.loop-before.reader) (g.R.Source.remaining c.next_line.new.reader) c.next_line.new.line.items) c.in-Ok-true.field-0-test c.in-Ok-true.ensures.taken)
+      said =
+          said_blank c.args.encoding c.args.most c.loop-before.before (g.R.Source.remaining c.args.reader.now)
+          (g.R.Source.remaining c.loop-before.reader) (g.R.Source.remaining c.next_line.new.reader) c.next_line.new.line.items
+          i.items i.said
+          (subst (TakesLineOf (g.R.Source.remaining c.loop-before.reader) (g.R.Source.remaining c.next_line.new.reader)
+          c.next_line.new.line.items) c.in-Ok-true.field-0-test c.in-Ok-true.ensures.taken)
           c.in-Ok-true.ensures.short
           (ap is_blank_line (sym c.as_slice-text.ensures.value) ∙ sym c.is_blank.ensures ∙ c.if-is_blank.true);
       counts = i.counts;
@@ -118,4 +159,7 @@ loop-before-preserved-then-is_blank g c =
     }
 
 pub returns-clause-ends : goal.returns-clause-ends
-returns-clause-ends g c = run_full c.args.encoding (encoder_limits c.args.encoder.now) c.args.most c.loop-before.before (g.R.Source.remaining c.args.reader.now) (g.R.Source.remaining c.loop-before.reader) c.loop-before.invariant.items (Err (write_faults.Early 18446744073709551615)) c.loop-before.invariant.said (omega (arith, c.loop-before-test.false))
+returns-clause-ends g c =
+    run_full c.args.encoding (encoder_limits c.args.encoder.now) c.args.most c.loop-before.before
+    (g.R.Source.remaining c.args.reader.now) (g.R.Source.remaining c.loop-before.reader) c.loop-before.invariant.items
+    (Err (write_faults.Early 18446744073709551615)) c.loop-before.invariant.said (omega (arith, c.loop-before-test.false))

@@ -11,7 +11,8 @@ invariant-loop-before g l = record {
   items : List Item;
   added : RepresentsMore g.W.Target.contents (given_in items) l.initial.encoder l.encoder;
   stands : Stands g.W.Target.contents (g.W.Target.contents (target_of l.initial.encoder)) items l.reached l.encoder;
-  said : IfSome (g.R.Source.remaining l.initial.reader) (λ text. SaidSoFar l.encoding l.fn.most l.before text (g.R.Source.remaining l.reader) items);
+  said : IfSome (g.R.Source.remaining l.initial.reader)
+      (λ text. SaidSoFar l.encoding l.fn.most l.before text (g.R.Source.remaining l.reader) items);
   counts : g.W.Target.failures (target_of l.encoder) ≡ g.W.Target.failures (target_of l.initial.encoder);
   limits : encoder_limits l.encoder ≡ encoder_limits l.initial.encoder;
   reads : g.R.Source.failures l.reader ≡ g.R.Source.failures l.initial.reader;

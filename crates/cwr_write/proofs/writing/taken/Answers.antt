@@ -3,7 +3,9 @@ use Rattle.cwr_write.proofs.TakenLines.{goes_on, stands_with, taken_fault}
 use Rattle.cwr_write.proofs.writing.taken.Goals as goal
 
 pub returns-in-Err-clause-takes : goal.returns-in-Err-clause-takes
-returns-in-Err-clause-takes g c = taken_fault c.args.item.now c.args.reached g.W.Target.contents g.W.Target.failures _ c.in-Err.fault c.encode_fault.result c.args.encoder.now c.take_item.new.encoder c.in-Err.ensures.adds c.in-Err.ensures.judged c.encode_fault.ensures
+returns-in-Err-clause-takes g c =
+    taken_fault c.args.item.now c.args.reached g.W.Target.contents g.W.Target.failures _ c.in-Err.fault c.encode_fault.result
+    c.args.encoder.now c.take_item.new.encoder c.in-Err.ensures.adds c.in-Err.ensures.judged c.encode_fault.ensures
 
 pub returns-in-Ok-clause-takes : goal.returns-in-Ok-clause-takes
 returns-in-Ok-clause-takes g c =
@@ -14,5 +16,7 @@ returns-in-Ok-clause-takes g c =
       c.in-Ok.ensures.adds.0,
       c.in-Ok.ensures.adds.1,
       c.in-Ok.ensures.adds.2,
-      stands_with g.W.Target.contents c.args.item.now c.args.reached c.reached_with.result c.args.encoder.now c.take_item.new.encoder c.in-Ok.ensures.adds.0 c.in-Ok.ensures.limits goes c.reached_with.ensures c.in-Ok.ensures.judged,
+      stands_with g.W.Target.contents c.args.item.now c.args.reached c.reached_with.result c.args.encoder.now
+          c.take_item.new.encoder c.in-Ok.ensures.adds.0 c.in-Ok.ensures.limits goes c.reached_with.ensures
+          c.in-Ok.ensures.judged,
     )

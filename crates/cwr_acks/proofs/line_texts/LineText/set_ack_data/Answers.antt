@@ -10,9 +10,11 @@ pub returns : goal.returns
 returns c =
     let join : List ℕ → List ℕ → List ℕ = λ l m. l ++ m in
     let one : cell_at c.args.shown.now 10 ≡ cell_named "submitter creation number" c.args.shown.now
-    = cell_is "submitter creation number" c.args.shown.now 10 20 _ refl (submitter c.args.shown.now c.requires) c.push_member_if.ensures.fits in
+    = cell_is "submitter creation number" c.args.shown.now 10 20 _ refl (submitter c.args.shown.now c.requires)
+    c.push_member_if.ensures.fits in
     let two : cell_at c.args.shown.now 11 ≡ cell_named "recipient creation number" c.args.shown.now
-    = cell_is "recipient creation number" c.args.shown.now 11 20 _ refl (recipient c.args.shown.now c.requires) c.push_member_if.ensures.fits in
+    = cell_is "recipient creation number" c.args.shown.now 11 20 _ refl (recipient c.args.shown.now c.requires)
+    c.push_member_if.ensures.fits in
     let three : cell_at c.args.shown.now 9 ≡ cell_named "creation title" c.args.shown.now
     = cell_is "creation title" c.args.shown.now 9 60 _ refl (title c.args.shown.now c.requires) c.push_member_if.ensures.fits in
     c.push.ensures.value ∙ ap (λ (l : List ℕ). l ++ codes ",\"messages\":[")

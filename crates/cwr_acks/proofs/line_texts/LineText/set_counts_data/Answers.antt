@@ -1,4 +1,5 @@
-use Rattle.std.proofs.Common.{◌≡◌, ℕ, suc, ◌<◌, ◌+◌, List, ◌++◌, length, get_or, ap, ap₂, sym, ◌∙◌, arith, append_assoc, append-nil}
+use Rattle.std.proofs.Common.{◌≡◌, ℕ, suc, ◌<◌, ◌+◌, List, ◌++◌, length, get_or, ap, ap₂, sym, ◌∙◌, arith, append_assoc}
+use Rattle.std.proofs.Common.{append-nil}
 use Rattle.std.specs.Prelude.{codes, decimal, nat_lt}
 use Rattle.std.proofs.lemmas.Option.{slice_get-get_or}
 use Rattle.cwr_fields.specs.Format.MessageCodes.{status_code, transaction_statuses}
@@ -9,7 +10,8 @@ use Rattle.cwr_acks.proofs.line_texts.LineText.set_counts_data.Goals as goal
 pub loop-i-init : goal.loop-i-init
 loop-i-init c = record {
   value = c.push-2.ensures.value ∙ ap (λ (l : List ℕ). l ++ codes ",\"statuses\":{")
-      (c.push_number.ensures.value ∙ ap₂ (λ (l m : List ℕ). l ++ m) (c.push.ensures.value ∙ ap (λ (l : List ℕ). l ++ codes "{\"acks\":") c.clear.ensures)
+      (c.push_number.ensures.value
+      ∙ ap₂ (λ (l m : List ℕ). l ++ m) (c.push.ensures.value ∙ ap (λ (l : List ℕ). l ++ codes "{\"acks\":") c.clear.ensures)
       (ap decimal c.from.ensures))
       ∙ sym (append-nil (codes "{\"acks\":" ++ decimal c.args.answers.now.all ++ codes ",\"statuses\":{"));
   len = omega (arith, c.push-2.ensures.len, c.push_number.ensures.len, c.push.ensures.len, ap length c.clear.ensures);
@@ -27,9 +29,12 @@ loop-i-preserved c =
     let within : i < length ns = omega (arith, c.requires, c.loop-i-test.true) in
     record {
       value = c.push_count_data.ensures.value
-          ∙ ap (λ (l : List ℕ). l ++ count_member (nat_lt 0 i) (status_code (get_or transaction_statuses i _)) (get_or ns i 0)) c.loop-i.invariant.value
-          ∙ append_assoc head (counts_to i ns) (count_member (nat_lt 0 i) (status_code (get_or transaction_statuses i _)) (get_or ns i 0))
-          ∙ ap (λ (l : List ℕ). head ++ l) (sym (counts_more ns i _ (slice_get-get_or transaction_statuses i _ c.loop-i-test.true) within)
+          ∙ ap (λ (l : List ℕ). l ++ count_member (nat_lt 0 i) (status_code (get_or transaction_statuses i _)) (get_or ns i 0))
+          c.loop-i.invariant.value
+          ∙ append_assoc head (counts_to i ns)
+          (count_member (nat_lt 0 i) (status_code (get_or transaction_statuses i _)) (get_or ns i 0))
+          ∙ ap (λ (l : List ℕ). head ++ l)
+          (sym (counts_more ns i _ (slice_get-get_or transaction_statuses i _ c.loop-i-test.true) within)
           ∙ ap (λ (n : ℕ). counts_to n ns) next);
       len = omega (arith, c.push_count_data.ensures.len, c.loop-i.invariant.len);
     }
@@ -41,5 +46,6 @@ pub returns : goal.returns
 returns c =
     let ns : List ℕ = c.args.answers.now.by_status in
     c.push-3.ensures.value ∙ ap (λ (l : List ℕ). l ++ codes "}}\n")
-    (c.loop-i.invariant.value ∙ ap (λ (l : List ℕ). codes "{\"acks\":" ++ decimal c.args.answers.now.all ++ codes ",\"statuses\":{" ++ l)
+    (c.loop-i.invariant.value
+    ∙ ap (λ (l : List ℕ). codes "{\"acks\":" ++ decimal c.args.answers.now.all ++ codes ",\"statuses\":{" ++ l)
     (counts_whole c.loop-i.i ns c.requires c.loop-i-test.false c.loop-i.auto.i-end))

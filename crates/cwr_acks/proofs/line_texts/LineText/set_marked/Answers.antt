@@ -8,26 +8,59 @@ use Rattle.cwr_acks.proofs.line_texts.LineText.set_marked.Goals as goal
 
 pub push_cell_part-requires : goal.push_cell_part-requires
 push_cell_part-requires c =
-    let h = cell_long "submitter creation number" c.args.shown.now 10 20 c.cell.result.now c.cell.ensures.value (submitter c.args.shown.now c.requires.ack) c.cell.ensures.fits in
+    let h =
+    cell_long "submitter creation number" c.args.shown.now 10 20 c.cell.result.now c.cell.ensures.value
+    (submitter c.args.shown.now c.requires.ack) c.cell.ensures.fits in
     omega (arith, h, c.requires.short, ap length c.clear.ensures, c.push.ensures.len, c.push_original.ensures.len)
 
 pub push_cell_part-requires-2 : goal.push_cell_part-requires-2
 push_cell_part-requires-2 c =
-    let h = cell_long "submitter creation number" c.args.shown.now 10 20 c.cell.result.now c.cell.ensures.value (submitter c.args.shown.now c.requires.ack) c.cell.ensures.fits in
-    let m = cell_long "creation title" c.args.shown.now 9 60 c.cell-2.result.now c.cell-2.ensures.value (title c.args.shown.now c.requires.ack) c.cell-2.ensures.fits in
-    omega (arith, h, m, c.requires.short, ap length c.clear.ensures, c.push.ensures.len, c.push_original.ensures.len, c.push_cell_part.ensures.len)
+    let h =
+    cell_long "submitter creation number" c.args.shown.now 10 20 c.cell.result.now c.cell.ensures.value
+    (submitter c.args.shown.now c.requires.ack) c.cell.ensures.fits in
+    let m =
+    cell_long "creation title" c.args.shown.now 9 60 c.cell-2.result.now c.cell-2.ensures.value
+    (title c.args.shown.now c.requires.ack) c.cell-2.ensures.fits in
+    omega (
+      arith,
+      h,
+      m,
+      c.requires.short,
+      ap length c.clear.ensures,
+      c.push.ensures.len,
+      c.push_original.ensures.len,
+      c.push_cell_part.ensures.len,
+    )
 
 pub push-requires-2 : goal.push-requires-2
 push-requires-2 c =
-    let h = cell_long "submitter creation number" c.args.shown.now 10 20 c.cell.result.now c.cell.ensures.value (submitter c.args.shown.now c.requires.ack) c.cell.ensures.fits in
-    let m = cell_long "creation title" c.args.shown.now 9 60 c.cell-2.result.now c.cell-2.ensures.value (title c.args.shown.now c.requires.ack) c.cell-2.ensures.fits in
-    omega (arith, h, m, c.requires.short, ap length c.clear.ensures, c.push.ensures.len, c.push_original.ensures.len, c.push_cell_part.ensures.len, c.push_cell_part-2.ensures.len)
+    let h =
+    cell_long "submitter creation number" c.args.shown.now 10 20 c.cell.result.now c.cell.ensures.value
+    (submitter c.args.shown.now c.requires.ack) c.cell.ensures.fits in
+    let m =
+    cell_long "creation title" c.args.shown.now 9 60 c.cell-2.result.now c.cell-2.ensures.value
+    (title c.args.shown.now c.requires.ack) c.cell-2.ensures.fits in
+    omega (
+      arith,
+      h,
+      m,
+      c.requires.short,
+      ap length c.clear.ensures,
+      c.push.ensures.len,
+      c.push_original.ensures.len,
+      c.push_cell_part.ensures.len,
+      c.push_cell_part-2.ensures.len,
+    )
 
 pub returns : goal.returns
 returns c =
     let join : List ℕ → List ℕ → List ℕ = λ l m. l ++ m in
-    let one : c.cell.result.now ≡ cell_named "submitter creation number" c.args.shown.now = cell_is "submitter creation number" c.args.shown.now 10 20 c.cell.result.now c.cell.ensures.value (submitter c.args.shown.now c.requires.ack) c.cell.ensures.fits in
-    let two : c.cell-2.result.now ≡ cell_named "creation title" c.args.shown.now = cell_is "creation title" c.args.shown.now 9 60 c.cell-2.result.now c.cell-2.ensures.value (title c.args.shown.now c.requires.ack) c.cell-2.ensures.fits in
+    let one : c.cell.result.now ≡ cell_named "submitter creation number" c.args.shown.now =
+    cell_is "submitter creation number" c.args.shown.now 10 20 c.cell.result.now c.cell.ensures.value
+    (submitter c.args.shown.now c.requires.ack) c.cell.ensures.fits in
+    let two : c.cell-2.result.now ≡ cell_named "creation title" c.args.shown.now =
+    cell_is "creation title" c.args.shown.now 9 60 c.cell-2.result.now c.cell-2.ensures.value
+    (title c.args.shown.now c.requires.ack) c.cell-2.ensures.fits in
     c.push-2.ensures.value ∙ ap (λ (l : List ℕ). l ++ codes "\n")
     (c.push_cell_part-2.ensures.value ∙ ap₂ join
     (c.push_cell_part.ensures.value ∙ ap₂ join

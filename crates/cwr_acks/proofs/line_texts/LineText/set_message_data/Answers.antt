@@ -9,7 +9,9 @@ use Rattle.cwr_acks.proofs.line_texts.LineText.set_message_data.Goals as goal
 
 pub push_number_part-requires-clause-short : goal.push_number_part-requires-clause-short
 push_number_part-requires-clause-short c =
-    let h = cell_long "original record sequence" c.args.shown.now 5 8 c.cell.result.now c.cell.ensures.value (record_number c.args.shown.now c.requires)
+    let h =
+    cell_long "original record sequence" c.args.shown.now 5 8 c.cell.result.now c.cell.ensures.value
+    (record_number c.args.shown.now c.requires)
     c.cell.ensures.fits in omega (arith, h)
 
 pub returns : goal.returns
@@ -21,7 +23,8 @@ returns c =
     let two : cell_at c.args.shown.now 4 ≡ cell_named "message type" c.args.shown.now
     = cell_is "message type" c.args.shown.now 4 1 _ refl (message_type c.args.shown.now c.requires) fits in
     let three : c.cell.result.now ≡ cell_named "original record sequence" c.args.shown.now
-    = cell_is "original record sequence" c.args.shown.now 5 8 c.cell.result.now c.cell.ensures.value (record_number c.args.shown.now c.requires) fits in
+    = cell_is "original record sequence" c.args.shown.now 5 8 c.cell.result.now c.cell.ensures.value
+    (record_number c.args.shown.now c.requires) fits in
     let four : cell_at c.args.shown.now 6 ≡ cell_named "message record type" c.args.shown.now
     = cell_is "message record type" c.args.shown.now 6 3 _ refl (record_type c.args.shown.now c.requires) fits in
     let five : cell_at c.args.shown.now 8 ≡ cell_named "validation number" c.args.shown.now

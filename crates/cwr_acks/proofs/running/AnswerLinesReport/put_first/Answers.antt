@@ -6,5 +6,8 @@ use Rattle.cwr_tools.proofs.ReportSteps.{first_lines, nothing_put}
 use Rattle.cwr_acks.proofs.running.AnswerLinesReport.put_first.Goals as goal
 
 pub returns-clause-puts : goal.returns-clause-puts
-returns-clause-puts g c = λ of here. first_lines g.W.Target.contents g.W.Target.failures of (lines_of_acks c.args.self.now.form here.0) [] (Ok tt) c.args.arg2.now c.args.arg2.now here.1
-    (sym (lines_none c.args.self.now.form here.0)) (nothing_put g.W.Target.contents g.W.Target.failures false tt c.args.arg2.now c.requires.unfailed)
+returns-clause-puts g c =
+    λ of here. first_lines g.W.Target.contents g.W.Target.failures of (lines_of_acks c.args.self.now.form here.0) [] (Ok tt)
+    c.args.arg2.now c.args.arg2.now here.1
+    (sym (lines_none c.args.self.now.form here.0))
+    (nothing_put g.W.Target.contents g.W.Target.failures false tt c.args.arg2.now c.requires.unfailed)

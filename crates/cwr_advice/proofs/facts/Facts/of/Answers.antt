@@ -7,5 +7,6 @@ use Rattle.cwr_advice.proofs.facts.Facts.of.Goals as goal
 pub loop-sequence-preserved : goal.loop-sequence-preserved
 loop-sequence-preserved c =
     let there = sym c.record.ensures.value ∙ c.in-Some.is in
-    subst (λ (l : List RecordValue). AreFacts l c.with-facts.result) (sym (take_more c.args.transaction.now c.loop-sequence.sequence c.in-Some.shown there))
+    subst (λ (l : List RecordValue). AreFacts l c.with-facts.result)
+    (sym (take_more c.args.transaction.now c.loop-sequence.sequence c.in-Some.shown there))
     (c.with-facts.ensures (take c.loop-sequence.sequence c.args.transaction.now) c.loop-sequence.invariant)

@@ -20,7 +20,11 @@ returns-clause-kept c = λ rs h yes.
       collected = c.with_any_collected-self.ensures rs h.collected;
       chain = c.chain_with-self.ensures rs h.chain;
       territories = c.keep_territory.ensures rs h.territories c.if-not-keep_territory.false;
-      publishers = c.with-self.ensures (is_a kinds.Swr) (is_a kinds.Pwr) rs r h.publishers controlled_writes c.is_writer-writer.ensures c.is_of-controlled.ensures c.is_of-publisher.ensures;
-      collections = c.with-self-2.ensures is_owning_writer (is_a kinds.Swt) rs r h.collections owner_writes c.is_writer-writer.ensures (ap₂ (λ a b. a && b) c.is_of-controlled.ensures owns) c.is_of-territory.ensures;
+      publishers =
+          c.with-self.ensures (is_a kinds.Swr) (is_a kinds.Pwr) rs r h.publishers controlled_writes c.is_writer-writer.ensures
+          c.is_of-controlled.ensures c.is_of-publisher.ensures;
+      collections =
+          c.with-self-2.ensures is_owning_writer (is_a kinds.Swt) rs r h.collections owner_writes c.is_writer-writer.ensures
+          (ap₂ (λ a b. a && b) c.is_of-controlled.ensures owns) c.is_of-territory.ensures;
       calm = calm_more rs r h.calm (c.may_break.ensures rs h c.if-may_break.false);
     }

@@ -5,4 +5,5 @@ pub returns-then-self : goal.returns-then-self
 returns-then-self c = λ rs h yes said. none_on_answer said c.args.self.now rs c.if-self.true h
 
 pub returns : goal.returns
-returns c = λ rs h yes said. none_on_work said c.args.self.now rs c.if-self.false h (λ kept. c.is_work_clean.ensures rs kept yes said)
+returns c =
+    λ rs h yes said. none_on_work said c.args.self.now rs c.if-self.false h (λ kept. c.is_work_clean.ensures rs kept yes said)

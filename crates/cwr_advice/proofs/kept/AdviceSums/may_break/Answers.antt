@@ -9,6 +9,9 @@ returns c = λ rs h no.
     let r = c.args.shown.now in
     record {
       alone = sym c.may_break_some.ensures ∙ c.if-may_break_some.false;
-      twice = ap (λ (l : List RecordValue). stands_again l r) (front_taken rs r) ∙ sym (c.stands_again.ensures rs (subst (AreSinceParty rs) (sym c.as_slice.ensures.value) h.territories)) ∙ c.if-stands_again.false;
+      twice =
+          ap (λ (l : List RecordValue). stands_again l r) (front_taken rs r)
+          ∙ sym (c.stands_again.ensures rs (subst (AreSinceParty rs) (sym c.as_slice.ensures.value) h.territories))
+          ∙ c.if-stands_again.false;
       chain = c.may_begin_chain.ensures rs h.chain no;
     }

@@ -7,7 +7,14 @@ returns c = λ rs h.
     let r = c.args.shown.now in
     let more = c.collected_anywhere-more.ensures in
     record {
-      performing = kept_sum_more "pr collection share" is_territory rs r c.args.self.performing c.collected_anywhere-more.result.performing c.saturating_add.result h.performing more.performing c.saturating_add.ensures;
-      mechanical = kept_sum_more "mr collection share" is_territory rs r c.args.self.mechanical c.collected_anywhere-more.result.mechanical c.saturating_add-2.result h.mechanical more.mechanical c.saturating_add-2.ensures;
-      synchronization = kept_sum_more "sr collection share" is_territory rs r c.args.self.synchronization c.collected_anywhere-more.result.synchronization c.saturating_add-3.result h.synchronization more.synchronization c.saturating_add-3.ensures;
+      performing =
+          kept_sum_more "pr collection share" is_territory rs r c.args.self.performing c.collected_anywhere-more.result.performing
+          c.saturating_add.result h.performing more.performing c.saturating_add.ensures;
+      mechanical =
+          kept_sum_more "mr collection share" is_territory rs r c.args.self.mechanical c.collected_anywhere-more.result.mechanical
+          c.saturating_add-2.result h.mechanical more.mechanical c.saturating_add-2.ensures;
+      synchronization =
+          kept_sum_more "sr collection share" is_territory rs r c.args.self.synchronization
+          c.collected_anywhere-more.result.synchronization c.saturating_add-3.result h.synchronization more.synchronization
+          c.saturating_add-3.ensures;
     }

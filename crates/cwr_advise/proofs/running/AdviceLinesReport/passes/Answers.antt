@@ -13,8 +13,14 @@ pub returns : goal.returns
 returns c = λ told of given t clean here.
     let self = c.args.self.now in
     let zero : self.repeats.limit ≡ 0 = sym c.limit.ensures ∙ eqb-true c.limit.result 0 told in
-    let same : advised_lines self.explained self.repeats.limit (given ++ Transaction t ∷ []) ≡ advised_lines self.explained self.repeats.limit given
-    = subst (λ (n : ℕ). advised_lines self.explained n (given ++ Transaction t ∷ []) ≡ advised_lines self.explained n given) (sym zero) (advised_passed self.explained given t clean.0 (clean.1 (said_in given))) in (
+    let same : advised_lines self.explained self.repeats.limit (given ++ Transaction t ∷ [])
+    ≡ advised_lines self.explained self.repeats.limit given
+    = subst (λ (n : ℕ). advised_lines self.explained n (given ++ Transaction t ∷ []) ≡ advised_lines self.explained n given)
+    (sym zero) (advised_passed self.explained given t clean.0 (clean.1 (said_in given))) in (
       subst (λ (lines : ItemLines). lines.lines (given ++ Transaction t ∷ []) ≡ lines.lines given) (sym here.0) same,
-      (here.0, here.1 ∙ said_still given (Transaction t) refl, kept_nothing self.repeats (works_in given) (works_in (given ++ Transaction t ∷ [])) zero here.2),
+      (
+        here.0,
+        here.1 ∙ said_still given (Transaction t) refl,
+        kept_nothing self.repeats (works_in given) (works_in (given ++ Transaction t ∷ [])) zero here.2,
+      ),
     )

@@ -17,7 +17,9 @@ use Rattle.cwr_advise.proofs.running.AdviceLinesReport.put_item.Goals as goal
 pub returns-in_default-clause-puts : goal.returns-in_default-clause-puts
 returns-in_default-clause-puts g c = λ of given counted here.
     let self = c.args.self.now in
-    next_lines g.W.Target.contents g.W.Target.failures of (lines_advised self.explained self.up_to_fault self.repeats.limit) given c.args.item.now (advised_item self.explained self.repeats.limit given c.args.item.now) (Err Memory) c.args.sink.now c.args.sink.now here.0
+    next_lines g.W.Target.contents g.W.Target.failures of (lines_advised self.explained self.up_to_fault self.repeats.limit) given
+    c.args.item.now (advised_item self.explained self.repeats.limit given c.args.item.now) (Err Memory) c.args.sink.now
+    c.args.sink.now here.0
     (advised_next self.explained self.repeats.limit given c.args.item.now)
     (or_right (has_advised c.args.item.now) (keeps_number self.repeats.limit c.args.item.now) c.in_default.ensures.err, refl)
 
@@ -25,21 +27,36 @@ pub returns-in_err-put_item-clause-puts : goal.returns-in_err-put_item-clause-pu
 returns-in_err-put_item-clause-puts g c = λ of given counted here.
     let self = c.args.self.now in
     let item = c.args.item.now in
-    let text = advised_at self.explained c.said.result c.args.counts.now item ++ repeated_at self.repeats.limit c.args.counts.now item c.in-Ok.repeated in
-    subst (λ (r : Result (Unit {0}) ToolFault). PutsNext g.W.Target.contents g.W.Target.failures of given item r c.args.sink.now c.put_item.new.sink)
+    let text =
+    advised_at self.explained c.said.result c.args.counts.now item
+    ++ repeated_at self.repeats.limit c.args.counts.now item c.in-Ok.repeated in
+    subst (λ (r : Result (Unit {0}) ToolFault). PutsNext g.W.Target.contents g.W.Target.failures of given item r c.args.sink.now
+    c.put_item.new.sink)
     (sym (same_fault c.from_residual.result c.in_err-put_item.field-0.0 c.from_residual.ensures.1))
-    (next_lines g.W.Target.contents g.W.Target.failures of (lines_advised self.explained self.up_to_fault self.repeats.limit) given item text (Err c.in_err-put_item.field-0.0) c.args.sink.now c.put_item.new.sink here.0
-    (advised_more self.explained self.repeats.limit c.args.counts.now c.said.result c.in-Ok.repeated given item counted (c.said.ensures given here.1) (c.in-Ok.ensures.told given counted here.2))
-    (more_memory g.W.Target.contents g.W.Target.failures (has_advised item) (takes_memory self.repeats.limit item) text (Err c.in_err-put_item.field-0.0) c.args.sink.now c.put_item.new.sink (or_left (has_advised item) (keeps_number self.repeats.limit item))
-    (subst (λ (limit : ℕ). PutsLines g.W.Target.contents g.W.Target.failures (has_advised item) (advised_at self.explained c.said.result c.args.counts.now item ++ repeated_at limit c.args.counts.now item c.in-Ok.repeated) (Err c.in_err-put_item.field-0.0) c.args.sink.now c.put_item.new.sink)
+    (next_lines g.W.Target.contents g.W.Target.failures of (lines_advised self.explained self.up_to_fault self.repeats.limit)
+    given item text (Err c.in_err-put_item.field-0.0) c.args.sink.now c.put_item.new.sink here.0
+    (advised_more self.explained self.repeats.limit c.args.counts.now c.said.result c.in-Ok.repeated given item counted
+    (c.said.ensures given here.1) (c.in-Ok.ensures.told given counted here.2))
+    (more_memory g.W.Target.contents g.W.Target.failures (has_advised item) (takes_memory self.repeats.limit item) text
+    (Err c.in_err-put_item.field-0.0) c.args.sink.now c.put_item.new.sink
+    (or_left (has_advised item) (keeps_number self.repeats.limit item))
+    (subst (λ (limit : ℕ). PutsLines g.W.Target.contents g.W.Target.failures (has_advised item) (advised_at self.explained
+    c.said.result c.args.counts.now item ++ repeated_at limit c.args.counts.now item c.in-Ok.repeated) (Err
+    c.in_err-put_item.field-0.0) c.args.sink.now c.put_item.new.sink)
     c.limit-limit.ensures c.in_err-put_item.ensures)))
 
 pub returns-clause-puts : goal.returns-clause-puts
 returns-clause-puts g c = λ of given counted here.
     let self = c.args.self.now in
     let item = c.args.item.now in
-    let text = advised_at self.explained c.said.result c.args.counts.now item ++ repeated_at self.repeats.limit c.args.counts.now item c.in-Ok.repeated in
-    next_lines g.W.Target.contents g.W.Target.failures of (lines_advised self.explained self.up_to_fault self.repeats.limit) given item text (Ok tt) c.args.sink.now c.put_item.new.sink here.0
-    (advised_more self.explained self.repeats.limit c.args.counts.now c.said.result c.in-Ok.repeated given item counted (c.said.ensures given here.1) (c.in-Ok.ensures.told given counted here.2))
-    (subst (λ (limit : ℕ). PutsLines g.W.Target.contents g.W.Target.failures (has_advised item) (advised_at self.explained c.said.result c.args.counts.now item ++ repeated_at limit c.args.counts.now item c.in-Ok.repeated) (Ok tt) c.args.sink.now c.put_item.new.sink)
+    let text =
+    advised_at self.explained c.said.result c.args.counts.now item
+    ++ repeated_at self.repeats.limit c.args.counts.now item c.in-Ok.repeated in
+    next_lines g.W.Target.contents g.W.Target.failures of (lines_advised self.explained self.up_to_fault self.repeats.limit) given
+    item text (Ok tt) c.args.sink.now c.put_item.new.sink here.0
+    (advised_more self.explained self.repeats.limit c.args.counts.now c.said.result c.in-Ok.repeated given item counted
+    (c.said.ensures given here.1) (c.in-Ok.ensures.told given counted here.2))
+    (subst (λ (limit : ℕ). PutsLines g.W.Target.contents g.W.Target.failures (has_advised item) (advised_at self.explained
+    c.said.result c.args.counts.now item ++ repeated_at limit c.args.counts.now item c.in-Ok.repeated) (Ok
+    tt) c.args.sink.now c.put_item.new.sink)
     c.limit-limit.ensures c.in_ok-put_item.ensures)

@@ -10,12 +10,14 @@ returns-clause-some c = subst RepresentsSome c.self.view_is c.self.invariant.und
 
 pub returns-clause-again : goal.returns-clause-again
 returns-clause-again c =
-    subst (λ (d : Standing). IfSome (again d.state) (λ o. (c.feed.result.outcome ≡ o) × (c.feed.result.used ≡ 0) × (c.feed.new.self ≡ d))) c.self.view_is c.feed.ensures.again
+    subst (λ (d : Standing). IfSome (again d.state)
+    (λ o. (c.feed.result.outcome ≡ o) × (c.feed.result.used ≡ 0) × (c.feed.new.self ≡ d))) c.self.view_is c.feed.ensures.again
 
 pub returns-clause-kept : goal.returns-clause-kept
 returns-clause-kept c =
     let was = c.self.invariant.under_way in
-    subst (λ (d : Standing). d.tally.counts.records ≤ c.feed.new.self.tally.counts.records) c.self.view_is (c.feed.ensures.kept was.input was.given was.stands)
+    subst (λ (d : Standing). d.tally.counts.records ≤ c.feed.new.self.tally.counts.records) c.self.view_is
+    (c.feed.ensures.kept was.input was.given was.stands)
 
 pub returns-clause-empties : goal.returns-clause-empties
 returns-clause-empties c =

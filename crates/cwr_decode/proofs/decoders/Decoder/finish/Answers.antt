@@ -10,12 +10,14 @@ returns-clause-some c = subst RepresentsSome c.self.view_is c.self.invariant.und
 
 pub returns-clause-again : goal.returns-clause-again
 returns-clause-again c =
-    subst (λ (d : Standing). IfSome (again d.state) (λ o. (c.finish.result.outcome ≡ o) × (c.finish.new.self ≡ end_input d))) c.self.view_is c.finish.ensures.finishes.again
+    subst (λ (d : Standing). IfSome (again d.state) (λ o. (c.finish.result.outcome ≡ o) × (c.finish.new.self ≡ end_input d)))
+    c.self.view_is c.finish.ensures.finishes.again
 
 pub returns-clause-kept : goal.returns-clause-kept
 returns-clause-kept c =
     let was = c.self.invariant.under_way in
-    subst (λ (d : Standing). d.tally.counts.records ≤ c.finish.new.self.tally.counts.records) c.self.view_is (c.finish.ensures.finishes.kept was.input was.given was.stands)
+    subst (λ (d : Standing). d.tally.counts.records ≤ c.finish.new.self.tally.counts.records) c.self.view_is
+    (c.finish.ensures.finishes.kept was.input was.given was.stands)
 
 pub returns-clause-empties : goal.returns-clause-empties
 returns-clause-empties c =
@@ -26,4 +28,5 @@ pub returns-clause-memory : goal.returns-clause-memory
 returns-clause-memory c = λ is live.
     let was = c.self.invariant.under_way in
     subst (λ (d : Standing). RunsOutOfMemory d 0 c.finish.new.self) c.self.view_is
-    (c.finish.ensures.finishes.memory is (subst (λ (d : Standing). IsLive d.state) (sym c.self.view_is) live) was.input was.given was.stands)
+    (c.finish.ensures.finishes.memory is (subst (λ (d : Standing). IsLive d.state) (sym c.self.view_is) live) was.input was.given
+    was.stands)

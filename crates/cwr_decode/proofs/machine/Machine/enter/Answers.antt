@@ -14,5 +14,6 @@ returns c =
     let carried : held_record d.line ≡ Some accepted = ap held_record (sym c.cut.ensures) ∙ c.known_record-accepted.ensures in
     subst (λ (q : Standing). EntersHeld (held_record q.line) q c.finish_record.result c.finish_record.new.self) c.self.view_is
     (subst (λ (o : Option RecordValue). EntersHeld o d c.finish_record.result c.finish_record.new.self) (sym carried)
-    (adds_enters accepted.kind accepted d c.add_accepted-outcome.result c.add_accepted-outcome.new.held c.finish_record.result c.finish_record.new.self
+    (adds_enters accepted.kind accepted d c.add_accepted-outcome.result c.add_accepted-outcome.new.held c.finish_record.result
+    c.finish_record.new.self
     c.add_accepted-outcome.ensures c.finish_record.ensures))

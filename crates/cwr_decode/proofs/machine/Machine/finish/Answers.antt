@@ -11,9 +11,12 @@ pub returns-in-Some-clause-finishes : goal.returns-in-Some-clause-finishes
 returns-in-Some-clause-finishes c = ends_finish c.args.self.now c.last_line.new.self c.in-Some.outcome c.in-Some.ensures
 
 pub returns-in-Some-settle-clause-finishes : goal.returns-in-Some-settle-clause-finishes
-returns-in-Some-settle-clause-finishes c = settles_finish c.args.self.now c.last_line.new.self c.settle.new.self c.in-Some-settle.outcome c.in_default.ensures c.in-Some-settle.ensures
+returns-in-Some-settle-clause-finishes c =
+    settles_finish c.args.self.now c.last_line.new.self c.settle.new.self c.in-Some-settle.outcome c.in_default.ensures
+    c.in-Some-settle.ensures
 
 pub returns-clause-finishes : goal.returns-clause-finishes
 returns-clause-finishes c =
-    cut_finish c.args.self.now c.last_line.new.self c.settle.new.self c.stop.new.self c.records-records.result c.in_default.ensures c.in_default-settle.ensures c.stop.ensures
+    cut_finish c.args.self.now c.last_line.new.self c.settle.new.self c.stop.new.self c.records-records.result
+    c.in_default.ensures c.in_default-settle.ensures c.stop.ensures
     (c.records-records.ensures.value ∙ ap (λ (d : Standing). d.tally.counts.records) c.self.view_is)

@@ -10,23 +10,35 @@ use Rattle.cwr_decode.proofs.machine.Machine.take_line.Goals as goal
 
 pub returns-in-Err : goal.returns-in-Err
 returns-in-Err c =
-    refused_judged c.args.self.now c.self.inside.tally c.self.inside.line c.cut-cut.result c.kind-kind.result c.in-Err.fault c.refuse.result c.refuse.new.self
-    (ap (λ (d : Standing). d.tally) c.self.view_is) (ap (λ (d : Standing). d.line) c.self.view_is) c.cut-cut.ensures c.kind-kind.ensures c.in-Err.ensures.err c.in-Err.ensures.first c.refuse.ensures
+    refused_judged c.args.self.now c.self.inside.tally c.self.inside.line c.cut-cut.result c.kind-kind.result c.in-Err.fault
+    c.refuse.result c.refuse.new.self
+    (ap (λ (d : Standing). d.tally) c.self.view_is) (ap (λ (d : Standing). d.line) c.self.view_is) c.cut-cut.ensures
+    c.kind-kind.ensures c.in-Err.ensures.err c.in-Err.ensures.first c.refuse.ensures
 
 pub add_accepted-outcome-requires : goal.add_accepted-outcome-requires
 add_accepted-outcome-requires c =
     let i = c.self.inside in
     let d : Standing = record { line = i.line; tally = i.tally; held = i.held; state = i.state; finished = i.finished } in
     let h : HoldsOpen d = subst HoldsOpen (sym c.self.view_is) c.requires.holds in
-    entry_fits d h c.cut-cut.result c.in-Ok.found.0 c.in-Ok.found.1 c.step_continues_open-continues.result c.hand_out.result c.hand_out.new.held (c.in-Ok.ensures.ok (map symbol_of h.records) h.counted)
+    entry_fits d h c.cut-cut.result c.in-Ok.found.0 c.in-Ok.found.1 c.step_continues_open-continues.result c.hand_out.result
+    c.hand_out.new.held (c.in-Ok.ensures.ok (map symbol_of h.records) h.counted)
     (c.step_continues_open-continues.ensures.same (map symbol_of h.records) h.counted) c.hand_out.ensures
 
 pub returns-in-Some : goal.returns-in-Some
 returns-in-Some c =
     let i = c.self.inside in
     let d : Standing = record { line = i.line; tally = i.tally; held = i.held; state = i.state; finished = i.finished } in
-    subst (λ (q : Standing). Judges q (Some (outcomes.Item (items.Transaction c.in-Some.whole))) (record { line = i.line; tally = c.step_continues_open-continues.new.tally; held = c.hand_out.new.held; state = states.Pending; finished = i.finished })) c.self.view_is
-    (waits_now d c.step_continues_open-continues.new.tally c.cut-cut.result c.in-Ok.found.0 c.in-Ok.found.1 c.step_continues_open-continues.result c.in-Some.whole c.hand_out.result c.hand_out.new.held c.cut-cut.ensures c.in-Ok.ensures.carried c.in-Ok.ensures.ok c.step_continues_open-continues.ensures.limits c.step_continues_open-continues.ensures.stands
+    subst (λ (q : Standing). Judges q (Some (outcomes.Item (items.Transaction c.in-Some.whole))) (record {
+      line = i.line;
+      tally = c.step_continues_open-continues.new.tally;
+      held = c.hand_out.new.held;
+      state = states.Pending;
+      finished = i.finished;
+    })) c.self.view_is
+    (waits_now d c.step_continues_open-continues.new.tally c.cut-cut.result c.in-Ok.found.0 c.in-Ok.found.1
+    c.step_continues_open-continues.result c.in-Some.whole c.hand_out.result c.hand_out.new.held c.cut-cut.ensures
+    c.in-Ok.ensures.carried c.in-Ok.ensures.ok c.step_continues_open-continues.ensures.limits
+    c.step_continues_open-continues.ensures.stands
     c.step_continues_open-continues.ensures.same c.hand_out.ensures c.in-Some.is)
 
 pub returns : goal.returns
@@ -34,5 +46,9 @@ returns c =
     let i = c.self.inside in
     let d : Standing = record { line = i.line; tally = i.tally; held = i.held; state = i.state; finished = i.finished } in
     subst (λ (q : Standing). Judges q c.finish_record.result c.finish_record.new.self) c.self.view_is
-    (enters_now d c.step_continues_open-continues.new.tally c.cut-cut.result c.in-Ok.found.0 c.in-Ok.found.1 c.step_continues_open-continues.result c.hand_out.result c.hand_out.new.held c.add_accepted-outcome.result c.add_accepted-outcome.new.held c.finish_record.result c.finish_record.new.self
-    c.cut-cut.ensures c.in-Ok.ensures.carried c.in-Ok.ensures.ok c.step_continues_open-continues.ensures.limits c.step_continues_open-continues.ensures.stands c.step_continues_open-continues.ensures.same c.hand_out.ensures c.in_default.is c.add_accepted-outcome.ensures c.finish_record.ensures)
+    (enters_now d c.step_continues_open-continues.new.tally c.cut-cut.result c.in-Ok.found.0 c.in-Ok.found.1
+    c.step_continues_open-continues.result c.hand_out.result c.hand_out.new.held c.add_accepted-outcome.result
+    c.add_accepted-outcome.new.held c.finish_record.result c.finish_record.new.self
+    c.cut-cut.ensures c.in-Ok.ensures.carried c.in-Ok.ensures.ok c.step_continues_open-continues.ensures.limits
+    c.step_continues_open-continues.ensures.stands c.step_continues_open-continues.ensures.same c.hand_out.ensures
+    c.in_default.is c.add_accepted-outcome.ensures c.finish_record.ensures)

@@ -17,7 +17,9 @@ pub returns-in-Failed-clause-reads : goal.returns-in-Failed-clause-reads
 returns-in-Failed-clause-reads g c = reads_after 0 _ _ _ _ _ _ _ (c.in_default.ensures.continues _) c.in-Failed.ensures.reads
 
 pub returns-in-Nothing-clause-reads : goal.returns-in-Nothing-clause-reads
-returns-in-Nothing-clause-reads g c = reads_after 0 _ _ _ _ _ _ _ (c.in_default.ensures.continues _) (reads_after 0 _ _ _ _ _ _ _ c.in-Nothing.ensures.reads c.read_on.ensures.reads)
+returns-in-Nothing-clause-reads g c =
+    reads_after 0 _ _ _ _ _ _ _ (c.in_default.ensures.continues _)
+    (reads_after 0 _ _ _ _ _ _ _ c.in-Nothing.ensures.reads c.read_on.ensures.reads)
 
 pub returns-in-Some-clause-memory : goal.returns-in-Some-clause-memory
 returns-in-Some-clause-memory g c = λ is live few. (((c.in-Some.ensures.reads None).memory is live few).0, refl)

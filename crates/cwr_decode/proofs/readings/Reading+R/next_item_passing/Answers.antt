@@ -18,14 +18,21 @@ returns-in-Some-clause-reads g c = record {
   left_between = g.R.Source.remaining c.pass_shown.new.reader;
   passes = c.in-Some.ensures.passes;
   reads = c.next_item.ensures.reads;
-  again = if_some (again c.pass_shown.new.decoder.state) _ _ (λ outcome h. (h.0, h.1, ap g.R.Source.remaining h.2)) c.next_item.ensures.again;
+  again =
+      if_some (again c.pass_shown.new.decoder.state) _ _ (λ outcome h. (h.0, h.1, ap g.R.Source.remaining h.2))
+      c.next_item.ensures.again;
 }
 
 pub returns-in-None-clause-reads : goal.returns-in-None-clause-reads
 returns-in-None-clause-reads g c = record {
   between = c.args.self.now.decoder;
   left_between = g.R.Source.remaining c.args.self.now.reader.now;
-  passes = passes_nothing g.K.Keeper.are_clean c.args.self.now.decoder c.args.self.now.decoder (g.R.Source.remaining c.args.self.now.reader.now) c.nothing.result c.nothing.ensures refl;
+  passes =
+      passes_nothing g.K.Keeper.are_clean c.args.self.now.decoder c.args.self.now.decoder
+      (g.R.Source.remaining c.args.self.now.reader.now) c.nothing.result c.nothing.ensures refl;
   reads = c.in-None.ensures.passes.0;
-  again = subst (λ (o : Option Outcome). IfSome o (λ outcome. (Some (Err Reader) ≡ answer_of outcome) × (c.pass_shown.new.decoder ≡ c.args.self.now.decoder) × (g.R.Source.remaining c.pass_shown.new.reader ≡ g.R.Source.remaining c.args.self.now.reader.now))) (sym c.in-None.ensures.passes.1) tt;
+  again =
+      subst (λ (o : Option Outcome). IfSome o (λ outcome. (Some (Err Reader) ≡ answer_of outcome) × (c.pass_shown.new.decoder
+      ≡ c.args.self.now.decoder) × (g.R.Source.remaining c.pass_shown.new.reader
+      ≡ g.R.Source.remaining c.args.self.now.reader.now))) (sym c.in-None.ensures.passes.1) tt;
 }

@@ -8,5 +8,7 @@ returns-clause-represents g c = record {
   counted = c.new-2.ensures.stands;
   in_order = tt;
   between = λ e. absurd (cc e);
-  written = subst (λ (l : List ℕ). HasWritten g.W.Target.contents (g.W.Target.contents c.args.writer) l c.new.result) (sym part_none) c.new.ensures.empty;
+  written =
+      subst (λ (l : List ℕ). HasWritten g.W.Target.contents (g.W.Target.contents c.args.writer) l c.new.result) (sym part_none)
+      c.new.ensures.empty;
 }

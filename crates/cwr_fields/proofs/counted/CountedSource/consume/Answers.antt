@@ -3,4 +3,5 @@ use Rattle.cwr_fields.proofs.BytesReadAhead.{consumed}
 use Rattle.cwr_fields.proofs.counted.CountedSource.consume.Goals as goal
 
 pub returns-clause-bytes : goal.returns-clause-bytes
-returns-clause-bytes g c = consumed c.args.self.now.ahead c.args.self.now.start c.args.self.now.end c.args.count _ (omega arith) (omega arith)
+returns-clause-bytes g c =
+    consumed c.args.self.now.ahead c.args.self.now.start c.args.self.now.end c.args.count _ (omega arith) (omega arith)

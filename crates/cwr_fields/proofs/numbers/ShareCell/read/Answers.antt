@@ -7,10 +7,18 @@ use Rattle.cwr_fields.proofs.DigitsWritten.{share_or, number_back}
 use Rattle.cwr_fields.proofs.numbers.ShareCell.read.Goals as goal
 
 pub returns-then-is_spaces-clause-some : goal.returns-then-is_spaces-clause-some
-returns-then-is_spaces-clause-some c = (λ t. (c.if-cell-ne5.false, inl (blank 5 c.args.cell.now c.if-cell-ne5.false (sym c.is_spaces.ensures ∙ c.if-is_spaces.true))), λ h. refl)
+returns-then-is_spaces-clause-some c = (
+  λ t. (
+    c.if-cell-ne5.false,
+    inl (blank 5 c.args.cell.now c.if-cell-ne5.false (sym c.is_spaces.ensures ∙ c.if-is_spaces.true)),
+  ),
+  λ h. refl,
+)
 
 pub returns-then-is_spaces-clause-value : goal.returns-then-is_spaces-clause-value
-returns-then-is_spaces-clause-value c = ap share_text c.blank.ensures ∙ sym (blank 5 c.args.cell.now c.if-cell-ne5.false (sym c.is_spaces.ensures ∙ c.if-is_spaces.true))
+returns-then-is_spaces-clause-value c =
+    ap share_text c.blank.ensures
+    ∙ sym (blank 5 c.args.cell.now c.if-cell-ne5.false (sym c.is_spaces.ensures ∙ c.if-is_spaces.true))
 
 pub returns-in_err-number_in-clause-some : goal.returns-in_err-number_in-clause-some
 returns-in_err-number_in-clause-some c =

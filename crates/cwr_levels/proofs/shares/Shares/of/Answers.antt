@@ -20,6 +20,8 @@ from_field-requires-in-Swr-clause-there c = elim c.in-Swr.is [
 
 pub from_field-requires-in_default-clause-there : goal.from_field-requires-in_default-clause-there
 from_field-requires-in_default-clause-there c =
-    let kind : c.args.shown.now.kind ≡ kinds.Ipa = only_party c.args.shown.now.kind c.requires (λ e. c.in_default.not-Spu (c.kind.ensures.value ∙ e)) (λ e. c.in_default.not-Opu (c.kind.ensures.value ∙ e))
+    let kind : c.args.shown.now.kind ≡ kinds.Ipa =
+    only_party c.args.shown.now.kind c.requires (λ e. c.in_default.not-Spu (c.kind.ensures.value ∙ e))
+    (λ e. c.in_default.not-Opu (c.kind.ensures.value ∙ e))
     (λ e. c.in_default.not-Swr (c.kind.ensures.value ∙ e)) (λ e. c.in_default.not-Owr (c.kind.ensures.value ∙ e)) in
     subst (λ (k : Kind). HasSharesFrom k 11) (sym kind) shares_of_ipa

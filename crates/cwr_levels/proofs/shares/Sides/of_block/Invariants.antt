@@ -6,4 +6,6 @@ use Rattle.cwr_levels.proofs.BlockParties.{parties_left}
 use Rattle.cwr_levels.proofs.shares.Sides.of_block.Given as goal
 
 abbrev pub invariant-loop-i : goal.invariant-loop-i
-invariant-loop-i l = (seen : List RecordValue) × SidesAddUpTo seen l.sides × (seen ++ parties_left l.among_parties (drop l.i l.transaction) ≡ parties_after (drop l.first l.transaction))
+invariant-loop-i l =
+    (seen : List RecordValue) × SidesAddUpTo seen l.sides
+    × (seen ++ parties_left l.among_parties (drop l.i l.transaction) ≡ parties_after (drop l.first l.transaction))

@@ -9,5 +9,6 @@ pub returns : goal.returns
 returns c = λ rs h yes.
     let kept = c.keep_number.ensures rs h c.if-not-keep_number.false in
     sums_more c.args.self.now c.keep_number.new.self rs c.args.shown.now c.with-self.result h kept
-    (c.with-self.ensures rs (sym h.counted) (subst (λ (x : TransactionTotals). AreTotals rs x) (sym (ap (λ (s : Sums). s.totals) kept.others)) h.totals))
+    (c.with-self.ensures rs (sym h.counted)
+    (subst (λ (x : TransactionTotals). AreTotals rs x) (sym (ap (λ (s : Sums). s.totals) kept.others)) h.totals))
     (c.may_break.ensures rs h c.if-may_break.false)

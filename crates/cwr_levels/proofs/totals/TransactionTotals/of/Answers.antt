@@ -7,5 +7,7 @@ use Rattle.cwr_levels.proofs.totals.TransactionTotals.of.Goals as goal
 pub loop-sequence-preserved : goal.loop-sequence-preserved
 loop-sequence-preserved c =
     let there = sym c.record.ensures.value ∙ c.in-Some.is in
-    subst (λ (l : List RecordValue). AreTotals l c.with-totals.result) (sym (take_more c.args.transaction.now c.loop-sequence.sequence c.in-Some.shown there))
-    (c.with-totals.ensures (take c.loop-sequence.sequence c.args.transaction.now) (length_taken c.args.transaction.now c.loop-sequence.sequence c.in-Some.shown there) c.loop-sequence.invariant)
+    subst (λ (l : List RecordValue). AreTotals l c.with-totals.result)
+    (sym (take_more c.args.transaction.now c.loop-sequence.sequence c.in-Some.shown there))
+    (c.with-totals.ensures (take c.loop-sequence.sequence c.args.transaction.now)
+    (length_taken c.args.transaction.now c.loop-sequence.sequence c.in-Some.shown there) c.loop-sequence.invariant)

@@ -10,16 +10,25 @@ one_if b = cond b 1 0
 
 pub returns-then-not-is_of : goal.returns-then-not-is_of
 returns-then-not-is_of c = λ rs many h. record {
-  ownership = owners_more rs c.args.shown.now c.with.result c.is_owner.result c.is_owner.ensures (c.with.ensures (filter is_owner rs) h.ownership);
+  ownership =
+      owners_more rs c.args.shown.now c.with.result c.is_owner.result c.is_owner.ensures
+      (c.with.ensures (filter is_owner rs) h.ownership);
   author = author_more rs c.args.shown.now c.args.self.has_author c.is_author-author.result h.author c.is_author-author.ensures;
-  components = components_more rs c.args.shown.now c.args.self.components c.from.result c.saturating_add.result h.components (c.from.ensures ∙ byte_is c.is_of-component.result ∙ ap one_if c.is_of-component.ensures) c.saturating_add.ensures;
-  publishers = publishers_same rs c.args.shown.now c.args.self.publishers_end h.publishers (sym c.is_of.ensures ∙ c.if-not-is_of.true);
+  components =
+      components_more rs c.args.shown.now c.args.self.components c.from.result c.saturating_add.result h.components
+      (c.from.ensures ∙ byte_is c.is_of-component.result ∙ ap one_if c.is_of-component.ensures) c.saturating_add.ensures;
+  publishers =
+      publishers_same rs c.args.shown.now c.args.self.publishers_end h.publishers (sym c.is_of.ensures ∙ c.if-not-is_of.true);
 }
 
 pub returns : goal.returns
 returns c = λ rs many h. record {
-  ownership = owners_more rs c.args.shown.now c.with.result c.is_owner.result c.is_owner.ensures (c.with.ensures (filter is_owner rs) h.ownership);
+  ownership =
+      owners_more rs c.args.shown.now c.with.result c.is_owner.result c.is_owner.ensures
+      (c.with.ensures (filter is_owner rs) h.ownership);
   author = author_more rs c.args.shown.now c.args.self.has_author c.is_author-author.result h.author c.is_author-author.ensures;
-  components = components_more rs c.args.shown.now c.args.self.components c.from.result c.saturating_add.result h.components (c.from.ensures ∙ byte_is c.is_of-component.result ∙ ap one_if c.is_of-component.ensures) c.saturating_add.ensures;
+  components =
+      components_more rs c.args.shown.now c.args.self.components c.from.result c.saturating_add.result h.components
+      (c.from.ensures ∙ byte_is c.is_of-component.result ∙ ap one_if c.is_of-component.ensures) c.saturating_add.ensures;
   publishers = publishers_more rs c.args.shown.now c.args.sequence many;
 }

@@ -4,8 +4,28 @@ use Rattle.cwr_lint.proofs.TextsTold.{read_failed, read_first}
 use Rattle.cwr_lint.proofs.linting.LintRun.run.Goals as goal
 
 pub returns-in-Ok : goal.returns-in-Ok
-returns-in-Ok g c = read_first (λ u. TellsToEnd (asking_of c.args.asked.now) c.args.self.now.state c.args.refusal.now (g.R.Source.remaining c.of_last.new.reader) (g.R.Source.remaining c.tell_to_end.new.reader) c.in-Ok.raw) (λ u. TellsRun (asking_of c.args.asked.now) c.args.self.now.state c.args.refusal.now c.args.last.now.bytes (g.R.Source.remaining c.args.reader.now) (g.R.Source.remaining c.tell_to_end.new.reader)) (g.R.Source.remaining c.args.reader.now) (g.R.Source.remaining c.of_last.new.reader) (g.R.Source.remaining c.tell_to_end.new.reader) (g.R.Source.failures c.args.reader.now) (g.R.Source.failures c.of_last.new.reader) (g.R.Source.failures c.tell_to_end.new.reader) g.W.Target.contents g.W.Target.failures c.tell_to_end.result c.args.sink.now c.tell_to_end.new.sink
-    (λ u text t. record { between = (g.R.Source.remaining c.of_last.new.reader); raw = c.in-Ok.raw; held = c.in-Ok.ensures.held; read = c.in-Ok.ensures.read; tells = t }) c.requires.unfailed c.in-Ok.ensures.taken c.in-Ok.ensures.failures c.tell_to_end.ensures
+returns-in-Ok g c =
+    read_first (λ u. TellsToEnd (asking_of c.args.asked.now) c.args.self.now.state c.args.refusal.now
+    (g.R.Source.remaining c.of_last.new.reader) (g.R.Source.remaining c.tell_to_end.new.reader) c.in-Ok.raw) (λ u. TellsRun
+    (asking_of c.args.asked.now) c.args.self.now.state c.args.refusal.now c.args.last.now.bytes
+    (g.R.Source.remaining c.args.reader.now) (g.R.Source.remaining c.tell_to_end.new.reader)) (g.R.Source.remaining
+    c.args.reader.now) (g.R.Source.remaining c.of_last.new.reader) (g.R.Source.remaining
+    c.tell_to_end.new.reader) (g.R.Source.failures c.args.reader.now) (g.R.Source.failures
+    c.of_last.new.reader) (g.R.Source.failures
+    c.tell_to_end.new.reader) g.W.Target.contents g.W.Target.failures c.tell_to_end.result c.args.sink.now c.tell_to_end.new.sink
+    (λ u text t. record {
+      between = (g.R.Source.remaining c.of_last.new.reader);
+      raw = c.in-Ok.raw;
+      held = c.in-Ok.ensures.held;
+      read = c.in-Ok.ensures.read;
+      tells = t;
+    }) c.requires.unfailed c.in-Ok.ensures.taken c.in-Ok.ensures.failures c.tell_to_end.ensures
 
 pub returns-in-Err : goal.returns-in-Err
-returns-in-Err g c = ([], read_failed (g.R.Source.remaining c.args.reader.now) (g.R.Source.remaining c.of_last.new.reader) (g.R.Source.failures c.args.reader.now) (g.R.Source.failures c.of_last.new.reader) g.W.Target.contents g.W.Target.failures c.args.sink.now c.in-Err.ensures.taken c.in-Err.ensures.failures, tt)
+returns-in-Err g c = (
+  [],
+  read_failed (g.R.Source.remaining c.args.reader.now) (g.R.Source.remaining c.of_last.new.reader)
+      (g.R.Source.failures c.args.reader.now) (g.R.Source.failures c.of_last.new.reader) g.W.Target.contents g.W.Target.failures
+      c.args.sink.now c.in-Err.ensures.taken c.in-Err.ensures.failures,
+  tt,
+)

@@ -11,19 +11,36 @@ use Rattle.cwr_lint.proofs.Telling.{line_taken, with_err, with_none, with_other}
 use Rattle.cwr_lint.proofs.linting.LintRun.take.Goals as goal
 
 pub returns-in-Err : goal.returns-in-Err
-returns-in-Err g c = with_err (TellsOfLine (asking_of c.args.asked.now) (judged_at c.args.self.now.state.lines (scope_by c.args.self.now.state.group) c.args.line.now c.of-judged.result) (ended_by c.of-judged.result c.args.self.now.state c.args.self.now.begun) c.args.from)
-    (λ u. TakesLine (asking_of c.args.asked.now) (held_cut c.args.line.now) c.args.from c.args.self.now c.tell_all.new.self) g.W.Target.contents g.W.Target.failures c.in-Err.fault c.args.sink.now c.tell_all.new.sink c.in-Err.ensures.puts
+returns-in-Err g c =
+    with_err (TellsOfLine (asking_of c.args.asked.now)
+    (judged_at c.args.self.now.state.lines (scope_by c.args.self.now.state.group) c.args.line.now c.of-judged.result)
+    (ended_by c.of-judged.result c.args.self.now.state c.args.self.now.begun) c.args.from)
+    (λ u. TakesLine (asking_of c.args.asked.now) (held_cut c.args.line.now) c.args.from c.args.self.now c.tell_all.new.self)
+    g.W.Target.contents g.W.Target.failures c.in-Err.fault c.args.sink.now c.tell_all.new.sink c.in-Err.ensures.puts
 
 pub returns-in-Ok-step : goal.returns-in-Ok-step
-returns-in-Ok-step g c = with_other (TellsOfLine (asking_of c.args.asked.now) (judged_at c.args.self.now.state.lines (scope_by c.args.self.now.state.group) c.args.line.now c.of-judged.result) (ended_by c.of-judged.result c.args.self.now.state c.args.self.now.begun) c.args.from)
-    (λ u. TakesLine (asking_of c.args.asked.now) (held_cut c.args.line.now) c.args.from c.args.self.now c.step.new.self) g.W.Target.contents g.W.Target.failures c.in-Ok.told tt c.args.sink.now c.tell_all.new.sink
-    (λ text t. line_taken (asking_of c.args.asked.now) c.args.line.now c.of-judged.result c.args.from c.in-Ok.told c.is_good-is_good.result c.args.self.now c.step.new.self text c.of-judged.ensures.judged c.of-judged.ensures.is t c.is_good-is_good.ensures
-    (c.in-Ok-step.ensures.state ∙ ap (λ (s : LintState). state_by c.of-judged.result s (held_cut c.args.line.now)) c.in-Ok.ensures.state)
-    (subst (λ (b : Option (List RecordValue)). AfterJudged c.is_good-is_good.result c.of-judged.result (is_some c.step.new.self.state.stage) b (held_cut c.args.line.now) c.step.new.self.begun) c.in-Ok.ensures.begun c.in-Ok-step.ensures.begun)
+returns-in-Ok-step g c =
+    with_other (TellsOfLine (asking_of c.args.asked.now)
+    (judged_at c.args.self.now.state.lines (scope_by c.args.self.now.state.group) c.args.line.now c.of-judged.result)
+    (ended_by c.of-judged.result c.args.self.now.state c.args.self.now.begun) c.args.from)
+    (λ u. TakesLine (asking_of c.args.asked.now) (held_cut c.args.line.now) c.args.from c.args.self.now c.step.new.self)
+    g.W.Target.contents g.W.Target.failures c.in-Ok.told tt c.args.sink.now c.tell_all.new.sink
+    (λ text t. line_taken (asking_of c.args.asked.now) c.args.line.now c.of-judged.result c.args.from c.in-Ok.told
+    c.is_good-is_good.result c.args.self.now c.step.new.self text c.of-judged.ensures.judged c.of-judged.ensures.is t
+    c.is_good-is_good.ensures
+    (c.in-Ok-step.ensures.state
+    ∙ ap (λ (s : LintState). state_by c.of-judged.result s (held_cut c.args.line.now)) c.in-Ok.ensures.state)
+    (subst (λ (b : Option (List RecordValue)). AfterJudged c.is_good-is_good.result c.of-judged.result
+    (is_some c.step.new.self.state.stage) b (held_cut c.args.line.now)
+    c.step.new.self.begun) c.in-Ok.ensures.begun c.in-Ok-step.ensures.begun)
     (c.in-Ok-step.ensures.lines ∙ ap (λ (s : LintState). one_more_line s.lines) c.in-Ok.ensures.state)
     (c.in-Ok-step.ensures.faults ∙ c.saturating_add-self.ensures ∙ ap (λ n. more_faults n c.in-Ok.told) c.in-Ok.ensures.faults)
     c.in-Ok-step.ensures.over) c.in-Ok.ensures.puts
 
 pub returns-in-Err-step : goal.returns-in-Err-step
-returns-in-Err-step g c = with_none (TellsOfLine (asking_of c.args.asked.now) (judged_at c.args.self.now.state.lines (scope_by c.args.self.now.state.group) c.args.line.now c.of-judged.result) (ended_by c.of-judged.result c.args.self.now.state c.args.self.now.begun) c.args.from)
-    (λ u. TakesLine (asking_of c.args.asked.now) (held_cut c.args.line.now) c.args.from c.args.self.now c.tell_all.new.self) g.W.Target.contents g.W.Target.failures c.in-Ok.told c.args.sink.now c.tell_all.new.sink c.in-Ok.ensures.puts
+returns-in-Err-step g c =
+    with_none (TellsOfLine (asking_of c.args.asked.now)
+    (judged_at c.args.self.now.state.lines (scope_by c.args.self.now.state.group) c.args.line.now c.of-judged.result)
+    (ended_by c.of-judged.result c.args.self.now.state c.args.self.now.begun) c.args.from)
+    (λ u. TakesLine (asking_of c.args.asked.now) (held_cut c.args.line.now) c.args.from c.args.self.now c.tell_all.new.self)
+    g.W.Target.contents g.W.Target.failures c.in-Ok.told c.args.sink.now c.tell_all.new.sink c.in-Ok.ensures.puts

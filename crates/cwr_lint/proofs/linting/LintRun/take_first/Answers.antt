@@ -8,10 +8,18 @@ use Rattle.cwr_lint.proofs.Telling.{first_taken, with_after, with_err}
 use Rattle.cwr_lint.proofs.linting.LintRun.take_first.Goals as goal
 
 pub returns-in-Ok : goal.returns-in-Ok
-returns-in-Ok g c = with_after (λ u. IsFaultText (asking_of c.args.asked.now) c.args.refusal.now) (λ u. TakesLine (asking_of c.args.asked.now) (held_cut c.cut.result) c.saturating_add-from.result c.args.self.now c.take.new.self) (λ u. TakesFirst (asking_of c.args.asked.now) c.args.refusal.now (held_cut (held_raw c.args.raw.now)) c.args.self.now c.take.new.self)
+returns-in-Ok g c =
+    with_after (λ u. IsFaultText (asking_of c.args.asked.now) c.args.refusal.now) (λ u. TakesLine (asking_of c.args.asked.now)
+    (held_cut c.cut.result) c.saturating_add-from.result c.args.self.now c.take.new.self) (λ u. TakesFirst
+    (asking_of c.args.asked.now) c.args.refusal.now (held_cut (held_raw c.args.raw.now)) c.args.self.now c.take.new.self)
     g.W.Target.contents g.W.Target.failures c.in-Ok.field-0 c.take.result c.args.sink.now c.put_fault.new.sink c.take.new.sink
-    (λ line beside u p q. first_taken (asking_of c.args.asked.now) c.args.refusal.now (held_cut (held_raw c.args.raw.now)) c.saturating_add-from.result c.args.self.now c.take.new.self line beside c.saturating_add-from.ensures p
-    (subst (λ (h : HeldLine). TakesLine (asking_of c.args.asked.now) (held_cut h) c.saturating_add-from.result c.args.self.now c.take.new.self beside) (c.cut.ensures ∙ c.cut_into.ensures) q)) c.in-Ok.ensures c.take.ensures
+    (λ line beside u p q. first_taken (asking_of c.args.asked.now) c.args.refusal.now (held_cut (held_raw c.args.raw.now))
+    c.saturating_add-from.result c.args.self.now c.take.new.self line beside c.saturating_add-from.ensures p
+    (subst (λ (h : HeldLine). TakesLine (asking_of c.args.asked.now) (held_cut h) c.saturating_add-from.result c.args.self.now
+    c.take.new.self beside) (c.cut.ensures ∙ c.cut_into.ensures) q)) c.in-Ok.ensures c.take.ensures
 
 pub returns-in-Err : goal.returns-in-Err
-returns-in-Err g c = with_err (λ u. IsFaultText (asking_of c.args.asked.now) c.args.refusal.now) (λ u. TakesFirst (asking_of c.args.asked.now) c.args.refusal.now (held_cut (held_raw c.args.raw.now)) c.args.self.now c.args.self.now) g.W.Target.contents g.W.Target.failures c.in-Err.fault c.args.sink.now c.put_fault.new.sink c.in-Err.ensures
+returns-in-Err g c =
+    with_err (λ u. IsFaultText (asking_of c.args.asked.now) c.args.refusal.now) (λ u. TakesFirst (asking_of c.args.asked.now)
+    c.args.refusal.now (held_cut (held_raw c.args.raw.now)) c.args.self.now
+    c.args.self.now) g.W.Target.contents g.W.Target.failures c.in-Err.fault c.args.sink.now c.put_fault.new.sink c.in-Err.ensures

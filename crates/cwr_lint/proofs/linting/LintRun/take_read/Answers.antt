@@ -8,8 +8,16 @@ use Rattle.cwr_lint.proofs.Telling.{with_err, with_other}
 use Rattle.cwr_lint.proofs.linting.LintRun.take_read.Goals as goal
 
 pub returns-in-Ok : goal.returns-in-Ok
-returns-in-Ok g c = with_other (λ u. TakesLine (asking_of c.args.asked.now) (held_cut c.cut.result) 1 c.args.self.now c.take.new.self) (TakesRead (asking_of c.args.asked.now) (held_cut (held_raw c.args.raw.now)) c.args.self.now c.take.new.self) g.W.Target.contents g.W.Target.failures c.in-Ok.field-0 true c.args.sink.now c.take.new.sink
-    (λ text t. subst (λ (h : HeldLine). TakesLine (asking_of c.args.asked.now) (held_cut h) 1 c.args.self.now c.take.new.self text) (c.cut.ensures ∙ c.cut_into.ensures) t) c.in-Ok.ensures
+returns-in-Ok g c =
+    with_other (λ u. TakesLine (asking_of c.args.asked.now) (held_cut c.cut.result) 1 c.args.self.now c.take.new.self)
+    (TakesRead (asking_of c.args.asked.now) (held_cut (held_raw c.args.raw.now)) c.args.self.now c.take.new.self)
+    g.W.Target.contents g.W.Target.failures c.in-Ok.field-0 true c.args.sink.now c.take.new.sink
+    (λ text t. subst
+    (λ (h : HeldLine). TakesLine (asking_of c.args.asked.now) (held_cut h) 1 c.args.self.now c.take.new.self text)
+    (c.cut.ensures ∙ c.cut_into.ensures) t) c.in-Ok.ensures
 
 pub returns-in-Err : goal.returns-in-Err
-returns-in-Err g c = with_err (λ u. TakesLine (asking_of c.args.asked.now) (held_cut c.cut.result) 1 c.args.self.now c.take.new.self) (TakesRead (asking_of c.args.asked.now) (held_cut (held_raw c.args.raw.now)) c.args.self.now c.take.new.self) g.W.Target.contents g.W.Target.failures c.in-Err.fault c.args.sink.now c.take.new.sink c.in-Err.ensures
+returns-in-Err g c =
+    with_err (λ u. TakesLine (asking_of c.args.asked.now) (held_cut c.cut.result) 1 c.args.self.now c.take.new.self)
+    (TakesRead (asking_of c.args.asked.now) (held_cut (held_raw c.args.raw.now)) c.args.self.now c.take.new.self)
+    g.W.Target.contents g.W.Target.failures c.in-Err.fault c.args.sink.now c.take.new.sink c.in-Err.ensures

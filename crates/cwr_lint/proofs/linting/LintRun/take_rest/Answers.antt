@@ -6,7 +6,13 @@ use Rattle.cwr_lint.proofs.TextsTold.{nothing, one_then, other_err, other_ok}
 use Rattle.cwr_lint.proofs.linting.LintRun.take_rest.Goals as goal
 
 pub loop-init : goal.loop-init
-loop-init g c = ([], nothing (g.R.Source.remaining c.args.reader.now) (g.R.Source.failures c.args.reader.now) g.W.Target.contents g.W.Target.failures tt c.args.sink.now c.requires, run_none (asking_of c.args.asked.now) (g.R.Source.remaining c.args.reader.now) c.args.first c.args.self.now)
+loop-init g c = (
+  [],
+  nothing (g.R.Source.remaining c.args.reader.now) (g.R.Source.failures c.args.reader.now) g.W.Target.contents
+      g.W.Target.failures tt c.args.sink.now c.requires,
+  run_none (asking_of c.args.asked.now)
+      (g.R.Source.remaining c.args.reader.now) c.args.first c.args.self.now,
+)
 
 pub take_next-requires : goal.take_next-requires
 take_next-requires g c = c.loop.invariant.1.unfailed
@@ -14,28 +20,57 @@ take_next-requires g c = c.loop.invariant.1.unfailed
 pub returns-in-Err : goal.returns-in-Err
 returns-in-Err g c = (
   c.loop.invariant.0 ++ c.in-Err.ensures.0,
-  one_then (g.R.Source.remaining c.args.reader.now) (g.R.Source.remaining c.loop.reader) (g.R.Source.remaining c.take_next.new.reader) (g.R.Source.failures c.args.reader.now) (g.R.Source.failures c.loop.reader) (g.R.Source.failures c.take_next.new.reader) g.W.Target.contents g.W.Target.failures c.loop.invariant.0 c.in-Err.ensures.0 tt (Err c.in-Err.fault) c.args.sink.now c.loop.sink c.take_next.new.sink c.loop.invariant.1
-      (other_err (g.R.Source.remaining c.loop.reader) (g.R.Source.remaining c.take_next.new.reader) (g.R.Source.failures c.loop.reader) (g.R.Source.failures c.take_next.new.reader) g.W.Target.contents g.W.Target.failures c.in-Err.ensures.0 c.in-Err.fault c.loop.sink c.take_next.new.sink c.in-Err.ensures.1),
+  one_then (g.R.Source.remaining c.args.reader.now) (g.R.Source.remaining c.loop.reader)
+      (g.R.Source.remaining c.take_next.new.reader) (g.R.Source.failures c.args.reader.now) (g.R.Source.failures c.loop.reader)
+      (g.R.Source.failures c.take_next.new.reader) g.W.Target.contents g.W.Target.failures c.loop.invariant.0 c.in-Err.ensures.0
+      tt (Err c.in-Err.fault) c.args.sink.now c.loop.sink c.take_next.new.sink c.loop.invariant.1
+      (other_err (g.R.Source.remaining c.loop.reader) (g.R.Source.remaining c.take_next.new.reader)
+      (g.R.Source.failures c.loop.reader) (g.R.Source.failures c.take_next.new.reader) g.W.Target.contents g.W.Target.failures
+      c.in-Err.ensures.0 c.in-Err.fault c.loop.sink c.take_next.new.sink c.in-Err.ensures.1),
   tt,
 )
 
 pub loop-preserved : goal.loop-preserved
 loop-preserved g c = (
   c.loop.invariant.0 ++ c.in-Ok-true.ensures.0,
-  one_then (g.R.Source.remaining c.args.reader.now) (g.R.Source.remaining c.loop.reader) (g.R.Source.remaining c.take_next.new.reader) (g.R.Source.failures c.args.reader.now) (g.R.Source.failures c.loop.reader) (g.R.Source.failures c.take_next.new.reader) g.W.Target.contents g.W.Target.failures c.loop.invariant.0 c.in-Ok-true.ensures.0 tt (Ok tt) c.args.sink.now c.loop.sink c.take_next.new.sink c.loop.invariant.1
-      (other_ok (g.R.Source.remaining c.loop.reader) (g.R.Source.remaining c.take_next.new.reader) (g.R.Source.failures c.loop.reader) (g.R.Source.failures c.take_next.new.reader) g.W.Target.contents g.W.Target.failures c.in-Ok-true.ensures.0 c.in-Ok-true.field-0 tt c.loop.sink c.take_next.new.sink c.in-Ok-true.ensures.1),
-  run_more (asking_of c.args.asked.now) (g.R.Source.remaining c.args.reader.now) (g.R.Source.remaining c.loop.reader) (g.R.Source.remaining c.take_next.new.reader) c.args.first.ended c.loop.before c.take_next.new.raw c.args.self.now c.loop.self c.take_next.new.self c.loop.counter c.loop.invariant.0 c.in-Ok-true.ensures.0 c.loop.invariant.2
-      (subst (λ (b : Bool). TakesNextIf (asking_of c.args.asked.now) (g.R.Source.remaining c.loop.reader) (g.R.Source.remaining c.take_next.new.reader) c.loop.before c.take_next.new.raw c.loop.self c.take_next.new.self b c.in-Ok-true.ensures.0) c.in-Ok-true.field-0-test c.in-Ok-true.ensures.2),
+  one_then (g.R.Source.remaining c.args.reader.now) (g.R.Source.remaining c.loop.reader)
+      (g.R.Source.remaining c.take_next.new.reader) (g.R.Source.failures c.args.reader.now) (g.R.Source.failures c.loop.reader)
+      (g.R.Source.failures c.take_next.new.reader) g.W.Target.contents g.W.Target.failures c.loop.invariant.0
+      c.in-Ok-true.ensures.0 tt (Ok tt) c.args.sink.now c.loop.sink c.take_next.new.sink c.loop.invariant.1
+      (other_ok (g.R.Source.remaining c.loop.reader) (g.R.Source.remaining c.take_next.new.reader)
+      (g.R.Source.failures c.loop.reader) (g.R.Source.failures c.take_next.new.reader) g.W.Target.contents g.W.Target.failures
+      c.in-Ok-true.ensures.0 c.in-Ok-true.field-0 tt c.loop.sink c.take_next.new.sink c.in-Ok-true.ensures.1),
+  run_more (asking_of c.args.asked.now) (g.R.Source.remaining c.args.reader.now) (g.R.Source.remaining c.loop.reader)
+      (g.R.Source.remaining c.take_next.new.reader) c.args.first.ended c.loop.before c.take_next.new.raw c.args.self.now
+      c.loop.self c.take_next.new.self c.loop.counter c.loop.invariant.0 c.in-Ok-true.ensures.0 c.loop.invariant.2
+      (subst (λ (b : Bool). TakesNextIf (asking_of c.args.asked.now) (g.R.Source.remaining c.loop.reader)
+      (g.R.Source.remaining c.take_next.new.reader) c.loop.before c.take_next.new.raw c.loop.self c.take_next.new.self b
+      c.in-Ok-true.ensures.0) c.in-Ok-true.field-0-test c.in-Ok-true.ensures.2),
 )
 
 pub returns-after-loop : goal.returns-after-loop
-returns-after-loop g c = (c.loop.invariant.0, c.loop.invariant.1, run_many (asking_of c.args.asked.now) (g.R.Source.remaining c.args.reader.now) (g.R.Source.remaining c.loop.reader) c.args.first.ended c.loop.before c.args.self.now c.loop.self c.loop.counter c.loop.invariant.0 (omega (arith, c.loop-test.false)) c.loop.invariant.2)
+returns-after-loop g c = (
+  c.loop.invariant.0,
+  c.loop.invariant.1,
+  run_many (asking_of c.args.asked.now) (g.R.Source.remaining c.args.reader.now)
+      (g.R.Source.remaining c.loop.reader) c.args.first.ended c.loop.before c.args.self.now c.loop.self c.loop.counter
+      c.loop.invariant.0 (omega (arith, c.loop-test.false)) c.loop.invariant.2,
+)
 
 pub returns-in-Ok-false : goal.returns-in-Ok-false
 returns-in-Ok-false g c = (
   c.loop.invariant.0 ++ c.in-Ok-false.ensures.0,
-  one_then (g.R.Source.remaining c.args.reader.now) (g.R.Source.remaining c.loop.reader) (g.R.Source.remaining c.take_next.new.reader) (g.R.Source.failures c.args.reader.now) (g.R.Source.failures c.loop.reader) (g.R.Source.failures c.take_next.new.reader) g.W.Target.contents g.W.Target.failures c.loop.invariant.0 c.in-Ok-false.ensures.0 tt (Ok tt) c.args.sink.now c.loop.sink c.take_next.new.sink c.loop.invariant.1
-      (other_ok (g.R.Source.remaining c.loop.reader) (g.R.Source.remaining c.take_next.new.reader) (g.R.Source.failures c.loop.reader) (g.R.Source.failures c.take_next.new.reader) g.W.Target.contents g.W.Target.failures c.in-Ok-false.ensures.0 c.in-Ok-false.field-0 tt c.loop.sink c.take_next.new.sink c.in-Ok-false.ensures.1),
-  run_ends (asking_of c.args.asked.now) (g.R.Source.remaining c.args.reader.now) (g.R.Source.remaining c.loop.reader) (g.R.Source.remaining c.take_next.new.reader) c.args.first.ended c.loop.before c.args.self.now c.loop.self c.take_next.new.self c.loop.counter c.loop.invariant.0 c.in-Ok-false.ensures.0 c.loop.invariant.2
-      (subst (λ (b : Bool). TakesNextIf (asking_of c.args.asked.now) (g.R.Source.remaining c.loop.reader) (g.R.Source.remaining c.take_next.new.reader) c.loop.before c.take_next.new.raw c.loop.self c.take_next.new.self b c.in-Ok-false.ensures.0) c.in-Ok-false.field-0-test c.in-Ok-false.ensures.2),
+  one_then (g.R.Source.remaining c.args.reader.now) (g.R.Source.remaining c.loop.reader)
+      (g.R.Source.remaining c.take_next.new.reader) (g.R.Source.failures c.args.reader.now) (g.R.Source.failures c.loop.reader)
+      (g.R.Source.failures c.take_next.new.reader) g.W.Target.contents g.W.Target.failures c.loop.invariant.0
+      c.in-Ok-false.ensures.0 tt (Ok tt) c.args.sink.now c.loop.sink c.take_next.new.sink c.loop.invariant.1
+      (other_ok (g.R.Source.remaining c.loop.reader) (g.R.Source.remaining c.take_next.new.reader)
+      (g.R.Source.failures c.loop.reader) (g.R.Source.failures c.take_next.new.reader) g.W.Target.contents g.W.Target.failures
+      c.in-Ok-false.ensures.0 c.in-Ok-false.field-0 tt c.loop.sink c.take_next.new.sink c.in-Ok-false.ensures.1),
+  run_ends (asking_of c.args.asked.now) (g.R.Source.remaining c.args.reader.now) (g.R.Source.remaining c.loop.reader)
+      (g.R.Source.remaining c.take_next.new.reader) c.args.first.ended c.loop.before c.args.self.now c.loop.self
+      c.take_next.new.self c.loop.counter c.loop.invariant.0 c.in-Ok-false.ensures.0 c.loop.invariant.2
+      (subst (λ (b : Bool). TakesNextIf (asking_of c.args.asked.now) (g.R.Source.remaining c.loop.reader)
+      (g.R.Source.remaining c.take_next.new.reader) c.loop.before c.take_next.new.raw c.loop.self c.take_next.new.self b
+      c.in-Ok-false.ensures.0) c.in-Ok-false.field-0-test c.in-Ok-false.ensures.2),
 )

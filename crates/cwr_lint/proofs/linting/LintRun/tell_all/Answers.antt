@@ -13,10 +13,23 @@ tell-requires-clause-unfailed g c = c.in-Ok.ensures.1.unfailed
 
 pub returns-in-Ok-clause-puts : goal.returns-in-Ok-clause-puts
 returns-in-Ok-clause-puts g c =
-    with_after (λ (u : _) (it : List ℕ). it ≡ ended_lines (asking_of c.args.asked.now) (ended_by c.args.judged.now c.args.self.now.state c.args.self.now.begun)) (TellsSoMany (asking_of c.args.asked.now) (judged_at c.args.self.now.state.lines (scope_by c.args.self.now.state.group) c.args.line.now c.args.judged.now) c.args.from (fields_end (held_kind c.args.line.now)))
-    (TellsOfLine (asking_of c.args.asked.now) (judged_at c.args.self.now.state.lines (scope_by c.args.self.now.state.group) c.args.line.now c.args.judged.now) (ended_by c.args.judged.now c.args.self.now.state c.args.self.now.begun) c.args.from) g.W.Target.contents g.W.Target.failures c.in-Ok.field-0 c.tell.result c.args.sink.now c.put_ended.new.sink c.tell.new.sink
-    (λ found lines count p q. findings_then (asking_of c.args.asked.now) c.args.self.now.state.lines (scope_by c.args.self.now.state.group) c.args.line.now c.args.judged.now (ended_by c.args.judged.now c.args.self.now.state c.args.self.now.begun) c.args.from found lines count p q)
+    with_after (λ (u : _) (it : List ℕ). it ≡ ended_lines (asking_of c.args.asked.now)
+    (ended_by c.args.judged.now c.args.self.now.state c.args.self.now.begun)) (TellsSoMany (asking_of c.args.asked.now)
+    (judged_at c.args.self.now.state.lines (scope_by c.args.self.now.state.group) c.args.line.now c.args.judged.now)
+    c.args.from (fields_end (held_kind c.args.line.now)))
+    (TellsOfLine (asking_of c.args.asked.now)
+    (judged_at c.args.self.now.state.lines (scope_by c.args.self.now.state.group) c.args.line.now c.args.judged.now)
+    (ended_by c.args.judged.now c.args.self.now.state c.args.self.now.begun)
+    c.args.from) g.W.Target.contents g.W.Target.failures c.in-Ok.field-0 c.tell.result c.args.sink.now c.put_ended.new.sink c.tell.new.sink
+    (λ found lines count p q. findings_then (asking_of c.args.asked.now) c.args.self.now.state.lines
+    (scope_by c.args.self.now.state.group) c.args.line.now c.args.judged.now
+    (ended_by c.args.judged.now c.args.self.now.state c.args.self.now.begun) c.args.from found lines count p q)
     c.in-Ok.ensures c.tell.ensures
 
 pub returns-in-Err-clause-puts : goal.returns-in-Err-clause-puts
-returns-in-Err-clause-puts g c = with_err (λ (u : _) (it : List ℕ). it ≡ ended_lines (asking_of c.args.asked.now) (ended_by c.args.judged.now c.args.self.now.state c.args.self.now.begun)) (TellsOfLine (asking_of c.args.asked.now) (judged_at c.args.self.now.state.lines (scope_by c.args.self.now.state.group) c.args.line.now c.args.judged.now) (ended_by c.args.judged.now c.args.self.now.state c.args.self.now.begun) c.args.from) g.W.Target.contents g.W.Target.failures c.in-Err.fault c.args.sink.now c.put_ended.new.sink c.in-Err.ensures
+returns-in-Err-clause-puts g c =
+    with_err (λ (u : _) (it : List ℕ). it ≡ ended_lines (asking_of c.args.asked.now)
+    (ended_by c.args.judged.now c.args.self.now.state c.args.self.now.begun)) (TellsOfLine (asking_of c.args.asked.now)
+    (judged_at c.args.self.now.state.lines (scope_by c.args.self.now.state.group) c.args.line.now c.args.judged.now)
+    (ended_by c.args.judged.now c.args.self.now.state c.args.self.now.begun)
+    c.args.from) g.W.Target.contents g.W.Target.failures c.in-Err.fault c.args.sink.now c.put_ended.new.sink c.in-Err.ensures

@@ -3,4 +3,6 @@ use Rattle.cwr_lint_lines.proofs.JudgedLines.{told_cell}
 use Rattle.cwr_lint_lines.proofs.judging.Known.reason.Goals as goal
 
 pub returns : goal.returns
-returns c = λ n scope. told_cell n scope c.args.line.now c.args.self.now c.args.j c.cell_reason.result c.requires c.if-j-eq1.false (omega (arith, c.if-j-fields.false, c.fields.ensures)) c.cell_reason.ensures
+returns c =
+    λ n scope. told_cell n scope c.args.line.now c.args.self.now c.args.j c.cell_reason.result c.requires c.if-j-eq1.false
+    (omega (arith, c.if-j-fields.false, c.fields.ensures)) c.cell_reason.ensures

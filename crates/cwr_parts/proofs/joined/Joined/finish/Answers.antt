@@ -16,10 +16,13 @@ answer_of-requires-clause-few g c = few_before_end g.W.Target.contents c.args.in
 pub answer_of-requires-clause-no_mistake : goal.answer_of-requires-clause-no_mistake
 answer_of-requires-clause-no_mistake g c =
     no_mistake_at_end g.W.Target.contents c.args.inputs c.args.self c.finish-writer.result.1 c.requires.all
-    (c.finish-writer.ensures.judged c.requires.unfailed c.requires.all.start (records_in (joined_inputs c.requires.all.inputs)) c.requires.all.joined.encodes)
+    (c.finish-writer.ensures.judged c.requires.unfailed c.requires.all.start (records_in (joined_inputs c.requires.all.inputs))
+    c.requires.all.joined.encodes)
 
 pub returns-clause-ends : goal.returns-clause-ends
-returns-clause-ends g c = ends_join g.W.Target.contents g.W.Target.failures c.args.inputs c.args.self c.finish-writer.result.0 c.finish-writer.result.1 c.answer_of.result
+returns-clause-ends g c =
+    ends_join g.W.Target.contents g.W.Target.failures c.args.inputs c.args.self c.finish-writer.result.0 c.finish-writer.result.1
+    c.answer_of.result
     c.answer_of.ensures (c.finish-writer.ensures.finishes c.requires.unfailed) c.finish-writer.ensures.unlimited
 
 -- what holds where the encoder finished well holds where the join does
@@ -30,4 +33,5 @@ where_joined (Err other) counts inputs result P e p = subst (λ (r : Result Join
 
 pub returns-clause-handed_on : goal.returns-clause-handed_on
 returns-clause-handed_on g c =
-    where_joined c.finish-writer.result.1 _ c.args.inputs c.answer_of.result _ c.answer_of.ensures c.finish-writer.ensures.handed_on
+    where_joined c.finish-writer.result.1 _ c.args.inputs c.answer_of.result _ c.answer_of.ensures
+    c.finish-writer.ensures.handed_on

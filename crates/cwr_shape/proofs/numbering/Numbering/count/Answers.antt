@@ -5,4 +5,5 @@ use Rattle.cwr_shape.proofs.numbering.Numbering.count.Goals as goal
 
 pub invariant_of-self-in_default : goal.invariant_of-self-in_default
 invariant_of-self-in_default c =
-    subst KeepsNumbering (sym c.with-self-inside.ensures) (kept_with c.self.inside.ty c.self.inside.counts c.args.symbol c.self.invariant (omega (arith, c.if-self-ge-MOST_RECORDS.false)))
+    subst KeepsNumbering (sym c.with-self-inside.ensures) (kept_with c.self.inside.ty c.self.inside.counts c.args.symbol
+    c.self.invariant (omega (arith, c.if-self-ge-MOST_RECORDS.false)))

@@ -10,23 +10,31 @@ use Rattle.cwr_shape.proofs.TallyWithOneMore.{room_with}
 use Rattle.cwr_shape.proofs.tallies.Tally.admits.Goals as goal
 
 pub passed_limit_at-requires : goal.passed_limit_at-requires
-passed_limit_at-requires c = room_with c.type_at.result c.self.inside.limits c.self.inside.counts c.with-counts.result c.args.symbol c.self.invariant.counts c.with-counts.ensures
+passed_limit_at-requires c =
+    room_with c.type_at.result c.self.inside.limits c.self.inside.counts c.with-counts.result c.args.symbol
+    c.self.invariant.counts c.with-counts.ensures
 
 pub returns-in-Some-passed_limit_at-clause-answer : goal.returns-in-Some-passed_limit_at-clause-answer
 returns-in-Some-passed_limit_at-clause-answer c =
     let t : TallyValue = record { limits = c.self.inside.limits; stage = c.self.inside.stage; counts = c.self.inside.counts } in
-    subst (λ (t : TallyValue). (xs : List Symbol) → IsTallyOf t xs → Answers t.limits xs c.args.symbol (Err (Limit c.in-Some-passed_limit_at.limit))) c.self.view_is
-    (λ xs st. is_barred t xs c.args.symbol c.in-Some.stage c.with-counts.result c.passed_limit_at.result c.in-Some-passed_limit_at.limit
-    (next_of t xs c.args.symbol c.in-Some.stage c.with-counts.result c.self.invariant.counts.in_range.least_transaction st (c.in-Some.ensures.value xs st.stands)
-    (c.with-counts.ensures ∙ ap (λ (ty : TransactionType). counts_with ty c.self.inside.counts c.args.symbol) c.type_at.ensures)) c.passed_limit_at.ensures c.in-Some-passed_limit_at.is)
+    subst (λ (t : TallyValue). (xs : List Symbol) → IsTallyOf t xs
+    → Answers t.limits xs c.args.symbol (Err (Limit c.in-Some-passed_limit_at.limit))) c.self.view_is
+    (λ xs st. is_barred t xs c.args.symbol c.in-Some.stage c.with-counts.result c.passed_limit_at.result
+    c.in-Some-passed_limit_at.limit
+    (next_of t xs c.args.symbol c.in-Some.stage c.with-counts.result c.self.invariant.counts.in_range.least_transaction st
+    (c.in-Some.ensures.value xs st.stands)
+    (c.with-counts.ensures ∙ ap (λ (ty : TransactionType). counts_with ty c.self.inside.counts c.args.symbol) c.type_at.ensures))
+    c.passed_limit_at.ensures c.in-Some-passed_limit_at.is)
 
 pub returns-in-None-clause-answer : goal.returns-in-None-clause-answer
 returns-in-None-clause-answer c =
     let t : TallyValue = record { limits = c.self.inside.limits; stage = c.self.inside.stage; counts = c.self.inside.counts } in
     subst (λ (t : TallyValue). (xs : List Symbol) → IsTallyOf t xs → Answers t.limits xs c.args.symbol (Ok tt)) c.self.view_is
     (λ xs st. may_come t xs c.args.symbol c.in-Some.stage c.with-counts.result c.passed_limit_at.result
-    (next_of t xs c.args.symbol c.in-Some.stage c.with-counts.result c.self.invariant.counts.in_range.least_transaction st (c.in-Some.ensures.value xs st.stands)
-    (c.with-counts.ensures ∙ ap (λ (ty : TransactionType). counts_with ty c.self.inside.counts c.args.symbol) c.type_at.ensures)) c.passed_limit_at.ensures c.in-None.is)
+    (next_of t xs c.args.symbol c.in-Some.stage c.with-counts.result c.self.invariant.counts.in_range.least_transaction st
+    (c.in-Some.ensures.value xs st.stands)
+    (c.with-counts.ensures ∙ ap (λ (ty : TransactionType). counts_with ty c.self.inside.counts c.args.symbol) c.type_at.ensures))
+    c.passed_limit_at.ensures c.in-None.is)
 
 pub returns-in-None-clause-admitted : goal.returns-in-None-clause-admitted
 returns-in-None-clause-admitted c =
@@ -36,6 +44,8 @@ returns-in-None-clause-admitted c =
       xs,
       c.self.invariant.stands.1,
       may_come t xs c.args.symbol c.in-Some.stage c.with-counts.result c.passed_limit_at.result
-          (next_of t xs c.args.symbol c.in-Some.stage c.with-counts.result c.self.invariant.counts.in_range.least_transaction c.self.invariant.stands.1 (c.in-Some.ensures.value xs c.self.invariant.stands.1.stands)
-          (c.with-counts.ensures ∙ ap (λ (ty : TransactionType). counts_with ty c.self.inside.counts c.args.symbol) c.type_at.ensures)) c.passed_limit_at.ensures c.in-None.is,
+          (next_of t xs c.args.symbol c.in-Some.stage c.with-counts.result c.self.invariant.counts.in_range.least_transaction
+          c.self.invariant.stands.1 (c.in-Some.ensures.value xs c.self.invariant.stands.1.stands)
+          (c.with-counts.ensures ∙ ap (λ (ty : TransactionType). counts_with ty c.self.inside.counts c.args.symbol)
+          c.type_at.ensures)) c.passed_limit_at.ensures c.in-None.is,
     )

@@ -7,5 +7,6 @@ use Rattle.cwr_tables.proofs.rows.RowText.set_heading.Goals as goal
 pub returns : goal.returns
 returns c =
     c.push-2.ensures.value ∙ ap (λ (l : List ℕ). l ++ codes "\r\n")
-    (c.push_columns.ensures.value ∙ ap (λ (l : List ℕ). l ++ named_columns c.args.kind) (c.push.ensures.value ∙ ap (λ (l : List ℕ). l ++ numbers_heading) c.clear.ensures))
+    (c.push_columns.ensures.value ∙ ap (λ (l : List ℕ). l ++ named_columns c.args.kind)
+    (c.push.ensures.value ∙ ap (λ (l : List ℕ). l ++ numbers_heading) c.clear.ensures))
     ∙ heading_is c.args.kind

@@ -7,6 +7,7 @@ use Rattle.cwr_tools.proofs.finding_lines.FindingLinesReport.passes.Goals as goa
 
 pub returns : goal.returns
 returns c = λ told of given t clean here. (
-  subst (λ (lines : ItemLines). lines.lines (given ++ Transaction t ∷ []) ≡ lines.lines given) (sym here.0) (told_passed c.args.self.now.explained c.args.self.now.up_to_fault given t clean),
+  subst (λ (lines : ItemLines). lines.lines (given ++ Transaction t ∷ []) ≡ lines.lines given) (sym here.0)
+      (told_passed c.args.self.now.explained c.args.self.now.up_to_fault given t clean),
   (here.0, worst_passed c.args.self.now.told.worst given t clean here.1),
 )

@@ -6,4 +6,6 @@ use Rattle.cwr_tools.proofs.ReportSteps.{first_lines, nothing_put}
 use Rattle.cwr_tools.proofs.shown_records.ShownRecordsReport.put_first.Goals as goal
 
 pub returns-clause-puts : goal.returns-clause-puts
-returns-clause-puts g c = λ of e. first_lines g.W.Target.contents g.W.Target.failures of lines_of_records _ (Ok tt) c.args.arg2.now c.args.arg2.now e (sym records_none) (nothing_put g.W.Target.contents g.W.Target.failures false tt c.args.arg2.now c.requires.unfailed)
+returns-clause-puts g c =
+    λ of e. first_lines g.W.Target.contents g.W.Target.failures of lines_of_records _ (Ok tt) c.args.arg2.now c.args.arg2.now e
+    (sym records_none) (nothing_put g.W.Target.contents g.W.Target.failures false tt c.args.arg2.now c.requires.unfailed)

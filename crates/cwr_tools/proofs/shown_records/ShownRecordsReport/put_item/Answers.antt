@@ -10,11 +10,15 @@ use Rattle.cwr_tools.proofs.shown_records.ShownRecordsReport.put_item.Goals as g
 pub returns-in-Ok-clause-puts : goal.returns-in-Ok-clause-puts
 returns-in-Ok-clause-puts g c = λ of given counted e.
     let text = numbered_records (c.from.result + 1) (item_records c.args.item.now) in
-    next_lines g.W.Target.contents g.W.Target.failures of lines_of_records given c.args.item.now text (Ok tt) c.args.sink.now c.put_records.new.sink e (records_from c.args.counts.now given c.args.item.now c.from.result counted (search rules))
+    next_lines g.W.Target.contents g.W.Target.failures of lines_of_records given c.args.item.now text (Ok tt) c.args.sink.now
+    c.put_records.new.sink e (records_from c.args.counts.now given c.args.item.now c.from.result counted (search rules))
     (lines_put g.W.Target.contents g.W.Target.failures false text tt c.args.sink.now c.put_records.new.sink c.in-Ok.ensures.puts)
 
 pub returns-in-Err-clause-puts : goal.returns-in-Err-clause-puts
 returns-in-Err-clause-puts g c = λ of given counted e.
     let text = numbered_records (c.from.result + 1) (item_records c.args.item.now) in
-    next_lines g.W.Target.contents g.W.Target.failures of lines_of_records given c.args.item.now text (Err c.writer_fault.result) c.args.sink.now c.put_records.new.sink e (records_from c.args.counts.now given c.args.item.now c.from.result counted (search rules))
-    (lines_cut g.W.Target.contents g.W.Target.failures false text c.in-Err.fault c.writer_fault.result c.args.sink.now c.put_records.new.sink c.writer_fault.ensures c.in-Err.ensures.fault c.in-Err.ensures.puts)
+    next_lines g.W.Target.contents g.W.Target.failures of lines_of_records given c.args.item.now text (Err c.writer_fault.result)
+    c.args.sink.now c.put_records.new.sink e
+    (records_from c.args.counts.now given c.args.item.now c.from.result counted (search rules))
+    (lines_cut g.W.Target.contents g.W.Target.failures false text c.in-Err.fault c.writer_fault.result c.args.sink.now
+    c.put_records.new.sink c.writer_fault.ensures c.in-Err.ensures.fault c.in-Err.ensures.puts)

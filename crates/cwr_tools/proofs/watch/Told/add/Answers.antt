@@ -9,12 +9,15 @@ use Rattle.cwr_tools.proofs.watch.Told.add.Goals as goal
 pub loop-finding-preserved : goal.loop-finding-preserved
 loop-finding-preserved c =
     let there : Some c.in-Some.finding.now ≡ slice_get c.args.found.now c.loop-finding.i
-    = sym (slice_get_read c.args.found.now (length c.args.found.now) c.loop-finding.i c.in-Some.finding.now refl c.in-Some.ensures.lookup.3.0 c.in-Some.ensures.lookup.1) in
+    = sym (slice_get_read c.args.found.now (length c.args.found.now) c.loop-finding.i c.in-Some.finding.now refl
+    c.in-Some.ensures.lookup.3.0 c.in-Some.ensures.lookup.1) in
     record {
       within = omega (arith, c.in-Some.ensures.lookup.3.0);
       worst = λ asked.
           ap (λ (b : Bool). b || has_from asked (drop (c.loop-finding.i + 1) c.args.found.now)) (c.worse.ensures asked)
-          ∙ or_assoc (is_reached asked c.loop-finding.self.worst) (is_reached_by asked c.in-Some.finding.now.level) (has_from asked (drop (c.loop-finding.i + 1) c.args.found.now))
-          ∙ ap (λ (b : Bool). is_reached asked c.loop-finding.self.worst || b) (sym (from_more asked c.loop-finding.i c.args.found.now c.in-Some.finding.now there))
+          ∙ or_assoc (is_reached asked c.loop-finding.self.worst) (is_reached_by asked c.in-Some.finding.now.level)
+          (has_from asked (drop (c.loop-finding.i + 1) c.args.found.now))
+          ∙ ap (λ (b : Bool). is_reached asked c.loop-finding.self.worst || b)
+          (sym (from_more asked c.loop-finding.i c.args.found.now c.in-Some.finding.now there))
           ∙ c.loop-finding.invariant.worst asked;
     }

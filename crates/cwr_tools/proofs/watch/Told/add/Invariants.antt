@@ -7,7 +7,8 @@ use Rattle.cwr_tools.proofs.watch.Told.add.Given as goal
 abbrev pub invariant-loop-finding : goal.invariant-loop-finding
 invariant-loop-finding l = record {
   within : l.i ≤ length l.found;
-  worst : (asked : Option Level) → (is_reached asked l.self.worst || has_from asked (drop l.i l.found)) ≡ (is_reached asked l.fn.self.worst || has_from asked l.found);
+  worst : (asked : Option Level) → (is_reached asked l.self.worst || has_from asked (drop l.i l.found))
+      ≡ (is_reached asked l.fn.self.worst || has_from asked l.found);
 }
 
 abbrev pub decreases-loop-finding : goal.decreases-loop-finding

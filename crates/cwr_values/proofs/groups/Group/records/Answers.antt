@@ -6,11 +6,14 @@ use Rattle.cwr_values.proofs.groups.Group.records.Goals as goal
 
 pub loop-transaction-preserved : goal.loop-transaction-preserved
 loop-transaction-preserved c =
-    let more = sum_by_more length c.deref-transaction-items.result.now c.loop-transaction.transaction-index c.transaction-item.result (omega arith) in
+    let more =
+    sum_by_more length c.deref-transaction-items.result.now c.loop-transaction.transaction-index c.transaction-item.result
+    (omega arith) in
     let item = ap length c.transaction-item.is in
     omega (arith, more, item, c.loop-transaction.invariant, c.saturating_add-records.ensures, c.len.ensures.len)
 
 pub returns : goal.returns
 returns c =
-    group_counted c.args.self.now c.deref-transaction-items.result.now c.loop-transaction.transaction-index c.loop-transaction.records c.loop-transaction.invariant c.loop-transaction-test.false
+    group_counted c.args.self.now c.deref-transaction-items.result.now c.loop-transaction.transaction-index
+    c.loop-transaction.records c.loop-transaction.invariant c.loop-transaction-test.false
     (c.deref-transaction-items.ensures.value ∙ ap (λ (g : GroupValue). g.transactions) c.self.view_is)

@@ -8,4 +8,6 @@ use Rattle.cwr_write.proofs.records.Filling.meet.Goals as goal
 pub returns-then-says-clause-reason : goal.returns-then-says-clause-reason
 returns-then-says-clause-reason c =
     IfErr-weaker c.take.result _ _
-    (λ f h ms rest filled. subst (λ (b : Bool). IsMemberReason c.args.encoding c.args.self.now.kind (joined (cond b (with_last ms c.args.key.now (value_view c.args.value.now)) ms) rest) f.0 f.1) (sym (sym c.says.ensures ∙ c.if-says.true)) (h ms rest filled)) c.take.ensures.reason
+    (λ f h ms rest filled. subst (λ (b : Bool). IsMemberReason c.args.encoding c.args.self.now.kind
+    (joined (cond b (with_last ms c.args.key.now (value_view c.args.value.now)) ms) rest) f.0 f.1) (sym
+    (sym c.says.ensures ∙ c.if-says.true)) (h ms rest filled)) c.take.ensures.reason
