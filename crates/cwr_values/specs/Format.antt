@@ -4,4 +4,5 @@ pub mod Begun
 pub mod Fits
 pub mod FormerOrders
 pub mod Rows
+pub mod ValueFaultTexts
 pub mod Values

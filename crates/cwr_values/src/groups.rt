@@ -1,13 +1,14 @@
 //! Groups as values.
 
 ghost use Rattle.std.specs.Prelude.{◌≡◌, ◌↔◌, ◌+◌, ◌++◌, ◌∷◌, [], length, option_copied, slice_get, map, min, nat_lt, position, IsOk, IfOk, IfErr, IfSome};
-ghost use Rattle.std.specs.Prelude.{IsTrue, OnOk};
+ghost use Rattle.std.specs.Prelude.{IsTrue, OnOk, Some};
 ghost use Rattle.std.specs.Result.{IsErrAnd};
 ghost use Rattle.cwr_fields.specs.Format.Growth.{Outgrows};
 ghost use Rattle.cwr_lines.specs.Format.Records.{blank_record};
 ghost use Rattle.cwr_shape.specs.Format.Numbers.{group_records};
 ghost use Rattle.cwr_values.specs.Format.Values.{type_of, IsTransaction};
 ghost use Rattle.cwr_values.specs.Format.Begun.{HasHeaderOf, IsBegunGroup, IsWholeTransaction};
+ghost use Rattle.cwr_values.specs.Format.ValueFaultTexts.{group_fault_text};
 
 use crate::symbols::symbol_of;
 use crate::transactions::Transaction;
@@ -31,12 +32,14 @@ pub enum GroupFault {
 }
 
 impl Display for GroupFault {
+    ghost output = { λ fault. Some (group_fault_text fault) };
+
     fn fmt<O: Write>(&self, f: &mut Formatter<O>) -> fmt::Result {
-        f.pad(match self {
-            GroupFault::WrongKind => "transaction of another kind",
-            GroupFault::Incomplete => "incomplete transaction",
-            GroupFault::Memory => "out of memory",
-        })
+        match self {
+            GroupFault::WrongKind => f.pad("transaction of another kind"),
+            GroupFault::Incomplete => f.pad("incomplete transaction"),
+            GroupFault::Memory => f.pad("out of memory"),
+        }
     }
 }
 

@@ -6,6 +6,7 @@ ghost use Rattle.cwr_shape.specs.Format.Shapes.{BeginsShape};
 ghost use Rattle.cwr_shape.specs.Steps.Left.{StandsAtStep};
 ghost use Rattle.cwr_values.specs.Format.Values.{symbol_of};
 ghost use Rattle.cwr_values.specs.Format.Begun.{HasHeaderOf, IsBegun, IsWholeTransaction, BeginsWithOneMore};
+ghost use Rattle.cwr_values.specs.Format.ValueFaultTexts.{push_fault_text};
 
 use crate::symbols::symbol_of;
 use cwr_fields::{Kind, TransactionType};
@@ -26,11 +27,13 @@ pub enum PushFault {
 }
 
 impl Display for PushFault {
+    ghost output = { λ fault. Some (push_fault_text fault) };
+
     fn fmt<O: Write>(&self, f: &mut Formatter<O>) -> fmt::Result {
-        f.pad(match self {
-            PushFault::Misplaced => "misplaced record",
-            PushFault::Memory => "out of memory",
-        })
+        match self {
+            PushFault::Misplaced => f.pad("misplaced record"),
+            PushFault::Memory => f.pad("out of memory"),
+        }
     }
 }
 

@@ -7,6 +7,7 @@ ghost use Rattle.cwr_values.specs.Format.Values.{FitsIn, IsGroup, IsTransmission
 ghost use Rattle.cwr_values.specs.Format.Begun.{IsBegunTransmission};
 ghost use Rattle.cwr_values.specs.Format.Rows.{rows};
 ghost use Rattle.cwr_values.specs.Format.Fits.{first_too_long, value_fault};
+ghost use Rattle.cwr_values.specs.Format.ValueFaultTexts.{transmission_fault_text, value_fault_text};
 
 use crate::groups::Group;
 use cwr_fields::{Kind, make_room};
@@ -27,11 +28,13 @@ pub enum TransmissionFault {
 }
 
 impl Display for TransmissionFault {
+    ghost output = { λ fault. Some (transmission_fault_text fault) };
+
     fn fmt<O: Write>(&self, f: &mut Formatter<O>) -> fmt::Result {
-        f.pad(match self {
-            TransmissionFault::Empty => "group without transaction",
-            TransmissionFault::Memory => "out of memory",
-        })
+        match self {
+            TransmissionFault::Empty => f.pad("group without transaction"),
+            TransmissionFault::Memory => f.pad("out of memory"),
+        }
     }
 }
 
@@ -56,6 +59,8 @@ pub enum ValueFault {
 }
 
 impl Display for ValueFault {
+    ghost output = { λ fault. Some (value_fault_text fault) };
+
     fn fmt<O: Write>(&self, f: &mut Formatter<O>) -> fmt::Result {
         match self {
             ValueFault::NoGroup => f.pad("no group"),
