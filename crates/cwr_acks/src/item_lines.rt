@@ -1,7 +1,7 @@
 //! The lines of items, put to a sink.
 
 ghost use Rattle.std.specs.Prelude.{◌≡◌, ◌≤◌, IfErr, false, true, ◌++◌, length};
-ghost use Rattle.cwr_sinks.specs.Steps.Sinks.{Puts, has_failed, written_of};
+ghost use Rattle.cwr_devices.specs.Steps.Sinks.{Puts, has_failed, written_of};
 ghost use Rattle.cwr_tools.specs.Steps.Reports.{PutsLines};
 ghost use Rattle.cwr_acks.specs.Format.Acknowledgements.{is_ack, worst_level};
 ghost use Rattle.cwr_acks.specs.Format.AckTexts.{marked_if, marked_line, note_lines, sent_lines};
@@ -14,10 +14,9 @@ use crate::forms::Form;
 use crate::line_texts::LineText;
 use crate::matching::{Notes, notes_of};
 use crate::unanswered::put_unanswered_if;
-use cwr_fields::Target;
+use cwr_devices::{Sink, SinkFault, Target};
 use cwr_lines::RecordRef;
 use cwr_sent::Sent;
-use cwr_sinks::{Sink, SinkFault};
 use cwr_tools::{ToolFault, writer_fault};
 use cwr_values::{Item, Transaction};
 

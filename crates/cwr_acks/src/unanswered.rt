@@ -1,7 +1,7 @@
 //! What was sent and isn't answered, put to a sink.
 
 ghost use Rattle.std.specs.Prelude.{◌≡◌, IfErr, false};
-ghost use Rattle.cwr_sinks.specs.Steps.Sinks.{Puts, has_failed, written_of};
+ghost use Rattle.cwr_devices.specs.Steps.Sinks.{Puts, has_failed, written_of};
 ghost use Rattle.cwr_sent.specs.Format.SentRows.{rows};
 ghost use Rattle.cwr_acks.specs.Steps.AckSteps.{entry_line, row_lines, rows_if, table_lines, table_lines_if};
 
@@ -9,9 +9,8 @@ use crate::forms::Form;
 use crate::item_lines::put_text;
 use crate::line_texts::LineText;
 use crate::matching::wants_answer;
-use cwr_fields::Target;
+use cwr_devices::{Sink, SinkFault, Target};
 use cwr_sent::{Entry, Sent};
-use cwr_sinks::{Sink, SinkFault};
 
 /// Puts the line of a transaction that was sent, where that isn't answered.
 fn put_entry<W: Target>(

@@ -6,7 +6,7 @@ use Rattle.std.specs.List.{flat_map}
 use Rattle.std.specs.Option.{option_to_list}
 use Rattle.std.proofs.lemmas.Bool.{lt-ltb, ltb-true}
 use Rattle.cwr_lines.specs.Format.Records.{RecordValue}
-use Rattle.cwr_sinks.specs.declared.sinks.Sink.{Sink}
+use Rattle.cwr_devices.specs.declared.sinks.Sink.{Sink}
 use Rattle.cwr_encode.proofs.Numbered.{puts_both, puts_cut}
 use Rattle.cwr_tools.specs.declared.verdicts.ToolFault.{ToolFault}
 use Rattle.cwr_tools.specs.declared.verdicts.ToolFault.TheVariants as faults

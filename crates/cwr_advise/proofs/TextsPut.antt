@@ -3,8 +3,8 @@ use Rattle.std.proofs.Common.{◌≡◌, ℕ, ◌+◌, false, List, [], ◌∷�
 use Rattle.std.proofs.Common.{append-nil, arith}
 use Rattle.std.specs.Prelude.{slice_get, Result, Ok, Err, IsErr, is_err}
 use Rattle.std.specs.List.{flat_map}
-use Rattle.cwr_sinks.specs.declared.sinks.Sink.{Sink}
-use Rattle.cwr_sinks.specs.Steps.Sinks.{writer_of, has_failed, HasWritten, Puts, CountsOn}
+use Rattle.cwr_devices.specs.declared.sinks.Sink.{Sink}
+use Rattle.cwr_devices.specs.Steps.Sinks.{writer_of, has_failed, HasWritten, Puts, CountsOn}
 use Rattle.cwr_encode.proofs.Numbered.{numbered, puts_as, step_more, steps_refused, steps_whole}
 
 -- a text that was made is put

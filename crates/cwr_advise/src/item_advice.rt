@@ -2,7 +2,7 @@
 
 ghost use Rattle.std.specs.Prelude.{◌≡◌, ◌+◌, ◌≤◌, ◌++◌, false, length, IfErr};
 ghost use Rattle.std.specs.List.{flat_map};
-ghost use Rattle.cwr_sinks.specs.Steps.Sinks.{Puts, has_failed, written_of};
+ghost use Rattle.cwr_devices.specs.Steps.Sinks.{Puts, has_failed, written_of};
 ghost use Rattle.cwr_judge.specs.Format.Items.{item_records};
 ghost use Rattle.cwr_tools.specs.Steps.Reports.{PutsLines};
 ghost use Rattle.cwr_advise.specs.Format.AdviceLines.{advised_transaction, has_advice, has_advised};
@@ -13,8 +13,7 @@ ghost use Rattle.cwr_advise.specs.Steps.KeptWorks.{repeated_at};
 use crate::advice_texts::AdviceText;
 use crate::repeats::{Place, Repeated, work_header};
 use cwr_advice::{Advice, Said, advice};
-use cwr_fields::Target;
-use cwr_sinks::{Sink, SinkFault};
+use cwr_devices::{Sink, SinkFault, Target};
 use cwr_tools::{ToolFault, Totals, put_transaction_findings, writer_fault};
 use cwr_values::{Item, Transaction};
 use std::alloc::Global;

@@ -15,9 +15,8 @@ use crate::item_advice::put_item;
 use crate::kept_works::AdvisedSums;
 use crate::repeats::Repeats;
 use cwr_advice::Said;
-use cwr_fields::{Source, Target};
+use cwr_devices::{Sink, SinkFault, Source, Target};
 use cwr_shape::Limits;
-use cwr_sinks::{Sink, SinkFault};
 use cwr_tools::{
     CheckedFront, Front, HandedOut, Report, ToolFault, Totals, Verdict, put_unrefused_line,
     put_verdict_line, write_report,

@@ -4,10 +4,9 @@ ghost use Rattle.std.specs.Prelude.{◌≡◌, ◌≢◌, IfOk};
 ghost use Rattle.cwr_c.specs.Format.WrittenTexts.{IsCanonical};
 
 use crate::writing::{CwrWritten, written};
-use cwr_fields::Counted;
+use cwr_devices::{Counted, Sink};
 use cwr_json::Encoding;
 use cwr_shape::Limits;
-use cwr_sinks::Sink;
 use cwr_write::{WriteFault, put_write_outcome, write};
 use std::alloc::Global;
 

@@ -9,7 +9,7 @@ ghost use Rattle.cwr_decode.specs.Steps.TakenLines.{PutsAt};
 
 use crate::verdicts::level_letter;
 use cwr_decode::{ReadFault, Reading};
-use cwr_fields::{Counted, Source};
+use cwr_devices::{Counted, Source};
 use cwr_levels::{Finding, Rule, findings};
 use cwr_shape::Limits;
 use cwr_tools::{ToolFault, Verdict};

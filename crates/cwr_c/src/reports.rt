@@ -5,8 +5,8 @@ ghost use Rattle.cwr_tools.specs.Format.Reports.{lines_of_data, lines_of_explain
 ghost use Rattle.cwr_c.specs.Format.Copies.{CopiesOut};
 ghost use Rattle.cwr_c.specs.Steps.Reported.{IsExplainedOn, IsJudged, IsLintOn, IsReportOn, IsTextOn, IsWritten, asked_by};
 
+use cwr_devices::Counted;
 use cwr_explain::explain;
-use cwr_fields::Counted;
 use cwr_json::Encoding;
 use cwr_lint::lint;
 use cwr_shape::Limits;

@@ -10,8 +10,9 @@ ghost use Rattle.cwr_c.specs.Steps.Writings.{EndsWriting, GoesOn, HasCanonical, 
 
 use crate::verdicts::limit_number;
 use cwr_decode::first_line;
+use cwr_devices::{Counted, Target};
 use cwr_encode::{EncodeFault, Encoder};
-use cwr_fields::{Counted, Kind, Target};
+use cwr_fields::Kind;
 use cwr_lines::{CutLine, LineBuf, Record, RecordRef};
 use cwr_shape::Limits;
 use cwr_values::{PushFault, Transaction};

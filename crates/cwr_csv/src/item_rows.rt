@@ -1,14 +1,13 @@
 //! The rows of items, put to a sink.
 
 ghost use Rattle.std.specs.Prelude.{◌≡◌, ◌+◌, ◌≤◌, false, length};
-ghost use Rattle.cwr_sinks.specs.Steps.Sinks.{has_failed};
+ghost use Rattle.cwr_devices.specs.Steps.Sinks.{has_failed};
 ghost use Rattle.cwr_judge.specs.Format.Items.{item_records};
 ghost use Rattle.cwr_tools.specs.Steps.Reports.{PutsLines};
 ghost use Rattle.cwr_csv.specs.Steps.ItemRows.{place_at, rows_at, table_heading};
 
 use crate::tables::Table;
-use cwr_fields::Target;
-use cwr_sinks::{Sink, SinkFault};
+use cwr_devices::{Sink, SinkFault, Target};
 use cwr_tables::{Place, RowText, put_heading, put_rows, put_work_heading, put_work_row};
 use cwr_tools::{NothingKept, Report, ToolFault, Totals, Verdict, writer_fault};
 use cwr_values::Item;

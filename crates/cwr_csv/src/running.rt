@@ -8,7 +8,7 @@ ghost use Rattle.cwr_csv.specs.Format.TableLines.{lines_of_table};
 
 use crate::item_rows::TableRows;
 use crate::tables::Table;
-use cwr_fields::{Source, Target};
+use cwr_devices::{Source, Target};
 use cwr_shape::Limits;
 use cwr_tools::{ToolFault, Verdict, write_report};
 use std::alloc::Global;

@@ -3,7 +3,8 @@
 ghost use Rattle.std.specs.Prelude.{Some};
 
 use cwr_csv::{Table, csv};
-use cwr_fields::{Counted, Kind};
+use cwr_devices::Counted;
+use cwr_fields::Kind;
 use cwr_shape::Limits;
 use cwr_tools::{ToolFault, Verdict};
 use cwr_worked::texts::{ONE_ACKNOWLEDGEMENT, TWO_GROUPS, canonical};

@@ -9,7 +9,7 @@ ghost use Rattle.cwr_decode.specs.Steps.Runs.{StopsText};
 
 use crate::readings::ReadFault;
 use crate::whole::read_all;
-use cwr_fields::{DeviceFault, Source};
+use cwr_devices::{DeviceFault, Source};
 use cwr_shape::Limits;
 use cwr_values::Transmission;
 use std::alloc::Global;

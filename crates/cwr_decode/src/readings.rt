@@ -13,7 +13,7 @@ use crate::keepers::Keeper;
 use crate::last_bytes::LastBytes;
 use crate::machine::{Passed, State};
 use crate::outcomes::Outcome;
-use cwr_fields::Source;
+use cwr_devices::Source;
 use cwr_judge::Refusal;
 use cwr_shape::{Counts, Limits, Stage};
 use cwr_values::{Item, Transaction};

@@ -9,7 +9,7 @@ ghost use Rattle.cwr_decode.specs.Format.Runs.{AreGroupItems, AreItems, TakesFro
 ghost use Rattle.cwr_decode.specs.Steps.Runs.{HasReadAll, StopsReading};
 
 use crate::readings::{ReadFault, Reading};
-use cwr_fields::Source;
+use cwr_devices::Source;
 use cwr_lines::Record;
 use cwr_shape::Limits;
 use cwr_values::{Group, GroupFault, Item, Transaction, Transmission, TransmissionFault};

@@ -5,7 +5,7 @@ ghost use Rattle.std.specs.Prelude.{None};
 use crate::checks::check_equal;
 use crate::decoders::{LARGEST, Numbers, limits_of, text_of};
 use cwr_decode::{ReadFault, Reading, Refusal};
-use cwr_fields::{DeviceFault, Source};
+use cwr_devices::{DeviceFault, Source};
 use cwr_shape::{Level, LimitKind, Reason};
 use cwr_worked::lines::{ACK_0, GRH_ACK, HDR};
 use std::process::Abort;

@@ -3,7 +3,8 @@
 use crate::checks::check_equal;
 use crate::decoders::text_of;
 use cwr_decode::{ReadFault, Reading};
-use cwr_fields::{Counted, Kind};
+use cwr_devices::Counted;
+use cwr_fields::Kind;
 use cwr_shape::Limits;
 use cwr_values::Item;
 use cwr_worked::texts::TWO_GROUPS;

@@ -7,7 +7,7 @@ use crate::checks::check_equal;
 use crate::decoders::{LARGEST, limits_of, text_of, twice_of};
 use crate::item_lines::add_item;
 use cwr_decode::{ReadFault, Reading};
-use cwr_fields::{Counted, DeviceFault, Source};
+use cwr_devices::{Counted, DeviceFault, Source};
 use cwr_values::Item;
 use cwr_worked::texts::{ONE_ACKNOWLEDGEMENT, TWO_GROUPS};
 use std::fmt::Write;

@@ -3,7 +3,8 @@
 use crate::checks::check_equal;
 use crate::decoders::{LARGEST, Numbers, limits_of, short_text_of, text_of, twice_of};
 use cwr_decode::{ReadFault, read_all, read_pieces};
-use cwr_fields::{Counted, Kind, Source};
+use cwr_devices::{Counted, Source};
+use cwr_fields::Kind;
 use cwr_values::{Group, Transmission};
 use cwr_worked::texts::ONE_ACKNOWLEDGEMENT;
 use std::process::Abort;

@@ -24,7 +24,7 @@ use Rattle.cwr_encode.specs.declared.encoders.Encoder.{Encoder}
 use Rattle.cwr_encode.specs.declared.encoders.Reached.TheVariants as reached_to
 use Rattle.cwr_encode.specs.declared.encoders.EncodeFault.{EncodeFault}
 use Rattle.cwr_encode.specs.declared.encoders.EncodeFault.TheVariants.{Writer}
-use Rattle.cwr_sinks.specs.Steps.Sinks.{HasWritten, Puts}
+use Rattle.cwr_devices.specs.Steps.Sinks.{HasWritten, Puts}
 use Rattle.cwr_encode.specs.Format.Encoders.{part_of, reached, reached_by, JudgesCall}
 use Rattle.cwr_encode.specs.Steps.Encoders.{Encodes, RepresentsMore, AddsRecords, bytes_written}
 

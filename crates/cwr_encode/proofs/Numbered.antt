@@ -4,9 +4,9 @@ use Rattle.std.proofs.Common.{sym, ap, ap₂, subst, ◌∙◌, arith, append_as
 use Rattle.std.specs.Prelude.{slice_get, Result, Ok, Err, IsErr}
 use Rattle.std.specs.List.{AllByRecursion, flat_map, enumerate_from}
 use Rattle.std.proofs.lemmas.List.{take_all}
-use Rattle.cwr_fields.specs.Format.Failures.{one_more_failure}
-use Rattle.cwr_sinks.specs.declared.sinks.Sink.{Sink}
-use Rattle.cwr_sinks.specs.Steps.Sinks.{writer_of, has_failed, HasWritten, Puts, CountsOn}
+use Rattle.cwr_devices.specs.Format.Failures.{one_more_failure}
+use Rattle.cwr_devices.specs.declared.sinks.Sink.{Sink}
+use Rattle.cwr_devices.specs.Steps.Sinks.{writer_of, has_failed, HasWritten, Puts, CountsOn}
 use Rattle.cwr_encode.proofs.PutRows.{none_within, written_longer}
 
 -- the texts of things that are numbered from k on

@@ -2,12 +2,12 @@
 use Rattle.std.proofs.Common.{◌≡◌, ℕ, zero, suc, ◌+◌, ◌<◌, ◌≤◌, true, true≢false, List, [], ◌∷◌, ◌++◌, length, take, drop, Option}
 use Rattle.std.proofs.Common.{Some, None, refl, sym, ap, subst, ◌∙◌, arith, append_assoc}
 use Rattle.std.specs.Prelude.{slice_get, Result, Ok, Err, IsErr}
-use Rattle.cwr_fields.specs.Format.Failures.{one_more_failure}
+use Rattle.cwr_devices.specs.Format.Failures.{one_more_failure}
 use Rattle.std.proofs.lemmas.List.{take_all}
 use Rattle.cwr_lines.specs.Format.Records.{RecordValue, row_of}
 use Rattle.cwr_values.specs.Format.Rows.{canonical_line}
-use Rattle.cwr_sinks.specs.declared.sinks.Sink.{Sink}
-use Rattle.cwr_sinks.specs.Steps.Sinks.{writer_of, has_failed, HasWritten, Puts}
+use Rattle.cwr_devices.specs.declared.sinks.Sink.{Sink}
+use Rattle.cwr_devices.specs.Steps.Sinks.{writer_of, has_failed, HasWritten, Puts}
 use Rattle.cwr_encode.specs.Steps.Texts.{text_from}
 use Rattle.cwr_encode.proofs.TransactionTexts.{text-snoc}
 

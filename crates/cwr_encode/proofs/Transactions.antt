@@ -28,7 +28,7 @@ use Rattle.cwr_values.proofs.RowAt.{kind_of_symbol}
 use Rattle.cwr_encode.specs.declared.encoders.Encoder.{Encoder}
 use Rattle.cwr_encode.specs.declared.encoders.EncodeFault.{EncodeFault}
 use Rattle.cwr_encode.specs.declared.encoders.EncodeFault.TheVariants.{Limit, WrongKind}
-use Rattle.cwr_sinks.specs.Steps.Sinks.{HasWritten, Puts}
+use Rattle.cwr_devices.specs.Steps.Sinks.{HasWritten, Puts}
 use Rattle.cwr_encode.specs.Steps.Texts.{text_from}
 use Rattle.cwr_encode.specs.Format.Encoders.{part_of, JudgesTransaction}
 use Rattle.cwr_encode.specs.Steps.Encoders.{TakesTransactions, IsNextNumber, passed_with, RepresentsMore}

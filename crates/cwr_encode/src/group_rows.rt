@@ -4,13 +4,12 @@ ghost use Rattle.std.specs.Prelude.{◌≡◌, ◌≤◌, false, length, map, If
 ghost use Rattle.std.specs.List.{AllByRecursion};
 ghost use Rattle.cwr_shape.specs.Format.Numbers.{group_records, all_records};
 ghost use Rattle.cwr_values.specs.Format.Rows.{lengths_of_value};
-ghost use Rattle.cwr_sinks.specs.Steps.Sinks.{Puts, has_failed, written_of};
+ghost use Rattle.cwr_devices.specs.Steps.Sinks.{Puts, has_failed, written_of};
 ghost use Rattle.cwr_encode.specs.Steps.GroupTexts.{text_of_transactions, text_of_group, text_of_groups, HasFewRecords, IsFew};
 
 use crate::rows::{put_row, put_transaction};
-use cwr_fields::Target;
+use cwr_devices::{Sink, SinkFault, Target};
 use cwr_lines::CanonicalLine;
-use cwr_sinks::{Sink, SinkFault};
 use cwr_values::{Group, Transmission};
 
 /// How many records a group has, GRH and GRT counted.

@@ -3,12 +3,11 @@
 ghost use Rattle.std.specs.Prelude.{◌≡◌, ◌≤◌, [], ◌∷◌, length, false, IfErr};
 ghost use Rattle.cwr_lines.specs.Format.Records.{row_of};
 ghost use Rattle.cwr_values.specs.Format.Rows.{canonical_line};
-ghost use Rattle.cwr_sinks.specs.Steps.Sinks.{Puts, has_failed, written_of};
+ghost use Rattle.cwr_devices.specs.Steps.Sinks.{Puts, has_failed, written_of};
 ghost use Rattle.cwr_encode.specs.Steps.Texts.{text_from};
 
-use cwr_fields::Target;
+use cwr_devices::{Sink, SinkFault, Target};
 use cwr_lines::{CanonicalLine, RecordRef};
-use cwr_sinks::{Sink, SinkFault};
 use cwr_values::Transaction;
 
 /// Puts the canonical line of a record with these numbers. The line is made in the buffer.

@@ -4,17 +4,16 @@ ghost use Rattle.std.specs.Prelude.{◌≡◌, true, false, Err, None, Some, IfE
 ghost use Rattle.cwr_values.specs.Format.Fits.{value_fault};
 ghost use Rattle.cwr_values.specs.Format.Rows.{canonical_text};
 ghost use Rattle.cwr_values.specs.declared.transmissions.ValueFault.{ValueFault};
-ghost use Rattle.cwr_sinks.specs.Steps.Sinks.{Puts, has_failed, written_of};
+ghost use Rattle.cwr_devices.specs.Steps.Sinks.{Puts, has_failed, written_of};
 ghost use Rattle.cwr_encode.specs.Steps.GroupTexts.{IsFew};
 ghost use Rattle.cwr_encode.specs.Format.Whole.{refusal_of, WritesAll};
 
 use crate::encoders::{EncodeFault, flushed, trailer};
 use crate::group_rows::{put_groups, totals};
 use crate::rows::put_row;
-use cwr_fields::Target;
+use cwr_devices::{Sink, SinkFault, Target};
 use cwr_lines::CanonicalLine;
 use cwr_shape::{LimitKind, Limits};
-use cwr_sinks::{Sink, SinkFault};
 use cwr_values::{Transmission, ValueFault};
 
 /// Why a transmission is refused that doesn't fit.

@@ -1,6 +1,6 @@
 //! Writers, limits and texts of the tests.
 
-use cwr_fields::Counted;
+use cwr_devices::Counted;
 use cwr_shape::Limits;
 use cwr_worked::texts::canonical;
 use std::io::{self, ErrorKind, Write};

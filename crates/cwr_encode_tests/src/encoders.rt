@@ -5,8 +5,8 @@ use crate::devices::{
     LARGEST, Narrow, Numbers, WIDE, Width, limits_of, narrow_writer, text_in, text_of,
 };
 use crate::worked_values::{WorkedGroup, record, transaction};
+use cwr_devices::{Counted, Target};
 use cwr_encode::{EncodeFault, Encoder};
-use cwr_fields::{Counted, Target};
 use cwr_shape::LimitKind;
 use cwr_worked::lines::*;
 use cwr_worked::texts::ONE_ACKNOWLEDGEMENT;

@@ -2,8 +2,7 @@
 
 use crate::checks::check_equal;
 use crate::devices::{Narrow, Width, narrow_writer, text_in};
-use cwr_fields::Counted;
-use cwr_sinks::{Sink, SinkFault};
+use cwr_devices::{Counted, Sink, SinkFault};
 use std::process::Abort;
 
 /// A text that is put, whether all of it is written, and how many bytes are written in all then.

@@ -9,8 +9,8 @@ use crate::worked_values::{
     ACKNOWLEDGED, COPY_FIRST, NEW_AND_REVISED, OF_ELEVEN, WITH_AGREEMENT, WITH_CARRIED, WITH_COPY,
     WorkedGroup, transmission,
 };
+use cwr_devices::Counted;
 use cwr_encode::{EncodeFault, encode};
-use cwr_fields::Counted;
 use cwr_shape::LimitKind;
 use cwr_values::Transmission;
 use cwr_worked::texts::{

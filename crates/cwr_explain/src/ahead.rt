@@ -4,7 +4,8 @@ ghost use Rattle.std.specs.Prelude.{OnErr, OnOk};
 ghost use Rattle.cwr_explain.specs.Format.Explained.{ReadsOnly, TakesMore};
 
 use crate::sequences::{RECORD_SEQUENCE, TRANSACTION_SEQUENCE, sequence_in};
-use cwr_fields::{Kind, Source};
+use cwr_devices::Source;
+use cwr_fields::Kind;
 use cwr_tools::ToolFault;
 
 /// The byte that ends a line.

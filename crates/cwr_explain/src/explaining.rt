@@ -12,10 +12,9 @@ use crate::causes::{Refused, add_trailing, add_truncated, kind_of};
 use crate::lines_at_end::{LineAtEnd, line_at_end, line_before};
 use crate::trailing::{Trailing, read_trailing};
 use cwr_decode::{LastRead, Refusal};
-use cwr_fields::{Source, Target};
+use cwr_devices::{Sink, Source, Target};
 use cwr_lines::LONGEST_LINE;
 use cwr_shape::{Limits, Reason, Stage};
-use cwr_sinks::Sink;
 use cwr_tools::{ToolFault, Verdict, Watch, check_explained};
 use std::alloc::{AllocError, Global};
 

@@ -4,7 +4,7 @@ ghost use Rattle.std.specs.Prelude.{◌≡◌, ◌+◌, ◌-◌, ◌^◌, ◌<�
 ghost use Rattle.cwr_explain.specs.Format.Explained.{IsTrailing, ReadsAlone, TakesMore};
 ghost use Rattle.cwr_explain.specs.Steps.Explained.{TakesPiece, begins_with, byte_with};
 
-use cwr_fields::Source;
+use cwr_devices::Source;
 use cwr_tools::ToolFault;
 
 /// The most pieces that are read of what stands after a transmission.

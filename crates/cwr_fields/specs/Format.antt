@@ -6,7 +6,6 @@ pub mod Codes
 pub mod DateCells
 pub mod DateLaws
 pub mod DurationCells
-pub mod Failures
 pub mod FaultTexts
 pub mod Flags
 pub mod Growth

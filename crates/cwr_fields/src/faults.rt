@@ -4,7 +4,6 @@ ghost use Rattle.std.specs.Prelude.{◌≡◌, ◌≤◌, Some, length};
 ghost use Rattle.cwr_fields.specs.Format.FaultTexts.{fault_text};
 
 use crate::cell_types::CellFault;
-use crate::devices::DeviceFault;
 use std::error::Error;
 use std::fmt::{self, Display, Formatter, Write};
 
@@ -36,11 +35,3 @@ impl Display for CellFault {
 }
 
 impl Error for CellFault {}
-
-impl Display for DeviceFault {
-    fn fmt<O: Write>(&self, f: &mut Formatter<O>) -> fmt::Result {
-        f.pad("the device failed")
-    }
-}
-
-impl Error for DeviceFault {}

@@ -1,6 +1,5 @@
 //! The fields of CWR 2.1 records: the kinds of records and their layouts, what the cell of a field may hold, the tables
-//! of codes, and cells as typed values. Beside them the check digit of work codes, and the readers and writers that
-//! count their failures.
+//! of codes, and cells as typed values. Beside them the check digit of work codes.
 #![tactic(auto)]
 
 mod agreement_codes;
@@ -11,9 +10,7 @@ mod code_lists;
 mod coded;
 mod codes;
 mod conversions;
-mod counted;
 mod dates;
-mod devices;
 mod durations;
 mod faults;
 mod flags;
@@ -44,9 +41,7 @@ pub use cells::{fits, fits_plain, is_plain, width_of};
 pub use coded::Coded;
 pub use codes::{Role, TransactionType};
 pub use conversions::OutOfRange;
-pub use counted::Counted;
 pub use dates::{CivilDate, DateCell};
-pub use devices::{DeviceFault, Source, Target};
 pub use durations::{DurationCell, PlayingTime};
 pub use flags::Flag;
 pub use growth::make_room;

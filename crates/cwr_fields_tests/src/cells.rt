@@ -1,9 +1,8 @@
 //! What cells hold, texts and the check digit of work codes by example.
 
 use crate::checks::check_equal;
-use cwr_fields::{
-    CellFault, CellType, DeviceFault, Word, first_control, fits, iswc_ok, trimmed, width_of,
-};
+use cwr_devices::DeviceFault;
+use cwr_fields::{CellFault, CellType, Word, first_control, fits, iswc_ok, trimmed, width_of};
 use std::fmt::Display;
 use std::process::Abort;
 

@@ -1,7 +1,7 @@
 //! Devices by example.
 
 use crate::checks::check_equal;
-use cwr_fields::{Counted, DeviceFault, Source, Target};
+use cwr_devices::{Counted, DeviceFault, Source, Target};
 use std::io;
 use std::io::{ErrorKind, Read, Write};
 use std::process::Abort;

@@ -2,8 +2,8 @@
 
 use crate::devices::{Nowhere, Pieces, Shelf};
 use cwr_decode::{ReadFault, read_all};
+use cwr_devices::Counted;
 use cwr_encode::encode;
-use cwr_fields::Counted;
 use cwr_parts::{join, split};
 use cwr_shape::Limits;
 use cwr_tools::{JoinReport, SplitReport, ToolFault, Verdict, check, show};

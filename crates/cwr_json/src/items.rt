@@ -1,7 +1,7 @@
 //! The lines of items, put to a sink.
 
 ghost use Rattle.std.specs.Prelude.{◌≡◌, [], ◌∷◌, ◌++◌, codes, IfErr, false};
-ghost use Rattle.cwr_sinks.specs.Steps.Sinks.{Puts, has_failed, written_of};
+ghost use Rattle.cwr_devices.specs.Steps.Sinks.{Puts, has_failed, written_of};
 ghost use Rattle.cwr_judge.specs.Format.Items.{item_records};
 ghost use Rattle.cwr_values.specs.Format.Rows.{trailer};
 ghost use Rattle.cwr_json.specs.Format.Forms.{item_line};
@@ -10,9 +10,8 @@ ghost use Rattle.cwr_json.specs.Steps.FormTexts.{opening_text, listed_text, list
 use crate::encodings::Encoding;
 use crate::notes::Notes;
 use crate::records::RecordText;
-use cwr_fields::Target;
+use cwr_devices::{Sink, SinkFault, Target};
 use cwr_lines::RecordRef;
-use cwr_sinks::{Sink, SinkFault};
 use cwr_values::{Item, Transaction};
 
 /// Puts the text that was made.

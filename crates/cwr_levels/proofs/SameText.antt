@@ -1,7 +1,7 @@
 -- What puts a text puts an equal one.
 use Rattle.std.proofs.Common.{◌≡◌, ℕ, List, Option, Result, subst}
-use Rattle.cwr_sinks.specs.declared.sinks.Sink.{Sink}
-use Rattle.cwr_sinks.specs.declared.sinks.SinkFault.{SinkFault}
+use Rattle.cwr_devices.specs.declared.sinks.Sink.{Sink}
+use Rattle.cwr_devices.specs.declared.sinks.SinkFault.{SinkFault}
 use Rattle.cwr_levels.specs.Steps.Putting.{PutsText}
 
 pub puts_same : {W : Type 0} (contents : W → Option (List ℕ)) (failures : W → ℕ) (text same : List ℕ)

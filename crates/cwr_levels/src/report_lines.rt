@@ -8,10 +8,9 @@ ghost use Rattle.cwr_levels.specs.Steps.Putting.{PutsText};
 
 use crate::rules::Finding;
 use arrayvec::ArrayVec;
-use cwr_fields::Target;
+use cwr_devices::{Sink, SinkFault, Target};
 use cwr_judge::Refusal;
 use cwr_shape::{LimitKind, Reason};
-use cwr_sinks::{Sink, SinkFault};
 use itoa::Buffer;
 
 /// The most bytes that a line of a report may have; none comes near.

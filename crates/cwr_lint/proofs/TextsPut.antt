@@ -1,9 +1,9 @@
 -- Texts that are put one after another.
 use Rattle.std.proofs.Common.{◌≡◌, ℕ, false, List, [], ◌++◌, Option, refl, sym, subst, append_assoc, append-nil}
 use Rattle.std.specs.Prelude.{Bool, Result, Ok, Err, IfOk, OnOk, is_err}
-use Rattle.cwr_sinks.specs.declared.sinks.Sink.{Sink}
-use Rattle.cwr_sinks.specs.declared.sinks.SinkFault.{SinkFault}
-use Rattle.cwr_sinks.specs.Steps.Sinks.{CountsOn, HasWritten, has_failed, writer_of}
+use Rattle.cwr_devices.specs.declared.sinks.Sink.{Sink}
+use Rattle.cwr_devices.specs.declared.sinks.SinkFault.{SinkFault}
+use Rattle.cwr_devices.specs.Steps.Sinks.{CountsOn, HasWritten, has_failed, writer_of}
 use Rattle.cwr_levels.specs.Steps.Putting.{PutsText}
 use Rattle.cwr_tools.specs.declared.verdicts.ToolFault.{ToolFault}
 use Rattle.cwr_tools.specs.declared.verdicts.ToolFault.TheVariants as faults

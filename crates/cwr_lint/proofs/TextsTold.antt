@@ -2,9 +2,9 @@
 use Rattle.std.proofs.Common.{◌≡◌, ℕ, false, List, [], ◌++◌, Option, refl, sym, ap, subst, ◌∙◌, append_assoc, append-nil}
 use Rattle.std.specs.Prelude.{Result, Ok, Err, IfOk, OnOk}
 use Rattle.std.specs.Io.KnownBytes.{Appends, Keeps}
-use Rattle.cwr_fields.specs.Format.Failures.{one_more_failure}
-use Rattle.cwr_sinks.specs.declared.sinks.Sink.{Sink}
-use Rattle.cwr_sinks.specs.Steps.Sinks.{HasWritten, has_failed, writer_of, written_of}
+use Rattle.cwr_devices.specs.Format.Failures.{one_more_failure}
+use Rattle.cwr_devices.specs.declared.sinks.Sink.{Sink}
+use Rattle.cwr_devices.specs.Steps.Sinks.{HasWritten, has_failed, writer_of, written_of}
 use Rattle.cwr_encode.proofs.Ends.{all_written, appends_kept}
 use Rattle.cwr_judge.specs.declared.refusals.Refusal.{Refusal}
 use Rattle.cwr_explain.specs.Format.Explained.{AddsWords, IsAnswerTo, TakesMore}

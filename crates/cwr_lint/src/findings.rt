@@ -1,7 +1,7 @@
 //! The open transaction's records, as long as it has no fault, and its findings.
 
 ghost use Rattle.std.specs.Prelude.{◌≡◌, ◌⊎◌, ◌&&◌, ◌++◌, ◌∷◌, [], ◌+◌, ◌-◌, ◌≤◌, ◌^◌, min, nat_le, length, true, false, IfOk, None, Some, if◌then◌else◌};
-ghost use Rattle.cwr_sinks.specs.Steps.Sinks.{has_failed};
+ghost use Rattle.cwr_devices.specs.Steps.Sinks.{has_failed};
 ghost use Rattle.cwr_lines.specs.Steps.Held.{held_record};
 ghost use Rattle.cwr_values.specs.Format.Begun.{BeginsWithOneMore};
 ghost use Rattle.cwr_lint.specs.Format.FaultsOfLines.{ended_lines, said_if, told_lines};
@@ -15,10 +15,9 @@ ghost use Rattle.cwr_lint.specs.Steps.Walks.{AfterCarried, AfterJudged, AfterRec
 use crate::puts::{Asked, report_number};
 use cwr_advice::Said;
 use cwr_advise::put_advised;
-use cwr_fields::Target;
+use cwr_devices::{Sink, Target};
 use cwr_lines::{CutLine, RecordRef};
 use cwr_lint_lines::{Judged, Known, LintState, OpenGroup, Taking};
-use cwr_sinks::Sink;
 use cwr_tools::{ToolFault, put_transaction_findings};
 use cwr_values::{PushFault, Transaction};
 use std::alloc::{AllocError, Global};

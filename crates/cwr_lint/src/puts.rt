@@ -2,7 +2,7 @@
 
 ghost use Rattle.std.specs.Prelude.{◌≡◌, false};
 ghost use Rattle.std.specs.Option.{is_some};
-ghost use Rattle.cwr_sinks.specs.Steps.Sinks.{has_failed};
+ghost use Rattle.cwr_devices.specs.Steps.Sinks.{has_failed};
 ghost use Rattle.cwr_levels.specs.Format.ReportLines.{fault_line, faults_line};
 ghost use Rattle.cwr_lint_lines.specs.Format.FaultsAtFields.{report_number};
 ghost use Rattle.cwr_lint.specs.Format.FaultsOfLines.{IsFaultText};
@@ -13,11 +13,10 @@ ghost use Rattle.cwr_lint.specs.Steps.Runs.{AreWords, IsEndText, asking_of};
 use crate::raw_lines::RawLine;
 use cwr_advice::Said;
 use cwr_decode::Refusal;
+use cwr_devices::{Sink, SinkFault, Target};
 use cwr_explain::explain_fault;
-use cwr_fields::Target;
 use cwr_levels::{fault_line, faults_line, truncated_line};
 use cwr_shape::{Limits, Stage};
-use cwr_sinks::{Sink, SinkFault};
 use cwr_tools::ToolFault;
 use std::alloc::Global;
 

@@ -3,7 +3,7 @@
 ghost use Rattle.std.specs.Prelude.{◌≡◌, ◌≢◌, ℕ, ◌+◌, ◌≤◌, ◌<◌, ◌||◌, nat_lt, List, [], ◌∷◌, ◌++◌, length, take, slice_index, true, false, IfOk, IsFalse};
 ghost use Rattle.std.specs.Prelude.{MatchOption};
 ghost use Rattle.std.specs.List.{list_any};
-ghost use Rattle.cwr_sinks.specs.Steps.Sinks.{CountsOn};
+ghost use Rattle.cwr_devices.specs.Steps.Sinks.{CountsOn};
 ghost use Rattle.cwr_explain.specs.Format.Explained.{TakesMore};
 ghost use Rattle.cwr_fields.specs.Format.Bytes.{is_spaces};
 ghost use Rattle.cwr_lines.specs.Format.Lines.{is_lf, without_cr};
@@ -12,8 +12,9 @@ ghost use Rattle.cwr_lint.specs.Steps.LinesRead.{AddsPiece, HoldsRaw, IsOfLine, 
 
 use arrayvec::ArrayVec;
 use cwr_decode::LastBytes;
+use cwr_devices::{DeviceFault, Source};
 use cwr_explain::{LineAtEnd, line_at_end};
-use cwr_fields::{DeviceFault, Source, is_spaces};
+use cwr_fields::is_spaces;
 use cwr_lines::{LONGEST_LINE, LineBuf, LineEnd};
 use memchr::memchr;
 

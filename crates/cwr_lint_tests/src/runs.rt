@@ -1,7 +1,7 @@
 //! Tests of what a lint writes and answers.
 
 use crate::devices::{Bounded, FailsAfter};
-use cwr_fields::Counted;
+use cwr_devices::Counted;
 use cwr_lint::lint;
 use cwr_shape::Limits;
 use cwr_tools::{ToolFault, Verdict};

@@ -3,7 +3,7 @@
 use crate::checks::check_equal;
 use crate::works::{TWO_GROUPS_WITH_A_FINDING, ended, largest, text_of};
 use cwr_decode::{Decoder, Outcome, ReadFault, Reading, read_all};
-use cwr_fields::{Counted, Source};
+use cwr_devices::{Counted, Source};
 use cwr_values::Item;
 use cwr_worked::texts::{ONE_ACKNOWLEDGEMENT, TWO_GROUPS, WORK_OF_ELEVEN};
 use std::process::Abort;

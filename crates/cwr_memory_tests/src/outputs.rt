@@ -2,7 +2,7 @@
 
 ghost use Rattle.std.specs.Prelude.{None};
 
-use cwr_fields::Counted;
+use cwr_devices::Counted;
 use cwr_parts::{OutputFault, Outputs};
 use std::io::{self, Write};
 

@@ -2,8 +2,8 @@
 
 use crate::outputs::{Nowhere, Numbered};
 use crate::works::{TWO_GROUPS_WITH_A_FINDING, ended, largest, text_of};
+use cwr_devices::Counted;
 use cwr_explain::explain;
-use cwr_fields::Counted;
 use cwr_parts::{join, split};
 use cwr_tools::{JoinFault, JoinReport, SplitReport, ToolFault, Verdict, Watch, check, show};
 use cwr_worked::texts::{ONE_ACKNOWLEDGEMENT, TWO_GROUPS, WORK_OF_ELEVEN};

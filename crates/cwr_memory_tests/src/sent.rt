@@ -3,7 +3,7 @@
 use crate::checks::check_equal;
 use crate::works::{ended, largest, text_of};
 use cwr_decode::ReadFault;
-use cwr_fields::Counted;
+use cwr_devices::Counted;
 use cwr_sent::read_sent;
 use cwr_worked::texts::{ONE_ACKNOWLEDGEMENT, TWO_GROUPS, WORK_OF_ELEVEN};
 use std::process::Abort;

@@ -4,11 +4,11 @@ use Rattle.std.proofs.Common.{subst, arith}
 use Rattle.std.specs.Prelude.{◌≢◌, nat_lt, slice_get, Result, Err, IsErr}
 use Rattle.std.specs.List.{flat_map}
 use Rattle.std.proofs.lemmas.Bool.{lt-ltb}
-use Rattle.cwr_sinks.specs.declared.sinks.Sink.{Sink}
-use Rattle.cwr_sinks.specs.Steps.Sinks.{writer_of, has_failed, HasWritten, Puts}
+use Rattle.cwr_devices.specs.declared.sinks.Sink.{Sink}
+use Rattle.cwr_devices.specs.Steps.Sinks.{writer_of, has_failed, HasWritten, Puts}
 use Rattle.cwr_encode.proofs.Numbered.{numbered, puts_as, step_more, steps_refused, steps_whole}
 use Rattle.cwr_levels.specs.Steps.Putting.{PutsText}
-use Rattle.cwr_sinks.specs.declared.sinks.SinkFault.{SinkFault}
+use Rattle.cwr_devices.specs.declared.sinks.SinkFault.{SinkFault}
 
 -- a line that is put to a sink that hasn't failed
 pub puts_line : {W : Type 0} (contents : W → Option (List ℕ)) (failures : W → ℕ) (line : List ℕ)

@@ -6,8 +6,8 @@ use Rattle.std.specs.Option.{option_to_list}
 use Rattle.cwr_lines.specs.Format.Records.{RecordValue}
 use Rattle.cwr_levels.specs.declared.rules.Rule.{Rule}
 use Rattle.cwr_levels.specs.declared.rules.Finding.{Finding}
-use Rattle.cwr_sinks.specs.declared.sinks.Sink.{Sink}
-use Rattle.cwr_sinks.specs.Steps.Sinks.{has_failed, HasWritten, Puts}
+use Rattle.cwr_devices.specs.declared.sinks.Sink.{Sink}
+use Rattle.cwr_devices.specs.Steps.Sinks.{has_failed, HasWritten, Puts}
 use Rattle.cwr_encode.proofs.Numbered.{puts_as, puts_both, puts_cut}
 use Rattle.cwr_notes.specs.Format.FindingNotes.{finding_notes, noted_at, noted_cells, notes_on}
 

@@ -4,8 +4,8 @@ use Rattle.std.specs.Prelude.{Result, is_err}
 use Rattle.cwr_fields.specs.declared.kinds.Kind.TheVariants as kinds
 use Rattle.cwr_lines.specs.Format.Records.{RecordValue}
 use Rattle.cwr_values.specs.Format.Rows.{trailer}
-use Rattle.cwr_sinks.specs.declared.sinks.Sink.{Sink}
-use Rattle.cwr_sinks.specs.Steps.Sinks.{writer_of, has_failed, HasWritten, Puts, CountsOn}
+use Rattle.cwr_devices.specs.declared.sinks.Sink.{Sink}
+use Rattle.cwr_devices.specs.Steps.Sinks.{writer_of, has_failed, HasWritten, Puts, CountsOn}
 use Rattle.cwr_encode.proofs.Numbered.{puts_as}
 use Rattle.cwr_notes.specs.Format.RecordTexts.{head_line, cell_lines, record_lines, numbered_records}
 

@@ -2,17 +2,17 @@
 
 ghost use Rattle.std.specs.Prelude.{◌≡◌, ◌+◌, ◌<◌, ◌≤◌, false, length, Some, slice_get, IfErr};
 ghost use Rattle.std.specs.List.{flat_map};
-ghost use Rattle.cwr_sinks.specs.Steps.Sinks.{Puts, has_failed, written_of};
+ghost use Rattle.cwr_devices.specs.Steps.Sinks.{Puts, has_failed, written_of};
 ghost use Rattle.cwr_notes.specs.Format.FindingNotes.{explained_finding, finding_notes, head_lines, noted_at, notes_on, others, tail_lines};
 ghost use Rattle.cwr_notes.specs.Steps.OtherRecords.{AreListed, HasPassed};
 
 use crate::note_lines::NoteLines;
 use crate::other_records::{OtherRecords, parties_of, positions_of, total_of};
 use crate::passed::Passed;
-use cwr_fields::{Kind, Target};
+use cwr_devices::{Sink, SinkFault, Target};
+use cwr_fields::Kind;
 use cwr_levels::{Finding, Rule, finding_line};
 use cwr_lines::RecordRef;
-use cwr_sinks::{Sink, SinkFault};
 use cwr_values::Transaction;
 
 /// The positions of the other records of which a finding at a record speaks.

@@ -14,9 +14,9 @@ use Rattle.cwr_shape.specs.Format.Ranges.{LimitValues}
 use Rattle.cwr_values.specs.declared.items.Item.{Item}
 use Rattle.cwr_values.specs.Format.Values.{TransmissionValue, IsTransmission, symbol_of}
 use Rattle.cwr_judge.specs.Format.Items.{records_in}
-use Rattle.cwr_sinks.specs.declared.sinks.Sink.{Sink}
-use Rattle.cwr_sinks.specs.Steps.Sinks as sinks
-use Rattle.cwr_sinks.specs.Steps.Sinks.{HasWritten, has_failed}
+use Rattle.cwr_devices.specs.declared.sinks.Sink.{Sink}
+use Rattle.cwr_devices.specs.Steps.Sinks as sinks
+use Rattle.cwr_devices.specs.Steps.Sinks.{HasWritten, has_failed}
 use Rattle.cwr_encode.specs.Format.Written.{IsPart}
 use Rattle.cwr_encode.specs.declared.encoders.Encoder.{Encoder}
 use Rattle.cwr_encode.specs.Format.Encoders.{part_of}

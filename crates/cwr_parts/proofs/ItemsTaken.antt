@@ -1,7 +1,7 @@
 -- A split takes an item: what it holds is then that of the next stage, and a part that is whole was handed over.
 use Rattle.std.proofs.Common.{◌≡◌, ℕ, List, Option, Some, None, refl, sym, ap, subst, ◌∙◌}
 use Rattle.std.specs.Prelude.{Result, Ok, Err}
-use Rattle.cwr_fields.specs.Format.Failures.{one_more_failure}
+use Rattle.cwr_devices.specs.Format.Failures.{one_more_failure}
 use Rattle.cwr_lines.specs.Format.Records.{RecordValue}
 use Rattle.cwr_shape.specs.Format.Ranges.{LimitValues}
 use Rattle.cwr_values.specs.declared.items.Item.{Item}

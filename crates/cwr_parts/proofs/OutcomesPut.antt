@@ -1,9 +1,9 @@
 -- What is put of a join that stopped at an input, where the writer fails in the number of that one.
 use Rattle.std.proofs.Common.{◌≡◌, ℕ, true, false, List, [], ◌++◌, Option, refl, sym, subst}
 use Rattle.std.specs.Prelude.{Result, Err, IsErr, if◌then◌else◌}
-use Rattle.cwr_sinks.specs.declared.sinks.Sink.{Sink}
-use Rattle.cwr_sinks.specs.declared.sinks.SinkFault.{SinkFault}
-use Rattle.cwr_sinks.specs.Steps.Sinks.{Puts, has_failed}
+use Rattle.cwr_devices.specs.declared.sinks.Sink.{Sink}
+use Rattle.cwr_devices.specs.declared.sinks.SinkFault.{SinkFault}
+use Rattle.cwr_devices.specs.Steps.Sinks.{Puts, has_failed}
 use Rattle.cwr_encode.proofs.Numbered.{puts_as, puts_cut}
 use Rattle.cwr_levels.specs.Format.ReportLines.{input_mark}
 use Rattle.cwr_levels.specs.Steps.Putting.{PutsText}

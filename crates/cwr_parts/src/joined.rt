@@ -12,8 +12,8 @@ ghost use Rattle.cwr_encode.specs.Steps.Encoders.{AddsRecords, Encodes, is_stopp
 ghost use Rattle.cwr_parts.specs.Format.Joins.{is_joined, joined_inputs};
 ghost use Rattle.cwr_parts.specs.Steps.Joined.{AddsItems, EndsJoin, HasJoined, HasJoinedAll, IsAnswerOf, JudgesItem, MayAdd, is_fault_of, joined_writer};
 
+use cwr_devices::Target;
 use cwr_encode::{EncodeFault, Encoder};
-use cwr_fields::Target;
 use cwr_shape::Limits;
 use cwr_tools::{JoinFault, JoinReport, ToolFault, Totals};
 use cwr_values::Item;

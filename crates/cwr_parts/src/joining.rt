@@ -8,7 +8,7 @@ ghost use Rattle.cwr_parts.specs.Steps.Joined.{AddsInput, AddsInputs, CountsAddF
 
 use crate::joined::Joined;
 use cwr_decode::{ReadFault, Reading};
-use cwr_fields::{Source, Target};
+use cwr_devices::{Source, Target};
 use cwr_shape::Limits;
 use cwr_tools::{JoinFault, JoinReport, ToolFault};
 use std::alloc::Global;

@@ -10,8 +10,9 @@ ghost use Rattle.cwr_parts.specs.Steps.SplitWriters.{BeganEmpty, CountsBytes};
 
 use crate::joined::{fault_of, put_item};
 use crate::outputs::Outputs;
+use cwr_devices::Target;
 use cwr_encode::Encoder;
-use cwr_fields::{Kind, Target};
+use cwr_fields::Kind;
 use cwr_lines::Draft;
 use cwr_shape::Limits;
 use cwr_tools::ToolFault;

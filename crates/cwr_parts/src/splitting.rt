@@ -15,7 +15,7 @@ use crate::joining::reading_fault;
 use crate::outputs::Outputs;
 use crate::split_output::{SplitOutput, hand_over};
 use cwr_decode::Reading;
-use cwr_fields::{Source, Target};
+use cwr_devices::{Source, Target};
 use cwr_shape::Limits;
 use cwr_tools::{SplitReport, ToolFault};
 use cwr_values::Item;

@@ -1,9 +1,9 @@
 //! Lines with the name of their file, and without those on what is good.
 
 ghost use Rattle.std.specs.Prelude.{◌≡◌, ◌≤◌, ◌<◌, [], length, None, IfOk};
-ghost use Rattle.cwr_fields.specs.Format.Failures.{one_more_failure};
+ghost use Rattle.cwr_devices.specs.Format.Failures.{one_more_failure};
 
-use cwr_fields::{DeviceFault, Target};
+use cwr_devices::{DeviceFault, Target};
 use memchr::memchr;
 
 /// The byte that ends a line.

@@ -1,8 +1,8 @@
 //! Files that are written, and that have their names only once they are whole.
 
 ghost use Rattle.std.specs.Prelude.{◌≡◌, ◌+◌, ℕ, None, Some, IfOk, string_bytes};
-ghost use Rattle.cwr_fields.specs.Steps.Counted.{failures_of};
-ghost use Rattle.cwr_fields.specs.Format.Failures.{one_more_failure};
+ghost use Rattle.cwr_devices.specs.Steps.Counted.{failures_of};
+ghost use Rattle.cwr_devices.specs.Format.Failures.{one_more_failure};
 ghost use Rattle.cwr_program.specs.Steps.NumberedFiles.{asked_of, failed_calls_of, given_up_of, lent_of, part_name};
 
 use crate::faults::{Fault, Name, Reason};

@@ -1,12 +1,12 @@
 //! Outputs: standard output, and files, with what is told of them where they fail.
 
 ghost use Rattle.std.specs.Prelude.{◌≡◌, IfOk};
-ghost use Rattle.cwr_fields.specs.Steps.Counted.{failures_of};
+ghost use Rattle.cwr_devices.specs.Steps.Counted.{failures_of};
 
 use crate::endings::Status;
 use crate::faults::{Fault, Name, Reason, Told};
 use crate::manual::MANUAL;
-use cwr_fields::Counted;
+use cwr_devices::Counted;
 use std::alloc::{AllocError, Global};
 use std::io;
 use std::io::{BufWriter, Write};

@@ -1,13 +1,12 @@
 //! The line that says how a renumbering ended.
 
 ghost use Rattle.std.specs.Prelude.{◌≡◌, false, IfErr};
-ghost use Rattle.cwr_sinks.specs.Steps.Sinks.{Puts, has_failed, written_of};
+ghost use Rattle.cwr_devices.specs.Steps.Sinks.{Puts, has_failed, written_of};
 ghost use Rattle.cwr_renumber.specs.Format.Outcomes.{renumber_outcome};
 
-use cwr_fields::Target;
+use cwr_devices::{Sink, SinkFault, Target};
 use cwr_levels::good_line;
 use cwr_parts::put_split_outcome;
-use cwr_sinks::{Sink, SinkFault};
 use cwr_tools::{JoinReport, SplitReport, ToolFault};
 
 /// Puts the line that says how a renumbering ended, to a sink that hasn't failed: `GOOD` with the numbers of what was written, or what

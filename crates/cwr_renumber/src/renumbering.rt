@@ -4,7 +4,7 @@ ghost use Rattle.std.specs.Prelude.{◌≡◌, true, OnOk};
 ghost use Rattle.cwr_renumber.specs.Steps.Renumberings.{CountsWriter, Renumbers, RenumbersAccepted, of_one};
 
 use crate::sources::Renumbered;
-use cwr_fields::{Source, Target};
+use cwr_devices::{Source, Target};
 use cwr_parts::join;
 use cwr_shape::Limits;
 use cwr_tools::{JoinFault, JoinReport, ToolFault};

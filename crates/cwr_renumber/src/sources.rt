@@ -6,7 +6,7 @@ ghost use Rattle.cwr_lines.specs.Steps.Held.{ended_too_long};
 
 use crate::lines::put_line;
 use crate::takings::take_line;
-use cwr_fields::{DeviceFault, Source};
+use cwr_devices::{DeviceFault, Source};
 use cwr_lines::{LineBuf, LineEnd, RenumberedLine};
 use cwr_shape::Numbering;
 
@@ -58,7 +58,7 @@ impl<R> Drop for Renumbered<'_, R> {
 
 impl<'a, R: Source> Renumbered<'a, R> {
     ghost use Rattle.std.specs.Prelude.{[], option_map, IfOk, IfSome, OnErr};
-    ghost use Rattle.cwr_fields.specs.Format.Failures.{CountsFailure};
+    ghost use Rattle.cwr_devices.specs.Format.Failures.{CountsFailure};
     ghost use Rattle.std.specs.Io.KnownBytes.{Keeps};
     ghost use Rattle.cwr_renumber.specs.Steps.Renumbered.{renumbered_text};
     ghost use Rattle.cwr_renumber.specs.Steps.Sources.{inner_of, left_of, shown_of};

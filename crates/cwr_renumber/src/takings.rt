@@ -1,12 +1,12 @@
 //! The next line of a source.
 
 ghost use Rattle.std.specs.Prelude.{◌≡◌, IfOk};
-ghost use Rattle.cwr_fields.specs.Format.Failures.{CountsFailure};
+ghost use Rattle.cwr_devices.specs.Format.Failures.{CountsFailure};
 ghost use Rattle.cwr_lines.specs.declared.lines.LineEnd.TheVariants.{Open};
 ghost use Rattle.cwr_lines.specs.Steps.Held.{IsHeld};
 ghost use Rattle.cwr_renumber.specs.Steps.Takings.{TakesLine};
 
-use cwr_fields::{DeviceFault, Source};
+use cwr_devices::{DeviceFault, Source};
 use cwr_lines::{LineBuf, LineEnd};
 
 /// Takes the rest of the open line from a source, up to its end. `Open` where the source has no more bytes, and none of the line

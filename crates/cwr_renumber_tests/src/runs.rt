@@ -2,7 +2,7 @@
 
 ghost use Rattle.std.specs.Prelude.{Some};
 
-use cwr_fields::Counted;
+use cwr_devices::Counted;
 use cwr_judge::Refusal;
 use cwr_renumber::renumber;
 use cwr_shape::{Level, Limits, Reason};

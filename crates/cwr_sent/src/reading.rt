@@ -10,7 +10,7 @@ ghost use Rattle.cwr_values.specs.Format.Values.{TransmissionValue};
 
 use crate::tables::Sent;
 use cwr_decode::{ReadFault, Reading};
-use cwr_fields::Source;
+use cwr_devices::Source;
 use cwr_shape::Limits;
 use std::alloc::Global;
 

@@ -1,9 +1,9 @@
 -- Texts that are put in turn, where each goes on with those before it.
 use Rattle.std.proofs.Common.{◌≡◌, ℕ, true≢false, List, ◌++◌, Option, sym, ap, subst, ◌∙◌, append_assoc}
 use Rattle.std.specs.Prelude.{Result, Ok, Err, IsErr}
-use Rattle.cwr_fields.specs.Format.Failures.{one_more_failure}
-use Rattle.cwr_sinks.specs.declared.sinks.Sink.{Sink}
-use Rattle.cwr_sinks.specs.Steps.Sinks.{HasWritten, Puts, writer_of}
+use Rattle.cwr_devices.specs.Format.Failures.{one_more_failure}
+use Rattle.cwr_devices.specs.declared.sinks.Sink.{Sink}
+use Rattle.cwr_devices.specs.Steps.Sinks.{HasWritten, Puts, writer_of}
 use Rattle.cwr_encode.proofs.PutRows.{written_longer}
 
 -- one more was put

@@ -1,17 +1,17 @@
 //! The table of the records of a kind, put to a sink.
 
 ghost use Rattle.std.specs.Prelude.{◌≡◌, IfErr, false};
-ghost use Rattle.cwr_sinks.specs.Steps.Sinks.{Puts, has_failed, written_of};
+ghost use Rattle.cwr_devices.specs.Steps.Sinks.{Puts, has_failed, written_of};
 ghost use Rattle.cwr_values.specs.Format.Rows.{trailer};
 ghost use Rattle.cwr_tables.specs.declared.places.RowNumbers.TheVariants.{Outside};
 ghost use Rattle.cwr_tables.specs.Format.RecordTables.{heading, item_rows, row_of_kind, transaction_rows};
 
 use crate::places::{Place, RowNumbers};
 use crate::rows::RowText;
-use cwr_fields::{Kind, Target};
+use cwr_devices::{Sink, SinkFault, Target};
+use cwr_fields::Kind;
 use cwr_levels::is_of;
 use cwr_lines::RecordRef;
-use cwr_sinks::{Sink, SinkFault};
 use cwr_values::{Item, Transaction};
 
 /// Puts the text that was made.

@@ -1,7 +1,7 @@
 //! The table of works, put to a sink.
 
 ghost use Rattle.std.specs.Prelude.{◌≡◌, ◌≤◌, ◌∷◌, ◌++◌, List, IfErr, codes, false, length, option_map, slice_get, Some, true};
-ghost use Rattle.cwr_sinks.specs.Steps.Sinks.{Puts, has_failed, written_of};
+ghost use Rattle.cwr_devices.specs.Steps.Sinks.{Puts, has_failed, written_of};
 ghost use Rattle.cwr_judge.specs.Format.Items.{item_records};
 ghost use Rattle.cwr_tables.specs.Format.WorkTables.{is_header, names, sums, transaction_row, work_heading, work_row};
 ghost use Rattle.cwr_tables.specs.declared.works.Side.TheVariants.{Publishers, Writers};
@@ -12,10 +12,10 @@ use crate::places::Place;
 use crate::record_tables::put_text;
 use crate::rows::RowText;
 use crate::works::{Side, add_up, is_on, need_quotes};
-use cwr_fields::{Kind, Target};
+use cwr_devices::{Sink, SinkFault, Target};
+use cwr_fields::Kind;
 use cwr_levels::is_of;
 use cwr_lines::RecordRef;
-use cwr_sinks::{Sink, SinkFault};
 use cwr_values::{Item, Transaction};
 
 /// Puts the heading of the table of works. It is made in the buffer.

@@ -16,9 +16,9 @@ use Rattle.cwr_decode.specs.Steps.Readings.{answer_of, IsRightOf, Reads}
 use Rattle.cwr_decode.specs.Steps.Runs.{HasReadAll, EndsWhole, IsReadingOn}
 use Rattle.cwr_decode.proofs.ItemsMakeOneTransmission.{items_once}
 use Rattle.cwr_decode.proofs.ItemsReadSoFar.{all_items, all_taken, run_reads, run_right, some_read}
-use Rattle.cwr_sinks.specs.declared.sinks.Sink.{Sink}
-use Rattle.cwr_fields.specs.Format.Failures.{one_more_failure}
-use Rattle.cwr_sinks.specs.Steps.Sinks.{HasWritten, Puts, writer_of}
+use Rattle.cwr_devices.specs.declared.sinks.Sink.{Sink}
+use Rattle.cwr_devices.specs.Format.Failures.{one_more_failure}
+use Rattle.cwr_devices.specs.Steps.Sinks.{HasWritten, Puts, writer_of}
 use Rattle.cwr_tools.specs.declared.verdicts.Verdict.{Verdict}
 use Rattle.cwr_tools.specs.declared.verdicts.Verdict.TheVariants.{Good}
 use Rattle.cwr_tools.specs.declared.verdicts.ToolFault.{ToolFault}

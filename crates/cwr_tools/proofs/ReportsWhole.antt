@@ -2,11 +2,11 @@
 use Rattle.std.proofs.Common.{◌≡◌, ℕ, List, [], ◌++◌, Option, Some, None, refl, sym, ap, subst, ◌∙◌, inr, append-nil}
 use Rattle.std.specs.Prelude.{Result, Ok, Err}
 use Rattle.std.specs.Io.KnownBytes.{Appends, Keeps}
-use Rattle.cwr_fields.specs.Format.Failures.{one_more_failure}
+use Rattle.cwr_devices.specs.Format.Failures.{one_more_failure}
 use Rattle.cwr_shape.specs.declared.limits.Limits.{Limits}
-use Rattle.cwr_sinks.specs.declared.sinks.Sink.{Sink}
-use Rattle.cwr_sinks.specs.declared.sinks.SinkFault.{SinkFault}
-use Rattle.cwr_sinks.specs.Steps.Sinks.{HasWritten, writer_of, written_of}
+use Rattle.cwr_devices.specs.declared.sinks.Sink.{Sink}
+use Rattle.cwr_devices.specs.declared.sinks.SinkFault.{SinkFault}
+use Rattle.cwr_devices.specs.Steps.Sinks.{HasWritten, writer_of, written_of}
 use Rattle.cwr_encode.specs.Format.Finishing.{HasFront}
 use Rattle.cwr_encode.proofs.Ends.{all_written, appends_kept}
 use Rattle.cwr_levels.specs.Steps.Putting.{PutsText}

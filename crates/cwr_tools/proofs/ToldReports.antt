@@ -16,7 +16,7 @@ use Rattle.cwr_decode.specs.Steps.Readings.{Reads, answer_of}
 use Rattle.cwr_decode.specs.Steps.Runs.{IsReadingOn}
 use Rattle.cwr_decode.proofs.PassedOver.{passes_nothing}
 use Rattle.cwr_decode.proofs.PassedReading.{read_passing}
-use Rattle.cwr_sinks.specs.declared.sinks.Sink.{Sink}
+use Rattle.cwr_devices.specs.declared.sinks.Sink.{Sink}
 use Rattle.cwr_tools.specs.declared.totals.Totals.{Totals}
 use Rattle.cwr_tools.specs.Format.Reports.{ItemLines}
 use Rattle.cwr_tools.specs.Steps.Counts.{IsCount}

@@ -14,7 +14,7 @@ use crate::totals::HandedOut;
 use crate::verdicts::{ToolFault, Verdict};
 use crate::watch::Watch;
 use cwr_decode::LastRead;
-use cwr_fields::{Source, Target};
+use cwr_devices::{Source, Target};
 use cwr_shape::Limits;
 use std::alloc::Global;
 

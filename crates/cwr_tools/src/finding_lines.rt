@@ -2,7 +2,7 @@
 
 ghost use Rattle.std.specs.Prelude.{◌≡◌, ◌+◌, ◌≤◌, ◌∷◌, [], length, true, false, IfErr, OnOk};
 ghost use Rattle.std.specs.List.{flat_map};
-ghost use Rattle.cwr_sinks.specs.Steps.Sinks.{Puts, has_failed, written_of};
+ghost use Rattle.cwr_devices.specs.Steps.Sinks.{Puts, has_failed, written_of};
 ghost use Rattle.cwr_judge.specs.Format.Items.{item_records};
 ghost use Rattle.cwr_levels.specs.Format.ReportLines.{finding_line};
 ghost use Rattle.cwr_tools.specs.Format.Reports.{has_findings, transaction_lines};
@@ -15,11 +15,10 @@ use crate::totals::Totals;
 use crate::verdicts::{ToolFault, Verdict};
 use crate::watch::Told;
 use cwr_decode::Keeper;
-use cwr_fields::Target;
+use cwr_devices::{Sink, SinkFault, Target};
 use cwr_levels::{Finding, Sums, finding_line, findings};
 use cwr_lines::RecordRef;
 use cwr_notes::put_all_explained;
-use cwr_sinks::{Sink, SinkFault};
 use cwr_values::{Item, Transaction};
 use std::alloc::Global;
 

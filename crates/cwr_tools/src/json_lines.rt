@@ -10,10 +10,9 @@ use crate::reporting::write_report;
 use crate::reports::{NothingKept, Report};
 use crate::totals::Totals;
 use crate::verdicts::{ToolFault, Verdict};
-use cwr_fields::{Source, Target};
+use cwr_devices::{Sink, SinkFault, Source, Target};
 use cwr_json::{Encoding, Notes, RecordText, put_data};
 use cwr_shape::Limits;
-use cwr_sinks::{Sink, SinkFault};
 use cwr_values::Item;
 use std::alloc::Global;
 

@@ -7,7 +7,7 @@ ghost use Rattle.cwr_tools.specs.Steps.Passing.{IsPassed, ReadsTold};
 
 use crate::totals::Totals;
 use cwr_decode::{Keeper, Passed, ReadFault, Reading};
-use cwr_fields::Source;
+use cwr_devices::Source;
 use cwr_values::Item;
 
 /// The most items that are read one by one after none was passed over.

@@ -4,7 +4,7 @@ ghost use Rattle.std.specs.Prelude.{◌≡◌, [], true, false, IfOk, OnOk, IsSo
 ghost use Rattle.cwr_decode.specs.Steps.Decoding.{final_answer, has_ended, limits_of};
 ghost use Rattle.cwr_decode.specs.Steps.LastReads.{AreHeld};
 ghost use Rattle.cwr_decode.specs.Steps.Represents.{Represents};
-ghost use Rattle.cwr_sinks.specs.Steps.Sinks.{HasWritten, has_failed, writer_of};
+ghost use Rattle.cwr_devices.specs.Steps.Sinks.{HasWritten, has_failed, writer_of};
 ghost use Rattle.cwr_levels.specs.Steps.Putting.{PutsText};
 ghost use Rattle.cwr_tools.specs.Format.Reports.{CountsReaderFault, CountsWriterFault, ItemLines, unrefused_line};
 ghost use Rattle.cwr_tools.specs.Format.Texts.{verdict_line};
@@ -18,10 +18,9 @@ use crate::reports::Report;
 use crate::totals::Totals;
 use crate::verdicts::{ToolFault, Verdict};
 use cwr_decode::{LastRead, ReadFault, Reading};
-use cwr_fields::{Source, Target};
+use cwr_devices::{Sink, SinkFault, Source, Target};
 use cwr_levels::{good_line, refusal_line, truncated_line};
 use cwr_shape::Limits;
-use cwr_sinks::{Sink, SinkFault};
 use std::alloc::Global;
 
 /// How far a run came.

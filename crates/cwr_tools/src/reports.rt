@@ -1,7 +1,7 @@
 //! What a run over a text writes: a report.
 
 ghost use Rattle.std.specs.Prelude.{◌≡◌, ◌+◌, ◌≤◌, ◌∷◌, ◌++◌, [], List, length, IsTrue, OnOk, false};
-ghost use Rattle.cwr_sinks.specs.Steps.Sinks.{has_failed};
+ghost use Rattle.cwr_devices.specs.Steps.Sinks.{has_failed};
 ghost use Rattle.cwr_judge.specs.Format.Items.{item_records};
 ghost use Rattle.cwr_lines.specs.Format.Records.{RecordValue};
 ghost use Rattle.cwr_levels.specs.Steps.Putting.{PutsText};
@@ -13,9 +13,8 @@ ghost use Rattle.cwr_tools.specs.Steps.Reports.{PassesOver, PutsLines, PutsNext,
 use crate::totals::Totals;
 use crate::verdicts::{ToolFault, Verdict};
 use cwr_decode::Keeper;
-use cwr_fields::Target;
+use cwr_devices::{Sink, SinkFault, Target};
 use cwr_lines::RecordRef;
-use cwr_sinks::{Sink, SinkFault};
 use cwr_values::Item;
 use std::alloc::Global;
 

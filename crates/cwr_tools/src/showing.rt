@@ -8,7 +8,7 @@ ghost use Rattle.cwr_tools.specs.Steps.Reports.{Reports};
 use crate::reporting::write_report;
 use crate::shown_records::ShownRecords;
 use crate::verdicts::{ToolFault, Verdict};
-use cwr_fields::{Source, Target};
+use cwr_devices::{Source, Target};
 use cwr_shape::Limits;
 use std::alloc::Global;
 

@@ -1,7 +1,7 @@
 //! The lines of records, put to a sink.
 
 ghost use Rattle.std.specs.Prelude.{◌≡◌, ◌+◌, ◌≤◌, length, false, IfErr};
-ghost use Rattle.cwr_sinks.specs.Steps.Sinks.{Puts, has_failed, written_of};
+ghost use Rattle.cwr_devices.specs.Steps.Sinks.{Puts, has_failed, written_of};
 ghost use Rattle.cwr_judge.specs.Format.Items.{item_records};
 ghost use Rattle.cwr_values.specs.Format.Rows.{trailer};
 ghost use Rattle.cwr_notes.specs.Format.RecordTexts.{numbered_records, record_lines};
@@ -11,10 +11,10 @@ use crate::reporting::put_verdict_line;
 use crate::reports::{NothingKept, Report};
 use crate::totals::Totals;
 use crate::verdicts::{ToolFault, Verdict};
-use cwr_fields::{Kind, Target};
+use cwr_devices::{Sink, SinkFault, Target};
+use cwr_fields::Kind;
 use cwr_lines::RecordRef;
 use cwr_notes::RecordLines;
-use cwr_sinks::{Sink, SinkFault};
 use cwr_values::{Item, Transaction};
 use std::alloc::Global;
 

@@ -2,7 +2,7 @@
 
 ghost use Rattle.std.specs.Prelude.{Some};
 
-use cwr_fields::Counted;
+use cwr_devices::Counted;
 use std::alloc::Global;
 use std::io::{self, ErrorKind, Read, Write};
 

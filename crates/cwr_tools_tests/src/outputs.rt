@@ -1,12 +1,12 @@
 //! Outputs of a split over memory, which fail where a test wants them to.
 
 ghost use Rattle.std.specs.Prelude.{◌≡◌, Some, map, option_map};
-ghost use Rattle.cwr_fields.specs.Format.Failures.{one_more_failure};
+ghost use Rattle.cwr_devices.specs.Format.Failures.{one_more_failure};
 
 use crate::checks::check_equal;
 use crate::devices::{Bounded, WIDE, Width};
 use crate::works::{Worked, text_of};
-use cwr_fields::Counted;
+use cwr_devices::Counted;
 use cwr_parts::{OutputFault, Outputs};
 use std::alloc::Global;
 use std::process::Abort;

@@ -4,7 +4,7 @@ use crate::checks::check_equal;
 use crate::devices::{Reader, STUCK, WIDE, Width, reader_of, writer_of};
 use crate::runs::{Tool, reported};
 use crate::works::{Given, Judged, LARGEST, Numbers, WITHOUT_NAME, Worked, text_given, text_of};
-use cwr_fields::Counted;
+use cwr_devices::Counted;
 use cwr_tools::{ToolFault, Verdict};
 use std::io;
 use std::process::Abort;

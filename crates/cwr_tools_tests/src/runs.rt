@@ -4,7 +4,7 @@ ghost use Rattle.std.specs.Prelude.{◌<◌, length};
 
 use crate::outputs::{Mishap, Shelf};
 use crate::works::{Numbers, limits_of};
-use cwr_fields::{Source, Target};
+use cwr_devices::{Source, Target};
 use cwr_parts::{join, split};
 use cwr_tools::{JoinFault, JoinReport, SplitReport, ToolFault, Verdict, check, show};
 use std::process::Abort;

@@ -35,7 +35,7 @@ use Rattle.cwr_write.specs.declared.lines.ReadFault.TheVariants as read_faults
 use Rattle.cwr_write.specs.declared.writing.Written.{Written}
 use Rattle.cwr_write.specs.declared.writing.WriteFault.{WriteFault}
 use Rattle.cwr_write.specs.declared.writing.WriteFault.TheVariants as write_faults
-use Rattle.cwr_fields.specs.Format.Failures.{one_more_failure}
+use Rattle.cwr_devices.specs.Format.Failures.{one_more_failure}
 use Rattle.std.specs.Str.{IsUtf8}
 use Rattle.json.specs.Json.{document}
 use Rattle.json.specs.declared.value.Value.{Value}

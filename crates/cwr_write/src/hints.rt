@@ -1,10 +1,10 @@
 //! What is told below a refusal: which keys there are, how wide a field is, and what an item lacks.
 
 use crate::refusals::{Key, Refusal, Why, put_key_of, put_name};
-use cwr_fields::{Kind, Target, field, fields, letters};
+use cwr_devices::{Sink, SinkFault, Target};
+use cwr_fields::{Kind, field, fields, letters};
 use cwr_json::Encoding;
 use cwr_lines::RecordRef;
-use cwr_sinks::{Sink, SinkFault};
 use cwr_values::{Item, Transaction};
 use itoa::Buffer;
 

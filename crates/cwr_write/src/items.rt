@@ -18,8 +18,9 @@ ghost use Rattle.cwr_write.specs.Steps.Taking.{IsFaultOf, IsLine, IsOfList, IsOw
 use crate::hints::lack_of;
 use crate::records::{MemberList, of_record, record_of, says};
 use crate::refusals::{Key, LineFault, Why, of_key, of_line};
+use cwr_devices::Target;
 use cwr_encode::{EncodeFault, Encoder};
-use cwr_fields::{Kind, Target};
+use cwr_fields::Kind;
 use cwr_json::Encoding;
 use cwr_lines::Record;
 use cwr_values::{Item, PushFault, Transaction};

@@ -7,7 +7,7 @@ ghost use Rattle.cwr_write.specs.Format.Imports.{is_blank_line};
 ghost use Rattle.cwr_write.specs.Steps.Lines.{ExceedsWith, TakesLineOf, TakesPart};
 ghost use Rattle.cwr_write.specs.Steps.Taking.{CountsReading, IsUnfailed};
 
-use cwr_fields::Source;
+use cwr_devices::Source;
 use std::alloc::Global;
 
 /// The byte that ends a line.

@@ -5,9 +5,9 @@ ghost use Rattle.cwr_write.specs.Format.Faults.{IsOfLine, TellsKey};
 
 use crate::hints::Lack;
 use arrayvec::ArrayVec;
-use cwr_fields::{CellFault, Kind, Target, field, letters};
+use cwr_devices::{Sink, SinkFault, Target};
+use cwr_fields::{CellFault, Kind, field, letters};
 use cwr_shape::LimitKind;
-use cwr_sinks::{Sink, SinkFault};
 use itoa::Buffer;
 
 /// The most bytes that are shown of a key.

@@ -17,11 +17,10 @@ ghost use Rattle.cwr_write.specs.Steps.Taking.{NoReader, Stands, TakesLine, Take
 use crate::items::{ItemFault, encode_fault, item_in, write_item};
 use crate::lines::{ReadFault, is_blank, next_line};
 use crate::refusals::{Refusal, Why, of_line};
+use cwr_devices::{Sink, SinkFault, Source, Target};
 use cwr_encode::{EncodeFault, Encoder};
-use cwr_fields::{Source, Target};
 use cwr_json::Encoding;
 use cwr_shape::Limits;
-use cwr_sinks::{Sink, SinkFault};
 use cwr_values::Item;
 use itoa::Buffer;
 use json::{Scratch, Value};

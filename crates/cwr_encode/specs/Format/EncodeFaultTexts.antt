@@ -1,7 +1,7 @@
 -- The words for the faults of encoders.
 use Rattle.std.specs.Prelude.{ℕ, List, ◌++◌, codes}
 use Rattle.cwr_shape.specs.Format.ReasonTexts.{limit_text}
-use Rattle.cwr_sinks.specs.Format.SinkFaultTexts.{writer_fault_text}
+use Rattle.cwr_devices.specs.Format.DeviceFaultTexts.{writer_fault_text}
 use Rattle.cwr_encode.specs.declared.encoders.EncodeFault.{EncodeFault}
 use Rattle.cwr_encode.specs.declared.encoders.EncodeFault.TheVariants.{OutOfOrder, WrongKind, Incomplete, Limit, Writer}
 

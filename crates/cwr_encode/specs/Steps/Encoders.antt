@@ -2,7 +2,7 @@
 use Rattle.std.specs.Prelude.{◌≡◌, ℕ, ◌+◌, Bool, true, false, List, [], ◌∷◌, ◌++◌, map, Option, Some, None, unwrap_or, Result, Ok}
 use Rattle.std.specs.Prelude.{Err, nat_lt, if◌then◌else◌}
 use Rattle.std.specs.List.{AllByRecursion}
-use Rattle.cwr_fields.specs.Format.Failures.{one_more_failure}
+use Rattle.cwr_devices.specs.Format.Failures.{one_more_failure}
 use Rattle.cwr_fields.specs.declared.codes.TransactionType.{TransactionType}
 use Rattle.cwr_fields.specs.declared.kinds.Kind.{Kind}
 use Rattle.cwr_lines.specs.Format.Records.{RecordValue, IsRecord}
@@ -28,7 +28,7 @@ use Rattle.cwr_encode.specs.declared.encoders.Reached.{Reached}
 use Rattle.cwr_encode.specs.declared.encoders.Reached.TheVariants as reached_to
 use Rattle.cwr_encode.specs.declared.encoders.EncodeFault.{EncodeFault}
 use Rattle.cwr_encode.specs.declared.encoders.EncodeFault.TheVariants.{OutOfOrder, Incomplete, Limit, Writer}
-use Rattle.cwr_sinks.specs.Steps.Sinks.{HasWritten, has_failed, written_of, writer_of}
+use Rattle.cwr_devices.specs.Steps.Sinks.{HasWritten, has_failed, written_of, writer_of}
 use Rattle.cwr_encode.specs.Format.Encoders.{part_of, reached, IsBetween, IsInGroup}
 
 -- at a stage

@@ -2,7 +2,7 @@
 use Rattle.std.specs.Prelude.{◌≡◌, ℕ, ◌-◌, ◌^◌, ◌≤◌, min, true, false, List, [], ◌∷◌, drop, length, slice_index, Option, Some}
 use Rattle.std.specs.Prelude.{IfSome, IsSomeAnd, Result, Ok, Err}
 use Rattle.std.specs.Io.KnownBytes.{Appends, Consumes, IsAtEnd}
-use Rattle.cwr_fields.specs.Format.Failures.{one_more_failure}
+use Rattle.cwr_devices.specs.Format.Failures.{one_more_failure}
 use Rattle.cwr_shape.specs.declared.limits.Limits.{Limits}
 use Rattle.cwr_values.specs.Format.Values.{TransmissionValue}
 use Rattle.cwr_judge.specs.Format.Ends.{IsAccepted}

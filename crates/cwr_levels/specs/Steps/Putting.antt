@@ -1,8 +1,8 @@
 -- What a call does that puts a text to a sink.
 use Rattle.std.specs.Prelude.{◌≡◌, ℕ, true, false, List, ◌++◌, Option, Result, is_err, IfErr}
-use Rattle.cwr_sinks.specs.declared.sinks.Sink.{Sink}
-use Rattle.cwr_sinks.specs.declared.sinks.SinkFault.{SinkFault}
-use Rattle.cwr_sinks.specs.Steps.Sinks.{HasWritten, CountsOn, has_failed, written_of, writer_of}
+use Rattle.cwr_devices.specs.declared.sinks.Sink.{Sink}
+use Rattle.cwr_devices.specs.declared.sinks.SinkFault.{SinkFault}
+use Rattle.cwr_devices.specs.Steps.Sinks.{HasWritten, CountsOn, has_failed, written_of, writer_of}
 
 -- Whatever text was put so far, that text followed by this one is now put: it is written whole, or after a fault its first
 -- bytes are. A fault has the number of bytes written, and comes only where the writer failed in this call or in an earlier

@@ -1,9 +1,9 @@
 -- What the steps of a lint put to a sink and take from a reader.
 use Rattle.std.specs.Prelude.{◌≡◌, ℕ, false, List, ◌++◌, Option, Result, Ok, Err, IfOk, OnOk}
-use Rattle.cwr_fields.specs.Format.Failures.{one_more_failure}
-use Rattle.cwr_sinks.specs.declared.sinks.Sink.{Sink}
-use Rattle.cwr_sinks.specs.declared.sinks.SinkFault.{SinkFault}
-use Rattle.cwr_sinks.specs.Steps.Sinks.{HasWritten, has_failed, writer_of}
+use Rattle.cwr_devices.specs.Format.Failures.{one_more_failure}
+use Rattle.cwr_devices.specs.declared.sinks.Sink.{Sink}
+use Rattle.cwr_devices.specs.declared.sinks.SinkFault.{SinkFault}
+use Rattle.cwr_devices.specs.Steps.Sinks.{HasWritten, has_failed, writer_of}
 use Rattle.cwr_explain.specs.Format.Explained.{TakesMore}
 use Rattle.cwr_tools.specs.declared.verdicts.ToolFault.{ToolFault}
 use Rattle.cwr_tools.specs.declared.verdicts.ToolFault.TheVariants.{Reader, Writer, Memory}

@@ -1,7 +1,7 @@
 -- What the outputs of a split have had.
 use Rattle.std.specs.Prelude.{◌≡◌, ℕ, ◌+◌, ◌-◌, ◌^◌, ◌==◌, min, List, [], ◌∷◌, ◌++◌, length, Option, Some, None, Result, Ok, Err}
 use Rattle.std.specs.Prelude.{if◌then◌else◌}
-use Rattle.cwr_fields.specs.Format.Failures.{one_more_failure}
+use Rattle.cwr_devices.specs.Format.Failures.{one_more_failure}
 
 -- texts that were known stay at the front, and these come after them
 abbrev pub AddsTexts : Option (List (List ℕ)) → Option (List (List ℕ)) → List (List ℕ) → Type 0

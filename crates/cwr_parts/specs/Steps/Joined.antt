@@ -3,7 +3,7 @@ use Rattle.std.specs.Prelude.{◌≡◌, ℕ, ◌+◌, ◌<◌, Bool, false, cou
 use Rattle.std.specs.Prelude.{Ok, Err, MatchResult}
 use Rattle.std.specs.List.{AllByRecursion, after_last}
 use Rattle.std.specs.Io.KnownBytes.{Appends}
-use Rattle.cwr_fields.specs.Format.Failures.{one_more_failure}
+use Rattle.cwr_devices.specs.Format.Failures.{one_more_failure}
 use Rattle.cwr_shape.specs.declared.limits.Limits.{Limits}
 use Rattle.cwr_shape.specs.declared.limits.LimitKind.{LimitKind}
 use Rattle.cwr_shape.specs.declared.symbols.Symbol.{Symbol}

@@ -2,7 +2,7 @@
 use Rattle.std.specs.Prelude.{◌≡◌, ◌⊎◌, ℕ, ◌+◌, Bool, true, false, List, [], ◌∷◌, ◌++◌, if◌then◌else◌, Option, Some, None, Result}
 use Rattle.std.specs.Prelude.{Ok, Err}
 use Rattle.std.specs.Io.KnownBytes.{Appends}
-use Rattle.cwr_fields.specs.Format.Failures.{one_more_failure}
+use Rattle.cwr_devices.specs.Format.Failures.{one_more_failure}
 use Rattle.cwr_shape.specs.declared.limits.Limits.{Limits}
 use Rattle.cwr_lines.specs.Format.Records.{RecordValue}
 use Rattle.cwr_values.specs.declared.items.Item.{Item}
@@ -12,8 +12,8 @@ use Rattle.cwr_json.specs.declared.notes.Notes.{Notes}
 use Rattle.cwr_decode.specs.declared.readings.ReadFault.TheVariants as read_faults
 use Rattle.cwr_decode.specs.Steps.Machines.{Standing}
 use Rattle.cwr_decode.specs.Steps.Runs.{HasRead}
-use Rattle.cwr_sinks.specs.declared.sinks.Sink.{Sink}
-use Rattle.cwr_sinks.specs.Steps.Sinks.{HasWritten, Puts, has_failed, writer_of, written_of}
+use Rattle.cwr_devices.specs.declared.sinks.Sink.{Sink}
+use Rattle.cwr_devices.specs.Steps.Sinks.{HasWritten, Puts, has_failed, writer_of, written_of}
 use Rattle.cwr_encode.specs.Format.Finishing.{HasFront}
 use Rattle.cwr_tools.specs.declared.verdicts.Verdict.{Verdict}
 use Rattle.cwr_tools.specs.declared.verdicts.ToolFault.{ToolFault}

@@ -4,7 +4,7 @@ use Rattle.std.specs.Prelude.{Result, Err}
 use Rattle.std.specs.List.{AllZip, filter, list_all, list_any}
 use Rattle.std.specs.Str.{IsUtf8}
 use Rattle.json.specs.Json.{Json, document}
-use Rattle.cwr_fields.specs.Format.Failures.{one_more_failure}
+use Rattle.cwr_devices.specs.Format.Failures.{one_more_failure}
 use Rattle.cwr_shape.specs.Format.Ranges.{LimitValues}
 use Rattle.cwr_values.specs.Format.Values.{TransmissionValue, IsTransmission, FitsIn}
 use Rattle.cwr_values.specs.Format.Rows.{canonical_text, records_of}

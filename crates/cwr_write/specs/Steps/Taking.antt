@@ -3,7 +3,7 @@ use Rattle.std.specs.Prelude.{◌≡◌, ◌≢◌, ◌⊎◌, ℕ, false, not, 
 use Rattle.std.specs.Prelude.{Err}
 use Rattle.std.specs.List.{AllZip, filter, flat_map}
 use Rattle.json.specs.Json.{Json}
-use Rattle.cwr_fields.specs.Format.Failures.{one_more_failure}
+use Rattle.cwr_devices.specs.Format.Failures.{one_more_failure}
 use Rattle.cwr_lines.specs.Format.Records.{RecordValue}
 use Rattle.cwr_values.specs.declared.items.Item.{Item}
 use Rattle.cwr_values.specs.declared.items.Item.TheVariants.{Opened, GroupOpened, Transaction, GroupClosed, Ended}

@@ -1,5 +1,5 @@
 use Rattle.std.proofs.Common.{◌≡◌, ◌≤◌, ◌-◌, ◌++◌, ℕ, List, Option, length, take, false}
-use Rattle.cwr_sinks.specs.Steps.Sinks.{HasWritten, has_failed, writer_of}
+use Rattle.cwr_devices.specs.Steps.Sinks.{HasWritten, has_failed, writer_of}
 use Rattle.cwr_acks.specs.Steps.AckSteps.{row_lines}
 use Rattle.cwr_acks.proofs.unanswered.put_row.Given as goal
 

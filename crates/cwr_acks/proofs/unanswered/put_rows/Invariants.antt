@@ -1,5 +1,5 @@
 use Rattle.std.proofs.Common.{◌≡◌, ◌++◌, ℕ, List, Option, take, false}
-use Rattle.cwr_sinks.specs.Steps.Sinks.{HasWritten, has_failed, writer_of}
+use Rattle.cwr_devices.specs.Steps.Sinks.{HasWritten, has_failed, writer_of}
 use Rattle.cwr_sent.specs.Format.SentRows.{rows}
 use Rattle.cwr_acks.specs.Steps.AckSteps.{table_lines}
 use Rattle.cwr_acks.proofs.unanswered.put_rows.Given as goal

@@ -1,5 +1,5 @@
 use Rattle.std.proofs.Common.{List, [], ◌∷◌, sym, subst, ap, ◌∙◌}
-use Rattle.cwr_sinks.specs.Steps.Sinks.{Puts}
+use Rattle.cwr_devices.specs.Steps.Sinks.{Puts}
 use Rattle.cwr_judge.specs.Format.Items.{item_records}
 use Rattle.cwr_lines.specs.Format.Records.{RecordValue}
 use Rattle.cwr_json.specs.Steps.FormTexts.{listed_texts}

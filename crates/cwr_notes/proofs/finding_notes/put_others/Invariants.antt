@@ -1,6 +1,6 @@
 use Rattle.std.proofs.Common.{◌≡◌, ◌≤◌, ◌-◌, ◌++◌, ℕ, List, Option, length, take, false}
 use Rattle.std.specs.List.{flat_map}
-use Rattle.cwr_sinks.specs.Steps.Sinks.{HasWritten, has_failed, writer_of}
+use Rattle.cwr_devices.specs.Steps.Sinks.{HasWritten, has_failed, writer_of}
 use Rattle.cwr_notes.specs.Format.FindingNotes.{noted_at}
 use Rattle.cwr_notes.proofs.finding_notes.put_others.Given as goal
 

@@ -1,5 +1,5 @@
 use Rattle.std.proofs.Common.{rules, ◌≡◌, true, subst, sym}
-use Rattle.cwr_sinks.specs.Steps.Sinks.{Puts}
+use Rattle.cwr_devices.specs.Steps.Sinks.{Puts}
 use Rattle.cwr_parts.specs.Format.Outcomes.{is_of_input, join_outcome}
 use Rattle.cwr_parts.proofs.OutcomesPut.{mark_refused}
 use Rattle.cwr_parts.proofs.outcomes.put_join_outcome.Goals as goal

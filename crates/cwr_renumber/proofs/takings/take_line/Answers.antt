@@ -1,5 +1,5 @@
 use Rattle.std.proofs.Common.{rules, sym}
-use Rattle.cwr_fields.specs.declared.devices.DeviceFault.{DeviceFault}
+use Rattle.cwr_devices.specs.declared.devices.DeviceFault.{DeviceFault}
 use Rattle.cwr_decode.proofs.FromReader.{consumes_taken}
 use Rattle.cwr_renumber.proofs.LinesTaken.{taken_known}
 use Rattle.cwr_renumber.proofs.takings.take_line.Goals as goal

@@ -1,6 +1,6 @@
 use Rattle.std.proofs.Common.{◌≡◌, ℕ, ◌+◌, ◌++◌, List, Bool, take, refl, sym, ap, subst, ◌∙◌, append-nil, arith}
 use Rattle.std.specs.Prelude.{◌||◌}
-use Rattle.cwr_sinks.specs.Steps.Sinks.{HasWritten}
+use Rattle.cwr_devices.specs.Steps.Sinks.{HasWritten}
 use Rattle.cwr_encode.proofs.PutRows.{found_within, none_within}
 use Rattle.std.proofs.lemmas.List.{take_all}
 use Rattle.cwr_lines.specs.Format.Records.{RecordValue}

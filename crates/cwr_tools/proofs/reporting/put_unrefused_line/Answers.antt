@@ -1,6 +1,6 @@
 use Rattle.std.proofs.Common.{ℕ, List, [], refl, sym, subst, append-nil}
 use Rattle.std.specs.Prelude.{Ok}
-use Rattle.cwr_sinks.specs.Steps.Sinks.{HasWritten}
+use Rattle.cwr_devices.specs.Steps.Sinks.{HasWritten}
 use Rattle.cwr_levels.specs.Steps.Putting.{PutsText}
 use Rattle.cwr_tools.specs.declared.verdicts.Verdict.{Verdict}
 use Rattle.cwr_tools.specs.Format.Reports.{unrefused_line}

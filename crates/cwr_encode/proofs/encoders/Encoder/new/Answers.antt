@@ -1,5 +1,5 @@
 use Rattle.std.proofs.Common.{List, ℕ, sym, subst}
-use Rattle.cwr_sinks.specs.Steps.Sinks.{HasWritten}
+use Rattle.cwr_devices.specs.Steps.Sinks.{HasWritten}
 use Rattle.cwr_encode.proofs.Adding.{part_none}
 use Rattle.cwr_encode.proofs.encoders.Encoder.new.Goals as goal
 

@@ -5,12 +5,26 @@ ghost use Rattle.std.specs.Io.{StartsWith};
 ghost use Rattle.std.specs.Io.BufRead.{Rests};
 ghost use Rattle.std.specs.Io.KnownBytes.{Keeps, WriteAppends};
 ghost use types.Logic.{sem};
-ghost use Rattle.cwr_fields.specs.Format.Failures.{CountsFailure};
-ghost use Rattle.cwr_fields.specs.Steps.Failures.{shown_by};
+ghost use Rattle.cwr_devices.specs.Format.DeviceFaultTexts.{device_fault_text};
+ghost use Rattle.cwr_devices.specs.Format.Failures.{CountsFailure};
+ghost use Rattle.cwr_devices.specs.Steps.Failures.{shown_by};
+
+use std::error::Error;
+use std::fmt::{self, Display, Formatter, Write};
 
 /// A device failed. The device counted it.
 #[derive(Clone, Copy, Debug, PartialEq, Eq)]
 pub struct DeviceFault;
+
+impl Display for DeviceFault {
+    ghost output = { λ fault. Some device_fault_text };
+
+    fn fmt<O: Write>(&self, f: &mut Formatter<O>) -> fmt::Result {
+        f.pad("the device failed")
+    }
+}
+
+impl Error for DeviceFault {}
 
 /// A reader of bytes, which counts its failures. After `u64::MAX` of them every `fill` fails.
 pub trait Source {

@@ -1,7 +1,7 @@
 //! Sources and targets over std's readers and writers.
 
 ghost use Rattle.std.specs.Prelude.{◌≡◌, ◌+◌, ◌≤◌, [], IfOk, OnErr};
-ghost use Rattle.cwr_fields.specs.declared.counted.TheConstants.{AHEAD};
+ghost use Rattle.cwr_devices.specs.declared.counted.TheConstants.{AHEAD};
 
 use crate::devices::{DeviceFault, Source, Target};
 use std::io::{Read, Write};
@@ -29,8 +29,8 @@ pub struct Counted<T> {
 
 impl<T> Counted<T> {
     ghost use Rattle.std.specs.Prelude.{◌+◌, ◌<◌};
-    ghost use Rattle.cwr_fields.specs.Format.Failures.{most_failures};
-    ghost use Rattle.cwr_fields.specs.Steps.Counted.{inner_of, ahead_of, shown_of, failures_of};
+    ghost use Rattle.cwr_devices.specs.Format.Failures.{most_failures};
+    ghost use Rattle.cwr_devices.specs.Steps.Counted.{inner_of, ahead_of, shown_of, failures_of};
 
     /// A reader or a writer that hasn't failed.
     pub fn new(inner: T) -> Counted<T>
@@ -83,8 +83,8 @@ impl<T> Counted<T> {
 
 impl<R: Read> Counted<R> {
     ghost use Rattle.std.specs.Io.KnownBytes.{prepend_known, Keeps, IsAtEnd};
-    ghost use Rattle.cwr_fields.specs.Format.Failures.{CountsFailure};
-    ghost use Rattle.cwr_fields.specs.Steps.Counted.{inner_of, ahead_of, shown_of, failures_of};
+    ghost use Rattle.cwr_devices.specs.Format.Failures.{CountsFailure};
+    ghost use Rattle.cwr_devices.specs.Steps.Counted.{inner_of, ahead_of, shown_of, failures_of};
 
     /// Reads where nothing is left of what was read ahead, and shows all of it.
     fn load(&mut self) -> Result<(), DeviceFault>
@@ -116,7 +116,7 @@ impl<R: Read> Counted<R> {
 
 impl<R: Read> Source for Counted<R> {
     ghost use Rattle.std.specs.Io.KnownBytes.{prepend_known};
-    ghost use Rattle.cwr_fields.specs.Steps.Counted.{inner_of, ahead_of, shown_of, failures_of};
+    ghost use Rattle.cwr_devices.specs.Steps.Counted.{inner_of, ahead_of, shown_of, failures_of};
 
     ghost remaining = { λ counted. prepend_known (ahead_of counted) (R.remaining (inner_of counted)) };
 
@@ -137,7 +137,7 @@ impl<R: Read> Source for Counted<R> {
 }
 
 impl<W: Write> Target for Counted<W> {
-    ghost use Rattle.cwr_fields.specs.Steps.Counted.{inner_of, failures_of, has_handed_on};
+    ghost use Rattle.cwr_devices.specs.Steps.Counted.{inner_of, failures_of, has_handed_on};
 
     ghost contents = { λ counted. W.contents (inner_of counted) };
 

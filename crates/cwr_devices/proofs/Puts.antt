@@ -4,9 +4,9 @@ use Rattle.std.proofs.Common.{ap, subst, ◌∙◌, arith, append_assoc, append-
 use Rattle.std.proofs.lemmas.List.{length-append, length-take-le, take-append-drop}
 use Rattle.std.specs.Prelude.{Result, Ok, Err, OnOk}
 use Rattle.std.specs.Io.KnownBytes.{Appends}
-use Rattle.cwr_sinks.specs.declared.sinks.Sink.{Sink}
-use Rattle.cwr_sinks.specs.Steps.Sinks.{written_of, writer_of, has_failed, counted_up, GrowsBy, HasWritten}
-use Rattle.cwr_sinks.proofs.Moves.{appends_both}
+use Rattle.cwr_devices.specs.declared.sinks.Sink.{Sink}
+use Rattle.cwr_devices.specs.Steps.Sinks.{written_of, writer_of, has_failed, counted_up, GrowsBy, HasWritten}
+use Rattle.cwr_devices.proofs.Moves.{appends_both}
 
 -- a sink that hasn't failed has written all
 nothing_left : {W : Type 0} (contents : W → Option (List ℕ)) (start : Option (List ℕ)) (before : List ℕ) (sink : Sink W)

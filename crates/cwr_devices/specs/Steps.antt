@@ -1,2 +1,4 @@
 -- What the code keeps, and what its calls do to that.
+pub mod Counted
+pub mod Failures
 pub mod Sinks

@@ -1,6 +1,6 @@
 -- What a `Counted` shows of itself.
 use Rattle.std.specs.Prelude.{ℕ, Bool, List, slice_range}
-use Rattle.cwr_fields.specs.declared.counted.Counted.{Counted}
+use Rattle.cwr_devices.specs.declared.counted.Counted.{Counted}
 
 -- the reader or the writer in it
 abbrev pub inner_of : {T : Type 0} → Counted T → T

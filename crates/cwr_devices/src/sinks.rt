@@ -2,11 +2,11 @@
 
 ghost use Rattle.std.specs.Prelude.{◌≡◌, ◌≤◌, ℕ, List, Option, [], ◌++◌, IfErr, OnErr, OnOk, IsErr, is_err, true, false, length, take, Some};
 ghost use Rattle.std.specs.Io.KnownBytes.{Appends};
-ghost use Rattle.cwr_fields.specs.Format.Failures.{CountsFailure};
-ghost use Rattle.cwr_sinks.specs.Format.SinkFaultTexts.{writer_fault_text};
-ghost use Rattle.cwr_sinks.specs.Steps.Sinks.{written_of, writer_of, has_failed, CountsOn, GrowsBy, HasWritten};
+ghost use Rattle.cwr_devices.specs.Format.Failures.{CountsFailure};
+ghost use Rattle.cwr_devices.specs.Format.DeviceFaultTexts.{writer_fault_text};
+ghost use Rattle.cwr_devices.specs.Steps.Sinks.{written_of, writer_of, has_failed, CountsOn, GrowsBy, HasWritten};
 
-use cwr_fields::Target;
+use crate::devices::Target;
 use std::error::Error;
 use std::fmt::{self, Display, Formatter, Write};
 
