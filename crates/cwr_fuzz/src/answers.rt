@@ -44,7 +44,7 @@ fn fault_of(fault: ToolFault, law: &'static str) -> Wrong {
 }
 
 /// A text in one piece.
-const WHOLE: &[usize] = &[usize::MAX];
+pub const WHOLE: &[usize] = &[usize::MAX];
 
 /// The verdict on a text.
 pub fn verdict(alloc: Global, limits: Limits, text: &[u8]) -> Result<Verdict, Wrong> {
@@ -64,18 +64,45 @@ pub struct Said {
     pub shown: Verdict,
 }
 
+/// What a check writes of a text in pieces of these sizes, and its verdict.
+fn checked(
+    alloc: Global,
+    limits: Limits,
+    text: &[u8],
+    sizes: &[usize],
+) -> Result<(Vec<u8>, Verdict), Wrong> {
+    let mut reader = Pieces::new(text, sizes);
+    let (writer, outcome) = check(alloc, limits, &mut reader, Counted::new(Vec::new(alloc)));
+    match outcome {
+        Ok(verdict) => Ok((writer.into_inner(), verdict)),
+        Err(fault) => Err(fault_of(fault, "a fault of a check")),
+    }
+}
+
+/// What a show writes of a text in pieces of these sizes, and its verdict.
+fn shown(
+    alloc: Global,
+    limits: Limits,
+    text: &[u8],
+    sizes: &[usize],
+) -> Result<(Vec<u8>, Verdict), Wrong> {
+    let mut reader = Pieces::new(text, sizes);
+    let (writer, outcome) = show(alloc, limits, &mut reader, Counted::new(Vec::new(alloc)));
+    match outcome {
+        Ok(verdict) => Ok((writer.into_inner(), verdict)),
+        Err(fault) => Err(fault_of(fault, "a fault of a show")),
+    }
+}
+
 /// What a check and a show answer on a text in pieces of these sizes.
 pub fn report(alloc: Global, limits: Limits, text: &[u8], sizes: &[usize]) -> Result<Said, Wrong> {
-    let mut reader = Pieces::new(text, sizes);
-    let (writer, checked) = check(alloc, limits, &mut reader, Counted::new(Vec::new(alloc)));
-    let mut again = Pieces::new(text, sizes);
-    let (shown_to, shown) = show(alloc, limits, &mut again, Counted::new(Vec::new(alloc)));
-    let mut written = writer.into_inner();
-    written.extend_from_slice(shown_to.into_inner().as_slice())?;
+    let (mut written, checked) = checked(alloc, limits, text, sizes)?;
+    let (more, shown) = shown(alloc, limits, text, sizes)?;
+    written.extend_from_slice(more.as_slice())?;
     Ok(Said {
         text: written,
-        checked: checked.map_err(|fault| fault_of(fault, "a fault of a check"))?,
-        shown: shown.map_err(|fault| fault_of(fault, "a fault of a show"))?,
+        checked,
+        shown,
     })
 }
 
