@@ -1,1 +1,6 @@
+mod WorkedCells
+mod WorkedCodes
 mod WorkedFits
+mod WorkedLevels
+mod WorkedShapes
+mod WorkedStages

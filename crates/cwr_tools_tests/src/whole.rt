@@ -1,13 +1,13 @@
 //! Tests of whole transmissions, which are written as a value and call by call.
 
 use crate::checks::check_equal;
-use crate::devices::{
-    LARGEST, Narrow, Numbers, ONE_BYTE, WIDE, Width, limits_of, narrow_writer, text_in, text_of,
-};
 use crate::encoders::encoded;
 use crate::worked_values::{
     ACKNOWLEDGED, COPY_FIRST, NEW_AND_REVISED, OF_ELEVEN, WITH_AGREEMENT, WITH_CARRIED, WITH_COPY,
     WorkedGroup, transmission,
+};
+use crate::writers::{
+    LARGEST, Narrow, Numbers, ONE_BYTE, WIDE, Width, limits_of, narrow_writer, text_in, text_of,
 };
 use cwr_devices::Counted;
 use cwr_encode::{EncodeFault, encode};

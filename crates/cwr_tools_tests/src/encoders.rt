@@ -1,10 +1,10 @@
 //! Tests of encoders, call by call.
 
 use crate::checks::check_equal;
-use crate::devices::{
+use crate::worked_values::{WorkedGroup, record, transaction};
+use crate::writers::{
     LARGEST, Narrow, Numbers, WIDE, Width, limits_of, narrow_writer, text_in, text_of,
 };
-use crate::worked_values::{WorkedGroup, record, transaction};
 use cwr_devices::{Counted, Target};
 use cwr_encode::{EncodeFault, Encoder};
 use cwr_shape::LimitKind;

@@ -1,7 +1,7 @@
 //! Tests of sinks.
 
 use crate::checks::check_equal;
-use crate::devices::{Narrow, Width, narrow_writer, text_in};
+use crate::writers::{Narrow, Width, narrow_writer, text_in};
 use cwr_devices::{Counted, Sink, SinkFault};
 use std::process::Abort;
 

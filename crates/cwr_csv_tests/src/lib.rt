@@ -1,5 +1,0 @@
-//! Tests of tables, on worked lines.
-#![tactic(auto)]
-
-#[cfg(test)]
-mod runs;

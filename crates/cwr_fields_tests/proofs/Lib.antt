@@ -1,2 +1,0 @@
-mod WorkedCells
-mod WorkedCodes

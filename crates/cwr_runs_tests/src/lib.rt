@@ -1,0 +1,11 @@
+//! Tests of tables, of numbers that are put right and of whole lints, on worked lines.
+#![tactic(auto)]
+
+#[cfg(test)]
+mod lint_devices;
+#[cfg(test)]
+mod lints;
+#[cfg(test)]
+mod renumbered;
+#[cfg(test)]
+mod tables;

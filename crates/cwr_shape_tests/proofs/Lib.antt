@@ -1,3 +1,0 @@
-mod WorkedStages
-mod WorkedShapes
-mod WorkedLevels
