@@ -21,13 +21,13 @@ use Rattle.cwr_shape.specs.declared.tallies.Bar.{Bar}
 use Rattle.cwr_shape.specs.declared.tallies.Bar.TheVariants.{Misplaced, Limit}
 use Rattle.cwr_shape.specs.declared.tallies.Counts.{Counts}
 use Rattle.cwr_shape.specs.Format.Ranges.{LimitValues}
-use Rattle.cwr_shape.specs.Format.Outlines.{GroupOutline, KeepsTo, IsWithin, Continues}
+use Rattle.cwr_shape.specs.Format.Outlines.{KeepsTo, IsWithin, Continues}
 use Rattle.cwr_shape.specs.Steps.NextStages.{next_stage}
 use Rattle.cwr_shape.specs.Steps.Needs.{AreAtMost, needs_at}
 use Rattle.cwr_shape.specs.Format.AnyTransmission.{Any}
 use Rattle.cwr_shape.specs.Steps.Left.{StandsAt, is_stage}
 use Rattle.cwr_shape.specs.Format.Candidates.{candidates}
-use Rattle.cwr_shape.specs.Format.NextSymbols.{has_open_transaction, open_type, counts_of, MayCome, IsBarred, ContinuesWith}
+use Rattle.cwr_shape.specs.Format.NextSymbols.{has_open_transaction, open_type, counts_of, IsBarred, ContinuesWith}
 use Rattle.cwr_shape.specs.Format.NextSymbols.{IsBarredAmong, Answers, AnswersAmong}
 use Rattle.cwr_shape.specs.Steps.Tallies.{TallyValue, IsTallyOf}
 use Rattle.cwr_shape.specs.Steps.Counting.{counts_with, scope_at, wanted_role}

@@ -1,8 +1,8 @@
 -- A transmission within a limit continues from some symbols exactly where what is counted of them and what must still come are within it.
-use Rattle.std.proofs.Common.{◌≡◌, ℕ, ◌+◌, ◌≤◌, Bool, true, false, cond, not, List, [], ◌∷◌, ◌++◌, length, Option, Some, None}
-use Rattle.std.proofs.Common.{refl, sym, ap, subst, ◌∙◌, arith, true≢false}
+use Rattle.std.proofs.Common.{◌≡◌, ℕ, ◌+◌, ◌≤◌, Bool, true, false, cond, not, List, [], ◌∷◌, ◌++◌, length, Some}
+use Rattle.std.proofs.Common.{refl, sym, ap, subst, arith, true≢false}
 use Rattle.std.specs.Prelude.{◌↔◌}
-use Rattle.std.specs.List.{list_any, count_by, last_or, after_last}
+use Rattle.std.specs.List.{count_by}
 use Rattle.std.proofs.lemmas.Bool.{and_parts}
 use Rattle.std.proofs.lemmas.List.{length-append}
 use Rattle.std.proofs.lemmas.List.Sums.{sum_by-append}
@@ -20,13 +20,10 @@ use Rattle.cwr_shape.specs.declared.tallies.Counts.{Counts}
 use Rattle.cwr_shape.specs.Format.Ranges.{LimitValues}
 use Rattle.cwr_shape.specs.Format.Outlines.{IsWhole, KeepsTo, IsWithin, Continues}
 use Rattle.cwr_shape.specs.declared.tallies.Scope.{Scope}
-use Rattle.cwr_shape.specs.declared.tallies.Scope.TheVariants as scopes
-use Rattle.cwr_shape.specs.Format.LastSymbols.{is_grh, latest, group_of}
-use Rattle.cwr_shape.specs.Steps.Stages.{is_ipa, is_ipa_of, is_writer, other_role, pwr_step, stage_by}
+use Rattle.cwr_shape.specs.Format.LastSymbols.{is_grh}
 use Rattle.cwr_shape.specs.Steps.Left.{is_stage, StandsAt}
 use Rattle.cwr_shape.specs.Format.NextSymbols.{is_header_of, type_after, open_type, counts_of, has_open_transaction, open_records}
-use Rattle.cwr_shape.specs.Format.NextSymbols.{scope_by}
-use Rattle.cwr_shape.specs.Steps.Counting.{counts_with, counts_with_header, counts_with_other, scope_at, open_at}
+use Rattle.cwr_shape.specs.Steps.Counting.{counts_with, counts_with_header, counts_with_other, open_at}
 use Rattle.cwr_shape.specs.Steps.Needs.{is_later_of, later_records, first_transaction, needs_at}
 use Rattle.cwr_shape.proofs.OneMore.{types_after, open_type_after}
 use Rattle.cwr_shape.proofs.TransactionNumbers.{counts_after, counted}

@@ -65,7 +65,8 @@ same_text (Grh a) (Grh b) e = absurd (true≢false (sym ((bytes_eq-Decides (symb
 abbrev pub has : Symbol → List Symbol → Bool
 has s ss = list_any (λ t. bytes_eq (symbol_text s) (symbol_text t)) ss
 
-has_among : (s : Symbol) (ss : List Symbol) → has s ss ≡ true → IsAmong ss s
+-- what is found in a list stands at a place of it
+pub has_among : (s : Symbol) (ss : List Symbol) → has s ss ≡ true → IsAmong ss s
 has_among s [] h = absurd (true≢false (sym h))
 has_among s (t ∷ ss) h = pick s t ss (has_among s ss) (or_cases (bytes_eq (symbol_text s) (symbol_text t)) (has s ss) h)
   where

@@ -1,6 +1,6 @@
 -- No whole transmission is a proper front of another: TRL comes once, at the end.
-use Rattle.std.proofs.Common.{◌≡◌, ℕ, zero, suc, ◌<◌, Bool, true, false, ◌&&◌, List, [], ◌∷◌, ◌++◌, length, refl, sym, ap, subst}
-use Rattle.std.proofs.Common.{◌∙◌, inl, inr, arith, true≢false, lit<}
+use Rattle.std.proofs.Common.{◌≡◌, ℕ, zero, suc, ◌<◌, Bool, true, false, not, ◌&&◌, ◌||◌, List, [], ◌∷◌, ◌++◌, length, map, filter, refl, sym, ap, subst}
+use Rattle.std.proofs.Common.{◌∙◌, inl, inr, arith, true≢false}
 use Rattle.std.specs.Prelude.{slice_index_or}
 use Rattle.std.specs.List.{list_all, AllByRecursion, flat_map}
 use Rattle.std.proofs.lemmas.List.Folds.{list_all-append}
@@ -8,19 +8,17 @@ use Rattle.std.proofs.lemmas.Bool.{and_parts, and_from}
 use Rattle.cwr_fields.specs.declared.codes.TransactionType.{TransactionType}
 use Rattle.cwr_fields.specs.declared.codes.TransactionType.TheVariants.{Agreement, NewWork, RevisedWork, Acknowledgement}
 use Rattle.cwr_fields.specs.declared.kinds.Kind.TheVariants as kinds
+use Rattle.cwr_fields.specs.Format.Kinds.{all_kinds, is_carried}
 use Rattle.cwr_shape.specs.declared.symbols.Symbol.{Symbol}
-use Rattle.cwr_shape.specs.declared.symbols.Symbol.TheVariants.{Plain}
+use Rattle.cwr_shape.specs.declared.symbols.Symbol.TheVariants.{Plain, Ipa, Grh}
 use Rattle.cwr_shape.specs.Format.Shapes.{Pattern, one_of, ◌then◌, ◌or◌, ◌and◌, many, carrying, Matches, is_carried_symbol}
 use Rattle.cwr_shape.specs.Format.Shapes.{without_carried, IsShape, pattern_of}
-use Rattle.cwr_shape.proofs.Matcher.{without-cons}
+use Rattle.cwr_shape.proofs.Matcher.{has, has_among, without-cons}
 use Rattle.cwr_shape.specs.Format.Outlines.{GroupOutline, group_symbols, symbols_of, IsGroupOutline, IsOutline}
 
 -- the symbols of carried records
 abbrev pub carried_symbols : List Symbol
-carried_symbols =
-    Plain kinds.Opt ∷ Plain kinds.Owt ∷ Plain kinds.Npn ∷ Plain kinds.Npr ∷ Plain kinds.Nwn ∷ Plain kinds.Npa ∷ Plain kinds.Net
-    ∷ Plain kinds.Now ∷ Plain kinds.Nct ∷ Plain kinds.Nvt ∷ Plain kinds.Nat ∷ Plain kinds.Ins ∷ Plain kinds.Ind ∷ Plain kinds.Ari
-    ∷ Plain kinds.Xrf ∷ []
+carried_symbols = map Plain (filter is_carried all_kinds)
 
 -- each symbol that the pattern names passes a test
 unfoldable pub only : (Symbol → Bool) → Pattern → Bool
@@ -47,25 +45,18 @@ all_parts test P each [] h = refl
 all_parts test P each (x ∷ parts) h =
     all-append test x (flat_map (λ part. part) parts) (each x h.0) (all_parts test P each parts h.1)
 
+are_there : (s : Symbol) → not (is_carried_symbol s) || has s carried_symbols ≡ true
+are_there (Plain kinds.Hdr) = refl
+are_there (Plain _) = refl
+are_there (Ipa _) = refl
+are_there (Grh _) = refl
+
 -- each of them passes a test that all of them pass
 pub carried_passes : (test : Symbol → Bool) (s : Symbol) → list_all test carried_symbols ≡ true → is_carried_symbol s ≡ true
     → test s ≡ true
-carried_passes test (Plain kinds.Opt) h e = among_passes test carried_symbols (Plain kinds.Hdr) 0 h (lit< tt)
-carried_passes test (Plain kinds.Owt) h e = among_passes test carried_symbols (Plain kinds.Hdr) 1 h (lit< tt)
-carried_passes test (Plain kinds.Npn) h e = among_passes test carried_symbols (Plain kinds.Hdr) 2 h (lit< tt)
-carried_passes test (Plain kinds.Npr) h e = among_passes test carried_symbols (Plain kinds.Hdr) 3 h (lit< tt)
-carried_passes test (Plain kinds.Nwn) h e = among_passes test carried_symbols (Plain kinds.Hdr) 4 h (lit< tt)
-carried_passes test (Plain kinds.Npa) h e = among_passes test carried_symbols (Plain kinds.Hdr) 5 h (lit< tt)
-carried_passes test (Plain kinds.Net) h e = among_passes test carried_symbols (Plain kinds.Hdr) 6 h (lit< tt)
-carried_passes test (Plain kinds.Now) h e = among_passes test carried_symbols (Plain kinds.Hdr) 7 h (lit< tt)
-carried_passes test (Plain kinds.Nct) h e = among_passes test carried_symbols (Plain kinds.Hdr) 8 h (lit< tt)
-carried_passes test (Plain kinds.Nvt) h e = among_passes test carried_symbols (Plain kinds.Hdr) 9 h (lit< tt)
-carried_passes test (Plain kinds.Nat) h e = among_passes test carried_symbols (Plain kinds.Hdr) 10 h (lit< tt)
-carried_passes test (Plain kinds.Ins) h e = among_passes test carried_symbols (Plain kinds.Hdr) 11 h (lit< tt)
-carried_passes test (Plain kinds.Ind) h e = among_passes test carried_symbols (Plain kinds.Hdr) 12 h (lit< tt)
-carried_passes test (Plain kinds.Ari) h e = among_passes test carried_symbols (Plain kinds.Hdr) 13 h (lit< tt)
-carried_passes test (Plain kinds.Xrf) h e = among_passes test carried_symbols (Plain kinds.Hdr) 14 h (lit< tt)
-carried_passes test s h e = absurd (true≢false (sym e))
+carried_passes test s h e =
+    let found = has_among s carried_symbols (sym (ap (λ (b : Bool). not b || has s carried_symbols) e) ∙ are_there s) in
+    subst (λ (t : Symbol). test t ≡ true) (sym found.1.1) (among_passes test carried_symbols s found.0 h found.1.0)
 
 -- the carried symbols pass, and the others do
 all_but_carried : (test : Symbol → Bool) (xs : List Symbol) → list_all test carried_symbols ≡ true

@@ -14,7 +14,7 @@ use Rattle.cwr_shape.specs.declared.tallies.Scope.{Scope}
 use Rattle.cwr_shape.specs.declared.tallies.Scope.TheVariants as scopes
 use Rattle.cwr_shape.specs.Format.Shapes.{is_carried_symbol, without_carried}
 use Rattle.cwr_shape.specs.Format.LastSymbols.{is_grh, latest, group_of}
-use Rattle.cwr_shape.specs.Steps.Stages.{is_ipa, is_ipa_of, is_writer, other_role, pwr_step, stage_by, stage_of, stage_after}
+use Rattle.cwr_shape.specs.Steps.Stages.{is_ipa, is_ipa_of, is_writer, other_role, pwr_step, stage_by, stage_of}
 use Rattle.cwr_shape.specs.Steps.NextStages.{next_stage}
 use Rattle.cwr_shape.specs.Steps.Left.{StandsAt}
 use Rattle.cwr_shape.specs.Format.NextSymbols.{scope_by, scope_after, has_open_transaction}

@@ -9,7 +9,6 @@ use Rattle.cwr_shape.specs.declared.stages.Stage.TheVariants as stages
 use Rattle.cwr_shape.specs.Format.Shapes.{Matches}
 use Rattle.cwr_shape.specs.Format.Outlines.{Continues, IsWhole}
 use Rattle.cwr_shape.specs.Steps.NextStages.{next_stage}
-use Rattle.cwr_shape.proofs.Matcher.{after}
 use Rattle.cwr_shape.specs.Format.AnyTransmission.{Any}
 use Rattle.cwr_shape.specs.Steps.Left.{left, is_stage, LeavesAt}
 use Rattle.cwr_shape.proofs.StagePatterns.{table_continues, goes_back, next_is_stage}

@@ -1,5 +1,5 @@
 -- Orders of records without carried ones are those that they were before these were taken.
-use Rattle.std.proofs.Common.{◌≡◌, Bool, true, false, not, ◌&&◌, cond, List, [], ◌∷◌, ◌++◌, refl, sym, ap, ap₂, subst, ◌∙◌, inl}
+use Rattle.std.proofs.Common.{◌≡◌, Bool, true, false, not, ◌&&◌, List, [], ◌∷◌, ◌++◌, refl, sym, ap, ap₂, subst, ◌∙◌, inl}
 use Rattle.std.proofs.Common.{inr, true≢false, append_assoc, append-nil}
 use Rattle.std.specs.Prelude.{◌↔◌}
 use Rattle.std.specs.List.{AllByRecursion, list_all}
@@ -14,7 +14,7 @@ use Rattle.cwr_shape.specs.Format.Shapes.{Pattern, one_of, ◌then◌, many, car
 use Rattle.cwr_shape.specs.Format.Shapes.{IsShape, a, some, block, publisher, writer, tail_record, copy}
 use Rattle.cwr_shape.specs.Format.UncarriedOrder.{IsUncarriedShape, IsUncarriedGroup, IsUncarriedWhole, AreFormer, is_former}
 use Rattle.cwr_shape.specs.Format.UncarriedOrder.{uncarried_pattern, IsUncopiedShape, IsUncopiedGroup, IsUncopiedWhole}
-use Rattle.cwr_shape.specs.Format.UncarriedOrder.{AreUncopied, is_uncopied, uncopied_pattern}
+use Rattle.cwr_shape.specs.Format.UncarriedOrder.{AreUncopied, is_uncopied}
 use Rattle.cwr_shape.specs.Format.Outlines.{GroupOutline, IsGroupOutline, IsWhole}
 use Rattle.cwr_shape.proofs.Matcher.{without-cons, empty_only}
 use Rattle.cwr_shape.proofs.HeadFirst.{rest_after_head}

@@ -1,5 +1,5 @@
 -- The orders of records without copies, with carried records and without, for the laws that each order that was one of these still is.
-use Rattle.std.specs.Prelude.{◌≡◌, ◌<◌, Bool, true, false, not, List, [], ◌∷◌, length}
+use Rattle.std.specs.Prelude.{◌≡◌, ◌<◌, Bool, true, false, not, List, length}
 use Rattle.std.specs.List.{AllByRecursion, list_all}
 use Rattle.cwr_fields.specs.declared.codes.TransactionType.{TransactionType}
 use Rattle.cwr_fields.specs.declared.codes.TransactionType.TheVariants.{Agreement, NewWork, RevisedWork, Acknowledgement}

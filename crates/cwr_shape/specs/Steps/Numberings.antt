@@ -1,5 +1,5 @@
 -- What is counted of records in whatever order, and the numbers that it gives the next one.
-use Rattle.std.specs.Prelude.{ℕ, ◌<◌, ◌≤◌, nat_lt, List, [], ◌∷◌, slice_index, if◌then◌else◌}
+use Rattle.std.specs.Prelude.{ℕ, ◌≤◌, nat_lt, List, [], ◌∷◌, slice_index, if◌then◌else◌}
 use Rattle.cwr_fields.specs.declared.codes.TransactionType.{TransactionType}
 use Rattle.cwr_fields.specs.declared.codes.TransactionType.TheVariants.{Acknowledgement}
 use Rattle.cwr_shape.specs.declared.symbols.Symbol.{Symbol}

@@ -6,7 +6,7 @@ use Rattle.cwr_shape.specs.declared.tallies.Counts.{Counts}
 use Rattle.cwr_shape.specs.Format.Ranges.{LimitValues, AreInRange}
 use Rattle.cwr_shape.specs.Format.Outlines.{IsWithin, Continues}
 use Rattle.cwr_shape.specs.Steps.Left.{StandsAt}
-use Rattle.cwr_shape.specs.Format.NextSymbols.{after_header, counts_of, MayCome}
+use Rattle.cwr_shape.specs.Format.NextSymbols.{counts_of, MayCome}
 
 -- the limits, how far the records have come, and what was counted of them
 pub record TallyValue : Type 0 where
