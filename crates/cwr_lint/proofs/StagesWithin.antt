@@ -1,6 +1,7 @@
 -- What comes after a stage inside a group: the header of a transaction, a further record of one, or the group's foot.
-use Rattle.std.proofs.Common.{◌≡◌, Bool, true, false, true≢false, Option, Some, None, refl, sym, ap, ◌∙◌}
+use Rattle.std.proofs.Common.{◌≡◌, Bool, true, false, true≢false, List, [], ◌∷◌, Option, Some, None, refl, sym, ap, ◌∙◌, lit<}
 use Rattle.std.specs.Prelude.{◌&&◌, ◌||◌, not, is_some}
+use Rattle.std.specs.List.{list_all}
 use Rattle.cwr_fields.specs.declared.codes.Role.TheVariants.{Assignor, Acquirer}
 use Rattle.cwr_fields.specs.declared.codes.TransactionType.{TransactionType}
 use Rattle.cwr_fields.specs.declared.codes.TransactionType.TheVariants.{Agreement, NewWork, RevisedWork, Acknowledgement}
@@ -14,7 +15,8 @@ use Rattle.cwr_shape.specs.declared.stages.TransactionStep.{TransactionStep}
 use Rattle.cwr_shape.specs.declared.stages.TransactionStep.TheVariants as steps
 use Rattle.cwr_shape.specs.Format.NextSymbols.{is_header_of}
 use Rattle.cwr_shape.specs.Steps.NextStages.{header_step, next_stage, within}
-use Rattle.cwr_shape.proofs.AllSymbols.{of_each}
+use Rattle.cwr_shape.proofs.AllSymbols.{all_symbols, of_each}
+use Rattle.cwr_shape.proofs.PrefixFree.{among_passes}
 use Rattle.cwr_lint_lines.specs.Steps.Cells.{type_of_header}
 use Rattle.cwr_lint_lines.specs.Steps.States.{is_type}
 
@@ -49,6 +51,43 @@ first_step NewWork = steps.Work
 first_step RevisedWork = steps.Work
 first_step Acknowledgement = steps.Acked
 
+-- ---- each step in a group of each type
+
+abbrev all_types : List TransactionType
+all_types = Agreement ∷ NewWork ∷ RevisedWork ∷ Acknowledgement ∷ []
+
+each_type : (test : TransactionType → Bool) (ty : TransactionType) → list_all test all_types ≡ true → test ty ≡ true
+each_type test Agreement h = among_passes test all_types Agreement 0 h (lit< tt)
+each_type test NewWork h = among_passes test all_types Agreement 1 h (lit< tt)
+each_type test RevisedWork h = among_passes test all_types Agreement 2 h (lit< tt)
+each_type test Acknowledgement h = among_passes test all_types Agreement 3 h (lit< tt)
+
+abbrev all_steps : List TransactionStep
+all_steps =
+    steps.InGroup ∷ steps.Acked ∷ steps.Agreed ∷ steps.Territories ∷ steps.OneSide Assignor ∷ steps.OneSide Acquirer ∷ steps.Both
+    ∷ steps.Work ∷ steps.Controlled ∷ steps.Other ∷ steps.Writer ∷ steps.OtherWriter ∷ steps.Tail ∷ []
+
+each_step : (test : TransactionStep → Bool) (step : TransactionStep) → list_all test all_steps ≡ true → test step ≡ true
+each_step test steps.InGroup h = among_passes test all_steps steps.InGroup 0 h (lit< tt)
+each_step test steps.Acked h = among_passes test all_steps steps.InGroup 1 h (lit< tt)
+each_step test steps.Agreed h = among_passes test all_steps steps.InGroup 2 h (lit< tt)
+each_step test steps.Territories h = among_passes test all_steps steps.InGroup 3 h (lit< tt)
+each_step test (steps.OneSide Assignor) h = among_passes test all_steps steps.InGroup 4 h (lit< tt)
+each_step test (steps.OneSide Acquirer) h = among_passes test all_steps steps.InGroup 5 h (lit< tt)
+each_step test steps.Both h = among_passes test all_steps steps.InGroup 6 h (lit< tt)
+each_step test steps.Work h = among_passes test all_steps steps.InGroup 7 h (lit< tt)
+each_step test steps.Controlled h = among_passes test all_steps steps.InGroup 8 h (lit< tt)
+each_step test steps.Other h = among_passes test all_steps steps.InGroup 9 h (lit< tt)
+each_step test steps.Writer h = among_passes test all_steps steps.InGroup 10 h (lit< tt)
+each_step test steps.OtherWriter h = among_passes test all_steps steps.InGroup 11 h (lit< tt)
+each_step test steps.Tail h = among_passes test all_steps steps.InGroup 12 h (lit< tt)
+
+-- what the check computes of each of them holds of any
+everywhere : (test : TransactionType → TransactionStep → Bool)
+    → list_all (λ ty. list_all (test ty) all_steps) all_types ≡ true → (ty : TransactionType) (step : TransactionStep)
+    → test ty step ≡ true
+everywhere test h ty step = each_step (test ty) step (each_type (λ t. list_all (test t) all_steps) ty h)
+
 -- ---- tests of each symbol
 
 -- a further record leads on in the transaction
@@ -62,58 +101,8 @@ further_test ty step s =
     && (not (is_some (next_stage (Within ty step) s)) || not (is_before step)))
 
 further_passes : (ty : TransactionType) (step : TransactionStep) (s : Symbol) → further_test ty step s ≡ true
-further_passes Agreement steps.InGroup s = of_each (further_test Agreement steps.InGroup) s refl
-further_passes Agreement steps.Acked s = of_each (further_test Agreement steps.Acked) s refl
-further_passes Agreement steps.Agreed s = of_each (further_test Agreement steps.Agreed) s refl
-further_passes Agreement steps.Territories s = of_each (further_test Agreement steps.Territories) s refl
-further_passes Agreement (steps.OneSide Assignor) s = of_each (further_test Agreement (steps.OneSide Assignor)) s refl
-further_passes Agreement (steps.OneSide Acquirer) s = of_each (further_test Agreement (steps.OneSide Acquirer)) s refl
-further_passes Agreement steps.Both s = of_each (further_test Agreement steps.Both) s refl
-further_passes Agreement steps.Work s = of_each (further_test Agreement steps.Work) s refl
-further_passes Agreement steps.Controlled s = of_each (further_test Agreement steps.Controlled) s refl
-further_passes Agreement steps.Other s = of_each (further_test Agreement steps.Other) s refl
-further_passes Agreement steps.Writer s = of_each (further_test Agreement steps.Writer) s refl
-further_passes Agreement steps.OtherWriter s = of_each (further_test Agreement steps.OtherWriter) s refl
-further_passes Agreement steps.Tail s = of_each (further_test Agreement steps.Tail) s refl
-further_passes NewWork steps.InGroup s = of_each (further_test NewWork steps.InGroup) s refl
-further_passes NewWork steps.Acked s = of_each (further_test NewWork steps.Acked) s refl
-further_passes NewWork steps.Agreed s = of_each (further_test NewWork steps.Agreed) s refl
-further_passes NewWork steps.Territories s = of_each (further_test NewWork steps.Territories) s refl
-further_passes NewWork (steps.OneSide Assignor) s = of_each (further_test NewWork (steps.OneSide Assignor)) s refl
-further_passes NewWork (steps.OneSide Acquirer) s = of_each (further_test NewWork (steps.OneSide Acquirer)) s refl
-further_passes NewWork steps.Both s = of_each (further_test NewWork steps.Both) s refl
-further_passes NewWork steps.Work s = of_each (further_test NewWork steps.Work) s refl
-further_passes NewWork steps.Controlled s = of_each (further_test NewWork steps.Controlled) s refl
-further_passes NewWork steps.Other s = of_each (further_test NewWork steps.Other) s refl
-further_passes NewWork steps.Writer s = of_each (further_test NewWork steps.Writer) s refl
-further_passes NewWork steps.OtherWriter s = of_each (further_test NewWork steps.OtherWriter) s refl
-further_passes NewWork steps.Tail s = of_each (further_test NewWork steps.Tail) s refl
-further_passes RevisedWork steps.InGroup s = of_each (further_test RevisedWork steps.InGroup) s refl
-further_passes RevisedWork steps.Acked s = of_each (further_test RevisedWork steps.Acked) s refl
-further_passes RevisedWork steps.Agreed s = of_each (further_test RevisedWork steps.Agreed) s refl
-further_passes RevisedWork steps.Territories s = of_each (further_test RevisedWork steps.Territories) s refl
-further_passes RevisedWork (steps.OneSide Assignor) s = of_each (further_test RevisedWork (steps.OneSide Assignor)) s refl
-further_passes RevisedWork (steps.OneSide Acquirer) s = of_each (further_test RevisedWork (steps.OneSide Acquirer)) s refl
-further_passes RevisedWork steps.Both s = of_each (further_test RevisedWork steps.Both) s refl
-further_passes RevisedWork steps.Work s = of_each (further_test RevisedWork steps.Work) s refl
-further_passes RevisedWork steps.Controlled s = of_each (further_test RevisedWork steps.Controlled) s refl
-further_passes RevisedWork steps.Other s = of_each (further_test RevisedWork steps.Other) s refl
-further_passes RevisedWork steps.Writer s = of_each (further_test RevisedWork steps.Writer) s refl
-further_passes RevisedWork steps.OtherWriter s = of_each (further_test RevisedWork steps.OtherWriter) s refl
-further_passes RevisedWork steps.Tail s = of_each (further_test RevisedWork steps.Tail) s refl
-further_passes Acknowledgement steps.InGroup s = of_each (further_test Acknowledgement steps.InGroup) s refl
-further_passes Acknowledgement steps.Acked s = of_each (further_test Acknowledgement steps.Acked) s refl
-further_passes Acknowledgement steps.Agreed s = of_each (further_test Acknowledgement steps.Agreed) s refl
-further_passes Acknowledgement steps.Territories s = of_each (further_test Acknowledgement steps.Territories) s refl
-further_passes Acknowledgement (steps.OneSide Assignor) s = of_each (further_test Acknowledgement (steps.OneSide Assignor)) s refl
-further_passes Acknowledgement (steps.OneSide Acquirer) s = of_each (further_test Acknowledgement (steps.OneSide Acquirer)) s refl
-further_passes Acknowledgement steps.Both s = of_each (further_test Acknowledgement steps.Both) s refl
-further_passes Acknowledgement steps.Work s = of_each (further_test Acknowledgement steps.Work) s refl
-further_passes Acknowledgement steps.Controlled s = of_each (further_test Acknowledgement steps.Controlled) s refl
-further_passes Acknowledgement steps.Other s = of_each (further_test Acknowledgement steps.Other) s refl
-further_passes Acknowledgement steps.Writer s = of_each (further_test Acknowledgement steps.Writer) s refl
-further_passes Acknowledgement steps.OtherWriter s = of_each (further_test Acknowledgement steps.OtherWriter) s refl
-further_passes Acknowledgement steps.Tail s = of_each (further_test Acknowledgement steps.Tail) s refl
+further_passes ty step s =
+    of_each (further_test ty step) s (everywhere (λ t p. list_all (further_test t p) all_symbols) refl ty step)
 
 -- a header comes first in a group, or after a whole transaction
 abbrev pub header_test : TransactionType → TransactionStep → Symbol → Bool
@@ -122,58 +111,8 @@ header_test ty step s =
     || (is_before step || is_some (next_stage (Within ty step) (Plain kinds.Grt))))
 
 header_passes : (ty : TransactionType) (step : TransactionStep) (s : Symbol) → header_test ty step s ≡ true
-header_passes Agreement steps.InGroup s = of_each (header_test Agreement steps.InGroup) s refl
-header_passes Agreement steps.Acked s = of_each (header_test Agreement steps.Acked) s refl
-header_passes Agreement steps.Agreed s = of_each (header_test Agreement steps.Agreed) s refl
-header_passes Agreement steps.Territories s = of_each (header_test Agreement steps.Territories) s refl
-header_passes Agreement (steps.OneSide Assignor) s = of_each (header_test Agreement (steps.OneSide Assignor)) s refl
-header_passes Agreement (steps.OneSide Acquirer) s = of_each (header_test Agreement (steps.OneSide Acquirer)) s refl
-header_passes Agreement steps.Both s = of_each (header_test Agreement steps.Both) s refl
-header_passes Agreement steps.Work s = of_each (header_test Agreement steps.Work) s refl
-header_passes Agreement steps.Controlled s = of_each (header_test Agreement steps.Controlled) s refl
-header_passes Agreement steps.Other s = of_each (header_test Agreement steps.Other) s refl
-header_passes Agreement steps.Writer s = of_each (header_test Agreement steps.Writer) s refl
-header_passes Agreement steps.OtherWriter s = of_each (header_test Agreement steps.OtherWriter) s refl
-header_passes Agreement steps.Tail s = of_each (header_test Agreement steps.Tail) s refl
-header_passes NewWork steps.InGroup s = of_each (header_test NewWork steps.InGroup) s refl
-header_passes NewWork steps.Acked s = of_each (header_test NewWork steps.Acked) s refl
-header_passes NewWork steps.Agreed s = of_each (header_test NewWork steps.Agreed) s refl
-header_passes NewWork steps.Territories s = of_each (header_test NewWork steps.Territories) s refl
-header_passes NewWork (steps.OneSide Assignor) s = of_each (header_test NewWork (steps.OneSide Assignor)) s refl
-header_passes NewWork (steps.OneSide Acquirer) s = of_each (header_test NewWork (steps.OneSide Acquirer)) s refl
-header_passes NewWork steps.Both s = of_each (header_test NewWork steps.Both) s refl
-header_passes NewWork steps.Work s = of_each (header_test NewWork steps.Work) s refl
-header_passes NewWork steps.Controlled s = of_each (header_test NewWork steps.Controlled) s refl
-header_passes NewWork steps.Other s = of_each (header_test NewWork steps.Other) s refl
-header_passes NewWork steps.Writer s = of_each (header_test NewWork steps.Writer) s refl
-header_passes NewWork steps.OtherWriter s = of_each (header_test NewWork steps.OtherWriter) s refl
-header_passes NewWork steps.Tail s = of_each (header_test NewWork steps.Tail) s refl
-header_passes RevisedWork steps.InGroup s = of_each (header_test RevisedWork steps.InGroup) s refl
-header_passes RevisedWork steps.Acked s = of_each (header_test RevisedWork steps.Acked) s refl
-header_passes RevisedWork steps.Agreed s = of_each (header_test RevisedWork steps.Agreed) s refl
-header_passes RevisedWork steps.Territories s = of_each (header_test RevisedWork steps.Territories) s refl
-header_passes RevisedWork (steps.OneSide Assignor) s = of_each (header_test RevisedWork (steps.OneSide Assignor)) s refl
-header_passes RevisedWork (steps.OneSide Acquirer) s = of_each (header_test RevisedWork (steps.OneSide Acquirer)) s refl
-header_passes RevisedWork steps.Both s = of_each (header_test RevisedWork steps.Both) s refl
-header_passes RevisedWork steps.Work s = of_each (header_test RevisedWork steps.Work) s refl
-header_passes RevisedWork steps.Controlled s = of_each (header_test RevisedWork steps.Controlled) s refl
-header_passes RevisedWork steps.Other s = of_each (header_test RevisedWork steps.Other) s refl
-header_passes RevisedWork steps.Writer s = of_each (header_test RevisedWork steps.Writer) s refl
-header_passes RevisedWork steps.OtherWriter s = of_each (header_test RevisedWork steps.OtherWriter) s refl
-header_passes RevisedWork steps.Tail s = of_each (header_test RevisedWork steps.Tail) s refl
-header_passes Acknowledgement steps.InGroup s = of_each (header_test Acknowledgement steps.InGroup) s refl
-header_passes Acknowledgement steps.Acked s = of_each (header_test Acknowledgement steps.Acked) s refl
-header_passes Acknowledgement steps.Agreed s = of_each (header_test Acknowledgement steps.Agreed) s refl
-header_passes Acknowledgement steps.Territories s = of_each (header_test Acknowledgement steps.Territories) s refl
-header_passes Acknowledgement (steps.OneSide Assignor) s = of_each (header_test Acknowledgement (steps.OneSide Assignor)) s refl
-header_passes Acknowledgement (steps.OneSide Acquirer) s = of_each (header_test Acknowledgement (steps.OneSide Acquirer)) s refl
-header_passes Acknowledgement steps.Both s = of_each (header_test Acknowledgement steps.Both) s refl
-header_passes Acknowledgement steps.Work s = of_each (header_test Acknowledgement steps.Work) s refl
-header_passes Acknowledgement steps.Controlled s = of_each (header_test Acknowledgement steps.Controlled) s refl
-header_passes Acknowledgement steps.Other s = of_each (header_test Acknowledgement steps.Other) s refl
-header_passes Acknowledgement steps.Writer s = of_each (header_test Acknowledgement steps.Writer) s refl
-header_passes Acknowledgement steps.OtherWriter s = of_each (header_test Acknowledgement steps.OtherWriter) s refl
-header_passes Acknowledgement steps.Tail s = of_each (header_test Acknowledgement steps.Tail) s refl
+header_passes ty step s =
+    of_each (header_test ty step) s (everywhere (λ t p. list_all (header_test t p) all_symbols) refl ty step)
 
 -- it leads to the first step
 abbrev pub is_begun : TransactionType → Option Stage → Bool
@@ -188,58 +127,8 @@ abbrev pub begun_test : TransactionType → TransactionStep → Symbol → Bool
 begun_test ty step s = not (is_header_of ty s) || is_begun ty (next_stage (Within ty step) s)
 
 begun_passes : (ty : TransactionType) (step : TransactionStep) (s : Symbol) → begun_test ty step s ≡ true
-begun_passes Agreement steps.InGroup s = of_each (begun_test Agreement steps.InGroup) s refl
-begun_passes Agreement steps.Acked s = of_each (begun_test Agreement steps.Acked) s refl
-begun_passes Agreement steps.Agreed s = of_each (begun_test Agreement steps.Agreed) s refl
-begun_passes Agreement steps.Territories s = of_each (begun_test Agreement steps.Territories) s refl
-begun_passes Agreement (steps.OneSide Assignor) s = of_each (begun_test Agreement (steps.OneSide Assignor)) s refl
-begun_passes Agreement (steps.OneSide Acquirer) s = of_each (begun_test Agreement (steps.OneSide Acquirer)) s refl
-begun_passes Agreement steps.Both s = of_each (begun_test Agreement steps.Both) s refl
-begun_passes Agreement steps.Work s = of_each (begun_test Agreement steps.Work) s refl
-begun_passes Agreement steps.Controlled s = of_each (begun_test Agreement steps.Controlled) s refl
-begun_passes Agreement steps.Other s = of_each (begun_test Agreement steps.Other) s refl
-begun_passes Agreement steps.Writer s = of_each (begun_test Agreement steps.Writer) s refl
-begun_passes Agreement steps.OtherWriter s = of_each (begun_test Agreement steps.OtherWriter) s refl
-begun_passes Agreement steps.Tail s = of_each (begun_test Agreement steps.Tail) s refl
-begun_passes NewWork steps.InGroup s = of_each (begun_test NewWork steps.InGroup) s refl
-begun_passes NewWork steps.Acked s = of_each (begun_test NewWork steps.Acked) s refl
-begun_passes NewWork steps.Agreed s = of_each (begun_test NewWork steps.Agreed) s refl
-begun_passes NewWork steps.Territories s = of_each (begun_test NewWork steps.Territories) s refl
-begun_passes NewWork (steps.OneSide Assignor) s = of_each (begun_test NewWork (steps.OneSide Assignor)) s refl
-begun_passes NewWork (steps.OneSide Acquirer) s = of_each (begun_test NewWork (steps.OneSide Acquirer)) s refl
-begun_passes NewWork steps.Both s = of_each (begun_test NewWork steps.Both) s refl
-begun_passes NewWork steps.Work s = of_each (begun_test NewWork steps.Work) s refl
-begun_passes NewWork steps.Controlled s = of_each (begun_test NewWork steps.Controlled) s refl
-begun_passes NewWork steps.Other s = of_each (begun_test NewWork steps.Other) s refl
-begun_passes NewWork steps.Writer s = of_each (begun_test NewWork steps.Writer) s refl
-begun_passes NewWork steps.OtherWriter s = of_each (begun_test NewWork steps.OtherWriter) s refl
-begun_passes NewWork steps.Tail s = of_each (begun_test NewWork steps.Tail) s refl
-begun_passes RevisedWork steps.InGroup s = of_each (begun_test RevisedWork steps.InGroup) s refl
-begun_passes RevisedWork steps.Acked s = of_each (begun_test RevisedWork steps.Acked) s refl
-begun_passes RevisedWork steps.Agreed s = of_each (begun_test RevisedWork steps.Agreed) s refl
-begun_passes RevisedWork steps.Territories s = of_each (begun_test RevisedWork steps.Territories) s refl
-begun_passes RevisedWork (steps.OneSide Assignor) s = of_each (begun_test RevisedWork (steps.OneSide Assignor)) s refl
-begun_passes RevisedWork (steps.OneSide Acquirer) s = of_each (begun_test RevisedWork (steps.OneSide Acquirer)) s refl
-begun_passes RevisedWork steps.Both s = of_each (begun_test RevisedWork steps.Both) s refl
-begun_passes RevisedWork steps.Work s = of_each (begun_test RevisedWork steps.Work) s refl
-begun_passes RevisedWork steps.Controlled s = of_each (begun_test RevisedWork steps.Controlled) s refl
-begun_passes RevisedWork steps.Other s = of_each (begun_test RevisedWork steps.Other) s refl
-begun_passes RevisedWork steps.Writer s = of_each (begun_test RevisedWork steps.Writer) s refl
-begun_passes RevisedWork steps.OtherWriter s = of_each (begun_test RevisedWork steps.OtherWriter) s refl
-begun_passes RevisedWork steps.Tail s = of_each (begun_test RevisedWork steps.Tail) s refl
-begun_passes Acknowledgement steps.InGroup s = of_each (begun_test Acknowledgement steps.InGroup) s refl
-begun_passes Acknowledgement steps.Acked s = of_each (begun_test Acknowledgement steps.Acked) s refl
-begun_passes Acknowledgement steps.Agreed s = of_each (begun_test Acknowledgement steps.Agreed) s refl
-begun_passes Acknowledgement steps.Territories s = of_each (begun_test Acknowledgement steps.Territories) s refl
-begun_passes Acknowledgement (steps.OneSide Assignor) s = of_each (begun_test Acknowledgement (steps.OneSide Assignor)) s refl
-begun_passes Acknowledgement (steps.OneSide Acquirer) s = of_each (begun_test Acknowledgement (steps.OneSide Acquirer)) s refl
-begun_passes Acknowledgement steps.Both s = of_each (begun_test Acknowledgement steps.Both) s refl
-begun_passes Acknowledgement steps.Work s = of_each (begun_test Acknowledgement steps.Work) s refl
-begun_passes Acknowledgement steps.Controlled s = of_each (begun_test Acknowledgement steps.Controlled) s refl
-begun_passes Acknowledgement steps.Other s = of_each (begun_test Acknowledgement steps.Other) s refl
-begun_passes Acknowledgement steps.Writer s = of_each (begun_test Acknowledgement steps.Writer) s refl
-begun_passes Acknowledgement steps.OtherWriter s = of_each (begun_test Acknowledgement steps.OtherWriter) s refl
-begun_passes Acknowledgement steps.Tail s = of_each (begun_test Acknowledgement steps.Tail) s refl
+begun_passes ty step s =
+    of_each (begun_test ty step) s (everywhere (λ t p. list_all (begun_test t p) all_symbols) refl ty step)
 
 -- ---- what that says
 
@@ -331,60 +220,13 @@ is_closed None = true
 is_closed (Some Closed) = true
 is_closed (Some stage) = false
 
-foot_passes : (ty : TransactionType) (step : TransactionStep) → (is_closed (next_stage (Within ty step) (Plain kinds.Grt))
-    && (not (is_before step) || not (is_some (next_stage (Within ty step) (Plain kinds.Grt))))) ≡ true
-foot_passes Agreement steps.InGroup = refl
-foot_passes Agreement steps.Acked = refl
-foot_passes Agreement steps.Agreed = refl
-foot_passes Agreement steps.Territories = refl
-foot_passes Agreement (steps.OneSide Assignor) = refl
-foot_passes Agreement (steps.OneSide Acquirer) = refl
-foot_passes Agreement steps.Both = refl
-foot_passes Agreement steps.Work = refl
-foot_passes Agreement steps.Controlled = refl
-foot_passes Agreement steps.Other = refl
-foot_passes Agreement steps.Writer = refl
-foot_passes Agreement steps.OtherWriter = refl
-foot_passes Agreement steps.Tail = refl
-foot_passes NewWork steps.InGroup = refl
-foot_passes NewWork steps.Acked = refl
-foot_passes NewWork steps.Agreed = refl
-foot_passes NewWork steps.Territories = refl
-foot_passes NewWork (steps.OneSide Assignor) = refl
-foot_passes NewWork (steps.OneSide Acquirer) = refl
-foot_passes NewWork steps.Both = refl
-foot_passes NewWork steps.Work = refl
-foot_passes NewWork steps.Controlled = refl
-foot_passes NewWork steps.Other = refl
-foot_passes NewWork steps.Writer = refl
-foot_passes NewWork steps.OtherWriter = refl
-foot_passes NewWork steps.Tail = refl
-foot_passes RevisedWork steps.InGroup = refl
-foot_passes RevisedWork steps.Acked = refl
-foot_passes RevisedWork steps.Agreed = refl
-foot_passes RevisedWork steps.Territories = refl
-foot_passes RevisedWork (steps.OneSide Assignor) = refl
-foot_passes RevisedWork (steps.OneSide Acquirer) = refl
-foot_passes RevisedWork steps.Both = refl
-foot_passes RevisedWork steps.Work = refl
-foot_passes RevisedWork steps.Controlled = refl
-foot_passes RevisedWork steps.Other = refl
-foot_passes RevisedWork steps.Writer = refl
-foot_passes RevisedWork steps.OtherWriter = refl
-foot_passes RevisedWork steps.Tail = refl
-foot_passes Acknowledgement steps.InGroup = refl
-foot_passes Acknowledgement steps.Acked = refl
-foot_passes Acknowledgement steps.Agreed = refl
-foot_passes Acknowledgement steps.Territories = refl
-foot_passes Acknowledgement (steps.OneSide Assignor) = refl
-foot_passes Acknowledgement (steps.OneSide Acquirer) = refl
-foot_passes Acknowledgement steps.Both = refl
-foot_passes Acknowledgement steps.Work = refl
-foot_passes Acknowledgement steps.Controlled = refl
-foot_passes Acknowledgement steps.Other = refl
-foot_passes Acknowledgement steps.Writer = refl
-foot_passes Acknowledgement steps.OtherWriter = refl
-foot_passes Acknowledgement steps.Tail = refl
+abbrev pub foot_test : TransactionType → TransactionStep → Bool
+foot_test ty step =
+    is_closed (next_stage (Within ty step) (Plain kinds.Grt))
+    && (not (is_before step) || not (is_some (next_stage (Within ty step) (Plain kinds.Grt))))
+
+foot_passes : (ty : TransactionType) (step : TransactionStep) → foot_test ty step ≡ true
+foot_passes ty step = everywhere foot_test refl ty step
 
 closed_is : (to : Stage) → is_closed (Some to) ≡ true → to ≡ Closed
 closed_is Closed h = refl

@@ -29,11 +29,12 @@ only test (p and q) = only test p
 only test (many p) = only test p
 only test (carrying p) = only test p && list_all test carried_symbols
 
-pub among_passes : (test : Symbol → Bool) (ss : List Symbol) (s : Symbol) (i : ℕ) → list_all test ss ≡ true → i < length ss
-    → test (slice_index_or ss i s) ≡ true
-among_passes test [] s i h k = absurd (omega arith)
-among_passes test (x ∷ ss) s zero h k = (and_parts (test x) (list_all test ss) h).0
-among_passes test (x ∷ ss) s (suc i) h k = among_passes test ss s i (and_parts (test x) (list_all test ss) h).1 (omega arith)
+-- what stands at a place of a list passes a test that all of it pass
+pub among_passes : {A : Type 0} (test : A → Bool) (xs : List A) (x : A) (i : ℕ) → list_all test xs ≡ true → i < length xs
+    → test (slice_index_or xs i x) ≡ true
+among_passes test [] x i h k = absurd (omega arith)
+among_passes test (y ∷ xs) x zero h k = (and_parts (test y) (list_all test xs) h).0
+among_passes test (y ∷ xs) x (suc i) h k = among_passes test xs x i (and_parts (test y) (list_all test xs) h).1 (omega arith)
 
 all-append : (test : Symbol → Bool) (xs ys : List Symbol) → list_all test xs ≡ true → list_all test ys ≡ true
     → list_all test (xs ++ ys) ≡ true
