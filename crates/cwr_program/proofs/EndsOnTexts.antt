@@ -28,13 +28,13 @@ use Rattle.cwr_program.specs.declared.endings.Look.TheVariants as looks
 use Rattle.cwr_program.specs.declared.endings.Status.{Status}
 use Rattle.cwr_program.specs.declared.endings.Status.TheVariants as statuses
 use Rattle.cwr_program.specs.declared.endings.Wanted.{Wanted}
-use Rattle.cwr_program.specs.declared.faults.Told.{Told}
-use Rattle.cwr_program.specs.declared.faults.Fault.{Fault}
-use Rattle.cwr_program.specs.declared.faults.Fault.TheVariants as faults
+use Rattle.cwr_files.specs.declared.faults.Told.{Told}
+use Rattle.cwr_files.specs.declared.faults.Fault.{Fault}
+use Rattle.cwr_files.specs.declared.faults.Fault.TheVariants as faults
 use Rattle.cwr_program.specs.declared.reports.Judgement.{Judgement}
 use Rattle.cwr_program.specs.declared.reports.Telling.{Telling}
 use Rattle.cwr_program.specs.Format.Endings.{EndsOnInput, FallsShort, IsStatusOn, Meets, StatusOnInput, fault_status}
-use Rattle.cwr_program.specs.Format.Inputs.{are_standard, is_standard}
+use Rattle.cwr_files.specs.Format.Inputs.{are_standard, is_standard}
 use Rattle.cwr_program.specs.Steps.Tellings.{CountsInput, CountsLook, CountsReading, CountsWriting, TellsText, TellsUpTo}
 use Rattle.cwr_program.specs.Steps.Looks.{IsLook, JudgesOn, LooksAfter, LooksOnce, follows, good_status, judged_with}
 use Rattle.cwr_program.specs.Steps.Looks.{judgement_in, look_of, status_after, status_in}

@@ -11,8 +11,8 @@ use Rattle.cwr_parts.specs.Format.Splitting.{JudgesSplit}
 use Rattle.cwr_program.specs.declared.endings.Look.{Look}
 use Rattle.cwr_program.specs.declared.endings.Status.{Status}
 use Rattle.cwr_program.specs.declared.endings.Status.TheVariants as statuses
-use Rattle.cwr_program.specs.declared.faults.Told.{Told}
-use Rattle.cwr_program.specs.declared.faults.Fault.{Fault}
+use Rattle.cwr_files.specs.declared.faults.Told.{Told}
+use Rattle.cwr_files.specs.declared.faults.Fault.{Fault}
 use Rattle.cwr_program.specs.Format.Endings.{EndsAsSplit, IsStatusOn}
 use Rattle.cwr_program.specs.Steps.Looks.{IsLook, whole_status}
 use Rattle.cwr_program.specs.Steps.Splits.{JudgesCut, SplitEndsAs}

@@ -1,4 +1,3 @@
 -- What is promised, in the words of the format.
 pub mod Endings
-pub mod Inputs
 pub mod Tables

@@ -1,6 +1,4 @@
 -- What the code keeps, and what its calls do to that.
-pub mod Inputs
 pub mod Looks
 pub mod Tellings
-pub mod NumberedFiles
 pub mod Splits

@@ -4,13 +4,10 @@ ghost use Rattle.std.specs.Prelude.{IfOk};
 ghost use Rattle.cwr_acks.specs.Format.SentAnswers.{IsFresh};
 
 use crate::endings::Status;
-use crate::faults::{Fault, Name, Told};
-use crate::inputs::{is_standard, open_input};
-use crate::outputs::{gathered, told_of};
-use crate::progress::Pace;
 use crate::reports::{Asked, Telling, judgement_of, look_after, tell_aside};
 use cwr_acks::{Form, acks};
 use cwr_devices::{Counted, Sink};
+use cwr_files::{Fault, Name, Pace, Told, gathered, is_standard, open_input, told_of};
 use cwr_sent::{Sent, read_sent};
 use cwr_tools::{ToolFault, Verdict, put_verdict_line, verdict_of};
 use std::io::{Read, Write};

@@ -4,8 +4,8 @@ ghost use Rattle.std.specs.Prelude.{◌≡◌};
 ghost use Rattle.cwr_program.specs.Format.Endings.{EndsAfterFault};
 ghost use Rattle.cwr_program.specs.Steps.Looks.{follows, status_in, whole_status};
 
-use crate::faults::{Fault, Told};
 use cwr_explain::Trailing;
+use cwr_files::{Fault, Told};
 use cwr_shape::Level;
 use cwr_tools::{ToolFault, Verdict};
 

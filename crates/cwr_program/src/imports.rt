@@ -3,12 +3,8 @@
 ghost use Rattle.cwr_program.specs.Format.Endings.{ImportEndsAs};
 
 use crate::endings::Status;
-use crate::faults::{Fault, Name, Told};
-use crate::inputs::Input;
-use crate::new_files::create_output;
-use crate::outputs::{Gathered, gathered, told_of};
-use crate::progress::Pace;
 use cwr_devices::{Counted, Sink};
+use cwr_files::{Fault, Gathered, Input, Name, Pace, Told, create_output, gathered, told_of};
 use cwr_json::Encoding;
 use cwr_shape::Limits;
 use cwr_write::{WriteFault, Written, put_hint, put_write_outcome, write};

@@ -1,15 +1,13 @@
 //! Transmissions that are joined to one.
 
 use crate::endings::{Look, Status, ended_by, follows};
-use crate::faults::{Fault, Name, Told};
-use crate::inputs::{Input, is_standard, open_input};
-use crate::new_files::create_output;
-use crate::outputs::{gathered, told_of};
-use crate::progress::{Pace, Paced, Unwatched};
 use crate::reports::{look_beyond, tell_following};
-use crate::same_files::{identity_of, identity_of_input, is_there};
 use crate::splits::hand_on;
 use cwr_devices::{Counted, Sink, Source};
+use cwr_files::{
+    Fault, Input, Name, Pace, Paced, Told, Unwatched, create_output, gathered, identity_of,
+    identity_of_input, is_standard, is_there, open_input, told_of,
+};
 use cwr_parts::{join, put_join_outcome};
 use cwr_shape::Limits;
 use std::alloc::Global;

@@ -3,19 +3,12 @@
 
 mod answers;
 mod endings;
-mod faults;
-mod file_lines;
 mod imports;
-mod inputs;
 mod joins;
 mod manual;
-mod new_files;
-mod outputs;
 mod program;
-mod progress;
 mod renumberings;
 mod reports;
-mod same_files;
 mod several;
 mod splits;
 

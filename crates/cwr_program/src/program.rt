@@ -1,22 +1,19 @@
 //! The program between its words and its devices.
 
-ghost use Rattle.std.specs.Prelude.{◌≡◌, ◌≢◌, ◌≤◌, ◌||◌, map, option_map, true, false, None, if◌then◌else◌};
+ghost use Rattle.std.specs.Prelude.{◌≡◌, ◌≢◌, ◌≤◌, ◌||◌, map, option_map, true, false, None, IfOk, if◌then◌else◌};
 ghost use Rattle.std.specs.IoError.{error_kind};
 ghost use Rattle.std.specs.declared.io.ErrorKind.TheVariants.{OutOfMemory as lacks_memory};
 ghost use Rattle.clap.specs.Values.{kind_of};
 ghost use Rattle.cwr_program.specs.Format.Endings.{EndsOnInput, IsOfInput, StatusOnInput, fault_status, wanted_in};
-ghost use Rattle.cwr_program.specs.Format.Inputs.{are_standard, is_standard};
+ghost use Rattle.cwr_files.specs.Format.Inputs.{are_standard, is_standard};
 ghost use Rattle.cwr_program.specs.Format.Tables.{table_of};
 ghost use Rattle.cwr_program.specs.Steps.Looks.{tells_findings};
 
 use crate::answers::{Answering, match_answers};
 use crate::endings::{Status, Wanted};
-use crate::faults::{Fault, tell_fault};
 use crate::imports::{Import, import_file, import_input};
-use crate::inputs::{DASH, open_input};
 use crate::joins::{Union, join_files};
-use crate::outputs::print_manual;
-use crate::progress::{Pace, Progress};
+use crate::manual::MANUAL;
 use crate::renumberings::{Repair, repair_numbers};
 use crate::reports::{Asked, Telling, report_input, telling_of};
 use crate::several::report_several;
@@ -24,6 +21,7 @@ use crate::splits::{Cut, split_file};
 use clap::error::ErrorKind;
 use cwr_acks::Form;
 use cwr_csv::Table;
+use cwr_files::{DASH, Fault, Pace, Progress, open_input, print, tell_fault};
 use cwr_json::Encoding;
 use cwr_shape::Limits;
 use cwr_words::{Rows, Task, Work, task_of};
@@ -216,6 +214,16 @@ fn table_of(rows: Rows) -> Table
     match rows {
         Rows::Records(kind) => Table::Records(kind),
         Rows::Works => Table::Works,
+    }
+}
+
+/// Prints the manual.
+fn print_manual<'a, O: Write + Drop>(output: O) -> Result<Status, Fault<'a>>
+    ensures { IfOk result (λ status. status ≡ Status.Good) }
+{
+    match print(output, MANUAL.as_bytes()) {
+        Ok(()) => Ok(Status::Good),
+        Err(told) => Err(Fault::Write(told)),
     }
 }
 

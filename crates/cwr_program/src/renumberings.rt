@@ -1,15 +1,13 @@
 //! A transmission whose numbers are put right.
 
 use crate::endings::{Look, Status, ended_by, follows};
-use crate::faults::{Fault, Name, Told};
-use crate::inputs::{DASH, Input, open_input};
 use crate::joins::refuse_out;
-use crate::new_files::create_output;
-use crate::outputs::{Gathered, gathered, told_of};
-use crate::progress::Pace;
 use crate::reports::{look_beyond, tell_following};
 use crate::splits::hand_on;
 use cwr_devices::{Counted, Sink};
+use cwr_files::{
+    DASH, Fault, Gathered, Input, Name, Pace, Told, create_output, gathered, open_input, told_of,
+};
 use cwr_renumber::{put_renumber_outcome, renumber};
 use cwr_shape::Limits;
 use cwr_tools::{JoinReport, ToolFault};

@@ -5,21 +5,19 @@ ghost use Rattle.cwr_tools.specs.Format.Reports.{CountsWriterFault};
 ghost use Rattle.cwr_tools.specs.Format.Verdicts.{JudgesText};
 ghost use Rattle.cwr_tools.specs.Format.Watching.{SeesAccepted};
 ghost use Rattle.cwr_program.specs.Format.Endings.{EndsOnInput};
-ghost use Rattle.cwr_program.specs.Steps.Inputs.{remaining_of};
+ghost use Rattle.cwr_files.specs.Steps.Inputs.{remaining_of};
 ghost use Rattle.cwr_program.specs.Steps.Tellings.{CountsInput, CountsLook, CountsReading, CountsWriting, TellsText};
 ghost use Rattle.cwr_program.specs.Steps.Looks.{IsLook, JudgesOn, LooksAfter, LooksOnce, judgement_in, look_of, tells_findings};
 
 use crate::endings::{Look, Status, Wanted, follows, status_of};
-use crate::faults::{Fault, Name, Told};
-use crate::file_lines::FileLines;
-use crate::inputs::{Input, shown_name};
-use crate::outputs::{Gathered, gathered, told_of};
-use crate::progress::Pace;
 use cwr_acks::{Form, acks};
 use cwr_advise::advise;
 use cwr_csv::{Table, csv};
 use cwr_devices::{Counted, Sink, SinkFault, Source, Target};
 use cwr_explain::{Trailing, explain, read_trailing};
+use cwr_files::{
+    Fault, FileLines, Gathered, Input, Name, Pace, Told, gathered, shown_name, told_of,
+};
 use cwr_json::Encoding;
 use cwr_lint::lint;
 use cwr_shape::Limits;

@@ -3,13 +3,11 @@
 ghost use Rattle.std.specs.Prelude.{◌≡◌, ◌||◌, true, None};
 
 use crate::endings::Status;
-use crate::faults::{Fault, Name, tell_fault};
-use crate::file_lines::FileLines;
-use crate::inputs::{open_input, shown_name};
-use crate::outputs::{Gathered, gathered, told_of};
-use crate::progress::Pace;
 use crate::reports::{Asked, Judgement, judge_input, put_unwanted, tell_aside, telling_of};
 use cwr_devices::{Sink, Target};
+use cwr_files::{
+    Fault, FileLines, Gathered, Name, Pace, gathered, open_input, shown_name, tell_fault, told_of,
+};
 use cwr_tools::{ToolFault, Verdict};
 use std::alloc::Global;
 use std::io::{Read, Write};

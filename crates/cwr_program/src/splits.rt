@@ -1,19 +1,17 @@
 //! Transmissions that are cut into files.
 
 ghost use Rattle.cwr_program.specs.Format.Endings.{EndsAsSplit};
-ghost use Rattle.cwr_program.specs.Steps.Inputs.{remaining_of};
+ghost use Rattle.cwr_files.specs.Steps.Inputs.{remaining_of};
 ghost use Rattle.cwr_program.specs.Steps.Looks.{whole_status};
 ghost use Rattle.cwr_program.specs.Steps.Splits.{JudgesCut, SplitEndsAs};
 
 use crate::endings::{Look, Status, ended_by, status_after};
-use crate::faults::{Fault, Name, Told};
-use crate::inputs::Input;
-use crate::new_files::NumberedFiles;
-use crate::outputs::{Gathered, gathered, told_of};
-use crate::progress::Pace;
 use crate::reports::{look_beyond, tell_following};
-use crate::same_files::{Identity, identity_of_input, part_number, part_that_is};
 use cwr_devices::{Counted, Sink, SinkFault, Source, Target};
+use cwr_files::{
+    Fault, Gathered, Identity, Input, Name, NumberedFiles, Pace, Told, gathered, identity_of_input,
+    part_number, part_that_is, told_of,
+};
 use cwr_parts::{Outputs, put_split_outcome, split};
 use cwr_shape::Limits;
 use cwr_tools::{SplitReport, ToolFault};

@@ -17,10 +17,10 @@ use Rattle.cwr_words.specs.declared.words.Work.TheVariants.{Check, Show, Explain
 use Rattle.cwr_program.specs.declared.endings.Status.{Status}
 use Rattle.cwr_program.specs.declared.endings.Status.TheVariants as statuses
 use Rattle.cwr_program.specs.declared.endings.Wanted.{Wanted}
-use Rattle.cwr_program.specs.declared.faults.Told.{Told}
-use Rattle.cwr_program.specs.declared.faults.Fault.{Fault}
-use Rattle.cwr_program.specs.declared.faults.Fault.TheVariants as faults
-use Rattle.cwr_program.specs.Format.Inputs.{are_standard, is_standard}
+use Rattle.cwr_files.specs.declared.faults.Told.{Told}
+use Rattle.cwr_files.specs.declared.faults.Fault.{Fault}
+use Rattle.cwr_files.specs.declared.faults.Fault.TheVariants as faults
+use Rattle.cwr_files.specs.Format.Inputs.{are_standard, is_standard}
 
 -- A run without a fault ends well. An input that is refused or ends too early, and a limit that the result passes, end it
 -- otherwise, and the fault of a device or of memory is reported, with what is known of that device.

@@ -9,9 +9,9 @@ use Rattle.cwr_tools.specs.declared.verdicts.ToolFault.TheVariants.{Writer}
 use Rattle.cwr_parts.specs.Format.Splitting.{JudgesSplit}
 use Rattle.cwr_program.specs.declared.endings.Look.{Look}
 use Rattle.cwr_program.specs.declared.endings.Status.{Status}
-use Rattle.cwr_program.specs.declared.faults.Told.{Told}
-use Rattle.cwr_program.specs.declared.faults.Fault.{Fault}
-use Rattle.cwr_program.specs.declared.faults.Fault.TheVariants as faults
+use Rattle.cwr_files.specs.declared.faults.Told.{Told}
+use Rattle.cwr_files.specs.declared.faults.Fault.{Fault}
+use Rattle.cwr_files.specs.declared.faults.Fault.TheVariants as faults
 use Rattle.cwr_program.specs.Format.Endings.{EndsAfterFault}
 use Rattle.cwr_program.specs.Steps.Looks.{IsLook}
 

@@ -1,6 +1,6 @@
 use Rattle.std.proofs.Common.{List, ℕ, Option}
 use Rattle.std.specs.Prelude.{IfOk, Ok}
-use Rattle.cwr_program.specs.Steps.Inputs.{remaining_of}
+use Rattle.cwr_files.specs.Steps.Inputs.{remaining_of}
 use Rattle.cwr_program.specs.Steps.Looks.{JudgesOn}
 use Rattle.cwr_program.specs.Steps.Tellings.{TellsText}
 use Rattle.cwr_program.proofs.EndsOnTexts.{from_source}

@@ -1,6 +1,6 @@
 use Rattle.std.proofs.Common.{List, ℕ, Option}
 use Rattle.cwr_program.specs.Format.Endings.{EndsAsSplit}
-use Rattle.cwr_program.specs.Steps.Inputs.{remaining_of}
+use Rattle.cwr_files.specs.Steps.Inputs.{remaining_of}
 use Rattle.cwr_program.proofs.EndsOnTexts.{from_source}
 use Rattle.cwr_program.proofs.SplitsEnd.{split_ends}
 use Rattle.cwr_program.proofs.splits.split_file.Goals as goal

@@ -3,7 +3,7 @@
 ghost use Rattle.std.specs.Prelude.{◌≡◌, ◌+◌, ℕ, None, Some, IfOk, string_bytes};
 ghost use Rattle.cwr_devices.specs.Steps.Counted.{failures_of};
 ghost use Rattle.cwr_devices.specs.Format.Failures.{one_more_failure};
-ghost use Rattle.cwr_program.specs.Steps.NumberedFiles.{asked_of, failed_calls_of, given_up_of, lent_of, part_name};
+ghost use Rattle.cwr_files.specs.Steps.NumberedFiles.{asked_of, failed_calls_of, given_up_of, lent_of, part_name};
 
 use crate::faults::{Fault, Name, Reason};
 use crate::outputs::{Gathered, gathered, told_of};
@@ -51,7 +51,7 @@ fn is_in_place<R: Files>(rt: &R, name: &str) -> io::Result<bool> {
 /// A file that is written. What isn't a file of its own already, as a device, a pipe or a link, is written in place; else
 /// the file has another name until it is whole, which nothing had before.
 #[derive(Debug, Drop)]
-pub(crate) struct NewFile {
+pub struct NewFile {
     name: String,
     part: Option<String>,
 }
@@ -62,11 +62,7 @@ impl NewFile {
     /// # Errors
     ///
     /// Out of memory, or what the system answers where nothing can be told of the name, or no file be made.
-    pub(crate) fn create<R: Files>(
-        rt: &R,
-        alloc: Global,
-        name: String,
-    ) -> io::Result<(NewFile, R::File)> {
+    pub fn create<R: Files>(rt: &R, alloc: Global, name: String) -> io::Result<(NewFile, R::File)> {
         if is_in_place(rt, name.as_str())? {
             let file = File::create(rt, name.as_str())?;
             return Ok((NewFile { name, part: None }, file));
@@ -77,7 +73,7 @@ impl NewFile {
     }
 
     /// Gives the file its name, now that it is whole. A file that had the name before is replaced.
-    pub(crate) fn keep<R: Files>(self, rt: &R) -> io::Result<()> {
+    pub fn keep<R: Files>(self, rt: &R) -> io::Result<()> {
         match &self.part {
             None => Ok(()),
             Some(part) => rt.rename(part.as_str(), self.name.as_str()),
@@ -85,13 +81,13 @@ impl NewFile {
     }
 
     /// Gives the file its name as `keep` does, and tells what it is called where that fails.
-    pub(crate) fn keep_as<'a, R: Files>(self, rt: &R, name: Name<'a>) -> Result<(), Fault<'a>> {
+    pub fn keep_as<'a, R: Files>(self, rt: &R, name: Name<'a>) -> Result<(), Fault<'a>> {
         self.keep(rt)
             .map_err(|fault| Fault::Output(name, Some(Reason::of(&fault))))
     }
 
     /// Removes the file. Where that can't be done it stays under the name that says so.
-    pub(crate) fn discard<R: Files>(self, rt: &R) {
+    pub fn discard<R: Files>(self, rt: &R) {
         if let Some(part) = &self.part {
             let _ = rt.remove_file(part.as_str());
         }
@@ -99,7 +95,7 @@ impl NewFile {
 }
 
 /// Makes the file that a transmission is written to.
-pub(crate) fn create_output<'a, R: Files>(
+pub fn create_output<'a, R: Files>(
     rt: &R,
     alloc: Global,
     out: &'a str,
@@ -121,7 +117,7 @@ fn numbered_name(alloc: Global, prefix: &str, number: u32) -> Result<String, All
 
 /// The files of a split, whose names are a prefix and eight digits, from `00000001` on.
 #[derive(Drop)]
-pub(crate) struct NumberedFiles<'r, 'a, R: Files> {
+pub struct NumberedFiles<'r, 'a, R: Files> {
     rt: &'r R,
     alloc: Global,
     prefix: &'a str,
@@ -142,7 +138,7 @@ pub(crate) struct NumberedFiles<'r, 'a, R: Files> {
 impl<'r, 'a, R: Files> NumberedFiles<'r, 'a, R> {
     /// The files whose names begin with the prefix, none of which may be the input, or may be there where only new ones may be made. None
     /// was asked for.
-    pub(crate) fn new(
+    pub fn new(
         rt: &'r R,
         alloc: Global,
         prefix: &'a str,
@@ -164,7 +160,7 @@ impl<'r, 'a, R: Files> NumberedFiles<'r, 'a, R> {
     }
 
     /// What is told of the file that couldn't be made, finished or written.
-    pub(crate) fn fault(&self) -> Fault<'a> {
+    pub fn fault(&self) -> Fault<'a> {
         self.fault.unwrap_or(Fault::Output(self.name(), None))
     }
 

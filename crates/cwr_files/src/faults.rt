@@ -7,7 +7,7 @@ use std::{fmt, io};
 use thiserror::Error;
 
 /// What standard input is called in messages.
-pub(crate) const STANDARD_INPUT: &str = "standard input";
+pub const STANDARD_INPUT: &str = "standard input";
 
 /// What a device is called in messages.
 #[derive(Clone, Copy, Debug, PartialEq, Eq)]
@@ -43,7 +43,7 @@ pub struct Reason {
 
 impl Reason {
     /// The reason that a call answered.
-    pub(crate) fn of(fault: &io::Error) -> Reason {
+    pub fn of(fault: &io::Error) -> Reason {
         Reason {
             kind: fault.kind(),
             code: fault.raw_os_error(),
@@ -51,7 +51,7 @@ impl Reason {
     }
 
     /// The reason of that kind.
-    pub(crate) fn kind(kind: io::ErrorKind) -> Reason {
+    pub fn kind(kind: io::ErrorKind) -> Reason {
         Reason { kind, code: None }
     }
 }
@@ -107,7 +107,7 @@ pub enum Fault<'a> {
 
 impl Fault<'_> {
     /// Whether nobody reads what is written to standard output any more.
-    pub(crate) fn is_closed_pipe(&self) -> bool {
+    pub fn is_closed_pipe(&self) -> bool {
         match self {
             Fault::Write(
                 Told {
@@ -163,7 +163,7 @@ fn put_lines<E: io::Write>(error: &mut E, fault: &Fault<'_>) -> io::Result<()> {
 
 /// Tells of a fault on standard error. A pipe that nobody reads any more is passed over, and what standard error doesn't take is
 /// lost.
-pub(crate) fn tell_fault<E: io::Write>(error: &mut E, fault: &Fault<'_>) {
+pub fn tell_fault<E: io::Write>(error: &mut E, fault: &Fault<'_>) {
     if !fault.is_closed_pipe() {
         let _ = put_lines(error, fault);
     }

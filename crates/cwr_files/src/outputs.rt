@@ -3,9 +3,7 @@
 ghost use Rattle.std.specs.Prelude.{◌≡◌, IfOk};
 ghost use Rattle.cwr_devices.specs.Steps.Counted.{failures_of};
 
-use crate::endings::Status;
-use crate::faults::{Fault, Name, Reason, Told};
-use crate::manual::MANUAL;
+use crate::faults::{Name, Reason, Told};
 use cwr_devices::Counted;
 use std::alloc::{AllocError, Global};
 use std::io;
@@ -16,7 +14,7 @@ const GATHERED: usize = 65_536;
 
 /// A writer, with what is told of it where it fails.
 #[derive(Drop)]
-pub(crate) struct Output<'a, O> {
+pub struct Output<'a, O> {
     output: O,
     name: Name<'a>,
     /// How many bytes were written.
@@ -27,7 +25,7 @@ pub(crate) struct Output<'a, O> {
 
 impl<'a, O> Output<'a, O> {
     /// A writer that was given nothing so far.
-    pub(crate) fn new(output: O, name: Name<'a>) -> Output<'a, O> {
+    pub fn new(output: O, name: Name<'a>) -> Output<'a, O> {
         Output {
             output,
             name,
@@ -68,10 +66,10 @@ impl<O: Write> Write for Output<'_, O> {
 }
 
 /// A writer that gathers what it is given before it writes. What is left is written when it is dropped.
-pub(crate) type Gathered<'a, O> = Counted<BufWriter<Output<'a, O>>>;
+pub type Gathered<'a, O> = Counted<BufWriter<Output<'a, O>>>;
 
 /// The writer of that name, which gathers what it is given.
-pub(crate) fn gathered<'a, O: Write + Drop>(
+pub fn gathered<'a, O: Write + Drop>(
     alloc: Global,
     output: O,
     name: Name<'a>,
@@ -85,18 +83,16 @@ pub(crate) fn gathered<'a, O: Write + Drop>(
 }
 
 /// What is known of a writer that is given up. What is left in it is written, where that can be.
-pub(crate) fn told_of<'a, O: Write + Drop>(writer: Gathered<'a, O>) -> Told<'a> {
+pub fn told_of<'a, O: Write + Drop>(writer: Gathered<'a, O>) -> Told<'a> {
     writer.into_inner().get_ref().told()
 }
 
-/// Prints the manual.
-pub(crate) fn print_manual<'a, O: Write + Drop>(output: O) -> Result<Status, Fault<'a>>
-    ensures { IfOk result (λ status. status ≡ Status.Good) }
-{
+/// Writes a text to standard output, and hands it on. Where that fails, the error is what is known of the output.
+pub fn print<'a, O: Write + Drop>(output: O, text: &[u8]) -> Result<(), Told<'a>> {
     let mut output = Output::new(output, Name::StandardOutput);
-    let put = output.write_all(MANUAL.as_bytes());
+    let put = output.write_all(text);
     match (put, output.flush()) {
-        (Ok(()), Ok(())) => Ok(Status::Good),
-        _ => Err(Fault::Write(output.told())),
+        (Ok(()), Ok(())) => Ok(()),
+        _ => Err(output.told()),
     }
 }

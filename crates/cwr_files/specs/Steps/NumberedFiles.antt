@@ -1,8 +1,8 @@
 -- What the files of a split count, and their names.
 use Rattle.std.specs.Prelude.{ℕ, ◌-◌, ◌^◌, List, ◌++◌, Option, Some, None}
 use Rattle.std.specs.Fmt.{format_spec, styled_decimal}
-use Rattle.cwr_program.specs.declared.new_files.NumberedFiles.{NumberedFiles}
-use Rattle.cwr_program.specs.declared.new_files.NewFile.{NewFile}
+use Rattle.cwr_files.specs.declared.new_files.NumberedFiles.{NumberedFiles}
+use Rattle.cwr_files.specs.declared.new_files.NewFile.{NewFile}
 
 -- how many calls failed
 abbrev pub failed_calls_of : {R F D : Type 0} → NumberedFiles R F D → ℕ

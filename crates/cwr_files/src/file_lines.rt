@@ -23,7 +23,7 @@ enum LinePart {
 /// Lines on a file, each with its name before it if there is one. Where they are quiet, those before the verdict or the first fault are
 /// left out, and so is the verdict on what is good.
 #[derive(Drop)]
-pub(crate) struct FileLines<'a, W> {
+pub struct FileLines<'a, W> {
     lines: W,
     name: Option<&'a str>,
     quiet: bool,
@@ -60,7 +60,7 @@ fn first_line(text: &[u8]) -> usize
 
 impl<'a, W> FileLines<'a, W> {
     /// Lines that stand at the start of one.
-    pub(crate) fn new(lines: W, name: Option<&'a str>, quiet: bool) -> FileLines<'a, W> {
+    pub fn new(lines: W, name: Option<&'a str>, quiet: bool) -> FileLines<'a, W> {
         FileLines {
             lines,
             name,
@@ -72,7 +72,7 @@ impl<'a, W> FileLines<'a, W> {
     }
 
     /// The writer that they are passed on to.
-    pub(crate) fn into_inner(self) -> W {
+    pub fn into_inner(self) -> W {
         self.lines
     }
 }

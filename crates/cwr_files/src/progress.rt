@@ -14,7 +14,7 @@ const BETWEEN: u64 = 500;
 
 /// How far the reading of inputs is. From the second second of each on a line shows it, at most twice a second; it is gone at its end.
 #[derive(Drop)]
-pub(crate) struct Progress<'p, R, T> {
+pub struct Progress<'p, R, T> {
     clock: &'p R,
     terminal: T,
     /// Whether it is shown at all.
@@ -30,7 +30,7 @@ pub(crate) struct Progress<'p, R, T> {
 }
 
 /// What follows the reading of an input.
-pub(crate) trait Pace {
+pub trait Pace {
     /// An input begins, which has so many bytes where that is known.
     fn begin(&mut self, size: Option<u64>);
 
@@ -43,7 +43,7 @@ pub(crate) trait Pace {
 
 impl<'p, R: Clock, T: Write> Progress<'p, R, T> {
     /// Nothing was read so far.
-    pub(crate) fn new(clock: &'p R, terminal: T, wanted: bool) -> Progress<'p, R, T> {
+    pub fn new(clock: &'p R, terminal: T, wanted: bool) -> Progress<'p, R, T> {
         Progress {
             clock,
             terminal,
@@ -127,7 +127,7 @@ impl<P: Pace> Pace for &mut P {
 
 /// No pace: what is read isn't followed.
 #[derive(Clone, Copy, Debug)]
-pub(crate) struct Unwatched;
+pub struct Unwatched;
 
 impl Pace for Unwatched {
     fn begin(&mut self, _size: Option<u64>) {}
@@ -139,7 +139,7 @@ impl Pace for Unwatched {
 
 /// A writer whose pace is followed.
 #[derive(Drop)]
-pub(crate) struct Paced<'a, O, P> {
+pub struct Paced<'a, O, P> {
     output: O,
     name: Name<'a>,
     /// How many bytes were written.
@@ -149,7 +149,7 @@ pub(crate) struct Paced<'a, O, P> {
 
 impl<'a, O, P: Pace> Paced<'a, O, P> {
     /// A writer that was given nothing so far.
-    pub(crate) fn new(output: O, name: Name<'a>, mut pace: P) -> Paced<'a, O, P> {
+    pub fn new(output: O, name: Name<'a>, mut pace: P) -> Paced<'a, O, P> {
         pace.begin(None);
         Paced {
             output,

@@ -7,7 +7,7 @@ use std::rt::Files;
 
 /// A file's device and its number there, by which it is known under each of its names.
 #[derive(Clone, Copy, Debug, PartialEq, Eq)]
-pub(crate) struct Identity {
+pub struct Identity {
     device: u64,
     number: u64,
 }
@@ -19,7 +19,7 @@ const FOLDER_BLOCK: usize = 4096;
 const STANDARD_INPUT: &str = "/dev/stdin";
 
 /// What the file of that name is known by, where it is there and holds what is written to it.
-pub(crate) fn identity_of<R: Files>(rt: &R, name: &str) -> Option<Identity> {
+pub fn identity_of<R: Files>(rt: &R, name: &str) -> Option<Identity> {
     match rt.metadata(name) {
         Ok(found) if found.is_file() && found.ino() > 0 => Some(Identity {
             device: found.dev(),
@@ -30,7 +30,7 @@ pub(crate) fn identity_of<R: Files>(rt: &R, name: &str) -> Option<Identity> {
 }
 
 /// What the input of that name is known by, `-` being standard input.
-pub(crate) fn identity_of_input<R: Files>(rt: &R, name: &str) -> Option<Identity> {
+pub fn identity_of_input<R: Files>(rt: &R, name: &str) -> Option<Identity> {
     if name == "-" {
         identity_of(rt, STANDARD_INPUT)
     } else {
@@ -39,7 +39,7 @@ pub(crate) fn identity_of_input<R: Files>(rt: &R, name: &str) -> Option<Identity
 }
 
 /// How many bytes the file of that name has, where it holds what is written to it.
-pub(crate) fn size_of<R: Files>(rt: &R, name: &str) -> Option<u64> {
+pub fn size_of<R: Files>(rt: &R, name: &str) -> Option<u64> {
     match rt.metadata(name) {
         Ok(found) if found.is_file() => Some(found.len()),
         _ => None,
@@ -47,12 +47,12 @@ pub(crate) fn size_of<R: Files>(rt: &R, name: &str) -> Option<u64> {
 }
 
 /// Whether something has the name.
-pub(crate) fn is_there<R: Files>(rt: &R, name: &str) -> bool {
+pub fn is_there<R: Files>(rt: &R, name: &str) -> bool {
     rt.symlink_metadata(name).is_ok()
 }
 
 /// The number in the name of a part: what follows the prefix, where that is eight digits.
-pub(crate) fn part_number(name: &str, prefix: &str) -> Option<u32> {
+pub fn part_number(name: &str, prefix: &str) -> Option<u32> {
     let digits = name.strip_prefix(prefix)?;
     if digits.len() == 8 && digits.bytes().all(|digit| digit.is_ascii_digit()) {
         digits.parse::<u32>().ok()
@@ -85,7 +85,7 @@ fn number_of_file<R: Files>(
 
 /// The number of a part of the prefix that is there already and is the file, under whatever name: a link, or another one. In a folder that
 /// can't be read none is found.
-pub(crate) fn part_that_is<R: Files>(
+pub fn part_that_is<R: Files>(
     rt: &R,
     alloc: Global,
     file: Identity,

@@ -1,5 +1,5 @@
 use Rattle.std.proofs.Common.{length}
-use Rattle.cwr_program.proofs.file_lines.write_whole.Given as goal
+use Rattle.cwr_files.proofs.file_lines.write_whole.Given as goal
 
 abbrev pub invariant-loop-rest : goal.invariant-loop-rest
 invariant-loop-rest g l = Unit {0}

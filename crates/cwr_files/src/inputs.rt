@@ -1,8 +1,8 @@
 //! Inputs: files, and standard input.
 
 ghost use Rattle.std.specs.Prelude.{◌≡◌, ℕ, List, Option, Some, IfSome, IsOkAnd, true, option_map};
-ghost use Rattle.cwr_program.specs.Format.Inputs.{is_standard};
-ghost use Rattle.cwr_program.specs.Steps.Inputs.{remaining_of};
+ghost use Rattle.cwr_files.specs.Format.Inputs.{is_standard};
+ghost use Rattle.cwr_files.specs.Steps.Inputs.{remaining_of};
 
 use crate::faults::{Fault, Name, Reason, STANDARD_INPUT, Told};
 use crate::progress::Pace;
@@ -13,7 +13,7 @@ use std::io::Read;
 use std::rt::Files;
 
 /// What standard input is called in the place of a file.
-pub(crate) const DASH: &str = "-";
+pub const DASH: &str = "-";
 
 /// What an input is read from.
 #[derive(Drop)]
@@ -24,7 +24,7 @@ enum Device<F, I> {
 
 /// An input, with what is told of it where it fails.
 #[derive(Drop)]
-pub(crate) struct Input<'a, F, I, P> {
+pub struct Input<'a, F, I, P> {
     device: Device<F, I>,
     name: Name<'a>,
     /// How many bytes were read.
@@ -37,7 +37,7 @@ pub(crate) struct Input<'a, F, I, P> {
 
 impl<'a, F: Drop, I: Drop, P: Pace + Drop> Input<'a, F, I, P> {
     /// What is known of an input that is read no further.
-    pub(crate) fn told(mut self) -> Told<'a> {
+    pub fn told(mut self) -> Told<'a> {
         self.pace.end();
         Told {
             name: self.name,
@@ -67,7 +67,7 @@ impl<F: Read, I: Read, P: Pace> Read for Input<'_, F, I, P> {
 }
 
 /// Whether the word, or that there is none, names standard input.
-pub(crate) fn is_standard(name: Option<&str>) -> bool
+pub fn is_standard(name: Option<&str>) -> bool
     ensures { result ≡ is_standard (option_map (λ n. n.now) name.entry) }
 {
     match name {
@@ -77,12 +77,12 @@ pub(crate) fn is_standard(name: Option<&str>) -> bool
 }
 
 /// What an input is called in lines.
-pub(crate) fn shown_name(word: &str) -> &str {
+pub fn shown_name(word: &str) -> &str {
     if word == DASH { STANDARD_INPUT } else { word }
 }
 
 /// The input of that name: a file, or standard input, which is there once.
-pub(crate) fn open_input<'a, R: Files, I: Read, P: Pace + Drop>(
+pub fn open_input<'a, R: Files, I: Read, P: Pace + Drop>(
     rt: &R,
     name: Option<&'a str>,
     standard: &mut Option<I>,

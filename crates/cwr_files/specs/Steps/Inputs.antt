@@ -1,8 +1,8 @@
 -- The bytes that an input has left.
 use Rattle.std.specs.Prelude.{ℕ, List, Option}
-use Rattle.cwr_program.specs.declared.inputs.Device.{Device}
-use Rattle.cwr_program.specs.declared.inputs.Device.TheVariants.{File, Standard}
-use Rattle.cwr_program.specs.declared.inputs.Input.{Input}
+use Rattle.cwr_files.specs.declared.inputs.Device.{Device}
+use Rattle.cwr_files.specs.declared.inputs.Device.TheVariants.{File, Standard}
+use Rattle.cwr_files.specs.declared.inputs.Input.{Input}
 
 abbrev pub remaining_in : {F I : Type 0} → (F → Option (List ℕ)) → (I → Option (List ℕ)) → Device F I → Option (List ℕ)
 remaining_in of_file of_standard (File file) = of_file file
