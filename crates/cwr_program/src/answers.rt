@@ -4,10 +4,12 @@ ghost use Rattle.std.specs.Prelude.{IfOk};
 ghost use Rattle.cwr_acks.specs.Format.SentAnswers.{IsFresh};
 
 use crate::endings::Status;
-use crate::reports::{Asked, Telling, judgement_of, look_after, tell_aside};
+use crate::reports::{Asked, Judgement, Telling, judgement_of, look_after, tell_aside};
 use cwr_acks::{Form, acks};
 use cwr_devices::{Counted, Sink};
-use cwr_files::{Fault, Name, Pace, Told, gathered, is_standard, open_input, told_of};
+use cwr_files::{
+    Fault, Gathered, Input, Name, Pace, Told, gathered, is_standard, open_input, told_of,
+};
 use cwr_sent::{Sent, read_sent};
 use cwr_tools::{ToolFault, Verdict, put_verdict_line, verdict_of};
 use std::io::{Read, Write};
@@ -59,6 +61,54 @@ pub(crate) struct Answering<'a> {
     pub(crate) sent: &'a str,
 }
 
+/// The lines on what acknowledgements say, matched with what was sent.
+fn lines_on<'a, F: Read + Drop, I: Read + Drop, P: Pace + Drop, O: Write + Drop>(
+    asked: &Asked,
+    form: Form,
+    sent: Sent,
+    input: Input<'a, F, I, P>,
+    lines: Gathered<'a, O>,
+) -> (Gathered<'a, O>, Result<Judgement, ToolFault>, Told<'a>)
+    requires { IsFresh sent }
+{
+    let mut reader = Counted::new(input);
+    let (lines, outcome) = acks(
+        asked.alloc,
+        asked.limits,
+        form,
+        Some(sent),
+        &mut reader,
+        lines,
+    );
+    let look = look_after(&mut reader, &outcome);
+    let judged = judgement_of(asked.wanted, outcome, look, false);
+    (lines, judged, reader.into_inner().told())
+}
+
+/// Tells what the acknowledgements of an input say, matched with what was sent.
+fn tell_answers<'a, F: Read + Drop, I: Read + Drop, P: Pace + Drop, O: Write + Drop, E: Write>(
+    asked: &Asked,
+    form: Form,
+    sent: Sent,
+    input: Input<'a, F, I, P>,
+    output: O,
+    error: &mut E,
+) -> Result<Status, Fault<'a>>
+    requires { IsFresh sent }
+{
+    let lines = gathered(asked.alloc, output, Name::StandardOutput).map_err(|_| Fault::Memory)?;
+    let (lines, judged, told) = lines_on(asked, form, sent, input, lines);
+    match judged {
+        Ok(judgement) => {
+            tell_aside(error, Telling::Answers(form), told.name, &judgement);
+            Ok(judgement.status)
+        }
+        Err(ToolFault::Reader) => Err(Fault::Read(told)),
+        Err(ToolFault::Writer { .. }) => Err(Fault::Write(told_of(lines))),
+        Err(_) => Err(Fault::Memory),
+    }
+}
+
 /// Tells what acknowledgements say, matched with the transmission that they answer. Only one of the two can be on standard input.
 pub(crate) fn match_answers<
     'a,
@@ -80,30 +130,11 @@ pub(crate) fn match_answers<
         return Err(Fault::IsTwice(Name::StandardInput));
     }
     let mut standard = Some(standard);
-    let sent = match sent_of(rt, asked, files.sent, &mut standard, &mut *pace, error)? {
-        Ok(sent) => sent,
-        Err(status) => return Ok(status),
-    };
-    let input = open_input(rt, files.file, &mut standard, &mut *pace)?;
-    let lines = gathered(asked.alloc, output, Name::StandardOutput).map_err(|_| Fault::Memory)?;
-    let mut reader = Counted::new(input);
-    let (lines, outcome) = acks(
-        asked.alloc,
-        asked.limits,
-        files.form,
-        Some(sent),
-        &mut reader,
-        lines,
-    );
-    let look = look_after(&mut reader, &outcome);
-    let told = reader.into_inner().told();
-    match judgement_of(asked.wanted, outcome, look, false) {
-        Ok(judgement) => {
-            tell_aside(error, Telling::Answers(files.form), told.name, &judgement);
-            Ok(judgement.status)
+    match sent_of(rt, asked, files.sent, &mut standard, &mut *pace, error)? {
+        Ok(sent) => {
+            let input = open_input(rt, files.file, &mut standard, pace)?;
+            tell_answers(asked, files.form, sent, input, output, error)
         }
-        Err(ToolFault::Reader) => Err(Fault::Read(told)),
-        Err(ToolFault::Writer { .. }) => Err(Fault::Write(told_of(lines))),
-        Err(_) => Err(Fault::Memory),
+        Err(status) => Ok(status),
     }
 }

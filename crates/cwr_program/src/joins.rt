@@ -1,15 +1,18 @@
 //! Transmissions that are joined to one.
 
+ghost use Rattle.std.specs.Prelude.{◌<◌, length};
+
 use crate::endings::{Look, Status, ended_by, follows};
 use crate::reports::{look_beyond, tell_following};
 use crate::splits::hand_on;
 use cwr_devices::{Counted, Sink, Source};
 use cwr_files::{
-    Fault, Input, Name, Pace, Paced, Told, Unwatched, create_output, gathered, identity_of,
-    identity_of_input, is_standard, is_there, open_input, told_of,
+    Fault, Gathered, Input, Name, Pace, Paced, Told, Unwatched, create_output, gathered,
+    identity_of, identity_of_input, is_standard, is_there, open_input, told_of,
 };
 use cwr_parts::{join, put_join_outcome};
 use cwr_shape::Limits;
+use cwr_tools::{JoinFault, JoinReport};
 use std::alloc::Global;
 use std::io::{Read, Write};
 use std::rt::Files;
@@ -112,7 +115,111 @@ fn look_after_each<R: Source, E: Write>(
     }
 }
 
-/// Joins the transmissions of files to one, and writes the line that says how that ended.
+/// What came of a join.
+#[derive(Drop)]
+struct Joined<'a> {
+    outcome: Result<JoinReport, JoinFault>,
+    /// Whether bytes follow the transmission of an input, or the number of the input that failed there. `None` where the join failed.
+    after: Option<Result<bool, usize>>,
+    /// What is known of the file that was written.
+    written: Told<'a>,
+}
+
+impl Joined<'_> {
+    /// Whether what was written is what is wanted: a transmission, and where nothing may follow those of the inputs nothing does.
+    fn is_wanted(&self, whole: bool) -> bool {
+        match self.after {
+            Some(after) => !whole || after == Ok(false),
+            None => false,
+        }
+    }
+}
+
+/// Writes the join of the inputs. `None` where there is no memory for that.
+fn write_joined<'a, R: Source, F: Write + Drop, P: Pace>(
+    alloc: Global,
+    union: &Union<'a>,
+    readers: &mut [R],
+    file: F,
+    pace: &mut P,
+) -> Option<(Result<JoinReport, JoinFault>, Told<'a>)>
+    requires { 0 < length readers.old }
+{
+    let name = Name::File(union.out);
+    let writer = gathered(alloc, Paced::new(file, name, &mut *pace), name).ok()?;
+    let (writer, outcome) = join(alloc, union.limits, readers, writer);
+    let written = told_of(writer);
+    pace.end();
+    Some((outcome, written))
+}
+
+/// Joins the inputs to a file, which gets its name where that is what is wanted.
+fn join_to_file<'a, R: Files + AllocGlobal, S: Source, P: Pace, E: Write>(
+    rt: &R,
+    union: &Union<'a>,
+    names: &[&str],
+    readers: &mut [S],
+    pace: &mut P,
+    error: &mut E,
+) -> Result<Joined<'a>, Fault<'a>>
+    requires { 0 < length readers.old }
+{
+    let alloc = rt.alloc();
+    let (made, file) = create_output(rt, alloc, union.out)?;
+    let Some((outcome, written)) = write_joined(alloc, union, &mut *readers, file, pace) else {
+        made.discard(rt);
+        return Err(Fault::Memory);
+    };
+    let after = match outcome {
+        Ok(_) => Some(look_after_each(readers, names, error)),
+        Err(_) => None,
+    };
+    let joined = Joined {
+        outcome,
+        after,
+        written,
+    };
+    if joined.is_wanted(union.whole) {
+        made.keep_as(rt, Name::File(union.out))?;
+    } else {
+        made.discard(rt);
+    }
+    Ok(joined)
+}
+
+/// Writes the line that says how a join ended.
+fn put_line<'a, O: Write + Drop>(
+    outcome: &Result<JoinReport, JoinFault>,
+    lines: Gathered<'a, O>,
+) -> Result<(), Fault<'a>> {
+    let mut sink = Sink::new(lines);
+    let put = put_join_outcome(outcome, &mut sink);
+    hand_on(put, sink)
+}
+
+/// How a run ends whose inputs these are.
+fn ending<'a, F: Drop, I: Drop>(
+    joined: Joined<'a>,
+    union: &Union<'a>,
+    readers: Vec<Reader<'a, F, I>>,
+) -> Result<Status, Fault<'a>> {
+    let written = joined.written;
+    match (joined.outcome, joined.after) {
+        (Ok(_), Some(Err(number))) if union.whole => {
+            Err(Fault::Read(told_at(readers, number).unwrap_or(written)))
+        }
+        (Ok(_), Some(Ok(true))) if union.whole => Ok(Status::Refused),
+        (Ok(_), _) => Ok(Status::Good),
+        (Err(stopped), _) => {
+            let read = told_at(readers, stopped.input).unwrap_or(written);
+            let made = Fault::Output(Name::File(union.out), None);
+            ended_by(Some(stopped.fault), read, written, made)
+        }
+    }
+}
+
+/// Joins the transmissions of files to one, and writes the line that says how that ended: none where something stands after the
+/// transmission of an input and nothing may.
 pub(crate) fn join_files<
     'a,
     R: Files + AllocGlobal,
@@ -130,42 +237,15 @@ pub(crate) fn join_files<
     error: &mut E,
 ) -> Result<Status, Fault<'a>> {
     let alloc = rt.alloc();
-    let out = Name::File(union.out);
     let lines = gathered(alloc, output, Name::StandardOutput).map_err(|_| Fault::Memory)?;
     let mut readers = open_inputs(rt, alloc, names, standard)?;
     if readers.is_empty() {
         return Ok(Status::CommandLine);
     }
     refuse_out(rt, union.out, union.only_new, names)?;
-    let (made, file) = create_output(rt, alloc, union.out)?;
-    let Ok(writer) = gathered(alloc, Paced::new(file, out, &mut *pace), out) else {
-        made.discard(rt);
-        return Err(Fault::Memory);
-    };
-    let (writer, outcome) = join(alloc, union.limits, readers.as_mut_slice(), writer);
-    let written = told_of(writer);
-    pace.end();
-    if outcome.is_ok() {
-        let after = look_after_each(readers.as_mut_slice(), names, error);
-        if union.whole && after != Ok(false) {
-            made.discard(rt);
-            return match after {
-                Ok(_) => Ok(Status::Refused),
-                Err(number) => Err(Fault::Read(told_at(readers, number).unwrap_or(written))),
-            };
-        }
-        made.keep_as(rt, out)?;
-    } else {
-        made.discard(rt);
+    let joined = join_to_file(rt, union, names, readers.as_mut_slice(), pace, error)?;
+    if joined.outcome.is_err() || joined.is_wanted(union.whole) {
+        put_line(&joined.outcome, lines)?;
     }
-    let mut sink = Sink::new(lines);
-    let put = put_join_outcome(&outcome, &mut sink);
-    hand_on(put, sink)?;
-    match outcome {
-        Ok(_) => Ok(Status::Good),
-        Err(stopped) => {
-            let read = told_at(readers, stopped.input).unwrap_or(written);
-            ended_by(Some(stopped.fault), read, written, Fault::Output(out, None))
-        }
-    }
+    ending(joined, union, readers)
 }
