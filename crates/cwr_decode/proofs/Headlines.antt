@@ -12,11 +12,11 @@ use Rattle.cwr_decode.specs.declared.readings.ReadFault.TheVariants.{Reader, Ref
 use Rattle.cwr_decode.specs.Format.Headline.{Means}
 use Rattle.cwr_decode.specs.Steps.Readings.{CountsFault}
 use Rattle.cwr_decode.specs.Format.Runs.{TakesFront}
-use Rattle.cwr_decode.specs.Steps.Runs.{StopsReading, StopsText}
+use Rattle.cwr_decode.specs.Steps.Runs.{StopsWhole, StopsText}
 
 pub run_means : (limits : LimitValues) (text : List ℕ) (result : Result TransmissionValue ReadFault) (after : Option (List ℕ))
     → IfOk result (λ v. TakesFront limits (Some text) v after)
-    → IfErr result (λ fault. StopsReading limits fault (Some text) after) → IfErr result (λ fault. CountsFault fault 0 0)
+    → IfErr result (λ fault. StopsWhole limits fault (Some text) after) → IfErr result (λ fault. CountsFault fault 0 0)
     → Means limits text result
 run_means limits text (Ok v) after takes stops failures = (length takes.input, takes.front.0)
 run_means limits text (Err Reader) after takes stops failures = omega (arith, failures)
@@ -29,7 +29,7 @@ run_means limits text (Err (Truncated records)) after takes (inr lacks) failures
 run_means limits text (Err Memory) after takes stops failures = tt
 
 pub stops_text : (limits : LimitValues) (text : List ℕ) (result : Result TransmissionValue ReadFault) (after : Option (List ℕ))
-    → IfErr result (λ fault. StopsReading limits fault (Some text) after)
+    → IfErr result (λ fault. StopsWhole limits fault (Some text) after)
     → IfErr result (λ fault. StopsText limits fault text)
 stops_text limits text (Ok v) after stops = tt
 stops_text limits text (Err fault) after stops = (after, stops)

@@ -23,7 +23,8 @@ use Rattle.cwr_decode.specs.Steps.Represents.{MayFollow, RepresentsIn, Represent
 use Rattle.cwr_decode.specs.Steps.Calls.{IsLive}
 use Rattle.cwr_decode.specs.Steps.Readings.{answer_of, items_read, IsRightOf, LeavesRead, IsSpent, Reads}
 use Rattle.cwr_decode.specs.Format.Runs.{AreItems, TakesFront, ReportsAccepted, ReportsCanonical}
-use Rattle.cwr_decode.specs.Steps.Runs.{HasRead, EndsWhole, HasReadAll, LacksRoom, IsReadingOn, StopsRun, StopsReading}
+use Rattle.cwr_decode.specs.Steps.Runs.{HasRead, EndsWhole, HasReadAll, LacksRoom, IsReadingOn, StopsRun, StopsReading, StopsWhole}
+use Rattle.cwr_fields.specs.Format.Growth.{Outgrows}
 use Rattle.cwr_judge.proofs.Accepted.{accepted_once, canonical_accepted}
 use Rattle.cwr_decode.specs.declared.endings.End.TheVariants as ends
 use Rattle.cwr_decode.specs.Format.Headline.{EndsSo}
@@ -234,18 +235,15 @@ memory_stops limits d before now given item h = inr (refl, by given h.read)
 
 -- where memory for the transmission was refused, which has an item at least
 pub whole_lacks_room : (limits : LimitValues) (before now : Option (List ℕ)) (given : List Item)
-    → HasReadAll limits before now given → StopsReading limits faults.Memory before now
-whole_lacks_room limits before now given h =
-    let all = all_items limits before now given h in
-    inr (
-      refl,
-      record {
-        decoder = h.decoder;
-        first = items.Opened all.value.opening;
-        others = _;
-        read = subst (λ (items : List Item). HasRead limits h.decoder before now items) all.given_are h.read;
-      },
-    )
+    → HasReadAll limits before now given → StopsWhole limits faults.Memory before now
+whole_lacks_room limits before now given h = inr (refl, inr (given, h))
+
+-- where memory for the list of all items was refused
+pub items_outgrow : (limits : LimitValues) (d : Standing) (before now : Option (List ℕ)) (given : List Item) (item : Item)
+    → IsReadingOn limits d before now (given ++ item ∷ []) → Outgrows 16 (length given) (length given + 1)
+    → StopsWhole limits faults.Memory before now
+items_outgrow limits d before now given item h more =
+    inr (refl, inl (record { decoder = d; given = given; item = item; read = h.read; outgrows = more }))
 
 pub of_fault : {X : Type 0} (result : Result X ReadFault) (fault : ReadFault) (P : ReadFault → Type 0)
     → IsErrAnd result (λ e. e ≡ fault) → P fault → IfErr result P
@@ -297,7 +295,7 @@ take_err limits used text given (faults.Truncated records) v n h a = absurd (h.e
 take_err limits used text given faults.Memory v n h a = inr refl
 
 pub reports_accepted : (limits : LimitValues) (before after : Option (List ℕ)) (result : Result TransmissionValue ReadFault)
-    → IfOk result (λ t. TakesFront limits before t after) → IfErr result (λ fault. StopsReading limits fault before after)
+    → IfOk result (λ t. TakesFront limits before t after) → IfErr result (λ fault. StopsWhole limits fault before after)
     → ReportsAccepted limits before result after
 reports_accepted limits None after result h k = tt
 reports_accepted limits (Some text) after (Ok t) h k = λ v n a.
@@ -327,7 +325,7 @@ no_ok (Err fault) P Q h = tt
 
 pub reports_stopped : (limits : LimitValues) (before after : Option (List ℕ)) (result : Result TransmissionValue ReadFault)
     (fault : ReadFault)
-    → IsErrAnd result (λ e. e ≡ fault) → StopsReading limits fault before after → ReportsAccepted limits before result after
+    → IsErrAnd result (λ e. e ≡ fault) → StopsWhole limits fault before after → ReportsAccepted limits before result after
 reports_stopped limits before after result fault e h =
     reports_accepted limits before after result (no_ok result (λ f. f ≡ fault) (λ t. TakesFront limits before t after) e)
-    (of_fault result fault (λ f. StopsReading limits f before after) e h)
+    (of_fault result fault (λ f. StopsWhole limits f before after) e h)

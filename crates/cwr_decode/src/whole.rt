@@ -6,15 +6,19 @@ ghost use Rattle.cwr_values.specs.Format.Values.{type_of, IsTransaction};
 ghost use Rattle.cwr_judge.specs.Format.Items.{group_rest, value_items};
 ghost use Rattle.cwr_decode.specs.Steps.Readings.{CountsFault};
 ghost use Rattle.cwr_decode.specs.Format.Runs.{AreGroupItems, AreItems, TakesFront, ReportsAccepted, ReportsCanonical};
-ghost use Rattle.cwr_decode.specs.Steps.Runs.{HasReadAll, StopsReading};
+ghost use Rattle.cwr_decode.specs.Steps.Runs.{HasReadAll, StopsWhole};
 
 use crate::readings::{ReadFault, Reading};
 use cwr_devices::Source;
+use cwr_fields::make_room;
 use cwr_lines::Record;
 use cwr_shape::Limits;
 use cwr_values::{Group, GroupFault, Item, Transaction, Transmission, TransmissionFault};
 use std::alloc::{AllocError, Global};
 use std::vec;
+
+/// How many items there is room for from the first one on.
+const FIRST_ITEMS: usize = 16;
 
 /// Reads all items, up to the end of the transmission.
 fn read_items<R: Source>(
@@ -25,16 +29,19 @@ fn read_items<R: Source>(
     ensures all { IfOk result
         (λ items. HasReadAll limits (R.remaining reader.old) (R.remaining reader.new) items.items) }
     ensures stops { IfErr result
-        (λ fault. StopsReading limits fault (R.remaining reader.old) (R.remaining reader.new)) }
+        (λ fault. StopsWhole limits fault (R.remaining reader.old) (R.remaining reader.new)) }
     ensures failures { MatchResult result (λ _. R.failures reader.new ≡ R.failures reader.old)
         (λ fault. CountsFault fault (R.failures reader.old) (R.failures reader.new)) }
 {
     let mut reading = Reading::new(alloc, limits, reader);
     let mut items = Vec::new(alloc);
+    let mut room = 0;
     'items: while let Some(item) = reading.next_item()? {
-        if items.push(item).is_err() {
+        let Ok(larger) = make_room(&mut items, room, FIRST_ITEMS, 1) else {
             return Err(ReadFault::Memory);
-        }
+        };
+        room = larger;
+        items.push_reserved(item);
     }
     Ok(items)
 }
@@ -142,7 +149,7 @@ pub fn read_all<R: Source>(
     ensures takes { IfOk result (λ transmission. TakesFront limits (R.remaining reader.old)
         transmission (R.remaining reader.new)) }
     ensures stops { IfErr result
-        (λ fault. StopsReading limits fault (R.remaining reader.old) (R.remaining reader.new)) }
+        (λ fault. StopsWhole limits fault (R.remaining reader.old) (R.remaining reader.new)) }
     ensures accepted { ReportsAccepted limits (R.remaining reader.old) result
         (R.remaining reader.new) }
     ensures canonical { ReportsCanonical limits (R.remaining reader.old) result

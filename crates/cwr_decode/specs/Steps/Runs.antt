@@ -1,6 +1,7 @@
 -- What a decoder and its reader are at while items are read, and where a run stops.
-use Rattle.std.specs.Prelude.{◌≡◌, ◌⊎◌, ℕ, List, ◌∷◌, length, Option, Some, IfSome, Err}
+use Rattle.std.specs.Prelude.{◌≡◌, ◌⊎◌, ℕ, ◌+◌, List, [], ◌∷◌, ◌++◌, length, Option, Some, IfSome, Err}
 use Rattle.std.specs.Io.KnownBytes.{Consumes}
+use Rattle.cwr_fields.specs.Format.Growth.{Outgrows}
 use Rattle.cwr_shape.specs.Format.Ranges.{LimitValues}
 use Rattle.cwr_values.specs.declared.items.Item.{Item}
 use Rattle.cwr_decode.specs.declared.machine.State.{State}
@@ -57,6 +58,21 @@ pub record LacksRoom (limits : LimitValues) (before after : Option (List ℕ)) :
 abbrev pub StopsReading : LimitValues → ReadFault → Option (List ℕ) → Option (List ℕ) → Type 0
 StopsReading limits fault before after = StopsRun limits fault before after ⊎ ((fault ≡ Memory) × LacksRoom limits before after)
 
+-- memory was refused for the list of all items: the last one that was read passes a size of that list
+pub record OutgrowsItems (limits : LimitValues) (before after : Option (List ℕ)) : Type 0 where
+  pub decoder : Standing
+  pub given : List Item
+  pub item : Item
+  pub read : HasRead limits decoder before after (given ++ item ∷ [])
+  pub outgrows : Outgrows 16 (length given) (length given + 1)
+
+-- the decoder stopped for what is reported, or memory was refused: for the list of all items, or once all were read for what is made
+-- of them
+abbrev pub StopsWhole : LimitValues → ReadFault → Option (List ℕ) → Option (List ℕ) → Type 0
+StopsWhole limits fault before after =
+    StopsRun limits fault before after
+    ⊎ ((fault ≡ Memory) × (OutgrowsItems limits before after ⊎ ((given : List Item) × HasReadAll limits before after given)))
+
 -- so it is of a text, of which something may be left
 abbrev pub StopsText : LimitValues → ReadFault → List ℕ → Type 0
-StopsText limits fault text = (after : Option (List ℕ)) × StopsReading limits fault (Some text) after
+StopsText limits fault text = (after : Option (List ℕ)) × StopsWhole limits fault (Some text) after

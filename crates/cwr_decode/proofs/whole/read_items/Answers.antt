@@ -2,13 +2,13 @@ use Rattle.std.proofs.Common.{rules, ◌≡◌, List, length, sym, ap, subst, �
 use Rattle.std.proofs.lemmas.List.{length-append}
 use Rattle.cwr_values.specs.declared.items.Item.{Item}
 use Rattle.cwr_decode.specs.declared.readings.ReadFault.TheVariants as faults
-use Rattle.cwr_decode.specs.Steps.Runs.{IsReadingOn, HasReadAll, StopsReading}
-use Rattle.cwr_decode.proofs.ItemsReadSoFar.{fault_read, fewer_left, memory_stops, none_read, of_fault, some_read}
+use Rattle.cwr_decode.specs.Steps.Runs.{IsReadingOn, HasReadAll, StopsWhole}
+use Rattle.cwr_decode.proofs.ItemsReadSoFar.{fault_read, fewer_left, items_outgrow, none_read, of_fault, some_read}
 use Rattle.cwr_decode.proofs.whole.read_items.Goals as goal
 
 pub returns-in_err-item-clause-stops : goal.returns-in_err-item-clause-stops
 returns-in_err-item-clause-stops g c =
-    let stops : StopsReading c.args.limits c.in_err-item.field-0.0 (g.R.Source.remaining c.args.reader.now)
+    let stops : StopsWhole c.args.limits c.in_err-item.field-0.0 (g.R.Source.remaining c.args.reader.now)
     (g.R.Source.remaining c.next_item.new.self.reader.now)
     = inl (fault_read c.args.limits c.items.reading.decoder c.next_item.new.self.decoder (g.R.Source.remaining c.args.reader.now)
     _ _ c.items.items.items c.in_err-item.field-0.0 _ _
@@ -17,9 +17,9 @@ returns-in_err-item-clause-stops g c =
 
 pub returns-then-is_err-clause-stops : goal.returns-then-is_err-clause-stops
 returns-then-is_err-clause-stops g c =
-    let stops : StopsReading c.args.limits faults.Memory (g.R.Source.remaining c.args.reader.now)
+    let stops : StopsWhole c.args.limits faults.Memory (g.R.Source.remaining c.args.reader.now)
     (g.R.Source.remaining c.next_item.new.self.reader.now)
-    = memory_stops c.args.limits _ _ _ c.items.items.items c.in-Some.item (some_read c.args.limits c.items.reading.decoder
+    = items_outgrow c.args.limits _ _ _ c.items.items.items c.in-Some.item (some_read c.args.limits c.items.reading.decoder
     c.next_item.new.self.decoder (g.R.Source.remaining c.args.reader.now) _ _ c.items.items.items c.in_ok-item.field-0
     c.in-Some.item _ _
     c.in-Some.is c.items.invariant.reading c.in_ok-item.ensures.reads c.in_ok-item.ensures.again) in
