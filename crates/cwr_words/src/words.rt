@@ -1,12 +1,10 @@
 //! The words of the command line.
 
-ghost use Rattle.std.specs.Prelude.{◌≡◌, ℕ, List, map, None, Some, IfOk, IfSome, IsOkAnd, IsSomeAnd, codes, false, true, if◌then◌else◌};
+ghost use Rattle.std.specs.Prelude.{◌≡◌, map, None, Some, IfOk, IfSome, IsOkAnd, IsSomeAnd, codes, false, true, if◌then◌else◌};
 ghost use Rattle.std.specs.Str.{bytes_eq};
-ghost use Rattle.std.specs.Str.Parse.{digits_value, without_leading_plus};
-ghost use Rattle.clap.specs.Words.{found_of, has_subcommand, one_text};
+ghost use Rattle.clap.specs.Words.{found_of, has_subcommand};
 ghost use Rattle.cwr_shape.specs.Format.Ranges.{limit_values};
-ghost use Rattle.cwr_words.specs.Format.Words.{AreNamesOf, IsAcksOf, IsAdviceOf, IsAskedBy, IsExportOf, IsImportOf, IsJoinOf, IsJudgingOf, IsLintOf};
-ghost use Rattle.cwr_words.specs.Format.Words.{IsPlainCheck, IsRenumberingOf, IsSplitOf, IsTableOf, IsWorkOf, level_named, rows_named};
+ghost use Rattle.cwr_words.specs.Format.Words.{AreLimitsOf, AreNamesOf, IsAskedBy, IsJudgingOf, IsOwnWork, IsPlainCheck, IsWorkOf, level_named, rows_named};
 
 use clap::error::ErrorKind;
 use clap::{ArgMatches, Error};
@@ -160,12 +158,8 @@ fn largest() -> Limits
 
 /// The limits that the words of a subcommand give. `None` where one is missing or out of its range. The manual takes none.
 fn limits_of(name: &str, matches: &ArgMatches<'_>) -> Option<Limits>
-    ensures records { bytes_eq name.now (codes "manual") ≡ false → IfSome result (λ limits. (text : List ℕ) → one_text (found_of matches.now) (codes "records") ≡ Some text
-        → limits.records ≡ digits_value 10 (without_leading_plus text)) }
-    ensures groups { bytes_eq name.now (codes "manual") ≡ false → IfSome result (λ limits. (text : List ℕ) → one_text (found_of matches.now) (codes "groups") ≡ Some text
-        → limits.groups ≡ digits_value 10 (without_leading_plus text)) }
-    ensures transaction { bytes_eq name.now (codes "manual") ≡ false → IfSome result (λ limits. (text : List ℕ) → one_text (found_of matches.now) (codes "transaction") ≡ Some text
-        → limits.transaction ≡ digits_value 10 (without_leading_plus text)) }
+    ensures { bytes_eq name.now (codes "manual") ≡ false
+        → IfSome result (AreLimitsOf (found_of matches.now)) }
 {
     if name == MANUAL {
         return Some(largest());
@@ -214,7 +208,7 @@ fn judging_in<'a>(alloc: Global, given: &ArgMatches<'a>) -> Result<Judging<'a>, 
 
 /// The work of a lint.
 fn lint_in<'a>(alloc: Global, given: &ArgMatches<'a>) -> Result<Work<'a>, AllocError>
-    ensures { IfOk result (IsLintOf (found_of given.now)) }
+    ensures { IfOk result (IsOwnWork (codes "lint") (found_of given.now)) }
 {
     Ok(Work::Lint {
         files: names_in(alloc, given)?,
@@ -226,7 +220,7 @@ fn lint_in<'a>(alloc: Global, given: &ArgMatches<'a>) -> Result<Work<'a>, AllocE
 
 /// The work of advice. `None` where the number of works is missing or out of its range.
 fn advice_in<'a>(alloc: Global, given: &ArgMatches<'a>) -> Result<Option<Work<'a>>, AllocError>
-    ensures { IfOk result (λ found. IfSome found (λ work. IsAdviceOf (found_of given.now) work)) }
+    ensures { IfOk result (λ found. IfSome found (IsOwnWork (codes "advise") (found_of given.now))) }
 {
     let Some(repeated) = given.get_one::<u32>(REPEATED) else {
         return Ok(None);
@@ -239,7 +233,7 @@ fn advice_in<'a>(alloc: Global, given: &ArgMatches<'a>) -> Result<Option<Work<'a
 
 /// The work of an export.
 fn export_in<'a>(given: &ArgMatches<'a>) -> Work<'a>
-    ensures { IsExportOf (found_of given.now) result }
+    ensures { IsOwnWork (codes "json") (found_of given.now) result }
 {
     Work::Json {
         file: given.get_str(FILE),
@@ -260,7 +254,7 @@ fn rows_of(word: &str) -> Option<Rows>
 
 /// The work of a table. `None` where what it has rows of is missing.
 fn table_in<'a>(given: &ArgMatches<'a>) -> Option<Work<'a>>
-    ensures { IfSome result (λ work. IsTableOf (found_of given.now) work) }
+    ensures { IfSome result (IsOwnWork (codes "csv") (found_of given.now)) }
 {
     Some(Work::Csv {
         rows: rows_of(given.get_str(KIND)?)?,
@@ -270,7 +264,7 @@ fn table_in<'a>(given: &ArgMatches<'a>) -> Option<Work<'a>>
 
 /// The work of telling what acknowledgements say.
 fn acks_in<'a>(given: &ArgMatches<'a>) -> Work<'a>
-    ensures { IsAcksOf (found_of given.now) result }
+    ensures { IsOwnWork (codes "acks") (found_of given.now) result }
 {
     Work::Acks {
         file: given.get_str(FILE),
@@ -281,7 +275,7 @@ fn acks_in<'a>(given: &ArgMatches<'a>) -> Work<'a>
 
 /// The work of an import. `None` where the bound on lines is missing or out of its range.
 fn import_in<'a>(given: &ArgMatches<'a>) -> Option<Work<'a>>
-    ensures { IfSome result (λ work. IsImportOf (found_of given.now) work) }
+    ensures { IfSome result (IsOwnWork (codes "write") (found_of given.now)) }
 {
     Some(Work::Write {
         file: given.get_str(FILE),
@@ -293,7 +287,7 @@ fn import_in<'a>(given: &ArgMatches<'a>) -> Option<Work<'a>>
 
 /// The work of a split. `None` where a word is missing or out of its range.
 fn split_in<'a>(given: &ArgMatches<'a>) -> Option<Work<'a>>
-    ensures { IfSome result (λ work. IsSplitOf (found_of given.now) work) }
+    ensures { IfSome result (IsOwnWork (codes "split") (found_of given.now)) }
 {
     let number = given.get_one::<u32>(NUMBER)?;
     Some(Work::Split {
@@ -306,7 +300,7 @@ fn split_in<'a>(given: &ArgMatches<'a>) -> Option<Work<'a>>
 
 /// The work of a join. `None` where a word is missing.
 fn join_in<'a>(alloc: Global, given: &ArgMatches<'a>) -> Result<Option<Work<'a>>, AllocError>
-    ensures { IfOk result (λ found. IfSome found (λ work. IsJoinOf (found_of given.now) work)) }
+    ensures { IfOk result (λ found. IfSome found (IsOwnWork (codes "join") (found_of given.now))) }
 {
     let Some(out) = given.get_str(OUT) else {
         return Ok(None);
@@ -320,7 +314,7 @@ fn join_in<'a>(alloc: Global, given: &ArgMatches<'a>) -> Result<Option<Work<'a>>
 
 /// The work of a renumbering.
 fn renumber_in<'a>(given: &ArgMatches<'a>) -> Work<'a>
-    ensures { IsRenumberingOf (found_of given.now) result }
+    ensures { IsOwnWork (codes "renumber") (found_of given.now) result }
 {
     Work::Renumber {
         file: given.get_str(FILE),

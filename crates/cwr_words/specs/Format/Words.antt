@@ -163,6 +163,10 @@ IsWorkOf name found (Renumber file out only_new) =
     (bytes_eq name (codes "renumber") ≡ true) × IsRenumberingOf found (Renumber file out only_new)
 IsWorkOf name found Manual = bytes_eq name (codes "manual") ≡ true
 
+-- so it is of the subcommand of that name
+abbrev pub IsOwnWork : List ℕ → Found → Work → Type 0
+IsOwnWork own found work = (name : List ℕ) → bytes_eq name own ≡ true → IsWorkOf name found work
+
 -- the limits are the numbers that the options of a subcommand say
 pub record AreLimitsOf (found : Found) (limits : Limits) : Type 0 where
   pub records : (text : List ℕ) → one_text found (codes "records") ≡ Some text

@@ -15,10 +15,5 @@ returns-in-Some-Some-clause-asked c = λ _. record {
       subst (λ (o : Option Work). IfSome o (λ work. IsWorkOf c.in-Some.name.now (found_of c.in-Some.given.now) work))
       c.in-Some-Some.is-0 c.in_ok-work.ensures;
   whole = (c.get_flag.ensures.value, c.get_flag.ensures.other);
-  limits =
-      λ other. record {
-        records = c.in-Some-Some.ensures.records other;
-        groups = c.in-Some-Some.ensures.groups other;
-        transaction = c.in-Some-Some.ensures.transaction other;
-      };
+  limits = c.in-Some-Some.ensures;
 }
