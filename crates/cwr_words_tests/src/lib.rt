@@ -1,0 +1,7 @@
+//! Tests of the words of the command line.
+#![tactic(auto)]
+
+#[cfg(test)]
+mod checks;
+#[cfg(test)]
+mod words;
