@@ -1,5 +1,5 @@
 -- A decoder holds at most one line and one transaction: bytes no more than the longest line has, and records no more than the limit.
-use Rattle.std.proofs.Common.{◌≡◌, ℕ, ◌-◌, ◌≤◌, List, [], ◌∷◌, ◌++◌, length, map, Option, None, sym, ap, ◌∙◌, subst, arith}
+use Rattle.std.proofs.Common.{◌≡◌, ℕ, ◌-◌, ◌≤◌, List, [], ◌∷◌, ◌++◌, length, map, Option, None, sym, ap, ◌∙◌, arith}
 use Rattle.std.proofs.Common.{append-nil}
 use Rattle.std.specs.List.{AllZip}
 use Rattle.std.proofs.lemmas.List.{length-drop}
@@ -15,7 +15,7 @@ use Rattle.cwr_values.specs.Format.Begins.{rows_so_far}
 use Rattle.cwr_judge.specs.Steps.Open.{open_of}
 use Rattle.cwr_decode.specs.declared.machine.State.{State}
 use Rattle.cwr_decode.specs.declared.machine.State.TheVariants as states
-use Rattle.cwr_decode.specs.Steps.Machines.{Standing, held_list, held_of}
+use Rattle.cwr_decode.specs.Steps.Machines.{Standing, held_list}
 use Rattle.cwr_decode.specs.Steps.Represents.{AreAccepted, IsSound, IsThrough, RepresentsIn}
 use Rattle.cwr_decode.proofs.AfterAcceptedLine.{list_held}
 

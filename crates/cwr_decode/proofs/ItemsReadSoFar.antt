@@ -1,5 +1,5 @@
 -- One call of a reading after others: what was read so far continues, up to all items or a fault.
-use Rattle.std.proofs.Common.{◌≡◌, ◌≤◌, ℕ, Bool, true, false, List, [], ◌∷◌, ◌++◌, length, drop, append-nil, Option, Some, None}
+use Rattle.std.proofs.Common.{◌≡◌, ◌≤◌, ◌+◌, ℕ, Bool, true, false, List, [], ◌∷◌, ◌++◌, length, drop, append-nil, Option, Some, None}
 use Rattle.std.proofs.Common.{refl, sym, ap, subst, ◌∙◌, inl, inr, true≢false}
 use Rattle.std.specs.Prelude.{Result, Ok, Err, IfSome, IfOk, IfErr, MatchResult, ◌⊎◌}
 use Rattle.std.specs.Result.{IsErrAnd}
@@ -236,7 +236,7 @@ memory_stops limits d before now given item h = inr (refl, by given h.read)
 -- where memory for the transmission was refused, which has an item at least
 pub whole_lacks_room : (limits : LimitValues) (before now : Option (List ℕ)) (given : List Item)
     → HasReadAll limits before now given → StopsWhole limits faults.Memory before now
-whole_lacks_room limits before now given h = inr (refl, inr (given, h))
+whole_lacks_room limits before now given h = inr (refl, inr (record { given = given; all = h }))
 
 -- where memory for the list of all items was refused
 pub items_outgrow : (limits : LimitValues) (d : Standing) (before now : Option (List ℕ)) (given : List Item) (item : Item)

@@ -1,5 +1,5 @@
 -- Whole transactions that are passed over, one after another.
-use Rattle.std.proofs.Common.{◌≡◌, ℕ, suc, ◌+◌, ◌-◌, ◌≤◌, ◌<◌, Bool, true, false, List, [], ◌∷◌, ◌++◌, length, map, take, drop}
+use Rattle.std.proofs.Common.{◌≡◌, ℕ, ◌+◌, ◌-◌, ◌≤◌, ◌<◌, Bool, true, false, List, [], ◌∷◌, ◌++◌, length, map, take, drop}
 use Rattle.std.proofs.Common.{Option, Some, None, refl, sym, ap, subst, ◌∙◌, append_assoc, append-nil, arith, inl, inr}
 use Rattle.std.proofs.Common.{true≢false}
 use Rattle.std.specs.Prelude.{◌≢◌, sum_by, slice_get, IfSome}
@@ -18,12 +18,11 @@ use Rattle.cwr_values.specs.declared.items.Item.TheVariants as items
 use Rattle.cwr_decode.specs.declared.machine.Found.{Found}
 use Rattle.cwr_decode.specs.declared.machine.Found.TheVariants as founds
 use Rattle.cwr_decode.specs.declared.machine.Passed.{Passed}
-use Rattle.cwr_decode.specs.declared.machine.State.{State}
 use Rattle.cwr_decode.specs.declared.machine.State.TheVariants as states
 use Rattle.cwr_decode.specs.declared.outcomes.Outcome.{Outcome}
 use Rattle.cwr_decode.specs.declared.outcomes.Outcome.TheVariants as outcomes
-use Rattle.cwr_decode.specs.Steps.Calls.{Advances, Fed, IsLive}
-use Rattle.cwr_decode.specs.Steps.Machines.{EntersHeld, IsReady, JudgesFront, Settles, Standing, again, held_list, reading}
+use Rattle.cwr_decode.specs.Steps.Calls.{Advances, Fed}
+use Rattle.cwr_decode.specs.Steps.Machines.{EntersHeld, IsReady, JudgesFront, Standing, again, held_list, reading}
 use Rattle.cwr_decode.specs.Steps.Passing.{BeginsHeld, BeginsWaiting, IsPassing, KeepsFront, KeepsLine, Passes, PassesOver}
 use Rattle.cwr_decode.specs.Steps.Passing.{at_line, waiting}
 use Rattle.cwr_decode.specs.Steps.Readings.{FeedsOn, IsSpent}

@@ -1,6 +1,8 @@
 //! Reading a whole transmission from a reader.
 
-ghost use Rattle.std.specs.Prelude.{◌≡◌, ◌<◌, ◌∷◌, ◌++◌, [], length, IfErr, IfOk, MatchResult, OnOk};
+ghost use Rattle.std.specs.Prelude.{◌≡◌, ◌+◌, ◌<◌, ◌∷◌, ◌++◌, [], length, vec_len, vec_capacity, IfErr, IfOk, MatchResult, OnOk};
+ghost use Rattle.cwr_fields.specs.Format.Growth.{Outgrows};
+ghost use Rattle.cwr_fields.specs.Steps.Growth.{IsRoom};
 ghost use Rattle.std.specs.Vec.Iter.{into_iter_items};
 ghost use Rattle.cwr_values.specs.Format.Values.{type_of, IsTransaction};
 ghost use Rattle.cwr_judge.specs.Format.Items.{group_rest, value_items};
@@ -20,6 +22,24 @@ use std::vec;
 /// How many items there is room for from the first one on.
 const FIRST_ITEMS: usize = 16;
 
+/// Adds an item to those that were read, of which there is room for so many.
+fn add_item(items: &mut Vec<Item>, room: &mut usize, item: Item) -> Result<(), ReadFault>
+    requires { IsRoom 16 room.old (vec_len items.old) (vec_capacity items.old) }
+    ensures added { OnOk result (items.new.items ≡ items.old.items ++ item ∷ []) }
+    ensures room { OnOk result (IsRoom 16 room.new (vec_len items.new) (vec_capacity items.new)) }
+    ensures asks { IfErr result (λ fault. (fault ≡ ReadFault.Memory)
+        × Outgrows 16 (length items.old.items) (length items.old.items + 1)) }
+{
+    match make_room(items, *room, FIRST_ITEMS, 1) {
+        Ok(larger) => {
+            *room = larger;
+            items.push_reserved(item);
+            Ok(())
+        }
+        Err(_) => Err(ReadFault::Memory),
+    }
+}
+
 /// Reads all items, up to the end of the transmission.
 fn read_items<R: Source>(
     alloc: Global,
@@ -37,11 +57,7 @@ fn read_items<R: Source>(
     let mut items = Vec::new(alloc);
     let mut room = 0;
     'items: while let Some(item) = reading.next_item()? {
-        let Ok(larger) = make_room(&mut items, room, FIRST_ITEMS, 1) else {
-            return Err(ReadFault::Memory);
-        };
-        room = larger;
-        items.push_reserved(item);
+        add_item(&mut items, &mut room, item)?;
     }
     Ok(items)
 }

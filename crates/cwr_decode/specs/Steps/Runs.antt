@@ -66,12 +66,16 @@ pub record OutgrowsItems (limits : LimitValues) (before after : Option (List ℕ
   pub read : HasRead limits decoder before after (given ++ item ∷ [])
   pub outgrows : Outgrows 16 (length given) (length given + 1)
 
--- the decoder stopped for what is reported, or memory was refused: for the list of all items, or once all were read for what is made
--- of them
+-- all items were read, and memory was refused for what is made of them
+pub record LacksWhole (limits : LimitValues) (before after : Option (List ℕ)) : Type 0 where
+  pub given : List Item
+  pub all : HasReadAll limits before after given
+
+-- the decoder stopped for what is reported, or memory was refused: for the list of all items, or for what is made of them
 abbrev pub StopsWhole : LimitValues → ReadFault → Option (List ℕ) → Option (List ℕ) → Type 0
 StopsWhole limits fault before after =
     StopsRun limits fault before after
-    ⊎ ((fault ≡ Memory) × (OutgrowsItems limits before after ⊎ ((given : List Item) × HasReadAll limits before after given)))
+    ⊎ ((fault ≡ Memory) × (OutgrowsItems limits before after ⊎ LacksWhole limits before after))
 
 -- so it is of a text, of which something may be left
 abbrev pub StopsText : LimitValues → ReadFault → List ℕ → Type 0

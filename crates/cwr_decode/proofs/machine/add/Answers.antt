@@ -1,4 +1,4 @@
-use Rattle.std.proofs.Common.{List, Option, sym, subst, ◌∙◌}
+use Rattle.std.proofs.Common.{List, Option, sym, subst}
 use Rattle.std.specs.Prelude.{Result, Ok, Err, OnErr}
 use Rattle.cwr_lines.specs.Format.Growth.{AsksMemory}
 use Rattle.cwr_lines.specs.Format.Records.{RecordValue}

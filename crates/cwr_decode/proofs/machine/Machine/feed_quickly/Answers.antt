@@ -1,4 +1,4 @@
-use Rattle.std.proofs.Common.{◌≡◌, drop, Some, None, subst, sym}
+use Rattle.std.proofs.Common.{drop, Some, None, subst, sym}
 use Rattle.std.proofs.lemmas.List.{take_rest}
 use Rattle.cwr_decode.specs.declared.machine.Found.TheVariants as founds
 use Rattle.cwr_decode.specs.declared.outcomes.Outcome.TheVariants as outcomes
