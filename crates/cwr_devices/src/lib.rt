@@ -1,10 +1,13 @@
-//! Readers and writers that count their failures, and texts that are put to a writer, with a count of what was written.
+//! Readers and writers that count their failures, outputs one after another, and texts that are put to a writer, with a count
+//! of what was written.
 #![tactic(auto)]
 
 mod counted;
 mod devices;
+mod outputs;
 mod sinks;
 
 pub use counted::Counted;
 pub use devices::{DeviceFault, Source, Target};
+pub use outputs::{OutputFault, Outputs};
 pub use sinks::{Sink, SinkFault};

@@ -8,7 +8,7 @@ ghost use Rattle.cwr_files.specs.Steps.NumberedFiles.{asked_of, failed_calls_of,
 use crate::faults::{Fault, Name, Reason};
 use crate::outputs::{Gathered, gathered, told_of};
 use crate::same_files::{Identity, identity_of, is_there};
-use cwr_parts::{OutputFault, Outputs};
+use cwr_devices::{OutputFault, Outputs};
 use std::alloc::{AllocError, Global};
 use std::fs::File;
 use std::io;

@@ -2,8 +2,7 @@
 
 ghost use Rattle.std.specs.Prelude.{◌≡◌, ◌≤◌, None, Some, length};
 
-use cwr_devices::{Counted, DeviceFault, Source};
-use cwr_parts::{OutputFault, Outputs};
+use cwr_devices::{Counted, DeviceFault, OutputFault, Outputs, Source};
 use std::alloc::Global;
 use std::io::{self, Write};
 

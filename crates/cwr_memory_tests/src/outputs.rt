@@ -2,8 +2,7 @@
 
 ghost use Rattle.std.specs.Prelude.{None};
 
-use cwr_devices::Counted;
-use cwr_parts::{OutputFault, Outputs};
+use cwr_devices::{Counted, OutputFault, Outputs};
 use std::io::{self, Write};
 
 /// A writer that keeps nothing.

@@ -9,7 +9,7 @@ use Rattle.cwr_judge.proofs.Accepted.{accepted_once}
 use Rattle.cwr_tools.specs.declared.verdicts.SplitReport.{SplitReport}
 use Rattle.cwr_tools.specs.declared.verdicts.ToolFault.{ToolFault}
 use Rattle.cwr_tools.specs.declared.verdicts.ToolFault.TheVariants.{Reader, Writer, Memory, Refused, Truncated, Limit, Output}
-use Rattle.cwr_parts.specs.Format.Outputs.{AddsTexts}
+use Rattle.cwr_devices.specs.Format.Outputs.{AddsTexts}
 use Rattle.cwr_parts.specs.Format.Splits.{split_of}
 use Rattle.cwr_parts.specs.Format.Splitting.{IsOfSplitDevice, JudgesSplit, SplitsAccepted, split_report}
 use Rattle.cwr_parts.specs.Steps.Splitting.{Splits}

@@ -12,7 +12,7 @@ use Rattle.cwr_values.specs.Format.Rows.{canonical_text}
 use Rattle.cwr_judge.specs.Format.Items.{AreFirstItems, group_items, value_items}
 use Rattle.cwr_parts.specs.declared.split_output.SplitOutput.{SplitOutput}
 use Rattle.cwr_parts.specs.declared.splitting.Splitting.{Splitting}
-use Rattle.cwr_parts.specs.Format.Outputs.{AddsTexts}
+use Rattle.cwr_devices.specs.Format.Outputs.{AddsTexts}
 use Rattle.cwr_parts.specs.Steps.SplitOutputs.{CountsNone, HoldsOutput, Told, blank_end, end_of, open_count, open_end}
 use Rattle.cwr_parts.specs.Steps.SplitStages.{ArePartGroups, SplitStage, RemainsBetween, Between, Inside, Over, last_of}
 use Rattle.cwr_parts.specs.Steps.SplitStages.{open_items, parts_at, split_stage_after, total_in, value_of, with_group}

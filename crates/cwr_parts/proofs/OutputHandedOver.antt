@@ -16,7 +16,7 @@ use Rattle.cwr_encode.specs.Steps.Encoders.{encoder_limits}
 use Rattle.cwr_encode.specs.Format.Finishing.{JudgesEnd}
 use Rattle.cwr_encode.specs.Steps.Finishing.{FinishesWriting}
 use Rattle.cwr_parts.specs.declared.split_output.SplitOutput.{SplitOutput}
-use Rattle.cwr_parts.specs.Format.Outputs.{AddsText}
+use Rattle.cwr_devices.specs.Format.Outputs.{AddsText}
 use Rattle.cwr_parts.specs.Steps.SplitOutputs.{MayHandOver, TakesOutput, Told}
 use Rattle.cwr_parts.proofs.ItemsAdded.{records_in-append, records_in_value}
 use Rattle.cwr_parts.proofs.JoinsEnded.{closed_end, reached_foot, right_end}

@@ -24,7 +24,7 @@ use Rattle.cwr_parts.specs.declared.splitting.Splitting.{Splitting}
 use Rattle.cwr_tools.specs.declared.verdicts.ToolFault.{ToolFault}
 use Rattle.cwr_tools.specs.declared.verdicts.ToolFault.TheVariants as tool_faults
 use Rattle.cwr_parts.specs.Steps.Joined.{reading_fault}
-use Rattle.cwr_parts.specs.Format.Outputs.{AddsTexts}
+use Rattle.cwr_devices.specs.Format.Outputs.{AddsTexts}
 use Rattle.cwr_parts.specs.Format.Splits.{split_of}
 use Rattle.cwr_parts.specs.Steps.SplitItems.{HasCounted}
 use Rattle.cwr_parts.specs.Steps.SplitOutputs.{FailsWith, IsOutputFault, Told}

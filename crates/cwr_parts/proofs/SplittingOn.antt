@@ -19,7 +19,7 @@ use Rattle.cwr_decode.specs.Steps.Runs.{IsReadingOn}
 use Rattle.cwr_decode.proofs.FirstItems.{first_items}
 use Rattle.cwr_decode.proofs.ItemsReadSoFar.{fewer_left, some_read}
 use Rattle.cwr_parts.specs.declared.splitting.Splitting.{Splitting}
-use Rattle.cwr_parts.specs.Format.Outputs.{AddsTexts}
+use Rattle.cwr_devices.specs.Format.Outputs.{AddsTexts}
 use Rattle.cwr_parts.specs.Steps.SplitItems.{HoldsStage, IsTaken, MayTake}
 use Rattle.cwr_parts.specs.Steps.SplitOutputs.{CountsNone, Told}
 use Rattle.cwr_parts.specs.Steps.SplitStages.{SplitStage, Remains, Over, Start, parts_at, parts_in, split_stage_after, stage_in}

@@ -7,7 +7,7 @@ use Rattle.cwr_values.specs.declared.items.Item.{Item}
 use Rattle.cwr_values.specs.declared.items.Item.TheVariants.{Opened, GroupOpened, Transaction, GroupClosed, Ended}
 use Rattle.cwr_values.specs.Format.Values.{GroupValue, TransmissionValue}
 use Rattle.cwr_judge.specs.Format.Items.{group_items}
-use Rattle.cwr_parts.specs.Format.Outputs.{AddsTexts}
+use Rattle.cwr_devices.specs.Format.Outputs.{AddsTexts}
 use Rattle.cwr_parts.specs.Steps.SplitStages.{SplitStage, Remains, RemainsBetween, RemainsInside, Between, Inside, Over, Start}
 use Rattle.cwr_parts.specs.Steps.SplitStages.{with_group}
 use Rattle.cwr_parts.proofs.StagesLeft.{after_foot, next_between, next_inside}

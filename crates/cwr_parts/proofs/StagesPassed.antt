@@ -9,7 +9,7 @@ use Rattle.cwr_values.specs.declared.items.Item.TheVariants.{Opened, GroupOpened
 use Rattle.cwr_values.specs.Format.Values.{GroupValue, TransmissionValue}
 use Rattle.cwr_judge.specs.Format.Items.{group_items}
 use Rattle.cwr_tools.specs.declared.verdicts.SplitReport.{SplitReport}
-use Rattle.cwr_parts.specs.Format.Outputs.{AddsTexts}
+use Rattle.cwr_devices.specs.Format.Outputs.{AddsTexts}
 use Rattle.cwr_parts.specs.Format.Splits.{split_of}
 use Rattle.cwr_parts.specs.Steps.SplitItems.{HasCounted}
 use Rattle.cwr_parts.specs.Steps.SplitStages.{SplitStage, Remains, Between, Inside, Over, Start, open_total, parts_at, parts_in}

@@ -14,7 +14,7 @@ use Rattle.cwr_parts.specs.declared.splitting.Splitting.{Splitting}
 use Rattle.cwr_tools.specs.declared.verdicts.ToolFault.{ToolFault}
 use Rattle.cwr_tools.specs.declared.verdicts.ToolFault.TheVariants as tool_faults
 use Rattle.cwr_values.specs.Format.Rows.{canonical_text}
-use Rattle.cwr_parts.specs.Format.Outputs.{AddsText, given_up_with}
+use Rattle.cwr_devices.specs.Format.Outputs.{AddsText, given_up_with}
 use Rattle.cwr_parts.specs.Format.Splitting.{CountsSplitOutput, CountsSplitWriter}
 use Rattle.cwr_parts.specs.Steps.SplitOutputs.{FailsWith, HoldsOutput, IsOutput, IsQuiet, MayEnd, PutsOn, Told, blank_end, end_of}
 use Rattle.cwr_parts.specs.Steps.SplitOutputs.{front_of, open_count, open_failures, open_front}

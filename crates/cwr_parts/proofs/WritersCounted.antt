@@ -16,7 +16,7 @@ use Rattle.cwr_decode.specs.declared.readings.ReadFault.TheVariants as read_faul
 use Rattle.cwr_parts.specs.declared.split_output.SplitOutput.{SplitOutput}
 use Rattle.cwr_tools.specs.declared.verdicts.ToolFault.{ToolFault}
 use Rattle.cwr_tools.specs.declared.verdicts.ToolFault.TheVariants as tool_faults
-use Rattle.cwr_parts.specs.Format.Outputs.{AddsTexts, HasBytes}
+use Rattle.cwr_devices.specs.Format.Outputs.{AddsTexts, HasBytes}
 use Rattle.cwr_parts.specs.Format.Splitting.{HasFullRuns, TellsBytes, TellsWritten}
 use Rattle.cwr_parts.specs.Steps.Joined.{is_fault_of, reading_fault}
 use Rattle.cwr_parts.specs.Steps.SplitWriters.{BeganEmpty, BeganOpen, CountsBytes, CountsOpen, TellsCount, TellsOpen, had_after}

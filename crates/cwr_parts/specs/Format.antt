@@ -1,6 +1,5 @@
 -- What is promised, in the words of the format.
 pub mod Joins
 pub mod Outcomes
-pub mod Outputs
 pub mod Splits
 pub mod Splitting

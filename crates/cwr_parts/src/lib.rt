@@ -4,11 +4,9 @@
 mod joined;
 mod joining;
 mod outcomes;
-mod outputs;
 mod split_output;
 mod splitting;
 
 pub use joining::join;
 pub use outcomes::{put_join_outcome, put_split_outcome};
-pub use outputs::{OutputFault, Outputs};
 pub use splitting::split;

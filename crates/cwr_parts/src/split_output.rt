@@ -9,8 +9,7 @@ ghost use Rattle.cwr_parts.specs.Steps.SplitOutputs.{HandsOver, MayHandOver, May
 ghost use Rattle.cwr_parts.specs.Steps.SplitWriters.{BeganEmpty, CountsBytes};
 
 use crate::joined::{fault_of, put_item};
-use crate::outputs::Outputs;
-use cwr_devices::Target;
+use cwr_devices::{Outputs, Target};
 use cwr_encode::Encoder;
 use cwr_fields::Kind;
 use cwr_lines::Draft;

@@ -2,7 +2,7 @@
 
 ghost use Rattle.std.specs.Prelude.{◌≡◌, ◌≢◌, ℕ, ◌+◌, ◌<◌, List, Option, Some, None, IfSome, OnOk};
 ghost use Rattle.cwr_values.specs.declared.items.Item.{Item};
-ghost use Rattle.cwr_parts.specs.Format.Outputs.{given_up_with};
+ghost use Rattle.cwr_devices.specs.Format.Outputs.{given_up_with};
 ghost use Rattle.cwr_parts.specs.Steps.SplitOutputs.{open_failures, told_by};
 ghost use Rattle.cwr_parts.specs.Steps.SplitItems.{MayTake, SplitsItems, TakesItem};
 ghost use Rattle.cwr_parts.specs.Format.Splitting.{CountsSplitOutput, CountsSplitReader, CountsSplitWriter, JudgesSplit, SplitsAccepted, TellsWritten};
@@ -12,10 +12,9 @@ ghost use Rattle.cwr_parts.specs.Steps.SplitSteps.{MayWrite, OpensOutput, Writes
 ghost use Rattle.cwr_parts.specs.Steps.SplitWriters.{CountsOpen, CountsWritten, had_after};
 
 use crate::joining::reading_fault;
-use crate::outputs::Outputs;
 use crate::split_output::{SplitOutput, hand_over};
 use cwr_decode::Reading;
-use cwr_devices::{Source, Target};
+use cwr_devices::{Outputs, Source, Target};
 use cwr_shape::Limits;
 use cwr_tools::{SplitReport, ToolFault};
 use cwr_values::Item;

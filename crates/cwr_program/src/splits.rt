@@ -7,12 +7,12 @@ ghost use Rattle.cwr_program.specs.Steps.Splits.{JudgesCut, SplitEndsAs};
 
 use crate::endings::{Look, Status, ended_by, status_after};
 use crate::reports::{look_beyond, tell_following};
-use cwr_devices::{Counted, Sink, SinkFault, Source, Target};
+use cwr_devices::{Counted, Outputs, Sink, SinkFault, Source, Target};
 use cwr_files::{
     Fault, Gathered, Identity, Input, Name, NumberedFiles, Pace, Told, gathered, identity_of_input,
     part_number, part_that_is, told_of,
 };
-use cwr_parts::{Outputs, put_split_outcome, split};
+use cwr_parts::{put_split_outcome, split};
 use cwr_shape::Limits;
 use cwr_tools::{SplitReport, ToolFault};
 use std::alloc::{AllocError, Global};

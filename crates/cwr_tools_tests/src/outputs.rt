@@ -6,8 +6,7 @@ ghost use Rattle.cwr_devices.specs.Format.Failures.{one_more_failure};
 use crate::checks::check_equal;
 use crate::devices::{Bounded, WIDE, Width};
 use crate::works::{Worked, text_of};
-use cwr_devices::Counted;
-use cwr_parts::{OutputFault, Outputs};
+use cwr_devices::{Counted, OutputFault, Outputs};
 use std::alloc::Global;
 use std::process::Abort;
 

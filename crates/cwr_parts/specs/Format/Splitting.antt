@@ -12,7 +12,7 @@ use Rattle.cwr_decode.specs.Format.Runs.{TakesFront}
 use Rattle.cwr_tools.specs.declared.verdicts.SplitReport.{SplitReport}
 use Rattle.cwr_tools.specs.declared.verdicts.ToolFault.{ToolFault}
 use Rattle.cwr_tools.specs.declared.verdicts.ToolFault.TheVariants.{Writer, Refused, Truncated, Output, Limit}
-use Rattle.cwr_parts.specs.Format.Outputs.{AddsTexts, HasBytes}
+use Rattle.cwr_devices.specs.Format.Outputs.{AddsTexts, HasBytes}
 use Rattle.cwr_parts.specs.Format.Splits.{split_of}
 use Rattle.cwr_parts.specs.Format.Joins.{CountsInputFault, CountsOutputFault, IsOfDevice}
 

@@ -10,7 +10,7 @@ use Rattle.cwr_judge.specs.Format.Items.{is_transaction}
 use Rattle.cwr_parts.specs.declared.splitting.Splitting.{Splitting}
 use Rattle.cwr_tools.specs.declared.verdicts.SplitReport.{SplitReport}
 use Rattle.cwr_tools.specs.declared.verdicts.ToolFault.{ToolFault}
-use Rattle.cwr_parts.specs.Format.Outputs.{AddsTexts}
+use Rattle.cwr_devices.specs.Format.Outputs.{AddsTexts}
 use Rattle.cwr_parts.specs.Steps.SplitOutputs.{CountsNone, FailsWith, HoldsOutput, Told, open_count, open_failures}
 use Rattle.cwr_parts.specs.Steps.SplitStages.{SplitStage, Remains, Between, Inside, Over, open_items, open_total, parts_at}
 use Rattle.cwr_parts.specs.Steps.SplitStages.{split_stage_after}

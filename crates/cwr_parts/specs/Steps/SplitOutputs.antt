@@ -15,7 +15,7 @@ use Rattle.cwr_encode.specs.Steps.Encoders.{Encodes, is_stopped, encoder_limits,
 use Rattle.cwr_parts.specs.declared.split_output.SplitOutput.{SplitOutput}
 use Rattle.cwr_tools.specs.declared.verdicts.ToolFault.{ToolFault}
 use Rattle.cwr_tools.specs.declared.verdicts.ToolFault.TheVariants.{Writer, Output}
-use Rattle.cwr_parts.specs.Format.Outputs.{AddsText, given_up_with}
+use Rattle.cwr_devices.specs.Format.Outputs.{AddsText, given_up_with}
 use Rattle.cwr_parts.specs.Format.Splitting.{CountsSplitOutput, CountsSplitWriter}
 
 -- ---- items of an encoder

@@ -14,7 +14,7 @@ use Rattle.cwr_parts.specs.declared.splitting.Splitting.{Splitting}
 use Rattle.cwr_tools.specs.declared.verdicts.SplitReport.{SplitReport}
 use Rattle.cwr_tools.specs.declared.verdicts.ToolFault.{ToolFault}
 use Rattle.cwr_tools.specs.declared.verdicts.ToolFault.TheVariants.{Writer}
-use Rattle.cwr_parts.specs.Format.Outputs.{AddsText, given_up_with}
+use Rattle.cwr_devices.specs.Format.Outputs.{AddsText, given_up_with}
 use Rattle.cwr_parts.specs.Steps.SplitOutputs.{CountsNone, FailsWith, HoldsOutput, IsOutput, IsQuiet, MayEnd, MayPut, PutsOn}
 use Rattle.cwr_parts.specs.Steps.SplitOutputs.{Told, blank_end, end_of, front_of, open_count, open_failures, open_front}
 

@@ -1,10 +1,10 @@
-//! Where the outputs of a split go.
+//! Outputs, one after another.
 
 ghost use Rattle.std.specs.Prelude.{◌≡◌, ℕ, ◌-◌, [], List, Option, Some, true, IfOk, IfSome, OnErr, OnOk};
 ghost use Rattle.cwr_devices.specs.Format.Failures.{CountsFailure};
-ghost use Rattle.cwr_parts.specs.Format.Outputs.{AddsText, given_up_with, lent_after};
+ghost use Rattle.cwr_devices.specs.Format.Outputs.{AddsText, given_up_with, lent_after};
 
-use cwr_devices::Target;
+use crate::devices::Target;
 
 /// An output couldn't be made or finished. The outputs counted it.
 #[derive(Clone, Copy, Debug, PartialEq, Eq)]
