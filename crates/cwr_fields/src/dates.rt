@@ -1,12 +1,12 @@
 //! Days of the calendar as values.
 
-ghost use Rattle.std.specs.Prelude.{◌≡◌, ◌↔◌, ◌<◌, IsTrue, IsSome, IfSome, length, pos};
+ghost use Rattle.std.specs.Prelude.{◌≡◌, ◌↔◌, ◌<◌, IsSome, IfSome, length, pos};
 ghost use Rattle.jiff.specs.Words.{IsDate};
 
 use crate::byte_runs::{three_numbers, write_three};
 use crate::cell_types::CellType;
 use crate::typed_cells::Cell;
-use jiff::civil::Date;
+use cwr_calendar::is_date;
 
 /// A day of the proleptic Gregorian calendar, in a year from 1 to 9999.
 #[derive(Clone, Copy, Debug, PartialEq, Eq, PartialOrd, Ord, Hash)]
@@ -16,17 +16,6 @@ pub struct CivilDate {
     day: u8,
     ghost after_zero: { 0 < year },
     ghost civil: { IsDate (pos year) (pos month) (pos day) },
-}
-
-/// Whether the calendar has the day, in a year from 1 to 9999.
-fn is_date(year: u16, month: u8, day: u8) -> bool
-    ensures { IsTrue result ↔ ((0 < year) × IsDate (pos year) (pos month) (pos day)) }
-{
-    year != 0
-        && year < 10_000
-        && month < 100
-        && day < 100
-        && Date::new(year as i16, month as i8, day as i8).is_ok()
 }
 
 impl CivilDate {
