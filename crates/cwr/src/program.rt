@@ -4,10 +4,10 @@ ghost use Rattle.std.specs.Prelude.{◌≡◌, ◌≢◌, ◌≤◌, ◌||◌, m
 ghost use Rattle.std.specs.IoError.{error_kind};
 ghost use Rattle.std.specs.declared.io.ErrorKind.TheVariants.{OutOfMemory as lacks_memory};
 ghost use Rattle.clap.specs.Values.{kind_of};
-ghost use Rattle.cwr_program.specs.Format.Endings.{EndsOnInput, IsOfInput, StatusOnInput, fault_status, wanted_in};
+ghost use Rattle.cwr.specs.Format.Endings.{EndsOnInput, IsOfInput, StatusOnInput, fault_status, wanted_in};
 ghost use Rattle.cwr_files.specs.Format.Inputs.{are_standard, is_standard};
-ghost use Rattle.cwr_program.specs.Format.Tables.{table_of};
-ghost use Rattle.cwr_program.specs.Steps.Looks.{tells_findings};
+ghost use Rattle.cwr.specs.Format.Tables.{table_of};
+ghost use Rattle.cwr.specs.Steps.Looks.{tells_findings};
 
 use crate::answers::{Answering, match_answers};
 use crate::endings::{Status, Wanted};

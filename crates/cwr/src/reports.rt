@@ -4,10 +4,10 @@ ghost use Rattle.std.specs.Prelude.{◌≡◌, ◌||◌, true, false, not, IfOk,
 ghost use Rattle.cwr_tools.specs.Format.Reports.{CountsWriterFault};
 ghost use Rattle.cwr_tools.specs.Format.Verdicts.{JudgesText};
 ghost use Rattle.cwr_tools.specs.Format.Watching.{SeesAccepted};
-ghost use Rattle.cwr_program.specs.Format.Endings.{EndsOnInput};
+ghost use Rattle.cwr.specs.Format.Endings.{EndsOnInput};
 ghost use Rattle.cwr_files.specs.Steps.Inputs.{remaining_of};
-ghost use Rattle.cwr_program.specs.Steps.Tellings.{CountsInput, CountsLook, CountsReading, CountsWriting, TellsText};
-ghost use Rattle.cwr_program.specs.Steps.Looks.{IsLook, JudgesOn, LooksAfter, LooksOnce, judgement_in, look_of, tells_findings};
+ghost use Rattle.cwr.specs.Steps.Tellings.{CountsInput, CountsLook, CountsReading, CountsWriting, TellsText};
+ghost use Rattle.cwr.specs.Steps.Looks.{IsLook, JudgesOn, LooksAfter, LooksOnce, judgement_in, look_of, tells_findings};
 
 use crate::endings::{Look, Status, Wanted, follows, status_of};
 use cwr_acks::{Form, acks};

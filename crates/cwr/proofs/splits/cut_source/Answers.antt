@@ -1,6 +1,6 @@
-use Rattle.cwr_program.specs.declared.endings.Look.TheVariants as looks
-use Rattle.cwr_program.proofs.SplitsEnd.{cut_failed, cut_judged}
-use Rattle.cwr_program.proofs.splits.cut_source.Goals as goal
+use Rattle.cwr.specs.declared.endings.Look.TheVariants as looks
+use Rattle.cwr.proofs.SplitsEnd.{cut_failed, cut_judged}
+use Rattle.cwr.proofs.splits.cut_source.Goals as goal
 
 pub returns-in-Ok : goal.returns-in-Ok
 returns-in-Ok g c =

@@ -1,11 +1,11 @@
 use Rattle.std.proofs.Common.{◌≡◌, true, sym, subst}
 use Rattle.std.specs.Prelude.{IfOk, Ok, OnOk, Result}
 use Rattle.cwr_tools.specs.declared.verdicts.ToolFault.{ToolFault}
-use Rattle.cwr_program.specs.declared.reports.Judgement.{Judgement}
-use Rattle.cwr_program.specs.Steps.Looks.{JudgesOn}
-use Rattle.cwr_program.specs.Steps.Tellings.{CountsInput, CountsWriting, TellsText}
-use Rattle.cwr_program.proofs.EndsOnTexts.{counts_input, judged_counts, judged_on, judges_on, told_verdict}
-use Rattle.cwr_program.proofs.reports.judge_source.Goals as goal
+use Rattle.cwr.specs.declared.reports.Judgement.{Judgement}
+use Rattle.cwr.specs.Steps.Looks.{JudgesOn}
+use Rattle.cwr.specs.Steps.Tellings.{CountsInput, CountsWriting, TellsText}
+use Rattle.cwr.proofs.EndsOnTexts.{counts_input, judged_counts, judged_on, judges_on, told_verdict}
+use Rattle.cwr.proofs.reports.judge_source.Goals as goal
 
 pub returns-clause-judges : goal.returns-clause-judges
 returns-clause-judges g c =

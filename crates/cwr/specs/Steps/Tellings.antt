@@ -14,11 +14,11 @@ use Rattle.cwr_csv.specs.Format.TableLines.{lines_of_table}
 use Rattle.cwr_explain.specs.Steps.Explained.{Explains}
 use Rattle.cwr_lint.specs.Format.Wanted.{wanting}
 use Rattle.cwr_lint.specs.Steps.Lints.{Lints, Tells}
-use Rattle.cwr_program.specs.declared.endings.Look.{Look}
-use Rattle.cwr_program.specs.declared.endings.Look.TheVariants.{Failed}
-use Rattle.cwr_program.specs.declared.reports.Judgement.{Judgement}
-use Rattle.cwr_program.specs.declared.reports.Telling.{Telling}
-use Rattle.cwr_program.specs.declared.reports.Telling.TheVariants as tellings
+use Rattle.cwr.specs.declared.endings.Look.{Look}
+use Rattle.cwr.specs.declared.endings.Look.TheVariants.{Failed}
+use Rattle.cwr.specs.declared.reports.Judgement.{Judgement}
+use Rattle.cwr.specs.declared.reports.Telling.{Telling}
+use Rattle.cwr.specs.declared.reports.Telling.TheVariants as tellings
 
 -- the lines that are asked for were written, while the input was read from the one state to the other
 abbrev pub TellsUpTo : {W : Type 0} → Telling → Limits → Option (List ℕ) → Option (List ℕ) → (W → Option (List ℕ)) → W → W

@@ -1,6 +1,6 @@
-use Rattle.cwr_program.specs.Format.Endings.{wanted_in}
-use Rattle.cwr_program.proofs.EndsOnTexts.{fault_ends, status_ends}
-use Rattle.cwr_program.proofs.program.carry_out.Goals as goal
+use Rattle.cwr.specs.Format.Endings.{wanted_in}
+use Rattle.cwr.proofs.EndsOnTexts.{fault_ends, status_ends}
+use Rattle.cwr.proofs.program.carry_out.Goals as goal
 
 pub returns-in-Ok : goal.returns-in-Ok
 returns-in-Ok g c =

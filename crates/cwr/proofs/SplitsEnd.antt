@@ -8,15 +8,15 @@ use Rattle.cwr_tools.specs.declared.verdicts.SplitReport.{SplitReport}
 use Rattle.cwr_tools.specs.declared.verdicts.ToolFault.{ToolFault}
 use Rattle.cwr_tools.specs.declared.verdicts.ToolFault.TheVariants as tool_faults
 use Rattle.cwr_parts.specs.Format.Splitting.{JudgesSplit}
-use Rattle.cwr_program.specs.declared.endings.Look.{Look}
-use Rattle.cwr_program.specs.declared.endings.Status.{Status}
-use Rattle.cwr_program.specs.declared.endings.Status.TheVariants as statuses
+use Rattle.cwr.specs.declared.endings.Look.{Look}
+use Rattle.cwr.specs.declared.endings.Status.{Status}
+use Rattle.cwr.specs.declared.endings.Status.TheVariants as statuses
 use Rattle.cwr_files.specs.declared.faults.Told.{Told}
 use Rattle.cwr_files.specs.declared.faults.Fault.{Fault}
-use Rattle.cwr_program.specs.Format.Endings.{EndsAsSplit, IsStatusOn}
-use Rattle.cwr_program.specs.Steps.Looks.{IsLook, whole_status}
-use Rattle.cwr_program.specs.Steps.Splits.{JudgesCut, SplitEndsAs}
-use Rattle.cwr_program.proofs.EndsOnTexts.{none_from, status_good}
+use Rattle.cwr.specs.Format.Endings.{EndsAsSplit, IsStatusOn}
+use Rattle.cwr.specs.Steps.Looks.{IsLook, whole_status}
+use Rattle.cwr.specs.Steps.Splits.{JudgesCut, SplitEndsAs}
+use Rattle.cwr.proofs.EndsOnTexts.{none_from, status_good}
 
 -- what was split is looked after
 pub cut_judged : (limits : Limits) (before mid after : Option (List ℕ)) (report : SplitReport) (look : Look)

@@ -14,9 +14,9 @@ use Rattle.cwr_write.specs.declared.writing.WriteFault.{WriteFault}
 use Rattle.cwr_write.specs.declared.writing.WriteFault.TheVariants as write_faults
 use Rattle.cwr_words.specs.declared.words.Work.{Work}
 use Rattle.cwr_words.specs.declared.words.Work.TheVariants.{Check, Show, Explain, Lint, Advise, Json, Csv, Acks}
-use Rattle.cwr_program.specs.declared.endings.Status.{Status}
-use Rattle.cwr_program.specs.declared.endings.Status.TheVariants as statuses
-use Rattle.cwr_program.specs.declared.endings.Wanted.{Wanted}
+use Rattle.cwr.specs.declared.endings.Status.{Status}
+use Rattle.cwr.specs.declared.endings.Status.TheVariants as statuses
+use Rattle.cwr.specs.declared.endings.Wanted.{Wanted}
 use Rattle.cwr_files.specs.declared.faults.Told.{Told}
 use Rattle.cwr_files.specs.declared.faults.Fault.{Fault}
 use Rattle.cwr_files.specs.declared.faults.Fault.TheVariants as faults

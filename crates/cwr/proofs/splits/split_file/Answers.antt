@@ -1,9 +1,9 @@
 use Rattle.std.proofs.Common.{List, ℕ, Option}
-use Rattle.cwr_program.specs.Format.Endings.{EndsAsSplit}
+use Rattle.cwr.specs.Format.Endings.{EndsAsSplit}
 use Rattle.cwr_files.specs.Steps.Inputs.{remaining_of}
-use Rattle.cwr_program.proofs.EndsOnTexts.{from_source}
-use Rattle.cwr_program.proofs.SplitsEnd.{split_ends}
-use Rattle.cwr_program.proofs.splits.split_file.Goals as goal
+use Rattle.cwr.proofs.EndsOnTexts.{from_source}
+use Rattle.cwr.proofs.SplitsEnd.{split_ends}
+use Rattle.cwr.proofs.splits.split_file.Goals as goal
 
 pub returns : goal.returns
 returns g c =

@@ -1,10 +1,10 @@
 use Rattle.std.proofs.Common.{List, ℕ, Option}
 use Rattle.std.specs.Prelude.{IfOk, Ok}
 use Rattle.cwr_files.specs.Steps.Inputs.{remaining_of}
-use Rattle.cwr_program.specs.Steps.Looks.{JudgesOn}
-use Rattle.cwr_program.specs.Steps.Tellings.{TellsText}
-use Rattle.cwr_program.proofs.EndsOnTexts.{from_source}
-use Rattle.cwr_program.proofs.reports.judge_input.Goals as goal
+use Rattle.cwr.specs.Steps.Looks.{JudgesOn}
+use Rattle.cwr.specs.Steps.Tellings.{TellsText}
+use Rattle.cwr.proofs.EndsOnTexts.{from_source}
+use Rattle.cwr.proofs.reports.judge_input.Goals as goal
 
 pub returns-clause-judges : goal.returns-clause-judges
 returns-clause-judges g c =

@@ -23,21 +23,21 @@ use Rattle.cwr_tools.specs.Format.Verdicts.{IsVerdictOn, JudgesText}
 use Rattle.cwr_tools.specs.Format.Watching.{SeesAccepted, any_from, item_has_from, watched}
 use Rattle.cwr_explain.specs.declared.trailing.Trailing.{Trailing}
 use Rattle.cwr_explain.specs.Format.Explained.{FindsAfter, IsTrailing}
-use Rattle.cwr_program.specs.declared.endings.Look.{Look}
-use Rattle.cwr_program.specs.declared.endings.Look.TheVariants as looks
-use Rattle.cwr_program.specs.declared.endings.Status.{Status}
-use Rattle.cwr_program.specs.declared.endings.Status.TheVariants as statuses
-use Rattle.cwr_program.specs.declared.endings.Wanted.{Wanted}
+use Rattle.cwr.specs.declared.endings.Look.{Look}
+use Rattle.cwr.specs.declared.endings.Look.TheVariants as looks
+use Rattle.cwr.specs.declared.endings.Status.{Status}
+use Rattle.cwr.specs.declared.endings.Status.TheVariants as statuses
+use Rattle.cwr.specs.declared.endings.Wanted.{Wanted}
 use Rattle.cwr_files.specs.declared.faults.Told.{Told}
 use Rattle.cwr_files.specs.declared.faults.Fault.{Fault}
 use Rattle.cwr_files.specs.declared.faults.Fault.TheVariants as faults
-use Rattle.cwr_program.specs.declared.reports.Judgement.{Judgement}
-use Rattle.cwr_program.specs.declared.reports.Telling.{Telling}
-use Rattle.cwr_program.specs.Format.Endings.{EndsOnInput, FallsShort, IsStatusOn, Meets, StatusOnInput, fault_status}
+use Rattle.cwr.specs.declared.reports.Judgement.{Judgement}
+use Rattle.cwr.specs.declared.reports.Telling.{Telling}
+use Rattle.cwr.specs.Format.Endings.{EndsOnInput, FallsShort, IsStatusOn, Meets, StatusOnInput, fault_status}
 use Rattle.cwr_files.specs.Format.Inputs.{are_standard, is_standard}
-use Rattle.cwr_program.specs.Steps.Tellings.{CountsInput, CountsLook, CountsReading, CountsWriting, TellsText, TellsUpTo}
-use Rattle.cwr_program.specs.Steps.Looks.{IsLook, JudgesOn, LooksAfter, LooksOnce, follows, good_status, judged_with}
-use Rattle.cwr_program.specs.Steps.Looks.{judgement_in, look_of, status_after, status_in}
+use Rattle.cwr.specs.Steps.Tellings.{CountsInput, CountsLook, CountsReading, CountsWriting, TellsText, TellsUpTo}
+use Rattle.cwr.specs.Steps.Looks.{IsLook, JudgesOn, LooksAfter, LooksOnce, follows, good_status, judged_with}
+use Rattle.cwr.specs.Steps.Looks.{judgement_in, look_of, status_after, status_in}
 
 -- ---- what stands after a transmission
 

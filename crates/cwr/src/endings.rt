@@ -1,8 +1,8 @@
 //! How a run ends, by its verdict and by what is wanted beside it.
 
 ghost use Rattle.std.specs.Prelude.{◌≡◌};
-ghost use Rattle.cwr_program.specs.Format.Endings.{EndsAfterFault};
-ghost use Rattle.cwr_program.specs.Steps.Looks.{follows, status_in, whole_status};
+ghost use Rattle.cwr.specs.Format.Endings.{EndsAfterFault};
+ghost use Rattle.cwr.specs.Steps.Looks.{follows, status_in, whole_status};
 
 use cwr_explain::Trailing;
 use cwr_files::{Fault, Told};

@@ -10,15 +10,15 @@ use Rattle.cwr_tools.specs.declared.verdicts.ToolFault.{ToolFault}
 use Rattle.cwr_tools.specs.declared.verdicts.ToolFault.TheVariants as tool_faults
 use Rattle.cwr_explain.specs.declared.trailing.Trailing.{Trailing}
 use Rattle.cwr_explain.specs.Format.Explained.{IsTrailing}
-use Rattle.cwr_program.specs.declared.endings.Look.{Look}
-use Rattle.cwr_program.specs.declared.endings.Look.TheVariants as looks
-use Rattle.cwr_program.specs.declared.endings.Status.{Status}
-use Rattle.cwr_program.specs.declared.endings.Status.TheVariants as statuses
-use Rattle.cwr_program.specs.declared.endings.Wanted.{Wanted}
-use Rattle.cwr_program.specs.declared.reports.Judgement.{Judgement}
-use Rattle.cwr_program.specs.declared.reports.Telling.{Telling}
-use Rattle.cwr_program.specs.declared.reports.Telling.TheVariants as tellings
-use Rattle.cwr_program.specs.Format.Endings.{IsStatusOn}
+use Rattle.cwr.specs.declared.endings.Look.{Look}
+use Rattle.cwr.specs.declared.endings.Look.TheVariants as looks
+use Rattle.cwr.specs.declared.endings.Status.{Status}
+use Rattle.cwr.specs.declared.endings.Status.TheVariants as statuses
+use Rattle.cwr.specs.declared.endings.Wanted.{Wanted}
+use Rattle.cwr.specs.declared.reports.Judgement.{Judgement}
+use Rattle.cwr.specs.declared.reports.Telling.{Telling}
+use Rattle.cwr.specs.declared.reports.Telling.TheVariants as tellings
+use Rattle.cwr.specs.Format.Endings.{IsStatusOn}
 
 -- bytes stand after a transmission
 abbrev pub follows : Trailing → Bool

@@ -1,6 +1,6 @@
 //! Transmissions that are written from lines of JSON.
 
-ghost use Rattle.cwr_program.specs.Format.Endings.{ImportEndsAs};
+ghost use Rattle.cwr.specs.Format.Endings.{ImportEndsAs};
 
 use crate::endings::Status;
 use cwr_devices::{Counted, Sink};

@@ -1,9 +1,9 @@
 //! Transmissions that are cut into files.
 
-ghost use Rattle.cwr_program.specs.Format.Endings.{EndsAsSplit};
+ghost use Rattle.cwr.specs.Format.Endings.{EndsAsSplit};
 ghost use Rattle.cwr_files.specs.Steps.Inputs.{remaining_of};
-ghost use Rattle.cwr_program.specs.Steps.Looks.{whole_status};
-ghost use Rattle.cwr_program.specs.Steps.Splits.{JudgesCut, SplitEndsAs};
+ghost use Rattle.cwr.specs.Steps.Looks.{whole_status};
+ghost use Rattle.cwr.specs.Steps.Splits.{JudgesCut, SplitEndsAs};
 
 use crate::endings::{Look, Status, ended_by, status_after};
 use crate::reports::{look_beyond, tell_following};
