@@ -3,7 +3,7 @@
 ghost use Rattle.std.specs.Prelude.{◌≡◌, ◌+◌, ℕ, None, Some, IfOk, string_bytes};
 ghost use Rattle.cwr_devices.specs.Steps.Counted.{failures_of};
 ghost use Rattle.cwr_devices.specs.Format.Failures.{one_more_failure};
-ghost use Rattle.cwr_files.specs.Steps.NumberedFiles.{asked_of, failed_calls_of, given_up_of, lent_of, part_name};
+ghost use Rattle.cwr_files.specs.Steps.NumberedFiles.{asked_of, failed_calls_of, given_up_of, lent_of, part_name, replaces_none};
 
 use crate::faults::{Fault, Name, Reason};
 use crate::outputs::{Gathered, gathered, told_of};
@@ -173,6 +173,7 @@ impl<'r, 'a, R: Files> NumberedFiles<'r, 'a, R> {
     fn create(&mut self, name: String) -> Result<Gathered<'a, R::File>, Fault<'a>>
         requires { string_bytes name ≡ part_name self.old.prefix.now (asked_of self.old) }
         ensures asked { asked_of self.new ≡ asked_of self.old }
+        ensures guarded { replaces_none self.new ≡ replaces_none self.old }
         ensures failed_calls { failed_calls_of self.new ≡ failed_calls_of self.old }
         ensures given_up { given_up_of self.new ≡ given_up_of self.old }
         ensures unfailed { IfOk result (λ writer. failures_of writer ≡ 0) }
@@ -196,6 +197,7 @@ impl<'r, 'a, R: Files> NumberedFiles<'r, 'a, R> {
     /// Makes the next file.
     fn make(&mut self) -> Result<Gathered<'a, R::File>, Fault<'a>>
         ensures asked { IfOk result (λ writer. asked_of self.new ≡ asked_of self.old + 1) }
+        ensures guarded { replaces_none self.new ≡ replaces_none self.old }
         ensures failed_calls { failed_calls_of self.new ≡ failed_calls_of self.old }
         ensures given_up { given_up_of self.new ≡ given_up_of self.old }
         ensures unfailed { IfOk result (λ writer. failures_of writer ≡ 0) }
@@ -213,6 +215,8 @@ impl<'r, 'a, R: Files> NumberedFiles<'r, 'a, R> {
 
     /// Gives the file that was written its name.
     fn keep(&mut self) -> Result<(), Fault<'a>>
+        ensures asked { asked_of self.new ≡ asked_of self.old }
+        ensures guarded { replaces_none self.new ≡ replaces_none self.old }
         ensures failed_calls { failed_calls_of self.new ≡ failed_calls_of self.old }
         ensures given_up { given_up_of self.new ≡ given_up_of self.old }
         ensures lent { lent_of self.new ≡ 0 }
@@ -226,6 +230,8 @@ impl<'r, 'a, R: Files> NumberedFiles<'r, 'a, R> {
 
     /// Removes the file that was being written, if there is one.
     fn discard(&mut self)
+        ensures asked { asked_of self.new ≡ asked_of self.old }
+        ensures guarded { replaces_none self.new ≡ replaces_none self.old }
         ensures failed_calls { failed_calls_of self.new ≡ failed_calls_of self.old }
         ensures given_up { given_up_of self.new ≡ given_up_of self.old }
         ensures lent { lent_of self.new ≡ 0 }
@@ -237,6 +243,8 @@ impl<'r, 'a, R: Files> NumberedFiles<'r, 'a, R> {
 
     /// Counts a call that failed.
     fn count_failure(&mut self, fault: Fault<'a>) -> OutputFault
+        ensures asked { asked_of self.new ≡ asked_of self.old }
+        ensures guarded { replaces_none self.new ≡ replaces_none self.old }
         ensures failed_calls { failed_calls_of self.new
             ≡ one_more_failure (failed_calls_of self.old) }
         ensures given_up { given_up_of self.new ≡ given_up_of self.old }

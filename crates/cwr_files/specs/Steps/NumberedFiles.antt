@@ -1,5 +1,5 @@
 -- What the files of a split count, and their names.
-use Rattle.std.specs.Prelude.{ℕ, ◌-◌, ◌^◌, List, ◌++◌, Option, Some, None}
+use Rattle.std.specs.Prelude.{ℕ, ◌-◌, ◌^◌, Bool, List, ◌++◌, Option, Some, None}
 use Rattle.std.specs.Fmt.{format_spec, styled_decimal}
 use Rattle.cwr_files.specs.declared.new_files.NumberedFiles.{NumberedFiles}
 use Rattle.cwr_files.specs.declared.new_files.NewFile.{NewFile}
@@ -11,6 +11,10 @@ failed_calls_of files = files.failed_calls
 -- how many were asked for
 abbrev pub asked_of : {R F D : Type 0} → NumberedFiles R F D → ℕ
 asked_of files = files.asked
+
+-- no part may replace a file
+abbrev pub replaces_none : {R F D : Type 0} → NumberedFiles R F D → Bool
+replaces_none files = files.only_new
 
 -- the name of a part: the prefix, and its number in eight digits
 abbrev pub part_name : List ℕ → ℕ → List ℕ
