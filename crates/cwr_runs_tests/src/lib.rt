@@ -2,7 +2,7 @@
 #![tactic(auto)]
 
 #[cfg(test)]
-mod lint_devices;
+mod devices;
 #[cfg(test)]
 mod lints;
 #[cfg(test)]

@@ -1,6 +1,6 @@
 //! Tests of what a lint writes and answers.
 
-use crate::lint_devices::{Bounded, FailsAfter};
+use crate::devices::{Bounded, FailsAfter};
 use cwr_devices::Counted;
 use cwr_lint::lint;
 use cwr_shape::Limits;

@@ -1,55 +1,13 @@
 //! Tests of what is written and answered.
 
-ghost use Rattle.std.specs.Prelude.{Some};
-
+use crate::devices::{Bounded, FailsAfter};
 use cwr_csv::{Table, csv};
 use cwr_devices::Counted;
 use cwr_fields::Kind;
 use cwr_shape::Limits;
 use cwr_tools::{ToolFault, Verdict};
 use cwr_worked::texts::{ONE_ACKNOWLEDGEMENT, TWO_GROUPS, canonical};
-use std::io::{self, ErrorKind, Read, Write};
 use std::process::Abort;
-
-/// A reader that gives a hundred bytes at most, and fails after so many reads.
-#[derive(Drop)]
-struct FailsAfter<'a> {
-    left: &'a [u8],
-    reads: usize,
-}
-
-impl Read for FailsAfter<'_> {
-    fn read(&mut self, buf: &mut [u8]) -> io::Result<usize> {
-        if self.reads == 0 {
-            return Err(io::Error::from(ErrorKind::Other));
-        }
-        self.reads -= 1;
-        let count = buf.len().min(100);
-        self.left.read(&mut buf[..count])
-    }
-}
-
-/// A writer to memory that takes so many bytes in all.
-#[derive(Drop)]
-struct Bounded {
-    text: Vec<u8>,
-    room: usize,
-}
-
-impl Write for Bounded {
-    ghost contents = { λ bounded. Some bounded.text.items };
-
-    fn write(&mut self, text: &[u8]) -> io::Result<usize> {
-        let left = self.room.saturating_sub(self.text.len());
-        let taken = left.min(text.len());
-        self.text.extend_from_slice(&text[..taken])?;
-        Ok(taken)
-    }
-
-    fn flush(&mut self) -> io::Result<()> {
-        Ok(())
-    }
-}
 
 /// What is written of the first lines, so many of them at most, to a writer of so much room, and what is answered, where the reader fails
 /// after so many reads.
