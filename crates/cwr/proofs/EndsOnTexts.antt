@@ -1,17 +1,10 @@
 -- A run over a text ends as that text does.
-use Rattle.std.proofs.Common.{◌≡◌, ℕ, ◌+◌, ◌<◌, ◌≤◌, Bool, true, false, not, ◌||◌, List, [], ◌∷◌, ◌++◌, length, drop, zero, suc}
-use Rattle.std.proofs.Common.{Option, Some, None, refl, sym, ap, ap₂, subst, ◌∙◌, inl, inr, arith, true≢false}
-use Rattle.std.specs.Prelude.{◌≢◌, ◌^◌, ◌-◌, min, nat_lt, if◌then◌else◌, IfOk, IfSome, IsSomeAnd, OnErr, OnOk, Result, Ok, Err}
-use Rattle.std.specs.List.{list_any}
-use Rattle.std.specs.Io.KnownBytes.{prepend_known}
-use Rattle.std.proofs.KnownBytes.{prepend_known-nil}
-use Rattle.std.proofs.lemmas.Bool.{lt-ltb, ltb-true}
+use Rattle.std.proofs.Common.{◌≡◌, ℕ, ◌<◌, Bool, true, false, ◌||◌, List, [], ◌∷◌, length, drop}
+use Rattle.std.proofs.Common.{Option, Some, None, refl, sym, ap, subst, ◌∙◌, inl, inr, arith, true≢false}
+use Rattle.std.specs.Prelude.{if◌then◌else◌, IfOk, IfSome, IsSomeAnd, OnErr, OnOk, Result, Ok, Err}
 use Rattle.cwr_shape.specs.declared.limits.Limits.{Limits}
 use Rattle.cwr_shape.specs.declared.reasons.Level.{Level}
 use Rattle.cwr_values.specs.declared.items.Item.{Item}
-use Rattle.cwr_values.specs.declared.items.Item.TheVariants as items
-use Rattle.cwr_values.specs.Format.Values.{TransmissionValue}
-use Rattle.cwr_judge.specs.Format.Ends.{IsAccepted}
 use Rattle.cwr_judge.specs.Format.Items.{value_items}
 use Rattle.cwr_tools.specs.declared.verdicts.Verdict.{Verdict}
 use Rattle.cwr_tools.specs.declared.verdicts.Verdict.TheVariants as verdicts
@@ -20,98 +13,29 @@ use Rattle.cwr_tools.specs.declared.verdicts.ToolFault.TheVariants as tool_fault
 use Rattle.cwr_tools.specs.declared.watch.Watch.{Watch}
 use Rattle.cwr_tools.specs.Format.Reports.{CountsReaderFault, CountsWriterFault, ItemLines, JudgesAccepted}
 use Rattle.cwr_tools.specs.Format.Verdicts.{IsVerdictOn, JudgesText}
-use Rattle.cwr_tools.specs.Format.Watching.{SeesAccepted, any_from, item_has_from, watched}
-use Rattle.cwr_explain.specs.declared.trailing.Trailing.{Trailing}
-use Rattle.cwr_explain.specs.Format.Explained.{FindsAfter, IsTrailing}
-use Rattle.cwr.specs.declared.endings.Look.{Look}
-use Rattle.cwr.specs.declared.endings.Look.TheVariants as looks
-use Rattle.cwr.specs.declared.endings.Status.{Status}
-use Rattle.cwr.specs.declared.endings.Status.TheVariants as statuses
-use Rattle.cwr.specs.declared.endings.Wanted.{Wanted}
+use Rattle.cwr_tools.specs.Format.Watching.{SeesAccepted, any_from, watched}
+use Rattle.cwr_causes.specs.declared.trailing.Trailing.{Trailing}
+use Rattle.cwr_causes.specs.Format.Trailing.{IsTrailing}
+use Rattle.cwr_explain.specs.Format.Explained.{FindsAfter}
 use Rattle.cwr_files.specs.declared.faults.Told.{Told}
 use Rattle.cwr_files.specs.declared.faults.Fault.{Fault}
 use Rattle.cwr_files.specs.declared.faults.Fault.TheVariants as faults
+use Rattle.cwr_files.specs.Format.Inputs.{are_standard}
+use Rattle.cwr_transform.specs.declared.endings.Look.{Look}
+use Rattle.cwr_transform.specs.declared.endings.Look.TheVariants as looks
+use Rattle.cwr_transform.specs.declared.endings.Status.{Status}
+use Rattle.cwr_transform.specs.declared.endings.Status.TheVariants as statuses
+use Rattle.cwr_transform.specs.declared.endings.Wanted.{Wanted}
+use Rattle.cwr_transform.specs.Format.Endings.{IsStatusOn}
+use Rattle.cwr_transform.specs.Steps.Looks.{CountsLook, IsLook, follows, good_status, status_after, status_in}
+use Rattle.cwr_transform.proofs.StatusesOnTexts.{none_from, status_good}
 use Rattle.cwr.specs.declared.reports.Judgement.{Judgement}
 use Rattle.cwr.specs.declared.reports.Telling.{Telling}
-use Rattle.cwr.specs.Format.Endings.{EndsOnInput, FallsShort, IsStatusOn, Meets, StatusOnInput, fault_status}
-use Rattle.cwr_files.specs.Format.Inputs.{are_standard, is_standard}
-use Rattle.cwr.specs.Steps.Tellings.{CountsInput, CountsLook, CountsReading, CountsWriting, TellsText, TellsUpTo}
-use Rattle.cwr.specs.Steps.Looks.{IsLook, JudgesOn, LooksAfter, LooksOnce, follows, good_status, judged_with}
-use Rattle.cwr.specs.Steps.Looks.{judgement_in, look_of, status_after, status_in}
-
--- ---- what stands after a transmission
-
-none_taken : (more : List ℕ) → min (length more) (2 ^ 64 - 1) ≡ 0 → more ≡ []
-none_taken [] e = refl
-none_taken (x ∷ more) e = absurd (omega (arith, e))
-
-not_empty : (more rest : List ℕ) → 0 < length more → more ++ rest ≢ []
-not_empty [] rest h = absurd (omega (arith, h))
-not_empty (x ∷ more) rest h = λ e. absurd (cc e)
-
-zero_bytes : (n : ℕ) → nat_lt 0 n ≡ false → n ≡ 0
-zero_bytes zero e = refl
-zero_bytes (suc n) e = absurd (true≢false (sym (lt-ltb 0 (suc n) (omega arith)) ∙ e))
-
--- nothing follows
-follows_not : (text : List ℕ) (after : Option (List ℕ)) (t : Trailing) → IsTrailing (Some text) after t → follows t ≡ false
-    → text ≡ []
-follows_not text None t h f = absurd h.consumed
-follows_not text (Some rest) t h f = by (nat_lt 0 t.bytes) t.is_all refl refl f where
-  by : (b a : Bool) → nat_lt 0 t.bytes ≡ b → t.is_all ≡ a → (b || not a) ≡ false → text ≡ []
-  by false true b a e =
-      let none : t.bytes ≡ 0 = zero_bytes t.bytes b in
-      h.consumed ∙ ap₂ (λ (xs ys : List ℕ). xs ++ ys) (none_taken h.more (sym h.counted ∙ none)) (h.all a)
-  by false false b a e = absurd (true≢false e)
-  by true c b a e = absurd (true≢false e)
-
--- bytes follow
-follows_some : (text : List ℕ) (after : Option (List ℕ)) (t : Trailing) → IsTrailing (Some text) after t → follows t ≡ true
-    → text ≢ []
-follows_some text None t h f = absurd h.consumed
-follows_some text (Some rest) t h f =
-    λ e. not_empty h.more rest (by (nat_lt 0 t.bytes) t.is_all refl refl f) (sym h.consumed ∙ e) where
-      by : (b a : Bool) → nat_lt 0 t.bytes ≡ b → t.is_all ≡ a → (b || not a) ≡ true → 0 < length h.more
-      by true a b e f = let some : 0 < t.bytes = ltb-true 0 t.bytes b in omega (arith, some, h.counted)
-      by false false b e f = let some : 1000000 ≤ length h.more = h.some e in omega (arith, some)
-      by false true b e f = absurd (true≢false (sym f))
+use Rattle.cwr.specs.Format.Endings.{EndsOnInput, StatusOnInput, fault_status}
+use Rattle.cwr.specs.Steps.Tellings.{CountsInput, CountsReading, CountsWriting, TellsText, TellsUpTo}
+use Rattle.cwr.specs.Steps.Looks.{JudgesOn, LooksAfter, LooksOnce, judged_with, judgement_in, look_of}
 
 -- ---- the status of a verdict
-
--- with the status that a transmission has which has no unwanted finding
-status_whole : (limits : Limits) (wanted : Wanted) (text : List ℕ) (v : TransmissionValue) (n : ℕ) (look : Look) (status : Status)
-    → IsAccepted limits text v n → any_from wanted.fail_on (value_items v) ≡ false
-    → wanted.whole ≡ true → (after : Option (List ℕ)) → IsLook (Some (drop n text)) after look → status_after look ≡ Some status
-    → IsStatusOn limits wanted text status
-status_whole limits wanted text v n (looks.Found t) status accepted calm whole after h e = by (follows t) refl e where
-  by : (b : Bool) → follows t ≡ b → (if b then Some statuses.Refused else Some statuses.Good) ≡ Some status
-      → IsStatusOn limits wanted text status
-  by true f e = let is : statuses.Refused ≡ status = cc e in
-      subst (IsStatusOn limits wanted text) is (inr (inr (v, n, accepted, inl (whole, follows_some (drop n text) after t h f))))
-  by false f e = let is : statuses.Good ≡ status = cc e in
-      subst (IsStatusOn limits wanted text) is
-      (v, n, accepted, record { whole = λ _. follows_not (drop n text) after t h f; calm = calm })
-status_whole limits wanted text v n looks.Failed status accepted calm whole after h e = absurd (cc e)
-status_whole limits wanted text v n looks.Unasked status accepted calm whole after h e = absurd h
-
-status_calm : (limits : Limits) (wanted : Wanted) (text : List ℕ) (v : TransmissionValue) (n : ℕ) (look : Look) (status : Status)
-    (whole : Bool) → wanted.whole ≡ whole → IsAccepted limits text v n → any_from wanted.fail_on (value_items v) ≡ false
-    → (after : Option (List ℕ)) → IsLook (Some (drop n text)) after look
-    → (if whole then status_after look else Some statuses.Good) ≡ Some status → IsStatusOn limits wanted text status
-status_calm limits wanted text v n look status true is accepted calm after h e =
-    status_whole limits wanted text v n look status accepted calm is after h e
-status_calm limits wanted text v n look status false is accepted calm after h e = let good : statuses.Good ≡ status = cc e in
-    subst (IsStatusOn limits wanted text) good
-    (v, n, accepted, record { whole = λ w. absurd (true≢false (sym w ∙ is)); calm = calm })
-
-pub status_good : (limits : Limits) (wanted : Wanted) (text : List ℕ) (v : TransmissionValue) (n : ℕ) (look : Look) (found : Bool)
-    (status : Status) → IsAccepted limits text v n → any_from wanted.fail_on (value_items v) ≡ found
-    → (after : Option (List ℕ)) → IsLook (Some (drop n text)) after look → good_status wanted look found ≡ Some status
-    → IsStatusOn limits wanted text status
-status_good limits wanted text v n look true status accepted saw after h e = let refused : statuses.Refused ≡ status = cc e in
-    subst (IsStatusOn limits wanted text) refused (inr (inr (v, n, accepted, inr saw)))
-status_good limits wanted text v n look false status accepted saw after h e =
-    status_calm limits wanted text v n look status wanted.whole refl accepted saw after h e
 
 status_on : (limits : Limits) (wanted : Wanted) (text : List ℕ) (verdict : Verdict) (look : Look) (old new : Watch)
     (status : Status) → old ≡ record { from = wanted.fail_on; found = false } → IsVerdictOn limits text verdict
@@ -139,21 +63,7 @@ status_on_input limits wanted None verdict look old new status fresh judged seen
 status_on_input limits wanted (Some text) verdict look old new status fresh judged seen looked e =
     status_on limits wanted text verdict look old new status fresh judged seen looked e
 
--- where it is read by a source that has read nothing of it so far
-pub from_source : {R : Type 0} (P : Option (List ℕ) → Type 0) (remaining : R → Option (List ℕ)) (input inner : R) (ahead : List ℕ)
-    → inner ≡ input → ahead ≡ [] → P (prepend_known ahead (remaining inner)) → P (remaining input)
-from_source P remaining input inner ahead i a p =
-    subst P (ap₂ (λ (xs : List ℕ) (r : _). prepend_known xs (remaining r)) a i ∙ prepend_known-nil (remaining input)) p
-
 -- ---- what is seen and looked for
-
-pub none_from : (given : List Item) → any_from None given ≡ false
-none_from [] = refl
-none_from (items.Transaction t ∷ given) = none_from given
-none_from (items.Opened r ∷ given) = none_from given
-none_from (items.GroupOpened r ∷ given) = none_from given
-none_from (items.GroupClosed r ∷ given) = none_from given
-none_from (items.Ended ∷ given) = none_from given
 
 or_false : (b : Bool) → (b || false) ≡ b
 or_false true = refl

@@ -1,2 +1,1 @@
 pub mod EndsOnTexts
-pub mod SplitsEnd

@@ -3,7 +3,6 @@
 ghost use Rattle.std.specs.Prelude.{IfOk};
 ghost use Rattle.cwr_acks.specs.Format.SentAnswers.{IsFresh};
 
-use crate::endings::Status;
 use crate::reports::{Asked, Judgement, Telling, judgement_of, look_after, tell_aside};
 use cwr_acks::{Form, acks};
 use cwr_devices::{Counted, Sink};
@@ -12,6 +11,7 @@ use cwr_files::{
 };
 use cwr_sent::{Sent, read_sent};
 use cwr_tools::{ToolFault, Verdict, put_verdict_line, verdict_of};
+use cwr_transform::Status;
 use std::io::{Read, Write};
 use std::rt::Files;
 

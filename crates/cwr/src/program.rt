@@ -10,20 +10,19 @@ ghost use Rattle.cwr.specs.Format.Tables.{table_of};
 ghost use Rattle.cwr.specs.Steps.Looks.{tells_findings};
 
 use crate::answers::{Answering, match_answers};
-use crate::endings::{Status, Wanted};
-use crate::imports::{Import, import_file, import_input};
-use crate::joins::{Union, join_files};
 use crate::manual::MANUAL;
-use crate::renumberings::{Repair, repair_numbers};
 use crate::reports::{Asked, Telling, report_input, telling_of};
 use crate::several::report_several;
-use crate::splits::{Cut, split_file};
 use clap::error::ErrorKind;
 use cwr_acks::Form;
 use cwr_csv::Table;
 use cwr_files::{DASH, Fault, Pace, Progress, open_input, print, tell_fault};
 use cwr_json::Encoding;
 use cwr_shape::Limits;
+use cwr_transform::{
+    Cut, Import, Repair, Status, Union, Wanted, import_file, import_input, join_files,
+    repair_numbers, split_file,
+};
 use cwr_words::{Rows, Task, Work, task_of};
 use std::convert::AsStr;
 use std::io;

@@ -6,15 +6,16 @@ ghost use Rattle.cwr_tools.specs.Format.Verdicts.{JudgesText};
 ghost use Rattle.cwr_tools.specs.Format.Watching.{SeesAccepted};
 ghost use Rattle.cwr.specs.Format.Endings.{EndsOnInput};
 ghost use Rattle.cwr_files.specs.Steps.Inputs.{remaining_of};
-ghost use Rattle.cwr.specs.Steps.Tellings.{CountsInput, CountsLook, CountsReading, CountsWriting, TellsText};
-ghost use Rattle.cwr.specs.Steps.Looks.{IsLook, JudgesOn, LooksAfter, LooksOnce, judgement_in, look_of, tells_findings};
+ghost use Rattle.cwr.specs.Steps.Tellings.{CountsInput, CountsReading, CountsWriting, TellsText};
+ghost use Rattle.cwr_transform.specs.Steps.Looks.{CountsLook};
+ghost use Rattle.cwr.specs.Steps.Looks.{JudgesOn, LooksAfter, LooksOnce, judgement_in, look_of, tells_findings};
 
-use crate::endings::{Look, Status, Wanted, follows, status_of};
 use cwr_acks::{Form, acks};
 use cwr_advise::advise;
+use cwr_causes::Trailing;
 use cwr_csv::{Table, csv};
 use cwr_devices::{Counted, Sink, SinkFault, Source, Target};
-use cwr_explain::{Trailing, explain, read_trailing};
+use cwr_explain::explain;
 use cwr_files::{
     Fault, FileLines, Gathered, Input, Name, Pace, Told, gathered, shown_name, told_of,
 };
@@ -22,8 +23,8 @@ use cwr_json::Encoding;
 use cwr_lint::lint;
 use cwr_shape::Limits;
 use cwr_tools::{ToolFault, Verdict, Watch, check_watched, json, put_verdict_line, show};
+use cwr_transform::{Look, Status, Wanted, look_beyond, status_of, tell_following};
 use std::alloc::Global;
-use std::io;
 use std::io::{Read, Write};
 
 /// What is written of a transmission.
@@ -95,18 +96,7 @@ pub(crate) struct Judgement {
     pub(crate) status: Status,
 }
 
-/// Looks what an input has left after its transmission.
-pub(crate) fn look_beyond<R: Source>(reader: &mut R) -> Look
-    ensures look { IsLook (R.remaining reader.old) (R.remaining reader.new) result }
-    ensures failures { CountsLook result (R.failures reader.old) (R.failures reader.new) }
-{
-    match read_trailing(reader) {
-        Ok(found) => Look::Found(found),
-        Err(_) => Look::Failed,
-    }
-}
-
-/// Looks so where the verdict is good.
+/// Looks what an input has left after its transmission, where the verdict is good.
 pub(crate) fn look_after<R: Source>(reader: &mut R, outcome: &Result<Verdict, ToolFault>) -> Look
     ensures looks { LooksOnce (R.remaining reader.old) (R.remaining reader.new) outcome.now result }
     ensures unasked { OnErr outcome.now (result ≡ Look.Unasked) }
@@ -265,36 +255,6 @@ pub(crate) fn judge_input<'a, F: Read + Drop, I: Read + Drop, P: Pace + Drop, W:
     let (writer, judged) = judge_source(asked, telling, &mut reader, writer);
     let told = reader.into_inner().told();
     (writer, judged, told)
-}
-
-/// Writes to standard error what stands after the transmission of that input, if bytes do.
-fn put_following<E: Write>(error: &mut E, name: Name<'_>, trailing: &Trailing) -> io::Result<()> {
-    let least = if trailing.is_all { "" } else { "at least " };
-    match trailing.bytes {
-        1 => write!(error, "cwr: {name}: 1 byte follows the transmission")?,
-        count => write!(
-            error,
-            "cwr: {name}: {least}{count} bytes follow the transmission"
-        )?,
-    }
-    if trailing.begins == *b"HDR" {
-        writeln!(error, ", the first of them look like another one (HDR)")
-    } else {
-        writeln!(error)
-    }
-}
-
-/// Tells on standard error what stands after the transmission of that input, or that it can't be read. What standard error doesn't
-/// take is lost.
-pub(crate) fn tell_following<E: Write>(error: &mut E, name: Name<'_>, look: &Look) {
-    let _ = match look {
-        Look::Found(trailing) if follows(trailing) => put_following(error, name, trailing),
-        Look::Failed => writeln!(
-            error,
-            "cwr: {name}: what follows the transmission can't be read"
-        ),
-        Look::Found(_) | Look::Unasked => Ok(()),
-    };
 }
 
 /// Tells on standard error what is not among the lines: what follows the transmission, and the verdict beside data.

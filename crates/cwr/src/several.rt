@@ -2,13 +2,13 @@
 
 ghost use Rattle.std.specs.Prelude.{◌≡◌, ◌||◌, true, None};
 
-use crate::endings::Status;
 use crate::reports::{Asked, Judgement, judge_input, put_unwanted, tell_aside, telling_of};
 use cwr_devices::{Sink, Target};
 use cwr_files::{
     Fault, FileLines, Gathered, Name, Pace, gathered, open_input, shown_name, tell_fault, told_of,
 };
 use cwr_tools::{ToolFault, Verdict};
+use cwr_transform::Status;
 use std::alloc::Global;
 use std::io::{Read, Write};
 use std::rt::Files;

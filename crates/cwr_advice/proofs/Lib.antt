@@ -14,3 +14,4 @@ pub mod AsciiTexts
 pub mod EarlyDays
 pub mod CleanWorks
 pub mod LastFields
+pub mod OtherRecords

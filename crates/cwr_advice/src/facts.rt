@@ -1,8 +1,9 @@
 //! What the rules of advice ask of all records of a transaction.
 
-ghost use Rattle.std.specs.Prelude.{◌≡◌, ◌++◌, ◌∷◌, [], List};
+ghost use Rattle.std.specs.Prelude.{◌≡◌, ◌++◌, ◌∷◌, [], List, false};
 ghost use Rattle.cwr_lines.specs.Format.Records.{RecordValue};
-ghost use Rattle.cwr_advice.specs.Format.Rules.{has_few_territories, writers_own_less};
+ghost use Rattle.cwr_levels.specs.Format.Findings.{is_owner};
+ghost use Rattle.cwr_advice.specs.Format.Rules.{has_few_territories, is_territory, writers_own_less};
 ghost use Rattle.cwr_advice.specs.Steps.Facts.{AreFacts, AreOwnedBy};
 
 use crate::owners::{Owned, is_writer, owned_by};
@@ -74,6 +75,23 @@ impl Facts {
             territories: self.territories.saturating_add(counted),
             has_component: self.has_component | component,
             has_original: self.has_original | original,
+        }
+    }
+
+    /// With one more record, which is neither a publisher, nor a writer, nor a territory.
+    #[inline(always)]
+    pub(crate) fn with_other(self, shown: &RecordRef<'_>) -> Facts
+        requires owner { is_owner shown.now ≡ false }
+        requires territory { is_territory shown.now ≡ false }
+        ensures { (rs : List RecordValue) → AreFacts rs self
+            → AreFacts (rs ++ shown.now ∷ []) result }
+    {
+        let component = is_of(shown, Kind::Com);
+        let original = is_of(shown, Kind::Ver);
+        Facts {
+            has_component: self.has_component | component,
+            has_original: self.has_original | original,
+            ..self
         }
     }
 

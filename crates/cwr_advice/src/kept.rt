@@ -1,21 +1,19 @@
 //! What is kept of the records of a work in place of them: it tells of most works that there surely is no advice on them.
 
-ghost use Rattle.std.specs.Prelude.{◌≡◌, ◌≤◌, ℕ, ◌++◌, ◌∷◌, [], List, length, option_map, true, false, Some, IfSome, IsTrue, IsFalse};
+ghost use Rattle.std.specs.Prelude.{◌≡◌, ◌≤◌, ◌++◌, ◌∷◌, [], List, length, option_map, true, false, IfSome, IsTrue, IsFalse};
 ghost use Rattle.cwr_lines.specs.Format.Records.{RecordValue};
 ghost use Rattle.cwr_advice.specs.declared.said.Said.{Said};
-ghost use Rattle.cwr_advice.specs.Format.Rules.{advice_of, begins_with_agent};
-ghost use Rattle.cwr_advice.specs.Steps.Kept.{AreAllCollected, AreCollectedAnywhere, AreKept, AreSinceParty, is_among, IsBegun, IsCalm, may_break_alone};
+ghost use Rattle.cwr_levels.specs.Format.Findings.{is_owner};
+ghost use Rattle.cwr_advice.specs.Format.Rules.{advice_of, begins_with_agent, is_territory};
+ghost use Rattle.cwr_advice.specs.Steps.Kept.{AreAllCollected, AreCollectedAnywhere, AreKept, AreSinceParty, is_among, IsBegun, IsCalm};
 ghost use Rattle.cwr_advice.specs.Steps.Kept.{may_break_some, stands_again, StandsFor};
 
-use crate::asking::asked_of;
-use crate::characters::is_ascii;
-use crate::days::names_day;
+use crate::alone::may_break_some;
 use crate::facts::Facts;
-use crate::judging::{CHAIN, breaks_alone, collects_nowhere, is_agent};
+use crate::judging::{CHAIN, collects_nowhere, is_agent};
 use crate::kept_headers::Headers;
 use crate::owing::Owing;
 use crate::owners::{Owned, is_publisher, is_writer, owned_by};
-use crate::rules::AdviceRule;
 use crate::said::Said;
 use crate::territory_cells::{code_of, collection_of, is_territory};
 use arrayvec::ArrayVec;
@@ -105,27 +103,6 @@ fn collected_anywhere(shown: &RecordRef<'_>) -> Owned
     collection_of(shown)
 }
 
-/// Whether the record may break the rule by itself, whatever is said of the transmission.
-#[inline(always)]
-fn may_break_alone(rule: AdviceRule, shown: &RecordRef<'_>, field: u8) -> bool
-    ensures { result ≡ may_break_alone rule shown.now field }
-{
-    match rule {
-        AdviceRule::A8e => names_day(cell(shown, field)),
-        AdviceRule::A9a => !is_ascii(cell(shown, field)),
-        _ => breaks_alone(Said::nothing(), rule, shown, field),
-    }
-}
-
-/// Whether the record may break a rule by itself.
-fn may_break_some(shown: &RecordRef<'_>) -> bool
-    ensures { result ≡ may_break_some shown.now }
-{
-    asked_of(shown.kind())
-        .iter()
-        .any(|asked| may_break_alone(asked.rule, shown, asked.field))
-}
-
 /// The sequence in a cell that is as wide as such sequences are.
 #[inline(always)]
 fn chain_in(cell: &[u8]) -> Option<Chain>
@@ -192,6 +169,16 @@ fn may_begin_chain(chain: &Option<Chain>, shown: &RecordRef<'_>) -> bool
     }
 }
 
+/// Whether the number of the territory is among those.
+fn is_number_among(territories: &[Code], shown: &RecordRef<'_>) -> bool
+    requires { is_territory shown.now ≡ true }
+    ensures { (rs : List RecordValue) → AreSinceParty rs territories.now
+        → result ≡ stands_again rs shown.now }
+{
+    let code = code_of(shown);
+    !is_spaces(code) && is_among(code, territories)
+}
+
 /// Whether the record is a territory that stands before it already.
 #[inline(always)]
 fn stands_again(territories: &[Code], shown: &RecordRef<'_>) -> bool
@@ -201,8 +188,20 @@ fn stands_again(territories: &[Code], shown: &RecordRef<'_>) -> bool
     if !is_territory(shown) {
         return false;
     }
-    let code = code_of(shown);
-    !is_spaces(code) && is_among(code, territories)
+    is_number_among(territories, shown)
+}
+
+/// Keeps the number of a territory, and says whether it does.
+fn keep_number(territories: &mut ArrayVec<Code, MOST_TERRITORIES>, shown: &RecordRef<'_>) -> bool
+    requires owner { is_owner shown.now ≡ false }
+    requires territory { is_territory shown.now ≡ true }
+    ensures { (rs : List RecordValue) → AreSinceParty rs territories.old.items → IsTrue result
+        → AreSinceParty (rs ++ shown.now ∷ []) territories.new.items }
+{
+    match code_in(code_of(shown)) {
+        Some(code) => territories.try_push(code).is_ok(),
+        None => false,
+    }
 }
 
 /// Keeps the number of a territory, and says whether it does. Those before a publisher or a writer are forgotten.
@@ -218,10 +217,7 @@ fn keep_territory(territories: &mut ArrayVec<Code, MOST_TERRITORIES>, shown: &Re
     if !is_territory(shown) {
         return true;
     }
-    match code_in(code_of(shown)) {
-        Some(code) => territories.try_push(code).is_ok(),
-        None => false,
-    }
+    keep_number(territories, shown)
 }
 
 impl AdviceSums {
@@ -243,18 +239,34 @@ impl AdviceSums {
         }
     }
 
-    /// Whether the record may break a rule that speaks of it and of those before it.
+    /// Whether the record, which breaks no rule by itself, may break one that speaks of it and of those before it.
+    #[inline(always)]
     fn may_break(&self, shown: &RecordRef<'_>) -> bool
+        requires { may_break_some shown.now ≡ false }
         ensures { (rs : List RecordValue) → AreKept self.now rs → IsFalse result
             → IsCalm (rs ++ shown.now ∷ []) (length rs) shown.now }
     {
-        if may_break_some(shown) {
-            return true;
-        }
         if stands_again(self.territories.as_slice(), shown) {
             return true;
         }
         may_begin_chain(&self.chain, shown)
+    }
+
+    /// Adds one record more of a work, which breaks no rule by itself, and is neither a publisher, nor a writer, nor a territory.
+    #[inline(always)]
+    fn add_other(&mut self, shown: &RecordRef<'_>)
+        requires unbroken { may_break_some shown.now ≡ false }
+        requires owner { is_owner shown.now ≡ false }
+        requires territory { is_territory shown.now ≡ false }
+        ensures kept { (rs : List RecordValue) → AreKept self.old rs
+            → AreKept self.new (rs ++ shown.now ∷ []) }
+        ensures same { self.new.is_acknowledgement ≡ self.old.is_acknowledgement }
+    {
+        let publisher = is_of(shown, Kind::Pwr);
+        self.publishers = self.publishers.with(false, false, publisher);
+        self.collections = self.collections.with(false, false, false);
+        self.facts = self.facts.with_other(shown);
+        self.headers = self.headers.with(shown);
     }
 
     /// Adds one record more of a work, and says whether it does: a no says nothing.
@@ -263,6 +275,13 @@ impl AdviceSums {
             → AreKept self.new (rs ++ shown.now ∷ []) }
         ensures same { self.new.is_acknowledgement ≡ self.old.is_acknowledgement }
     {
+        if may_break_some(shown) {
+            return false;
+        }
+        if !is_owner(shown) && !is_territory(shown) {
+            self.add_other(shown);
+            return true;
+        }
         if self.may_break(shown) {
             return false;
         }

@@ -1,6 +1,7 @@
 //! Advice on transactions: what a society will send back, though the file is well formed.
 #![tactic(auto)]
 
+mod alone;
 mod asking;
 mod characters;
 mod checked_cells;

@@ -9,7 +9,7 @@ use Rattle.cwr_tools.specs.declared.verdicts.ToolFault.{ToolFault}
 use Rattle.cwr_tools.specs.Format.Reports.{ItemLines, lines_checked, lines_of_explained, text_on}
 use Rattle.cwr_tools.specs.Format.Verdicts.{IsVerdictOn, JudgesText}
 use Rattle.cwr_tools.specs.Steps.Reports.{Reports}
-use Rattle.cwr_explain.specs.Format.Explained.{IsAnswerAfter}
+use Rattle.cwr_tools.specs.Format.Verdicts.{IsAnswerAfter}
 use Rattle.cwr_explain.specs.Steps.Explained.{Explains}
 use Rattle.cwr_lint.specs.Format.Wanted.{wanting}
 use Rattle.cwr_lint.specs.Steps.Lints.{Lints, Tells}

@@ -1,5 +1,1 @@
-pub mod LastLines
-pub mod FeedPlaces
-pub mod ComingSymbols
-pub mod RefusedLines
 pub mod WordsAfter

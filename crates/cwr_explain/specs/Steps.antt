@@ -1,5 +1,2 @@
 -- What the code keeps, and what its calls do to that.
-pub mod Coming
 pub mod Explained
-pub mod Laws
-pub mod LinesAtEnd

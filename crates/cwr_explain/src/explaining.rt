@@ -1,98 +1,34 @@
 //! Checking a transmission, and explaining what was found.
 
 ghost use Rattle.std.specs.Prelude.{◌≡◌, true, IfOk, IsSomeAnd, OnOk};
-ghost use Rattle.cwr_tools.specs.Format.Verdicts.{JudgesText};
-ghost use Rattle.cwr_tools.specs.Format.Reports.{CountsReaderFault, CountsWriterFault};
+ghost use Rattle.cwr_tools.specs.Format.Verdicts.{IsAnswerTo, JudgesText};
+ghost use Rattle.cwr_tools.specs.Format.Reports.{AddsWords, CountsReaderFault, CountsWriterFault};
 ghost use Rattle.cwr_tools.specs.Format.Watching.{SeesAccepted};
-ghost use Rattle.cwr_explain.specs.Format.Explained.{AddsWords, FindsAfter, IsAnswerTo, IsTrailing, ReadsOnly, TakesMore, WritesOnly};
-ghost use Rattle.cwr_explain.specs.Steps.Explained.{Explains, found_in, is_good};
+ghost use Rattle.cwr_causes.specs.Format.Trailing.{CountsRead, IsTrailing, TakesMore};
+ghost use Rattle.cwr_causes.specs.Steps.Trailing.{found_in};
+ghost use Rattle.cwr_explain.specs.Format.Explained.{FindsAfter, ReadsOnly, WritesOnly};
+ghost use Rattle.cwr_explain.specs.Steps.Explained.{Explains, is_good};
 
-use crate::ahead::{Ahead, Sequence, look_ahead, sequence_at};
-use crate::causes::{Refused, add_trailing, add_truncated, kind_of};
-use crate::lines_at_end::{LineAtEnd, line_at_end, line_before};
-use crate::trailing::{Trailing, read_trailing};
-use cwr_decode::{LastRead, Refusal};
-use cwr_devices::{Sink, Source, Target};
-use cwr_lines::LONGEST_LINE;
-use cwr_shape::{Limits, Reason, Stage};
+use cwr_causes::{
+    Beyond, Trailing, add_refused, add_trailing, add_truncated, line_at_end, look_after_line,
+    read_trailing,
+};
+use cwr_decode::LastRead;
+use cwr_devices::{DeviceFault, Sink, Source, Target};
+use cwr_shape::Limits;
 use cwr_tools::{ToolFault, Verdict, Watch, check_explained};
 use std::alloc::{AllocError, Global};
-
-/// What the reader has after a run.
-#[derive(Clone, Copy, Debug)]
-enum Beyond {
-    /// After a transmission: these bytes.
-    Trailing(Trailing),
-    /// After a refused line that had no line feed: whether it goes on.
-    GoesOn(bool),
-    /// After a line whose number is wrong: how the numbers go on.
-    Numbers(Ahead),
-    /// Nobody asked.
-    Unasked,
-}
-
-impl Beyond {
-    /// What was found after a transmission, if that was looked for.
-    fn found(self) -> Option<Trailing>
-        ensures { result ≡ found_in self }
-    {
-        match self {
-            Beyond::Trailing(found) => Some(found),
-            Beyond::GoesOn(_) | Beyond::Numbers(_) | Beyond::Unasked => None,
-        }
-    }
-}
-
-/// Whether the reader shows a byte more.
-fn has_more<R: Source>(reader: &mut R) -> Result<bool, ToolFault>
-    ensures taken { TakesMore (R.remaining reader.old) (R.remaining reader.new) }
-    ensures failures { ReadsOnly result (R.failures reader.old) (R.failures reader.new) }
-{
-    match reader.fill() {
-        Ok(piece) => Ok(!piece.is_empty()),
-        Err(_) => Err(ToolFault::Reader),
-    }
-}
-
-/// The sequence of a line whose number is refused, and that number.
-fn wrong_sequence(refusal: &Refusal, line: &LineAtEnd<'_>) -> Option<(Sequence, u64)> {
-    match refusal.reason {
-        Reason::Number { .. } if line.ended => {
-            sequence_at(kind_of(line.bytes), refusal.field, line.bytes)
-        }
-        _ => None,
-    }
-}
-
-/// Looks at what the reader has after a refused line: whether there is a byte after one of 1,024 bytes, and how the numbers go on after
-/// a wrong one.
-fn look_after_line<R: Source>(
-    reader: &mut R,
-    refusal: &Refusal,
-    line: &LineAtEnd<'_>,
-) -> Result<Beyond, ToolFault>
-    ensures taken { TakesMore (R.remaining reader.old) (R.remaining reader.new) }
-    ensures failures { ReadsOnly result (R.failures reader.old) (R.failures reader.new) }
-{
-    if !line.ended && line.bytes.len() == LONGEST_LINE {
-        return Ok(Beyond::GoesOn(has_more(reader)?));
-    }
-    match wrong_sequence(refusal, line) {
-        Some((sequence, number)) => Ok(Beyond::Numbers(look_ahead(reader, sequence, number)?)),
-        None => Ok(Beyond::Unasked),
-    }
-}
 
 /// Looks at what the reader has after the run: all of it after a transmission, and what tells more of a refused line.
 fn look_beyond<R: Source>(
     reader: &mut R,
     verdict: &Verdict,
     last: &LastRead,
-) -> Result<Beyond, ToolFault>
+) -> Result<Beyond, DeviceFault>
     ensures found { is_good verdict.now ≡ true → IfOk result (λ beyond. IsSomeAnd (found_in beyond)
         (IsTrailing (R.remaining reader.old) (R.remaining reader.new))) }
     ensures taken { TakesMore (R.remaining reader.old) (R.remaining reader.new) }
-    ensures failures { ReadsOnly result (R.failures reader.old) (R.failures reader.new) }
+    ensures failures { CountsRead result (R.failures reader.old) (R.failures reader.new) }
 {
     let line = line_at_end(&last.bytes);
     match verdict {
@@ -100,62 +36,6 @@ fn look_beyond<R: Source>(
         Verdict::Refused(refusal) => look_after_line(reader, refusal, &line),
         Verdict::Truncated { .. } => Ok(Beyond::Unasked),
     }
-}
-
-/// The lines that explain a refusal.
-fn add_refused(
-    alloc: Global,
-    text: &mut String,
-    limits: &Limits,
-    name: &str,
-    refusal: &Refusal,
-    last: &LastRead,
-    beyond: Beyond,
-) -> Result<(), AllocError> {
-    let line = line_at_end(&last.bytes);
-    let refused = Refused {
-        name,
-        refusal,
-        line,
-        before: line_before(&last.bytes),
-        kind: kind_of(line.bytes),
-        is_too_long: matches!(beyond, Beyond::GoesOn(true)),
-        ahead: match beyond {
-            Beyond::Numbers(ahead) => Some(ahead),
-            Beyond::Trailing(_) | Beyond::GoesOn(_) | Beyond::Unasked => None,
-        },
-        is_first: true,
-    };
-    refused.add(alloc, text, limits, Some(last.stage))
-}
-
-/// The lines that explain a fault of a line, where the records before have come to that stage, if that is known. Beside it stand the
-/// line before, where it is held, whether the line has more bytes than are shown, and whether this is the first fault of the line that
-/// is explained: what is to be said of the whole line is said with that one.
-pub fn explain_fault(
-    alloc: Global,
-    limits: &Limits,
-    name: &str,
-    fault: &Refusal,
-    line: LineAtEnd<'_>,
-    before: Option<&[u8]>,
-    is_too_long: bool,
-    is_first: bool,
-    stage: Option<Stage>,
-) -> Result<String, AllocError> {
-    let mut text = String::new(alloc);
-    let refused = Refused {
-        name,
-        refusal: fault,
-        line,
-        before,
-        kind: kind_of(line.bytes),
-        is_too_long,
-        is_first,
-        ahead: None,
-    };
-    refused.add(alloc, &mut text, limits, stage)?;
-    Ok(text)
 }
 
 /// The lines that explain a verdict.
@@ -220,7 +100,10 @@ fn explained<R: Source>(
     ensures taken { TakesMore (R.remaining reader.old) (R.remaining reader.new) }
     ensures failures { ReadsOnly result (R.failures reader.old) (R.failures reader.new) }
 {
-    let beyond = look_beyond(reader, verdict, last)?;
+    let beyond = match look_beyond(reader, verdict, last) {
+        Ok(beyond) => beyond,
+        Err(_) => return Err(ToolFault::Reader),
+    };
     match explanation(alloc, limits, name, verdict, last, beyond) {
         Ok(text) => Ok((text, beyond)),
         Err(_) => Err(ToolFault::Memory),

@@ -1,6 +1,6 @@
 //! The cells that the rules read, and the numbers of their fields, from 1 (CWR 2.1).
 
-ghost use Rattle.std.specs.Prelude.{◌≡◌, ◌<◌, ◌≤◌, ◌^◌, [], length, unwrap_or};
+ghost use Rattle.std.specs.Prelude.{◌≡◌, ◌-◌, ◌<◌, ◌≤◌, ◌^◌, ◌∷◌, [], length, unwrap_or};
 ghost use Rattle.cwr_fields.specs.Format.Bytes.{number_of};
 ghost use Rattle.cwr_lines.specs.Format.Records.{IsRecord};
 ghost use Rattle.cwr_lines.specs.Format.Carried.{record_cell};
@@ -82,6 +82,25 @@ pub fn cell<'a>(shown: &RecordRef<'a>, j: u8) -> &'a [u8]
     }
 }
 
+/// What a digit counts, and 0 of a space.
+#[inline(always)]
+fn digit(byte: u8) -> u64
+    ensures value { result ≡ byte - 48 }
+    ensures small { result ≤ 207 }
+{
+    u64::from(byte.saturating_sub(b'0'))
+}
+
+/// The number that the five digits of a share write, and 0 of a blank one.
+#[inline(always)]
+fn share_in(a: u8, b: u8, c: u8, d: u8, e: u8) -> u64
+    ensures value { result ≡ number_of (a ∷ b ∷ c ∷ d ∷ e ∷ []) }
+    ensures small { result < 10 ^ 10 }
+{
+    let front = 100 * digit(a) + 10 * digit(b) + digit(c);
+    100 * front + 10 * digit(d) + digit(e)
+}
+
 /// The number that the digits of a cell write, and 0 of a blank cell.
 #[inline(always)]
 pub fn number_of(cell: &[u8]) -> u64
@@ -89,9 +108,12 @@ pub fn number_of(cell: &[u8]) -> u64
     ensures value { result ≡ number_of cell.now }
     ensures small { result < 10 ^ 10 }
 {
+    if let [a, b, c, d, e] = cell {
+        return share_in(*a, *b, *c, *d, *e);
+    }
     let mut number = 0;
     for byte in cell {
-        number = 10 * number + u64::from(byte.saturating_sub(b'0'));
+        number = 10 * number + digit(*byte);
     }
     number
 }

@@ -9,9 +9,9 @@ use Rattle.std.proofs.Math.Seq.{drop-append-le, drop-append_seam}
 use Rattle.cwr_lines.specs.Format.Lines.{is_lf}
 use Rattle.cwr_decode.specs.declared.last_bytes.LastBytes.{LastBytes}
 use Rattle.cwr_decode.specs.Steps.LastReads.{HoldsLast, last_held}
-use Rattle.cwr_explain.specs.declared.lines_at_end.LineAtEnd.{LineAtEnd}
-use Rattle.cwr_explain.specs.Steps.LinesAtEnd.{EndsWithLine, IsFound}
-use Rattle.cwr_explain.proofs.LastLines.{starts_later}
+use Rattle.cwr_causes.specs.declared.lines_at_end.LineAtEnd.{LineAtEnd}
+use Rattle.cwr_causes.specs.Steps.LinesAtEnd.{EndsWithLine, IsFound}
+use Rattle.cwr_causes.proofs.LastLines.{starts_later}
 use Rattle.cwr_lint.specs.declared.raw_lines.RawLine.{RawLine}
 use Rattle.cwr_lint.specs.Steps.LinesRead.{HoldsRaw, IsAllRead, IsOfLine, ReadsLast, ReadsRest, spelled}
 

@@ -8,9 +8,8 @@ use Rattle.cwr_fields.specs.declared.cell_types.CellType.{CellType}
 use Rattle.cwr_fields.specs.declared.cell_types.CellType.TheVariants as types
 use Rattle.cwr_fields.specs.Format.Bytes.{digits}
 use Rattle.cwr_fields.specs.Format.Cells.{Allows}
-use Rattle.cwr_fields.proofs.Spellings.{number_spelled}
+use Rattle.cwr_fields.proofs.Spellings.{are_digits-digits, number_spelled}
 use Rattle.cwr_fields.proofs.Digits.{length-digits}
-use Rattle.cwr_fields.proofs.Spellings.{are_digits-digits}
 use Rattle.cwr_fields.specs.declared.kinds.Kind.{Kind}
 use Rattle.cwr_fields.specs.declared.kinds.Kind.TheVariants as kinds
 use Rattle.cwr_lines.specs.Format.GoodCells.{AreGood}

@@ -13,8 +13,8 @@ use Rattle.cwr_decode.specs.declared.readings.ReadFault.TheVariants as read_faul
 use Rattle.cwr_decode.specs.Steps.Represents.{IsStopped, RepresentsIn, text_of}
 use Rattle.cwr_decode.specs.Steps.Runs.{StopsRun}
 use Rattle.cwr_decode.proofs.ClosedTexts.{text_of-push}
-use Rattle.cwr_explain.proofs.RefusedLines.{refused_last}
-use Rattle.cwr_tools.specs.Steps.Verdicts.{IsReadLast, StopsAfter, StopsAt}
+use Rattle.cwr_causes.proofs.RefusedLines.{refused_last}
+use Rattle.cwr_tools.specs.Steps.Verdicts.{IsReadLast, IsRightVerdict, StopsAfter, StopsAt}
 use Rattle.cwr_advise.specs.Format.AdviceLines.{said_in}
 use Rattle.cwr_lint.specs.Format.FaultsOfLines.{Asking}
 use Rattle.cwr_lint.specs.Format.Wanted.{Wanted, asking_for, lines_before_fault, lines_linted, lines_up_to, lines_with, said_when}
@@ -27,14 +27,13 @@ use Rattle.cwr_shape.specs.declared.tallies.Counts.{Counts}
 use Rattle.std.proofs.KnownBytes.{Appends-nil, Appends-trans, Consumes-nil, Consumes-trans}
 use Rattle.cwr_shape.specs.declared.limits.Limits.{Limits}
 use Rattle.cwr_judge.specs.declared.refusals.Refusal.{Refusal}
-use Rattle.cwr_explain.specs.Format.Explained.{AddsWords, IsAnswerAfter, IsAnswerTo, TakesMore}
+use Rattle.cwr_causes.specs.Format.Trailing.{TakesMore}
+use Rattle.cwr_tools.specs.Format.Reports.{AddsWords, ItemLines, JudgesAccepted, text_on}
+use Rattle.cwr_tools.specs.Format.Verdicts.{IsAnswerAfter, IsAnswerTo, JudgesText}
 use Rattle.cwr_tools.specs.declared.verdicts.Verdict.{Verdict}
 use Rattle.cwr_tools.specs.declared.verdicts.Verdict.TheVariants.{Good, Refused, Truncated}
 use Rattle.cwr_tools.specs.declared.verdicts.ToolFault.{ToolFault}
-use Rattle.cwr_tools.specs.Format.Reports.{ItemLines, JudgesAccepted, text_on}
 use Rattle.cwr_tools.specs.Format.Texts.{good_verdict}
-use Rattle.cwr_tools.specs.Format.Verdicts.{JudgesText}
-use Rattle.cwr_tools.specs.Steps.Verdicts.{IsRightVerdict}
 use Rattle.cwr_values.specs.declared.items.Item.{Item}
 use Rattle.cwr_values.specs.Format.Values.{TransmissionValue}
 use Rattle.cwr_judge.specs.Format.Ends.{IsAccepted}

@@ -7,13 +7,14 @@ use Rattle.cwr_devices.specs.declared.sinks.Sink.{Sink}
 use Rattle.cwr_devices.specs.Steps.Sinks.{HasWritten, has_failed, writer_of, written_of}
 use Rattle.cwr_encode.proofs.Ends.{all_written, appends_kept}
 use Rattle.cwr_judge.specs.declared.refusals.Refusal.{Refusal}
-use Rattle.cwr_explain.specs.Format.Explained.{AddsWords, IsAnswerTo, TakesMore}
-use Rattle.cwr_explain.proofs.WordsAfter.{no_more, takes_both}
+use Rattle.cwr_causes.specs.Format.Trailing.{TakesMore}
+use Rattle.cwr_tools.specs.Format.Reports.{AddsWords, CountsReaderFault, CountsWriterFault}
+use Rattle.cwr_tools.specs.Format.Verdicts.{IsAnswerTo}
+use Rattle.cwr_causes.proofs.TakenPieces.{no_more, takes_both}
 use Rattle.cwr_tools.specs.declared.verdicts.Verdict.{Verdict}
 use Rattle.cwr_tools.specs.declared.verdicts.Verdict.TheVariants.{Refused}
 use Rattle.cwr_tools.specs.declared.verdicts.ToolFault.{ToolFault}
 use Rattle.cwr_tools.specs.declared.verdicts.ToolFault.TheVariants as faults
-use Rattle.cwr_tools.specs.Format.Reports.{CountsReaderFault, CountsWriterFault}
 use Rattle.cwr_lint.specs.Steps.Lints.{EndsRun}
 use Rattle.cwr_lint.specs.Steps.Puts.{CountsBoth, CountsPut, PutsAfter, PutsWith, ReadsAndPuts, ReadsAndPutsWith}
 

@@ -12,9 +12,9 @@ ghost use Rattle.cwr_lint.specs.Steps.Runs.{AreWords, IsEndText, asking_of};
 
 use crate::raw_lines::RawLine;
 use cwr_advice::Said;
+use cwr_causes::explain_fault;
 use cwr_decode::Refusal;
 use cwr_devices::{Sink, SinkFault, Target};
-use cwr_explain::explain_fault;
 use cwr_levels::{fault_line, faults_line, truncated_line};
 use cwr_shape::{Limits, Stage};
 use cwr_tools::ToolFault;

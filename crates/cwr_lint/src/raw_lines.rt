@@ -4,16 +4,16 @@ ghost use Rattle.std.specs.Prelude.{◌≡◌, ◌≢◌, ℕ, ◌+◌, ◌≤�
 ghost use Rattle.std.specs.Prelude.{MatchOption};
 ghost use Rattle.std.specs.List.{list_any};
 ghost use Rattle.cwr_devices.specs.Steps.Sinks.{CountsOn};
-ghost use Rattle.cwr_explain.specs.Format.Explained.{TakesMore};
+ghost use Rattle.cwr_causes.specs.Format.Trailing.{TakesMore};
 ghost use Rattle.cwr_fields.specs.Format.Bytes.{is_spaces};
 ghost use Rattle.cwr_lines.specs.Format.Lines.{is_lf, without_cr};
 ghost use Rattle.cwr_lines.specs.Steps.Held.{empty_line, held_body};
 ghost use Rattle.cwr_lint.specs.Steps.LinesRead.{AddsPiece, HoldsRaw, IsOfLine, ReadsLast, ReadsLineIf, ReadsPiece, ReadsRest, held_raw};
 
 use arrayvec::ArrayVec;
+use cwr_causes::{LineAtEnd, line_at_end};
 use cwr_decode::LastBytes;
 use cwr_devices::{DeviceFault, Source};
-use cwr_explain::{LineAtEnd, line_at_end};
 use cwr_fields::is_spaces;
 use cwr_lines::{LONGEST_LINE, LineBuf, LineEnd};
 use memchr::memchr;

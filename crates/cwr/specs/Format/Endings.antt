@@ -1,61 +1,17 @@
--- What the end of a run over texts means for the program.
-use Rattle.std.specs.Prelude.{◌≡◌, ◌≢◌, ◌⊎◌, ℕ, Bool, true, false, List, [], drop, map, Option, None, Some, IfSome, option_map}
-use Rattle.std.specs.Prelude.{Result, Ok, Err}
+-- What the end of a run over an input means for the program.
+use Rattle.std.specs.Prelude.{◌≡◌, Bool, true, List, ℕ, map, Option, None, Some, IfSome, option_map, Result, Ok, Err}
 use Rattle.cwr_shape.specs.declared.limits.Limits.{Limits}
-use Rattle.cwr_values.specs.Format.Values.{TransmissionValue}
-use Rattle.cwr_judge.specs.declared.refusals.Refusal.{Refusal}
-use Rattle.cwr_judge.specs.Format.Ends.{IsAccepted, IsRefused, IsTruncated}
-use Rattle.cwr_judge.specs.Format.Items.{value_items}
-use Rattle.cwr_tools.specs.declared.verdicts.ToolFault.{ToolFault}
-use Rattle.cwr_tools.specs.declared.verdicts.ToolFault.TheVariants as tool_faults
-use Rattle.cwr_tools.specs.Format.Watching.{any_from}
-use Rattle.cwr_write.specs.declared.writing.Written.{Written}
-use Rattle.cwr_write.specs.declared.writing.WriteFault.{WriteFault}
-use Rattle.cwr_write.specs.declared.writing.WriteFault.TheVariants as write_faults
 use Rattle.cwr_words.specs.declared.words.Work.{Work}
 use Rattle.cwr_words.specs.declared.words.Work.TheVariants.{Check, Show, Explain, Lint, Advise, Json, Csv, Acks}
-use Rattle.cwr.specs.declared.endings.Status.{Status}
-use Rattle.cwr.specs.declared.endings.Status.TheVariants as statuses
-use Rattle.cwr.specs.declared.endings.Wanted.{Wanted}
-use Rattle.cwr_files.specs.declared.faults.Told.{Told}
 use Rattle.cwr_files.specs.declared.faults.Fault.{Fault}
 use Rattle.cwr_files.specs.declared.faults.Fault.TheVariants as faults
 use Rattle.cwr_files.specs.Format.Inputs.{are_standard, is_standard}
+use Rattle.cwr_transform.specs.declared.endings.Status.{Status}
+use Rattle.cwr_transform.specs.declared.endings.Status.TheVariants as statuses
+use Rattle.cwr_transform.specs.declared.endings.Wanted.{Wanted}
+use Rattle.cwr_transform.specs.Format.Endings.{IsStatusOn}
 
--- A run without a fault ends well. An input that is refused or ends too early, and a limit that the result passes, end it
--- otherwise, and the fault of a device or of memory is reported, with what is known of that device.
-abbrev pub EndsAfterFault : Told → Told → Fault → Option ToolFault → Result Status Fault → Type 0
-EndsAfterFault input output made None ending = ending ≡ Ok statuses.Good
-EndsAfterFault input output made (Some tool_faults.Reader) ending = ending ≡ Err (faults.Read input)
-EndsAfterFault input output made (Some (tool_faults.Writer written)) ending = ending ≡ Err (faults.Write output)
-EndsAfterFault input output made (Some tool_faults.Memory) ending = ending ≡ Err faults.Memory
-EndsAfterFault input output made (Some (tool_faults.Refused refusal)) ending = ending ≡ Ok statuses.Refused
-EndsAfterFault input output made (Some (tool_faults.Truncated records)) ending = ending ≡ Ok statuses.Refused
-EndsAfterFault input output made (Some tool_faults.Output) ending = ending ≡ Err made
-EndsAfterFault input output made (Some (tool_faults.Limit limit)) ending = ending ≡ Ok statuses.Refused
-
--- What is wanted of a transmission that takes the text's first n bytes is there: nothing follows, if that is wanted, and no finding has
--- the unwanted level or a worse one.
-pub record Meets (wanted : Wanted) (text : List ℕ) (v : TransmissionValue) (n : ℕ) : Type 0 where
-  pub whole : wanted.whole ≡ true → drop n text ≡ []
-  pub calm : any_from wanted.fail_on (value_items v) ≡ false
-
--- it isn't there
-abbrev pub FallsShort : Wanted → List ℕ → TransmissionValue → ℕ → Type 0
-FallsShort wanted text v n = ((wanted.whole ≡ true) × (drop n text ≢ [])) ⊎ (any_from wanted.fail_on (value_items v) ≡ true)
-
--- A run over the text ends well where that begins with a transmission within the limits that has all that is wanted, and as refused
--- where it hasn't, or where the text is refused or truncated.
-abbrev pub IsStatusOn : Limits → Wanted → List ℕ → Status → Type 0
-IsStatusOn limits wanted text statuses.Good =
-    (v : TransmissionValue) × (n : ℕ) × IsAccepted limits text v n × Meets wanted text v n
-IsStatusOn limits wanted text statuses.Refused =
-    ((refusal : Refusal) × IsRefused limits text refusal) ⊎ (((records : ℕ) × IsTruncated limits text records)
-    ⊎ ((v : TransmissionValue) × (n : ℕ) × IsAccepted limits text v n × FallsShort wanted text v n))
-IsStatusOn limits wanted text statuses.CommandLine = ⊥
-IsStatusOn limits wanted text statuses.Fault = ⊥
-
--- else an input, standard output or memory failed
+-- the run has the status on the text, or an input, standard output or memory failed
 abbrev pub EndsOn : Limits → Wanted → List ℕ → Result Status Fault → Type 0
 EndsOn limits wanted text (Ok status) = IsStatusOn limits wanted text status
 EndsOn limits wanted text (Err (faults.Read told)) = Unit {0}
@@ -71,21 +27,6 @@ EndsOnInput limits wanted input ending = IfSome input (λ text. EndsOn limits wa
 abbrev pub StatusOnInput : Limits → Wanted → Option (List ℕ) → Status → Type 0
 StatusOnInput limits wanted input statuses.Fault = Unit {0}
 StatusOnInput limits wanted input status = IfSome input (λ text. IsStatusOn limits wanted text status)
-
--- A split of the text ends so too, but that each of its files may fail.
-abbrev pub EndsAsSplit : Limits → Bool → Option (List ℕ) → Result Status Fault → Type 0
-EndsAsSplit limits whole input (Ok status) =
-    IfSome input (λ text. IsStatusOn limits (record { whole = whole; fail_on = None }) text status)
-EndsAsSplit limits whole input (Err fault) = Unit {0}
-
--- an import that is written ends the run well, and one that is refused otherwise; the fault of a device or of memory is reported
-abbrev pub ImportEndsAs : Told → Told → Result Written WriteFault → Result Status Fault → Type 0
-ImportEndsAs input output (Ok written) ending = ending ≡ Ok statuses.Good
-ImportEndsAs input output (Err (write_faults.Refused refusal)) ending = ending ≡ Ok statuses.Refused
-ImportEndsAs input output (Err (write_faults.Early lines)) ending = ending ≡ Ok statuses.Refused
-ImportEndsAs input output (Err write_faults.Reader) ending = ending ≡ Err (faults.Read input)
-ImportEndsAs input output (Err (write_faults.Writer written)) ending = ending ≡ Err (faults.Write output)
-ImportEndsAs input output (Err write_faults.Memory) ending = ending ≡ Err faults.Memory
 
 -- the work is done on what is on standard input
 abbrev pub IsOfInput : Work → Type 0

@@ -1,56 +1,24 @@
 -- What was seen of a transmission, and after it.
-use Rattle.std.specs.Prelude.{◌≡◌, ℕ, Bool, true, false, not, nat_lt, ◌||◌, List, drop, Option, Some, None, IfSome, if◌then◌else◌}
-use Rattle.std.specs.Prelude.{Result, Ok, Err}
+use Rattle.std.specs.Prelude.{ℕ, Bool, true, false, List, drop, Option, Some, None, IfSome, Result, Ok, Err}
 use Rattle.cwr_shape.specs.declared.limits.Limits.{Limits}
 use Rattle.cwr_values.specs.Format.Values.{TransmissionValue}
 use Rattle.cwr_judge.specs.Format.Ends.{IsAccepted}
 use Rattle.cwr_tools.specs.declared.verdicts.Verdict.{Verdict}
-use Rattle.cwr_tools.specs.declared.verdicts.Verdict.TheVariants.{Good, Refused, Truncated}
+use Rattle.cwr_tools.specs.declared.verdicts.Verdict.TheVariants.{Good}
 use Rattle.cwr_tools.specs.declared.verdicts.ToolFault.{ToolFault}
 use Rattle.cwr_tools.specs.declared.verdicts.ToolFault.TheVariants as tool_faults
-use Rattle.cwr_explain.specs.declared.trailing.Trailing.{Trailing}
-use Rattle.cwr_explain.specs.Format.Explained.{IsTrailing}
-use Rattle.cwr.specs.declared.endings.Look.{Look}
-use Rattle.cwr.specs.declared.endings.Look.TheVariants as looks
-use Rattle.cwr.specs.declared.endings.Status.{Status}
-use Rattle.cwr.specs.declared.endings.Status.TheVariants as statuses
-use Rattle.cwr.specs.declared.endings.Wanted.{Wanted}
+use Rattle.cwr_causes.specs.declared.trailing.Trailing.{Trailing}
+use Rattle.cwr_transform.specs.declared.endings.Look.{Look}
+use Rattle.cwr_transform.specs.declared.endings.Look.TheVariants as looks
+use Rattle.cwr_transform.specs.declared.endings.Status.{Status}
+use Rattle.cwr_transform.specs.declared.endings.Wanted.{Wanted}
+use Rattle.cwr_transform.specs.Format.Endings.{IsStatusOn}
+use Rattle.cwr_transform.specs.Steps.Looks.{IsLook, status_in}
 use Rattle.cwr.specs.declared.reports.Judgement.{Judgement}
 use Rattle.cwr.specs.declared.reports.Telling.{Telling}
 use Rattle.cwr.specs.declared.reports.Telling.TheVariants as tellings
-use Rattle.cwr.specs.Format.Endings.{IsStatusOn}
 
--- bytes stand after a transmission
-abbrev pub follows : Trailing → Bool
-follows trailing = nat_lt 0 trailing.bytes || not trailing.is_all
-
--- the status of a good verdict, where nothing may follow the transmission: none where that can't be read
-abbrev pub status_after : Look → Option Status
-status_after (looks.Found trailing) = if follows trailing then Some statuses.Refused else Some statuses.Good
-status_after looks.Failed = None
-status_after looks.Unasked = Some statuses.Good
-
-abbrev pub whole_status : Bool → Look → Option Status
-whole_status whole look = if whole then status_after look else Some statuses.Good
-
--- the status of a good verdict, where a finding is unwanted or none is
-abbrev pub good_status : Wanted → Look → Bool → Option Status
-good_status wanted look true = Some statuses.Refused
-good_status wanted look false = whole_status wanted.whole look
-
--- the status of a verdict
-abbrev pub status_in : Wanted → Verdict → Look → Bool → Option Status
-status_in wanted (Good groups transactions records) look found = good_status wanted look found
-status_in wanted (Refused refusal) look found = Some statuses.Refused
-status_in wanted (Truncated records) look found = Some statuses.Refused
-
--- what the input has left was read, or it failed
-abbrev pub IsLook : Option (List ℕ) → Option (List ℕ) → Look → Type 0
-IsLook left after (looks.Found trailing) = IsTrailing left after trailing
-IsLook left after looks.Failed = Unit {0}
-IsLook left after looks.Unasked = ⊥
-
--- so it was where the verdict is good
+-- what the input has left was read, or it failed, where the verdict is good
 abbrev pub LooksOnce : Option (List ℕ) → Option (List ℕ) → Result Verdict ToolFault → Look → Type 0
 LooksOnce left after (Ok (Good groups transactions records)) look = IsLook left after look
 LooksOnce left after outcome look = Unit {0}

@@ -1,5 +1,5 @@
 -- What is written of a transmission, and which failures of its devices are counted.
-use Rattle.std.specs.Prelude.{◌≡◌, ℕ, List, Option, Some, None, IfOk, Result, Ok, Err}
+use Rattle.std.specs.Prelude.{◌≡◌, ℕ, List, Option, None, IfOk, Result, Ok, Err}
 use Rattle.std.specs.Option.{is_some}
 use Rattle.cwr_devices.specs.Format.Failures.{one_more_failure}
 use Rattle.cwr_shape.specs.declared.limits.Limits.{Limits}
@@ -14,8 +14,8 @@ use Rattle.cwr_csv.specs.Format.TableLines.{lines_of_table}
 use Rattle.cwr_explain.specs.Steps.Explained.{Explains}
 use Rattle.cwr_lint.specs.Format.Wanted.{wanting}
 use Rattle.cwr_lint.specs.Steps.Lints.{Lints, Tells}
-use Rattle.cwr.specs.declared.endings.Look.{Look}
-use Rattle.cwr.specs.declared.endings.Look.TheVariants.{Failed}
+use Rattle.cwr_transform.specs.declared.endings.Look.{Look}
+use Rattle.cwr_transform.specs.Steps.Looks.{CountsLook}
 use Rattle.cwr.specs.declared.reports.Judgement.{Judgement}
 use Rattle.cwr.specs.declared.reports.Telling.{Telling}
 use Rattle.cwr.specs.declared.reports.Telling.TheVariants as tellings
@@ -46,11 +46,6 @@ abbrev pub TellsText : {W : Type 0} → Telling → Limits → Option (List ℕ)
     → Result Verdict ToolFault → Type 0
 TellsText telling limits before contents old new outcome =
     (after : Option (List ℕ)) × TellsUpTo telling limits before after contents old new outcome
-
--- a look at what follows counts one more failure where it failed, and else none
-abbrev pub CountsLook : Look → ℕ → ℕ → Type 0
-CountsLook Failed old new = new ≡ one_more_failure old
-CountsLook look old new = new ≡ old
 
 -- the reader's failures are those of the look after a verdict, and else of the run, whose fault is answered
 abbrev pub CountsReading : Result Verdict ToolFault → Look → ℕ → ℕ → Type 0

@@ -10,7 +10,7 @@ use Rattle.cwr_lines.specs.Steps.Held.{HeldLine}
 use Rattle.cwr_decode.specs.declared.last_bytes.LastBytes.{LastBytes}
 use Rattle.cwr_decode.specs.Steps.LastReads.{HoldsLast}
 use Rattle.cwr_decode.specs.Steps.Represents.{text_of}
-use Rattle.cwr_explain.specs.Steps.LinesAtEnd.{EndsWithLine}
+use Rattle.cwr_causes.specs.Steps.LinesAtEnd.{EndsWithLine}
 use Rattle.cwr_lint.specs.declared.raw_lines.RawLine.{RawLine}
 
 -- what a line takes of a text: its line feed too, where there is one

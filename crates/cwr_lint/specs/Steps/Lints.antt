@@ -13,7 +13,7 @@ use Rattle.cwr_lines.specs.Format.Records.{RecordValue, IsRecord}
 use Rattle.cwr_shape.specs.Steps.Tallies.{TallyValue, IsTallyOf}
 use Rattle.cwr_values.specs.Format.Begins.{rows_so_far}
 use Rattle.cwr_values.specs.Format.Values.{symbol_of}
-use Rattle.cwr_explain.specs.Format.Explained.{IsAnswerAfter}
+use Rattle.cwr_tools.specs.Format.Verdicts.{IsAnswerAfter}
 use Rattle.cwr_tools.specs.declared.verdicts.Verdict.{Verdict}
 use Rattle.cwr_tools.specs.declared.verdicts.Verdict.TheVariants.{Refused}
 use Rattle.cwr_tools.specs.declared.verdicts.ToolFault.{ToolFault}

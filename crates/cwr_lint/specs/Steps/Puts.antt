@@ -4,7 +4,7 @@ use Rattle.cwr_devices.specs.Format.Failures.{one_more_failure}
 use Rattle.cwr_devices.specs.declared.sinks.Sink.{Sink}
 use Rattle.cwr_devices.specs.declared.sinks.SinkFault.{SinkFault}
 use Rattle.cwr_devices.specs.Steps.Sinks.{HasWritten, has_failed, writer_of}
-use Rattle.cwr_explain.specs.Format.Explained.{TakesMore}
+use Rattle.cwr_causes.specs.Format.Trailing.{TakesMore}
 use Rattle.cwr_tools.specs.declared.verdicts.ToolFault.{ToolFault}
 use Rattle.cwr_tools.specs.declared.verdicts.ToolFault.TheVariants.{Reader, Writer, Memory}
 

@@ -97,3 +97,7 @@ JudgesCanonical of limits before after contents old new verdict =
     (v : TransmissionValue) (more : List ℕ) → IsTransmission v → FitsIn limits v → before ≡ Some (canonical_text v ++ more)
     → (verdict ≡ good_verdict v) × (after ≡ Some more)
     × Appends (contents old) (contents new) (text_on of (value_items v) (good_verdict v))
+
+-- words were written after what the writer had
+abbrev pub AddsWords : {W : Type 0} → (W → Option (List ℕ)) → W → W → Type 0
+AddsWords contents old new = (words : List ℕ) × Appends (contents old) (contents new) words

@@ -33,3 +33,16 @@ IsVerdictOf read_faults.Reader result = result ≡ Err Reader
 IsVerdictOf (read_faults.Refused refusal) result = result ≡ Ok (Refused refusal)
 IsVerdictOf (read_faults.Truncated records) result = result ≡ Ok (Truncated records)
 IsVerdictOf read_faults.Memory result = result ≡ Err Memory
+
+-- an answer after a verdict: the verdict, or that a device or memory failed
+abbrev pub IsAnswerTo : Verdict → Result Verdict ToolFault → Type 0
+IsAnswerTo verdict (Ok other) = other ≡ verdict
+IsAnswerTo verdict (Err Reader) = Unit {0}
+IsAnswerTo verdict (Err (Writer written)) = Unit {0}
+IsAnswerTo verdict (Err Memory) = Unit {0}
+IsAnswerTo verdict (Err fault) = ⊥
+
+-- what the answer of a check becomes: a fault stays
+abbrev pub IsAnswerAfter : Result Verdict ToolFault → Result Verdict ToolFault → Type 0
+IsAnswerAfter (Ok verdict) result = IsAnswerTo verdict result
+IsAnswerAfter (Err fault) result = result ≡ Err fault

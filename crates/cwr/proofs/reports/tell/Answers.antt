@@ -6,7 +6,7 @@ use Rattle.cwr_tools.specs.Format.Reports.{lines_of_data, lines_of_findings, lin
 use Rattle.cwr_acks.specs.Format.AckLines.{lines_of_acks}
 use Rattle.cwr_advise.specs.Format.AdviceLines.{lines_of_advice}
 use Rattle.cwr_csv.specs.Format.TableLines.{lines_of_table}
-use Rattle.cwr.specs.declared.endings.Look.{Look}
+use Rattle.cwr_transform.specs.declared.endings.Look.{Look}
 use Rattle.cwr.specs.Steps.Looks.{LooksAfter, tells_findings}
 use Rattle.cwr.specs.Steps.Tellings.{CountsReading}
 use Rattle.cwr.proofs.EndsOnTexts.{counts_explained, counts_reading, looks_after, looks_found, sees_nothing, told_as}

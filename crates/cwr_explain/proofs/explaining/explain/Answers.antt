@@ -3,8 +3,9 @@ use Rattle.std.specs.Prelude.{IfOk, Result, Err}
 use Rattle.cwr_tools.specs.declared.verdicts.Verdict.{Verdict}
 use Rattle.cwr_tools.specs.declared.verdicts.ToolFault.{ToolFault}
 use Rattle.cwr_tools.specs.Format.Reports.{JudgesAccepted, lines_of_explained}
-use Rattle.cwr_explain.specs.Format.Explained.{IsAnswerAfter}
-use Rattle.cwr_explain.proofs.WordsAfter.{explains_after, finds_after, no_more, no_words}
+use Rattle.cwr_tools.specs.Format.Verdicts.{IsAnswerAfter}
+use Rattle.cwr_causes.proofs.TakenPieces.{no_more}
+use Rattle.cwr_explain.proofs.WordsAfter.{explains_after, finds_after, no_words}
 use Rattle.cwr_explain.proofs.explaining.explain.Goals as goal
 
 pub returns-in-Err-clause-explains : goal.returns-in-Err-clause-explains

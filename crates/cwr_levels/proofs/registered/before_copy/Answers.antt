@@ -1,4 +1,4 @@
-use Rattle.std.proofs.Common.{◌≤◌, length, sym, ap, ◌∙◌, arith}
+use Rattle.std.proofs.Common.{sym, ◌∙◌, arith}
 use Rattle.cwr_levels.specs.Format.Findings.{stands_before_copy}
 use Rattle.cwr_levels.proofs.CopyStarts.{front_more, front_ends, front_whole}
 use Rattle.cwr_levels.proofs.registered.before_copy.Goals as goal

@@ -1,9 +1,8 @@
 use Rattle.std.proofs.Common.{Bool, sym, ap, ◌∙◌}
 use Rattle.std.specs.Prelude.{◌&&◌}
-use Rattle.cwr_tools.specs.Format.Reports.{has_findings}
+use Rattle.cwr_tools.specs.Format.Reports.{has_findings, transaction_lines}
 use Rattle.cwr_values.specs.declared.items.Item.TheVariants.{Transaction}
 use Rattle.cwr_advise.specs.Format.AdviceLines.{advised_transaction, has_advice}
-use Rattle.cwr_tools.specs.Format.Reports.{transaction_lines}
 use Rattle.cwr_lint.specs.Steps.Runs.{asking_of}
 use Rattle.cwr_lint.proofs.AdviceTold.{some_numbered, told_with, told_without}
 use Rattle.cwr_lint.proofs.TextsPut.{findings_put}

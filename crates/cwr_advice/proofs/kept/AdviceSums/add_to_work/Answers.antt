@@ -1,4 +1,4 @@
-use Rattle.std.proofs.Common.{ap₂, ◌∙◌}
+use Rattle.std.proofs.Common.{ap₂, sym, ◌∙◌}
 use Rattle.std.specs.Prelude.{◌&&◌}
 use Rattle.cwr_fields.specs.declared.kinds.Kind.TheVariants as kinds
 use Rattle.cwr_levels.specs.Format.Findings.{is_a}
@@ -6,6 +6,18 @@ use Rattle.cwr_advice.specs.Steps.Kept.{is_owning_writer}
 use Rattle.cwr_advice.proofs.CalmRecords.{calm_more, controlled_writes, owner_writes}
 use Rattle.cwr_advice.proofs.OwnedShares.{owns_something}
 use Rattle.cwr_advice.proofs.kept.AdviceSums.add_to_work.Goals as goal
+
+pub add_other-requires-clause-unbroken : goal.add_other-requires-clause-unbroken
+add_other-requires-clause-unbroken c = sym c.may_break_some.ensures ∙ c.if-may_break_some.false
+
+pub may_break-requires : goal.may_break-requires
+may_break-requires c = sym c.may_break_some.ensures ∙ c.if-may_break_some.false
+
+pub add_other-requires-clause-owner : goal.add_other-requires-clause-owner
+add_other-requires-clause-owner c = sym c.is_owner.ensures ∙ c.if-not-is_owner.true
+
+pub add_other-requires-clause-territory : goal.add_other-requires-clause-territory
+add_other-requires-clause-territory c = sym c.is_territory.ensures ∙ c.if-not-is_territory.true
 
 pub is_something-owns-requires : goal.is_something-owns-requires
 is_something-owns-requires c = c.owned_by-owned.ensures.small

@@ -8,7 +8,7 @@ pub returns : goal.returns
 returns c = λ rs h no.
     let r = c.args.shown.now in
     record {
-      alone = sym c.may_break_some.ensures ∙ c.if-may_break_some.false;
+      alone = c.requires;
       twice =
           ap (λ (l : List RecordValue). stands_again l r) (front_taken rs r)
           ∙ sym (c.stands_again.ensures rs (subst (AreSinceParty rs) (sym c.as_slice.ensures.value) h.territories))

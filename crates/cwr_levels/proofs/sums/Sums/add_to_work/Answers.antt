@@ -1,4 +1,4 @@
-use Rattle.std.proofs.Common.{sym, ap, subst, ◌∙◌}
+use Rattle.std.proofs.Common.{sym, ap, subst}
 use Rattle.cwr_levels.specs.declared.sums.Sums.{Sums}
 use Rattle.cwr_levels.specs.declared.totals.TransactionTotals.{TransactionTotals}
 use Rattle.cwr_levels.specs.Steps.Walks.{AreTotals}

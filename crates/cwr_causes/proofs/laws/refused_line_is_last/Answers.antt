@@ -1,0 +1,5 @@
+use Rattle.cwr_causes.proofs.RefusedLines.{refused_last}
+use Rattle.cwr_causes.proofs.laws.refused_line_is_last.Goals as goal
+
+pub returns : goal.returns
+returns c = refused_last

@@ -1,0 +1,3 @@
+-- What is promised, in the words of the format.
+pub mod Sequences
+pub mod Trailing

@@ -1,0 +1,5 @@
+-- What the code keeps, and what its calls do to that.
+pub mod Coming
+pub mod Laws
+pub mod LinesAtEnd
+pub mod Trailing

@@ -1,0 +1,25 @@
+//! What is said of a refused line, of an input that ends too early and of what stands after a transmission: which bytes, what
+//! stands there, and what may.
+#![tactic(auto)]
+
+mod ahead;
+mod beyond;
+mod causes;
+mod expected;
+pub mod laws;
+mod lines_at_end;
+mod next_symbols;
+mod openings;
+mod sequences;
+mod shifts;
+mod texts;
+mod trailing;
+mod versions;
+mod wrong_numbers;
+
+pub use ahead::Ahead;
+pub use beyond::{Beyond, add_refused, explain_fault, look_after_line};
+pub use causes::{add_trailing, add_truncated};
+pub use lines_at_end::{LineAtEnd, line_at_end};
+pub use next_symbols::{coming, may_come};
+pub use trailing::{Trailing, read_trailing};

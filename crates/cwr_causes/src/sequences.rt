@@ -1,0 +1,71 @@
+//! The sequences of a line and of the line before it.
+
+ghost use Rattle.std.specs.Prelude.{IfSome, IsSomeAnd};
+ghost use Rattle.cwr_causes.specs.Format.Sequences.{HasSequence};
+
+use cwr_fields::spells;
+
+/// How many digits a sequence has.
+const DIGITS: usize = 8;
+
+/// Where a line has its transaction's sequence, and where its own: the first byte, from 0.
+pub(crate) const TRANSACTION_SEQUENCE: usize = 3;
+
+pub(crate) const RECORD_SEQUENCE: usize = 11;
+
+/// The sequences that stand in two lines, one after the other.
+#[derive(Clone, Copy, Debug)]
+pub(crate) struct Sequences {
+    /// That of the line before, where it has one that is known.
+    pub before: Option<u64>,
+    /// That of the line.
+    pub here: Option<u64>,
+}
+
+/// Where the sequence of that field stands in a line: the first byte, from 0.
+pub(crate) fn start_of_sequence(field: u8) -> usize {
+    match field {
+        2 => TRANSACTION_SEQUENCE,
+        _ => RECORD_SEQUENCE,
+    }
+}
+
+/// The number that the bytes write, if they are digits.
+fn number_in(digits: &[u8]) -> u64 {
+    let mut number: u64 = 0;
+    for digit in digits {
+        number = number
+            .saturating_mul(10)
+            .saturating_add(u64::from(digit.saturating_sub(b'0')));
+    }
+    number
+}
+
+/// The sequence that stands in a line from that byte on, from 0. `None` where no eight digits stand there.
+pub(crate) fn sequence_in(line: &[u8], start: usize) -> Option<u64>
+    ensures { IfSome result (λ n. HasSequence start n line.now) }
+{
+    let digits = line.get(start..start.saturating_add(DIGITS))?;
+    let number = number_in(digits);
+    if spells(digits, number) {
+        Some(number)
+    } else {
+        None
+    }
+}
+
+/// The sequences that stand in a line and in the line before it from that byte on, from 0.
+pub(crate) fn sequences_of(line: &[u8], before: Option<&[u8]>, start: usize) -> Sequences
+    ensures here { IfSome result.here (λ n. HasSequence start n line.now) }
+    ensures before { IfSome result.before
+        (λ n. IsSomeAnd before.entry (λ b. HasSequence start n b.now)) }
+{
+    let here = sequence_in(line, start);
+    match before {
+        Some(before) => Sequences {
+            before: sequence_in(before, start),
+            here,
+        },
+        None => Sequences { before: None, here },
+    }
+}

@@ -1,8 +1,0 @@
-use Rattle.std.proofs.Common.{◌≡◌}
-use Rattle.cwr_explain.specs.Format.Explained.{TakesMore}
-use Rattle.cwr_explain.proofs.ahead.look_ahead.Given as goal
-
-abbrev pub invariant-loop : goal.invariant-loop
-invariant-loop g l =
-    TakesMore (g.R.Source.remaining l.fn.reader) (g.R.Source.remaining l.reader)
-    × (g.R.Source.failures l.reader ≡ g.R.Source.failures l.fn.reader)

@@ -1,5 +1,0 @@
-use Rattle.cwr_explain.proofs.RefusedLines.{refused_last}
-use Rattle.cwr_explain.proofs.laws.refused_line_is_last.Goals as goal
-
-pub returns : goal.returns
-returns c = refused_last

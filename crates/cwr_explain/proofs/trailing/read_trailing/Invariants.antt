@@ -1,8 +1,0 @@
-use Rattle.std.proofs.Common.{◌≡◌}
-use Rattle.cwr_explain.specs.Steps.Explained.{HasTaken}
-use Rattle.cwr_explain.proofs.trailing.read_trailing.Given as goal
-
-abbrev pub invariant-loop-pieces : goal.invariant-loop-pieces
-invariant-loop-pieces g l =
-    HasTaken (g.R.Source.remaining l.fn.reader) (g.R.Source.remaining l.reader) l._pieces l.found
-    × (g.R.Source.failures l.reader ≡ g.R.Source.failures l.fn.reader)

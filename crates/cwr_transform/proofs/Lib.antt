@@ -1,0 +1,2 @@
+pub mod StatusesOnTexts
+pub mod SplitsEnd

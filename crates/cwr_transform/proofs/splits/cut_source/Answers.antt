@@ -1,0 +1,14 @@
+use Rattle.cwr_transform.specs.declared.endings.Look.TheVariants as looks
+use Rattle.cwr_transform.proofs.SplitsEnd.{cut_failed, cut_judged}
+use Rattle.cwr_transform.proofs.splits.cut_source.Goals as goal
+
+pub returns-in-Ok : goal.returns-in-Ok
+returns-in-Ok g c =
+    cut_judged c.args.cut.now.limits (g.R.Source.remaining c.args.reader.now) (g.R.Source.remaining c.split.new.reader)
+    (g.R.Source.remaining c.look_beyond.new.reader) c.in-Ok.report c.look_beyond.result c.in-Ok.ensures.judged
+    c.look_beyond.ensures.look
+
+pub returns-in-Err : goal.returns-in-Err
+returns-in-Err g c =
+    cut_failed c.args.cut.now.limits (g.R.Source.remaining c.args.reader.now) (g.R.Source.remaining c.split.new.reader)
+    c.in-Err.fault looks.Unasked c.in-Err.ensures.judged

@@ -1,0 +1,14 @@
+use Rattle.std.proofs.Common.{List, ℕ, Option}
+use Rattle.cwr_transform.specs.Format.Endings.{EndsAsSplit}
+use Rattle.cwr_files.specs.Steps.Inputs.{remaining_of}
+use Rattle.cwr_transform.proofs.StatusesOnTexts.{from_source}
+use Rattle.cwr_transform.proofs.SplitsEnd.{split_ends}
+use Rattle.cwr_transform.proofs.splits.split_file.Goals as goal
+
+pub returns : goal.returns
+returns g c =
+    from_source (λ (known : Option (List ℕ)). EndsAsSplit c.args.cut.now.limits c.args.cut.now.whole known c.split_ending.result)
+    (remaining_of g.R.File.Read.remaining g.I.Read.remaining) c.args.input c.new-reader.result.inner _
+    c.new-reader.ensures.inner c.new-reader.ensures.ahead
+    (split_ends c.args.cut.now.limits c.args.cut.now.whole _ c.told-told.result c.fault.result c.cut_source-outcome.result.0
+    c.cut_source-outcome.result.1 c.split_ending.result c.cut_source-outcome.ensures c.split_ending.ensures)

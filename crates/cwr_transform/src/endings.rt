@@ -1,0 +1,93 @@
+//! How a run ends, by its verdict and by what is wanted beside it.
+
+ghost use Rattle.std.specs.Prelude.{◌≡◌};
+ghost use Rattle.cwr_transform.specs.Format.Endings.{EndsAfterFault};
+ghost use Rattle.cwr_transform.specs.Steps.Looks.{follows, status_in, whole_status};
+
+use cwr_causes::Trailing;
+use cwr_files::{Fault, Told};
+use cwr_shape::Level;
+use cwr_tools::{ToolFault, Verdict};
+
+/// How a run ended, as its exit status, from the best to the worst.
+#[derive(Clone, Copy, Debug, PartialEq, Eq, PartialOrd, Ord)]
+pub enum Status {
+    /// The input is good.
+    Good = 0,
+    /// The input is refused, or ends too early, or less than was wanted, or the result would pass a limit.
+    Refused = 1,
+    /// The words don't ask for what the program does, or they ask for help.
+    CommandLine = 2,
+    /// A file, a device or memory failed.
+    Fault = 3,
+}
+
+/// What is wanted of a transmission beside that it is good.
+#[derive(Clone, Copy, Debug, PartialEq, Eq)]
+pub struct Wanted {
+    /// That no bytes follow it.
+    pub whole: bool,
+    /// That no finding has this level or a worse one.
+    pub fail_on: Option<Level>,
+}
+
+/// What stands after a transmission, as far as it was looked for.
+#[derive(Clone, Copy, Debug, PartialEq, Eq)]
+pub enum Look {
+    /// This was read.
+    Found(Trailing),
+    /// The input failed there.
+    Failed,
+    /// Nobody looked.
+    Unasked,
+}
+
+/// Whether bytes stand after a transmission.
+pub(crate) fn follows(trailing: &Trailing) -> bool
+    ensures { result ≡ follows trailing.now }
+{
+    trailing.bytes > 0 || !trailing.is_all
+}
+
+/// The status of a run on a transmission that is good, by what follows that where nothing may. `None` where the input failed there.
+pub(crate) fn status_after(whole: bool, look: Look) -> Option<Status>
+    ensures { result ≡ whole_status whole look }
+{
+    match look {
+        Look::Found(trailing) if whole && follows(&trailing) => Some(Status::Refused),
+        Look::Failed if whole => None,
+        Look::Found(_) | Look::Failed | Look::Unasked => Some(Status::Good),
+    }
+}
+
+/// The status of a verdict, where `found` says whether a finding came that is unwanted. `None` where nothing may follow the
+/// transmission, and the input failed there.
+pub fn status_of(wanted: Wanted, verdict: &Verdict, look: Look, found: bool) -> Option<Status>
+    ensures { result ≡ status_in wanted verdict.now look found }
+{
+    if found || !matches!(verdict, Verdict::Good { .. }) {
+        return Some(Status::Refused);
+    }
+    status_after(wanted.whole, look)
+}
+
+/// What the end of a run means for the program, by the fault at which it stopped: that of the input, that of the output, or another.
+pub(crate) fn ended_by<'a>(
+    fault: Option<ToolFault>,
+    input: Told<'a>,
+    output: Told<'a>,
+    made: Fault<'a>,
+) -> Result<Status, Fault<'a>>
+    ensures { EndsAfterFault input.entry output.entry made.entry fault result }
+{
+    match fault {
+        None => Ok(Status::Good),
+        Some(ToolFault::Reader) => Err(Fault::Read(input)),
+        Some(ToolFault::Writer { .. }) => Err(Fault::Write(output)),
+        Some(ToolFault::Memory) => Err(Fault::Memory),
+        Some(ToolFault::Output) => Err(made),
+        Some(ToolFault::Refused(_) | ToolFault::Truncated { .. } | ToolFault::Limit(_)) => {
+            Ok(Status::Refused)
+        }
+    }
+}

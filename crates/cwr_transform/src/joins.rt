@@ -1,0 +1,244 @@
+//! Transmissions that are joined to one.
+
+ghost use Rattle.std.specs.Prelude.{◌<◌, length};
+
+use crate::endings::{Look, Status, ended_by, follows};
+use crate::looks::{look_beyond, tell_following};
+use crate::splits::hand_on;
+use cwr_devices::{Counted, Sink, Source};
+use cwr_files::{
+    Fault, Gathered, Input, Name, Pace, Paced, Told, Unwatched, create_output, gathered,
+    identity_of, identity_of_input, is_standard, is_there, open_input, told_of,
+};
+use cwr_parts::{join, put_join_outcome};
+use cwr_shape::Limits;
+use cwr_tools::{JoinFault, JoinReport};
+use std::alloc::Global;
+use std::io::{Read, Write};
+use std::rt::Files;
+
+/// How transmissions are joined.
+#[derive(Clone, Copy, Debug)]
+pub struct Union<'a> {
+    pub limits: Limits,
+    /// Nothing may follow a transmission.
+    pub whole: bool,
+    /// The name of the file that is written.
+    pub out: &'a str,
+    /// That file may replace none.
+    pub only_new: bool,
+}
+
+/// An input that is read. How far that is isn't followed: the result is, as it is written.
+type Reader<'a, F, I> = Counted<Input<'a, F, I, Unwatched>>;
+
+/// The inputs of these names, in their order.
+fn open_inputs<'a, R: Files, I: Read + Drop>(
+    rt: &R,
+    alloc: Global,
+    names: &[&'a str],
+    standard: I,
+) -> Result<Vec<Reader<'a, R::File, I>>, Fault<'a>> {
+    let mut standard = Some(standard);
+    let mut readers = Vec::new(alloc);
+    for name in names {
+        let input = open_input(rt, Some(*name), &mut standard, Unwatched)?;
+        readers
+            .push(Counted::new(input))
+            .map_err(|_| Fault::Memory)?;
+    }
+    Ok(readers)
+}
+
+/// Refuses to write to one of the inputs, or to a file that is there where only a new one may be made.
+pub(crate) fn refuse_out<'a, R: Files>(
+    rt: &R,
+    out: &'a str,
+    only_new: bool,
+    names: &[&'a str],
+) -> Result<(), Fault<'a>> {
+    let own = identity_of(rt, out);
+    for name in names {
+        if own.is_some() && identity_of_input(rt, name) == own {
+            return Err(Fault::IsInput(Name::File(out)));
+        }
+    }
+    if only_new && is_there(rt, out) {
+        return Err(Fault::IsThere(Name::File(out)));
+    }
+    Ok(())
+}
+
+/// What is known of the input of that number, from 1.
+fn told_at<F: Drop, I: Drop>(
+    mut readers: Vec<Reader<'_, F, I>>,
+    number: usize,
+) -> Option<Told<'_>> {
+    let index = number.checked_sub(1)?;
+    if index < readers.len() {
+        Some(readers.swap_remove(index).into_inner().told())
+    } else {
+        None
+    }
+}
+
+/// What a word that names an input is called in messages.
+fn name_of(word: &str) -> Name<'_> {
+    if is_standard(Some(word)) {
+        Name::StandardInput
+    } else {
+        Name::File(word)
+    }
+}
+
+/// Looks what stands after the transmission of each input, and tells it: whether bytes do, or the number of the input that failed there.
+fn look_after_each<R: Source, E: Write>(
+    readers: &mut [R],
+    names: &[&str],
+    error: &mut E,
+) -> Result<bool, usize> {
+    let mut found = false;
+    let mut failed = None;
+    for i in 0..readers.len() {
+        let look = look_beyond(&mut readers[i]);
+        match look {
+            Look::Found(trailing) => found = found || follows(&trailing),
+            Look::Failed | Look::Unasked => failed = failed.or(Some(i + 1)),
+        }
+        if let Some(word) = names.get(i) {
+            tell_following(error, name_of(word), &look);
+        }
+    }
+    match failed {
+        None => Ok(found),
+        Some(number) => Err(number),
+    }
+}
+
+/// What came of a join.
+#[derive(Drop)]
+struct Joined<'a> {
+    outcome: Result<JoinReport, JoinFault>,
+    /// Whether bytes follow the transmission of an input, or the number of the input that failed there. `None` where the join failed.
+    after: Option<Result<bool, usize>>,
+    /// What is known of the file that was written.
+    written: Told<'a>,
+}
+
+impl Joined<'_> {
+    /// Whether what was written is what is wanted: a transmission, and where nothing may follow those of the inputs nothing does.
+    fn is_wanted(&self, whole: bool) -> bool {
+        match self.after {
+            Some(after) => !whole || after == Ok(false),
+            None => false,
+        }
+    }
+}
+
+/// Writes the join of the inputs. `None` where there is no memory for that.
+fn write_joined<'a, R: Source, F: Write + Drop, P: Pace>(
+    alloc: Global,
+    union: &Union<'a>,
+    readers: &mut [R],
+    file: F,
+    pace: &mut P,
+) -> Option<(Result<JoinReport, JoinFault>, Told<'a>)>
+    requires { 0 < length readers.old }
+{
+    let name = Name::File(union.out);
+    let writer = gathered(alloc, Paced::new(file, name, &mut *pace), name).ok()?;
+    let (writer, outcome) = join(alloc, union.limits, readers, writer);
+    let written = told_of(writer);
+    pace.end();
+    Some((outcome, written))
+}
+
+/// Joins the inputs to a file, which gets its name where that is what is wanted.
+fn join_to_file<'a, R: Files + AllocGlobal, S: Source, P: Pace, E: Write>(
+    rt: &R,
+    union: &Union<'a>,
+    names: &[&str],
+    readers: &mut [S],
+    pace: &mut P,
+    error: &mut E,
+) -> Result<Joined<'a>, Fault<'a>>
+    requires { 0 < length readers.old }
+{
+    let alloc = rt.alloc();
+    let (made, file) = create_output(rt, alloc, union.out)?;
+    let Some((outcome, written)) = write_joined(alloc, union, &mut *readers, file, pace) else {
+        made.discard(rt);
+        return Err(Fault::Memory);
+    };
+    let after = match outcome {
+        Ok(_) => Some(look_after_each(readers, names, error)),
+        Err(_) => None,
+    };
+    let joined = Joined {
+        outcome,
+        after,
+        written,
+    };
+    if joined.is_wanted(union.whole) {
+        made.keep_as(rt, Name::File(union.out))?;
+    } else {
+        made.discard(rt);
+    }
+    Ok(joined)
+}
+
+/// Writes the line that says how a join ended.
+fn put_line<'a, O: Write + Drop>(
+    outcome: &Result<JoinReport, JoinFault>,
+    lines: Gathered<'a, O>,
+) -> Result<(), Fault<'a>> {
+    let mut sink = Sink::new(lines);
+    let put = put_join_outcome(outcome, &mut sink);
+    hand_on(put, sink)
+}
+
+/// How a run ends whose inputs these are.
+fn ending<'a, F: Drop, I: Drop>(
+    joined: Joined<'a>,
+    union: &Union<'a>,
+    readers: Vec<Reader<'a, F, I>>,
+) -> Result<Status, Fault<'a>> {
+    let written = joined.written;
+    match (joined.outcome, joined.after) {
+        (Ok(_), Some(Err(number))) if union.whole => {
+            Err(Fault::Read(told_at(readers, number).unwrap_or(written)))
+        }
+        (Ok(_), Some(Ok(true))) if union.whole => Ok(Status::Refused),
+        (Ok(_), _) => Ok(Status::Good),
+        (Err(stopped), _) => {
+            let read = told_at(readers, stopped.input).unwrap_or(written);
+            let made = Fault::Output(Name::File(union.out), None);
+            ended_by(Some(stopped.fault), read, written, made)
+        }
+    }
+}
+
+/// Joins the transmissions of files to one, and writes the line that says how that ended: none where something stands after the
+/// transmission of an input and nothing may.
+pub fn join_files<'a, R: Files + AllocGlobal, I: Read + Drop, P: Pace, O: Write + Drop, E: Write>(
+    rt: &R,
+    union: &Union<'a>,
+    names: &[&'a str],
+    standard: I,
+    pace: &mut P,
+    output: O,
+    error: &mut E,
+) -> Result<Status, Fault<'a>> {
+    let alloc = rt.alloc();
+    let lines = gathered(alloc, output, Name::StandardOutput).map_err(|_| Fault::Memory)?;
+    let mut readers = open_inputs(rt, alloc, names, standard)?;
+    if readers.is_empty() {
+        return Ok(Status::CommandLine);
+    }
+    refuse_out(rt, union.out, union.only_new, names)?;
+    let joined = join_to_file(rt, union, names, readers.as_mut_slice(), pace, error)?;
+    if joined.outcome.is_err() || joined.is_wanted(union.whole) {
+        put_line(&joined.outcome, lines)?;
+    }
+    ending(joined, union, readers)
+}
