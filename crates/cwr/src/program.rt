@@ -11,6 +11,7 @@ ghost use Rattle.cwr.specs.Steps.Looks.{tells_findings};
 
 use crate::answers::{Answering, match_answers};
 use crate::manual::MANUAL;
+use crate::renumberings::{Repair, repair_numbers};
 use crate::reports::{Asked, Telling, report_input, telling_of};
 use crate::several::report_several;
 use clap::error::ErrorKind;
@@ -20,8 +21,7 @@ use cwr_files::{DASH, Fault, Pace, Progress, open_input, print, tell_fault};
 use cwr_json::Encoding;
 use cwr_shape::Limits;
 use cwr_transform::{
-    Cut, Import, Repair, Status, Union, Wanted, import_file, import_input, join_files,
-    repair_numbers, split_file,
+    Cut, Import, Status, Union, Wanted, import_file, import_input, join_files, split_file,
 };
 use cwr_words::{Rows, Task, Work, task_of};
 use std::convert::AsStr;

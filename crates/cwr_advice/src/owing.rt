@@ -1,9 +1,8 @@
 //! What writers need after them, up to the next writer.
 
-ghost use Rattle.std.specs.Prelude.{◌≡◌, Bool, true, false, ◌||◌, List, [], ◌++◌, ◌∷◌};
+ghost use Rattle.std.specs.Prelude.{◌≡◌, Bool, ◌||◌, []};
 ghost use Rattle.cwr_lines.specs.Format.Records.{RecordValue};
-ghost use Rattle.cwr_advice.specs.Format.Rules.{is_writer};
-ghost use Rattle.cwr_advice.specs.Steps.Kept.{AreOwing};
+ghost use Rattle.cwr_advice.specs.Steps.Kept.{AreOwing, OwesAfter};
 
 /// Whether writers lack a record that they ask for.
 #[derive(Clone, Copy)]
@@ -29,9 +28,7 @@ impl Owing {
     /// With one more record: whether it is a writer, asks for one, or gives it to the last writer.
     #[inline(always)]
     pub(crate) fn with(self, writes: bool, asks: bool, gives: bool) -> Owing
-        ensures { (asking giving : RecordValue → Bool) (t : List RecordValue) (r : RecordValue) → AreOwing asking giving t self
-            → ((x : RecordValue) → asking x ≡ true → is_writer x ≡ true) → writes ≡ is_writer r → asks ≡ asking r → gives ≡ giving r
-            → AreOwing asking giving (t ++ r ∷ []) result }
+        ensures { OwesAfter self writes asks gives result }
     {
         if writes {
             Owing {

@@ -6,7 +6,7 @@ ghost use Rattle.cwr_lines.specs.declared.lines.TheConstants.{LONGEST_LINE};
 ghost use Rattle.cwr_lines.specs.declared.lines.LineEnd.{LineEnd};
 ghost use Rattle.cwr_lines.specs.Format.Lines.{is_lf};
 ghost use Rattle.cwr_decode.specs.Steps.LastReads.{HoldsLast, last_held};
-ghost use Rattle.cwr_causes.specs.Steps.LinesAtEnd.{EndsInLine, EndsWithLine, IsAfterFeed, IsFound, IsLastLine};
+ghost use Rattle.cwr_causes.specs.Steps.LinesAtEnd.{EndsInLine, EndsWithLine, IsAfterFeed, IsLastLine, IsLineAtEnd};
 
 use cwr_decode::LastBytes;
 use cwr_lines::{LineBuf, LineEnd};
@@ -49,8 +49,7 @@ fn after_last_feed(text: &[u8]) -> &[u8]
 
 /// The line with which the bytes end that were read. A carriage return at its end is shown.
 pub fn line_at_end(last: &LastBytes) -> LineAtEnd<'_>
-    ensures { (read front line : List ℕ) → HoldsLast read last.now → EndsWithLine read front line
-        → IsFound read front line result }
+    ensures { IsLineAtEnd last.now result }
 {
     let (text, ended) = without_feed(last.as_slice());
     let bytes = after_last_feed(text);

@@ -2,6 +2,7 @@
 pub mod Calls
 pub mod Decoding
 pub mod LastReads
+pub mod Laws
 pub mod Machines
 pub mod Passing
 pub mod PiecesLeft

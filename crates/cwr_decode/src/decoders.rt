@@ -1,15 +1,14 @@
 //! Reading a transmission in pieces of any size.
 
 ghost use Rattle.std.specs.Prelude.{◌≡◌, ◌≢◌, ◌≤◌, ◌++◌, [], List, ℕ, length, take, IfSome, IsNone, IsTrue, IsFalse, Option, None, true, false};
-ghost use Rattle.cwr_decode.specs.Steps.Calls.{Fed, Feeds, RefusesLast, RunsOutOfMemory, seen_input};
-ghost use Rattle.cwr_decode.specs.Steps.Decoding.{StandsAfter, accepted_records, final_answer, has_ended, limits_of};
-ghost use Rattle.cwr_decode.specs.Steps.Machines.{Empties, WaitsOutside, held_list, end_input};
+ghost use Rattle.cwr_decode.specs.Steps.Calls.{Fed, Feeds};
+ghost use Rattle.cwr_decode.specs.Steps.Decoding.{EndsAgain, FeedsRight, FinishesLast, FinishesRight, IsStageNow, LacksMemory, StandsAfter};
+ghost use Rattle.cwr_decode.specs.Steps.Decoding.{accepted_records, final_answer, has_ended, limits_of};
+ghost use Rattle.cwr_decode.specs.Steps.Machines.{Empties, WaitsOutside, held_list};
 ghost use Rattle.cwr_decode.specs.Steps.Passing.{Passes};
 ghost use Rattle.cwr_decode.specs.Steps.Readings.{FeedsOn};
-ghost use Rattle.cwr_decode.specs.Steps.Represents.{IsRight, RepresentsSome, Represents, items_out};
+ghost use Rattle.cwr_decode.specs.Steps.Represents.{RepresentsSome, Represents, items_out};
 ghost use Rattle.cwr_decode.specs.Steps.LastReads.{counts_of_records, stage_of_records};
-ghost use Rattle.cwr_shape.specs.Steps.Stages.{stage_after};
-ghost use Rattle.cwr_shape.specs.Steps.Tallies.{IsTallyOf};
 ghost use Rattle.cwr_shape.specs.declared.symbols.Symbol.{Symbol};
 ghost use Rattle.cwr_values.specs.declared.items.Item.{Item};
 
@@ -61,7 +60,7 @@ impl Decoder {
     /// How far the accepted records have come.
     pub fn stage(&self) -> Stage
         ensures value { result ≡ stage_of_records self.now }
-        ensures named { (xs : List Symbol) → IsTallyOf self.now.tally xs → result ≡ stage_after xs }
+        ensures named { IsStageNow self.now result }
     {
         self.machine.stage()
     }
@@ -131,9 +130,7 @@ impl Decoder {
             → Represents self.new (input ++ take result.used piece.now) (given ++ items_out result.outcome) }
         // What the answer means: the end that it reports is the input's, however that continues. A refusal comes with the
         // line feed of the refused line, before its byte too many, or once the input has ended.
-        ensures right { final_answer self.old ≡ None → (input : List ℕ) (given : List Item) → Represents self.old input given
-            → IsRight (limits_of self.old) result.outcome (has_ended self.old) (input ++ take result.used piece.now)
-            (seen_input (has_ended self.old) input piece.now) (given ++ items_out result.outcome) }
+        ensures right { FeedsRight self.old piece.now result.used result.outcome }
         ensures more { result.outcome ≡ Outcome.More
             → (result.used ≡ length piece.now) × (has_ended self.old ≡ false) }
         // What stays held: after an item nothing, but after a transaction the line that ended it.
@@ -147,8 +144,7 @@ impl Decoder {
         ensures again { IfSome (final_answer self.old)
             (λ outcome. (result.outcome ≡ outcome) × (result.used ≡ 0) × (self.new ≡ self.old)) }
         // Out of memory comes only with a record that was being added: where none was accepted, it was the one that waited.
-        ensures memory { result.outcome ≡ Outcome.Memory → final_answer self.old ≡ None
-            → RunsOutOfMemory self.old result.used self.new }
+        ensures memory { LacksMemory self.old result.used result.outcome self.new }
         ensures kept { accepted_records self.old ≤ accepted_records self.new }
         ensures input_ended { has_ended self.new ≡ has_ended self.old }
         ensures limits { limits_of self.new ≡ limits_of self.old }
@@ -166,20 +162,16 @@ impl Decoder {
             → Represents self.new input (given ++ items_out result.outcome) }
         // What the answer means: the end that it reports is the input's. What it refuses is the last line, which ended with
         // the input and isn't too long.
-        ensures right { final_answer self.old ≡ None → (input : List ℕ) (given : List Item) → Represents self.old input given
-            → IsRight (limits_of self.old) result.outcome true input input (given ++ items_out result.outcome) }
-        ensures last { final_answer self.old ≡ None → (input : List ℕ) (given : List Item) → Represents self.old input given
-            → RefusesLast result.outcome self.new input (given ++ items_out result.outcome) }
+        ensures right { FinishesRight self.old result.outcome }
+        ensures last { FinishesLast self.old result.outcome self.new }
         ensures more { result.outcome ≡ Outcome.More → ⊥ }
         // What stays held: after an item nothing, but after a transaction the line that ended it.
         ensures leaves { StandsAfter result.outcome self.new }
         ensures empties { Empties result.outcome self.new }
         // What was answered for good is answered again.
-        ensures again { IfSome (final_answer self.old)
-            (λ outcome. (result.outcome ≡ outcome) × (self.new ≡ end_input self.old)) }
+        ensures again { EndsAgain self.old result.outcome self.new }
         // Out of memory comes only with a record that was being added: where none was accepted, it was the one that waited.
-        ensures memory { result.outcome ≡ Outcome.Memory → final_answer self.old ≡ None
-            → RunsOutOfMemory self.old 0 self.new }
+        ensures memory { LacksMemory self.old 0 result.outcome self.new }
         ensures kept { accepted_records self.old ≤ accepted_records self.new }
         ensures input_ended { has_ended self.new ≡ true }
         ensures limits { limits_of self.new ≡ limits_of self.old }

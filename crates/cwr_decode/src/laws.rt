@@ -7,11 +7,10 @@ ghost use Rattle.cwr_judge.specs.Format.GoodFronts.{ContinuesFrom};
 ghost use Rattle.cwr_judge.specs.Format.Places.{Viable};
 ghost use Rattle.cwr_judge.specs.Format.Ends.{IsAccepted, IsNotAccepted, IsRefused, IsTruncated};
 ghost use Rattle.cwr_judge.specs.Format.FormerEnds.{IsAcceptedIn};
-ghost use Rattle.cwr_judge.specs.Format.Items.{AreFirstItems, items, value_items};
+ghost use Rattle.cwr_judge.specs.Format.Items.{items, value_items};
 ghost use Rattle.cwr_judge.specs.declared.refusals.Refusal.{Refusal};
-ghost use Rattle.cwr_values.specs.declared.items.Item.{Item};
-ghost use Rattle.cwr_decode.specs.Steps.Machines.{Standing, held_list};
-ghost use Rattle.cwr_decode.specs.Steps.Represents.{Represents};
+ghost use Rattle.cwr_decode.specs.Steps.Laws.{ItemsAreTheFirst, ItemsBeginTheAccepted, UsedBytesAreBounded};
+ghost use Rattle.cwr_decode.specs.Steps.Machines.{held_list};
 ghost use Rattle.cwr_lines.specs.Format.Lines.{closed, raw_lines};
 ghost use Rattle.cwr_shape.specs.Format.UncarriedOrder.{IsUncarriedShape, IsUncopiedShape};
 ghost use Rattle.cwr_shape.specs.declared.limits.Limits.{Limits};
@@ -91,8 +90,7 @@ pub fn viable_where_cells_are_good()
 
 /// Over a whole run at most 1,025 bytes are used for each record that the limits hold: no decoder represents more.
 pub fn used_bytes_are_bounded()
-    ensures { (d : Standing) (input : List ℕ) (given : List Item) → Represents d input given
-        → length input ≤ 1025 * d.tally.limits.records }
+    ensures { UsedBytesAreBounded }
 {}
 
 /// Whatever a decoder was fed, it holds at most 1,024 bytes of a line, and no more records of a transaction than the limit.
@@ -107,13 +105,11 @@ pub fn what_is_held_is_bounded(decoder: &Decoder) -> (usize, usize)
 /// The items that a decoder handed out are the first of those of some transmission within its limits: a transaction is a
 /// whole one of its group's type, and each comes in its place.
 pub fn items_are_the_first()
-    ensures { (d : Standing) (input : List ℕ) (given : List Item) → Represents d input given
-        → AreFirstItems d.tally.limits given }
+    ensures { ItemsAreTheFirst }
 {}
 
 /// The items that a decoder handed out from the front of a text that is accepted are the first of that transmission's,
 /// however much of the text it has had.
 pub fn items_begin_the_accepted()
-    ensures { (d : Standing) (input more : List ℕ) (given : List Item) (v : TransmissionValue) (n : ℕ) → Represents d input given → (d.finished ≡ true → more ≡ [])
-        → IsAccepted d.tally.limits (input ++ more) v n → (rest : List Item) × (value_items v ≡ given ++ rest) }
+    ensures { ItemsBeginTheAccepted }
 {}

@@ -5,7 +5,7 @@ ghost use Rattle.cwr_decode.specs.Steps.Decoding.{HasWaiting, accepted_records, 
 ghost use Rattle.cwr_decode.specs.Steps.Represents.{RepresentsSome, Represents};
 ghost use Rattle.cwr_decode.specs.Steps.Machines.{WaitsOutside, again};
 ghost use Rattle.cwr_decode.specs.Steps.Passing.{CountsPassing, PassesOrFails, ReadsPassing};
-ghost use Rattle.cwr_decode.specs.Steps.Readings.{answer_of, CountsQuickly, CountsReader, FeedsOn, Reads, ReadsQuickly};
+ghost use Rattle.cwr_decode.specs.Steps.Readings.{answer_of, CountsQuickly, CountsReader, FeedsOn, FindsNoMemory, Reads, ReadsAgain, ReadsQuickly};
 ghost use Rattle.cwr_decode.specs.Steps.LastReads.{AreHeld, HoldsLast, ReadsLast, counts_of_records, stage_of_records};
 
 use crate::decoders::Decoder;
@@ -316,12 +316,11 @@ impl<'a, R: Source> Reading<'a, R> {
             (R.failures self.new.reader.now) }
         // Out of memory comes only with a record that was being added: where none was accepted in this call, it was the one
         // that waited, and the reader is as it was.
-        ensures memory { result ≡ Err ReadFault.Memory → final_answer self.old.decoder ≡ None
-            → accepted_records self.new.decoder ≤ accepted_records self.old.decoder
-            → HasWaiting self.old.decoder × (self.new.reader.now ≡ self.old.reader.now) }
+        ensures memory { FindsNoMemory self.old.decoder self.old.reader.now result self.new.decoder
+            self.new.reader.now }
         // After the end or a fault of the input, that is answered again, and nothing changes.
-        ensures again { IfSome (final_answer self.old.decoder) (λ outcome. (Some result ≡ answer_of outcome)
-            × (self.new.decoder ≡ self.old.decoder) × (self.new.reader.now ≡ self.old.reader.now)) }
+        ensures again { ReadsAgain self.old.decoder self.old.reader.now result self.new.decoder
+            self.new.reader.now }
         // Once the reader was at its end, it is read no more.
         ensures input_ended { has_ended self.old.decoder ≡ true
             → self.new.reader.now ≡ self.old.reader.now }

@@ -17,7 +17,7 @@ use Rattle.cwr_shape.specs.declared.stages.TransactionStep.TheVariants as steps
 use Rattle.cwr_shape.specs.declared.tallies.Counts.{Counts}
 use Rattle.cwr_shape.specs.Format.Ranges.{LimitValues}
 use Rattle.cwr_shape.specs.declared.tallies.Scope.TheVariants as scopes
-use Rattle.cwr_shape.specs.Format.Shapes.{IsShape, is_carried_symbol, without_carried}
+use Rattle.cwr_shape.specs.Format.Shapes.{IsShape, without_carried}
 use Rattle.cwr_shape.specs.Format.Outlines.{GroupOutline, IsGroupOutline, IsWithin, Continues}
 use Rattle.cwr_shape.specs.Format.LastSymbols.{is_grh, latest, group_of}
 use Rattle.cwr_shape.specs.Steps.Stages.{is_ipa, is_ipa_of, is_writer, other_role, pwr_step, stage_by}
@@ -28,7 +28,6 @@ use Rattle.cwr_shape.specs.Steps.Left.{StandsAt}
 use Rattle.cwr_shape.specs.Format.NextSymbols.{MayCome, open_records}
 use Rattle.cwr_shape.specs.Steps.Tallies.{TallyValue, IsTallyOf}
 use Rattle.cwr_shape.specs.Format.NextSymbols as tallies_there
-use Rattle.cwr_shape.specs.Steps.Tallies as tallies
 use Rattle.cwr_shape.specs.Format.NextSymbols.{scope_by}
 use Rattle.cwr_shape.specs.Steps.Counting.{open_at, scope_at}
 use Rattle.cwr_shape.proofs.ScopesNamed.{AreLast, last_without, carried_opens, scope_stands}

@@ -2,7 +2,7 @@
 use Rattle.std.proofs.Common.{◌≡◌, ℕ, ◌-◌, ◌^◌, min, false, List, [], ◌∷◌, ◌++◌, length, map, Option, Some, None, refl, sym, ap}
 use Rattle.std.proofs.Common.{subst, ◌∙◌, append-nil}
 use Rattle.std.specs.Prelude.{Result, Ok, Err, IfOk, IfErr, unwrap_or}
-use Rattle.std.specs.List.{AllByRecursion, flat_map, last_or}
+use Rattle.std.specs.List.{AllByRecursion, flat_map}
 use Rattle.std.specs.Io.KnownBytes.{Appends, Keeps}
 use Rattle.cwr_fields.specs.declared.kinds.Kind.TheVariants as kinds
 use Rattle.cwr_lines.specs.Format.Records.{RecordValue, IsRecord}
@@ -13,11 +13,9 @@ use Rattle.cwr_shape.specs.declared.stages.Stage.TheVariants as stages
 use Rattle.cwr_shape.specs.Format.Numbers.{number_in}
 use Rattle.cwr_shape.specs.Format.Ranges.{LimitValues}
 use Rattle.cwr_shape.specs.Format.Outlines.{symbols_of, IsWhole, IsWithin}
-use Rattle.cwr_shape.specs.Steps.Stages.{stage_by}
 use Rattle.cwr_shape.specs.Steps.Left.{StandsAt}
 use Rattle.cwr_shape.specs.Format.NextSymbols.{MayCome}
 use Rattle.cwr_shape.specs.Steps.Tallies.{TallyValue, IsTallyOf}
-use Rattle.cwr_shape.proofs.OneMore.{last_or-snoc}
 use Rattle.cwr_shape.proofs.PrefixFree.{prefix_free}
 use Rattle.cwr_shape.proofs.StageNames.{stage_after-snoc}
 use Rattle.cwr_shape.proofs.StageStands.{stands_leaves}

@@ -2,7 +2,6 @@
 use Rattle.std.proofs.Common.{◌≡◌, Bool, true, false, true≢false, List, [], ◌∷◌, ◌++◌, map, Option, None, refl, sym, ap, subst}
 use Rattle.std.proofs.Common.{◌∙◌, append_assoc}
 use Rattle.std.specs.Prelude.{is_some, Result, Ok, Err, if◌then◌else◌}
-use Rattle.std.specs.List.{last_or}
 use Rattle.cwr_fields.specs.declared.codes.TransactionType.{TransactionType}
 use Rattle.cwr_fields.specs.declared.codes.TransactionType.TheVariants.{Agreement, NewWork, RevisedWork, Acknowledgement}
 use Rattle.cwr_fields.specs.declared.kinds.Kind.TheVariants as kinds
@@ -17,11 +16,9 @@ use Rattle.cwr_shape.specs.Format.Ranges.{LimitValues}
 use Rattle.cwr_shape.specs.Format.Outlines.{Continues}
 use Rattle.cwr_shape.specs.Steps.NextStages.{header_step, step_on, may_end, within, next_or_foot, on_or_next, next_stage}
 use Rattle.cwr_shape.specs.Format.AnyTransmission.{Any}
-use Rattle.cwr_shape.specs.Steps.Left.{StandsAt}
 use Rattle.cwr_shape.specs.Format.NextSymbols.{header_kind, open_type}
 use Rattle.cwr_shape.specs.Steps.Tallies.{TallyValue, IsTallyOf}
 use Rattle.cwr_shape.proofs.StageStands.{next_exact}
-use Rattle.cwr_shape.proofs.TallySteps.{stands_type}
 use Rattle.cwr_values.specs.Format.Values.{symbol_of, type_of}
 use Rattle.cwr_values.specs.Format.Begun.{HasHeaderOf, IsWholeTransaction}
 use Rattle.cwr_encode.specs.declared.encoders.EncodeFault.{EncodeFault}

@@ -2,4 +2,5 @@
 pub mod Encoders
 pub mod Finishing
 pub mod GroupTexts
+pub mod Laws
 pub mod Texts

@@ -10,13 +10,13 @@ ghost use Rattle.cwr_devices.specs.Steps.Sinks.{Puts, writer_of, written_of};
 ghost use Rattle.cwr_encode.specs.Steps.Texts.{text_from};
 ghost use Rattle.cwr_encode.specs.Format.Encoders.{IsUnlimited, IsBetween, IsInGroup, JudgesTransaction, JudgesFoot, JudgesGroup, JudgesOpening, MayBeginGroup};
 ghost use Rattle.cwr_encode.specs.Format.Encoders.{reached};
-ghost use Rattle.cwr_encode.specs.Steps.Encoders.{Encodes, AddsRecords, AnswersAgain, IsNextNumber, TakesTransactions, end_fault, fault_of_bar, reached_at};
+ghost use Rattle.cwr_encode.specs.Steps.Encoders.{OfTaken, Encodes, AddsRecords, AnswersAgain, IsNextNumber, TakesTransactions, end_fault, fault_of_bar, reached_at};
 ghost use Rattle.cwr_encode.specs.Steps.Encoders.{is_stopped, encoder_limits, target_of, bytes_written};
 ghost use Rattle.std.specs.Io.KnownBytes.{Keeps};
 ghost use Rattle.cwr_devices.specs.Format.Failures.{one_more_failure};
 ghost use Rattle.cwr_encode.specs.Format.EncodeFaultTexts.{encode_fault_text};
 ghost use Rattle.cwr_encode.specs.Format.Finishing.{JudgesEnd};
-ghost use Rattle.cwr_encode.specs.Steps.Finishing.{FinishesWriting};
+ghost use Rattle.cwr_encode.specs.Steps.Finishing.{Finishes};
 
 use crate::checks::{count_all, group_may_end, limit_passed};
 use crate::rows::{put_row, put_transaction};
@@ -156,8 +156,7 @@ impl<W: Target> Encoder<W> {
     /// Writes HDR. It comes first, once.
     pub fn open(&mut self, opening: &Record) -> Result<(), EncodeFault>
         ensures again { is_stopped self.old ≡ true → AnswersAgain result self.old self.new }
-        ensures judged { is_stopped self.old ≡ false → (start : Option (List ℕ)) (records : List RecordValue) → Encodes W.contents start records self.old
-            → JudgesOpening (encoder_limits self.old) opening.now (map symbol_by_cells records) result }
+        ensures judged { OfTaken W.contents self.old (λ records. JudgesOpening (encoder_limits self.old) opening.now (map symbol_by_cells records) result) }
         ensures unlimited { IsUnlimited result }
         ensures adds { is_stopped self.old ≡ false
             → AddsRecords W.contents W.failures (opening.now ∷ []) result self.old self.new }
@@ -187,8 +186,7 @@ impl<W: Target> Encoder<W> {
     /// Writes the GRH of a new group. `Limit` is answered where no transmission within the limit has it here.
     pub fn group(&mut self, head: &Record) -> Result<(), EncodeFault>
         ensures again { is_stopped self.old ≡ true → AnswersAgain result self.old self.new }
-        ensures judged { is_stopped self.old ≡ false → (start : Option (List ℕ)) (records : List RecordValue) → Encodes W.contents start records self.old
-            → JudgesGroup (encoder_limits self.old) head.now (map symbol_by_cells records) result }
+        ensures judged { OfTaken W.contents self.old (λ records. JudgesGroup (encoder_limits self.old) head.now (map symbol_by_cells records) result) }
         ensures adds { is_stopped self.old ≡ false
             → AddsRecords W.contents W.failures (head.now ∷ []) result self.old self.new }
         ensures limits { encoder_limits self.new ≡ encoder_limits self.old }
@@ -250,8 +248,7 @@ impl<W: Target> Encoder<W> {
     /// limits has it here.
     pub fn transaction(&mut self, transaction: &Transaction) -> Result<(), EncodeFault>
         ensures again { is_stopped self.old ≡ true → AnswersAgain result self.old self.new }
-        ensures judged { is_stopped self.old ≡ false → (start : Option (List ℕ)) (records : List RecordValue) → Encodes W.contents start records self.old
-            → JudgesTransaction (encoder_limits self.old) transaction.now (map symbol_by_cells records) result }
+        ensures judged { OfTaken W.contents self.old (λ records. JudgesTransaction (encoder_limits self.old) transaction.now (map symbol_by_cells records) result) }
         ensures adds { is_stopped self.old ≡ false
             → AddsRecords W.contents W.failures transaction.now result self.old self.new }
         ensures limits { encoder_limits self.new ≡ encoder_limits self.old }
@@ -279,8 +276,7 @@ impl<W: Target> Encoder<W> {
     /// Writes the GRT of the open group, which has a transaction.
     pub fn end_group(&mut self, foot: &Record) -> Result<(), EncodeFault>
         ensures again { is_stopped self.old ≡ true → AnswersAgain result self.old self.new }
-        ensures judged { is_stopped self.old ≡ false → (start : Option (List ℕ)) (records : List RecordValue) → Encodes W.contents start records self.old
-            → JudgesFoot (encoder_limits self.old) foot.now (map symbol_by_cells records) result }
+        ensures judged { OfTaken W.contents self.old (λ records. JudgesFoot (encoder_limits self.old) foot.now (map symbol_by_cells records) result) }
         ensures unlimited { IsUnlimited result }
         ensures adds { is_stopped self.old ≡ false
             → AddsRecords W.contents W.failures (foot.now ∷ []) result self.old self.new }
@@ -309,8 +305,7 @@ impl<W: Target> Encoder<W> {
     /// Writes TRL.
     fn end(&mut self) -> Result<(), EncodeFault>
         ensures again { is_stopped self.old ≡ true → AnswersAgain result self.old self.new }
-        ensures judged { is_stopped self.old ≡ false → (start : Option (List ℕ)) (records : List RecordValue) → Encodes W.contents start records self.old
-            → JudgesEnd (encoder_limits self.old) (map symbol_by_cells records) result }
+        ensures judged { OfTaken W.contents self.old (λ records. JudgesEnd (encoder_limits self.old) (map symbol_by_cells records) result) }
         ensures unlimited { IsUnlimited result }
         ensures adds { is_stopped self.old ≡ false
             → AddsRecords W.contents W.failures (trailer ∷ []) result self.old self.new }
@@ -335,11 +330,9 @@ impl<W: Target> Encoder<W> {
     pub fn finish(self) -> (W, Result<u64, EncodeFault>)
         ensures again { is_stopped self ≡ true → (result.0 ≡ target_of self)
             × (result.1 ≡ Err (EncodeFault.Writer (bytes_written self))) }
-        ensures judged { is_stopped self ≡ false → (start : Option (List ℕ)) (records : List RecordValue) → Encodes W.contents start records self
-            → JudgesEnd (encoder_limits self) (map symbol_by_cells records) result.1 }
+        ensures judged { OfTaken W.contents self (λ records. JudgesEnd (encoder_limits self) (map symbol_by_cells records) result.1) }
         ensures unlimited { IsUnlimited result.1 }
-        ensures finishes { is_stopped self ≡ false
-            → FinishesWriting W.contents W.failures self result.0 result.1 }
+        ensures finishes { Finishes W.contents W.failures self result.0 result.1 }
         // All that was written was handed on.
         ensures handed_on { OnOk result.1 (W.handed_on result.0 ≡ true) }
     {

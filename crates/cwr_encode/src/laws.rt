@@ -1,19 +1,14 @@
 //! Laws over what is written of some records.
 
-ghost use Rattle.std.specs.Prelude.{◌≡◌, ℕ, List, [], ◌∷◌, ◌++◌, map, Result};
+ghost use Rattle.std.specs.Prelude.{◌≡◌, ℕ, List, map};
 ghost use Rattle.std.specs.List.{AllByRecursion};
 ghost use Rattle.cwr_lines.specs.Format.Records.{RecordValue, IsRecord};
 ghost use Rattle.cwr_shape.specs.declared.limits.Limits.{Limits};
-ghost use Rattle.cwr_shape.specs.declared.symbols.Symbol.{Symbol};
-ghost use Rattle.cwr_shape.specs.Format.AnyTransmission.{Any};
 ghost use Rattle.cwr_shape.specs.Format.Outlines.{IsWithin, Continues};
-ghost use Rattle.cwr_shape.specs.Format.NextSymbols.{open_type};
-ghost use Rattle.cwr_shape.specs.Steps.Tallies.{IsTallyOf, TallyValue};
-ghost use Rattle.cwr_values.specs.Format.Begun.{HasHeaderOf, IsWholeTransaction};
 ghost use Rattle.cwr_values.specs.Format.Values.{symbol_of};
-ghost use Rattle.cwr_encode.specs.declared.encoders.EncodeFault.{EncodeFault};
-ghost use Rattle.cwr_encode.specs.Format.Encoders.{IsNoMistake, JudgesFoot, JudgesGroup, JudgesOpening, JudgesTransaction, part_of};
+ghost use Rattle.cwr_encode.specs.Format.Encoders.{JudgesFoot, JudgesGroup, JudgesOpening, part_of};
 ghost use Rattle.cwr_encode.specs.Format.Written.{IsPart};
+ghost use Rattle.cwr_encode.specs.Steps.Laws.{IsNoMistakeWith, WholeTransactionIsNoMistake};
 
 use cwr_fields::Kind;
 
@@ -34,12 +29,8 @@ pub fn part_depends_on_its_records()
 /// it, or the writer fail. The records are those of a tally, and the call is judged by them. A transaction is one of the
 /// open group's type: an agreement or a work after an acknowledgement is its copy, and handed over with it.
 pub fn calls_that_continue_are_no_mistakes()
-    ensures opening { (t : TallyValue) (xs : List Symbol) (r : RecordValue) (answer : Result (Unit {0}) EncodeFault) → IsTallyOf t xs → r.kind ≡ Kind.Hdr
-        → Continues Any (xs ++ symbol_of r ∷ []) → JudgesOpening t.limits r xs answer → IsNoMistake answer }
-    ensures group { (t : TallyValue) (xs : List Symbol) (r : RecordValue) (answer : Result (Unit {0}) EncodeFault) → IsTallyOf t xs → r.kind ≡ Kind.Grh
-        → Continues Any (xs ++ symbol_of r ∷ []) → JudgesGroup t.limits r xs answer → IsNoMistake answer }
-    ensures transaction { (t : TallyValue) (xs : List Symbol) (records : List RecordValue) (answer : Result (Unit {0}) EncodeFault) → IsTallyOf t xs
-        → HasHeaderOf (open_type xs) records → IsWholeTransaction records → Continues Any (xs ++ map symbol_of records) → JudgesTransaction t.limits records xs answer → IsNoMistake answer }
-    ensures foot { (t : TallyValue) (xs : List Symbol) (r : RecordValue) (answer : Result (Unit {0}) EncodeFault) → IsTallyOf t xs → r.kind ≡ Kind.Grt
-        → Continues Any (xs ++ symbol_of r ∷ []) → JudgesFoot t.limits r xs answer → IsNoMistake answer }
+    ensures opening { IsNoMistakeWith Kind.Hdr JudgesOpening }
+    ensures group { IsNoMistakeWith Kind.Grh JudgesGroup }
+    ensures transaction { WholeTransactionIsNoMistake }
+    ensures foot { IsNoMistakeWith Kind.Grt JudgesFoot }
 {}

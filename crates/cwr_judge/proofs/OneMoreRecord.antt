@@ -13,7 +13,6 @@ use Rattle.cwr_shape.specs.declared.symbols.Symbol.{Symbol}
 use Rattle.cwr_shape.specs.declared.symbols.Symbol.TheVariants.{Plain, Grh}
 use Rattle.cwr_shape.specs.declared.tallies.Counts.{Counts}
 use Rattle.cwr_shape.specs.Format.NextSymbols as tallies_there
-use Rattle.cwr_shape.specs.Steps.Tallies as tallies
 use Rattle.cwr_shape.specs.Format.NextSymbols.{is_header_of, transactions_begun, open_type, after_header, counts_of, scope_by}
 use Rattle.cwr_shape.specs.Format.NextSymbols.{scope_after, open_records}
 use Rattle.cwr_shape.specs.Format.ExpectedNumbers.{expected_numbers, expected_inside}

@@ -1,5 +1,5 @@
 -- Symbols that begin a transmission are whole exactly where the last is that of TRL.
-use Rattle.std.proofs.Common.{◌≡◌, List, [], ◌∷◌, ◌++◌, Option, Some, None, refl, sym, ap, subst, ◌∙◌, append-nil}
+use Rattle.std.proofs.Common.{◌≡◌, List, [], ◌∷◌, ◌++◌, Some, None, refl, sym, ap, subst, ◌∙◌, append-nil}
 use Rattle.std.specs.List.{last_or, flat_map}
 use Rattle.cwr_fields.specs.declared.kinds.Kind.TheVariants.{Hdr, Trl}
 use Rattle.cwr_shape.specs.declared.symbols.Symbol.{Symbol}

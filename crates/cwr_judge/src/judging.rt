@@ -10,7 +10,7 @@ ghost use Rattle.cwr_lines.specs.Format.Records.{IsRecord};
 ghost use Rattle.cwr_shape.specs.declared.symbols.Symbol.{Symbol};
 ghost use Rattle.cwr_shape.specs.Steps.Tallies.{IsAdmitted, IsTallyOf};
 ghost use Rattle.cwr_judge.specs.Steps.Judged.{HasNumberAt, HasNumbers, IsCounted, IsNext, IsOfNone, Lacks, named_symbol, bar_reason, IsGoodText, IsTextFault};
-ghost use Rattle.cwr_judge.specs.Steps.Judged.{IsNumberFault, IsGoodAt, HasReasonAt, MayComeOf, IsFirstFault};
+ghost use Rattle.cwr_judge.specs.Steps.Judged.{FindsFirst, FindsNext, FindsNone, IsNumberFault, IsGoodAt, HasReasonAt, MayComeOf, IsFirstFault};
 
 use cwr_fields::{
     Cell, CellType, Kind, Role, SpelledPair, TransactionType, field, fields, fits, spells,
@@ -261,15 +261,12 @@ fn first_fault(tally: &Tally, line: &CutLine<'_>) -> LineFault
 
 /// Whether the line may come next: its record and that record's symbol, or the first field that is wrong.
 pub fn judge<'a>(tally: &Tally, line: &CutLine<'a>) -> Result<(Symbol, RecordRef<'a>), LineFault>
-    ensures ok { (xs : List Symbol) → IsTallyOf tally.now xs
-        → IfOk result (λ found. IsNext tally.now.limits xs line.now found.0 found.1) }
-    ensures err { (xs : List Symbol) → IsTallyOf tally.now xs
-        → IfErr result (λ _. IsOfNone tally.now.limits xs line.now) }
+    ensures ok { FindsNext tally.now line.now result }
+    ensures err { FindsNone tally.now line.now result }
     ensures admitted { IfOk result (λ found. IsAdmitted tally.now found.0) }
     ensures carried { IfOk result (λ found. (held_record line.now ≡ Some found.1) × IsRecord found.1
         × IsFalse (held_excess line.now)) }
-    ensures first { (xs : List Symbol) → IsTallyOf tally.now xs
-        → IfErr result (λ f. IsFirstFault tally.now.limits xs line.now f.field f.reason) }
+    ensures first { FindsFirst tally.now line.now result }
 {
     match next_record(tally, line) {
         Some(found) => Ok(found),

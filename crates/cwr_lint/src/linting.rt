@@ -14,15 +14,15 @@ ghost use Rattle.cwr_advise.specs.Format.AdviceLines.{said_in};
 ghost use Rattle.cwr_lint.specs.Format.Wanted.{lines_before_fault, lines_linted, said_when, wanting};
 ghost use Rattle.cwr_lint_lines.specs.Format.FaultsAtFields.{fields_end, one_more_line};
 ghost use Rattle.cwr_lint_lines.specs.Steps.Fronts.{state_at};
-ghost use Rattle.cwr_lint.specs.Steps.Walks.{AfterJudged, ended_by, state_by};
+ghost use Rattle.cwr_lint.specs.Steps.Walks.{AfterJudged, ended_by, judged_in, state_by};
 ghost use Rattle.cwr_fields.specs.Format.Bytes.{is_spaces};
 ghost use Rattle.cwr_lint_lines.specs.Steps.JudgedLines.{IsFaultFrom, IsJudged, ends_by, judged_at, scope_by};
 ghost use Rattle.cwr_lint_lines.specs.Steps.Cells.{held_cut};
 ghost use Rattle.cwr_lint.specs.Steps.LinesRead.{IsOfLine, held_raw};
 ghost use Rattle.cwr_lint.specs.Steps.Lints.{EndsRun, Lints, Tells};
-ghost use Rattle.cwr_lint.specs.Steps.Puts.{PutsWith, ReadsAndPutsWith};
+ghost use Rattle.cwr_lint.specs.Steps.Puts.{TellsWith, AppendsSuch, PutsWith, TellsRead};
 ghost use Rattle.cwr_lint.specs.Steps.Runs.{BeginsAt, TakesAll, TakesFirst, TakesFrom, TakesLine, TakesNextIf, TakesRead, TellsOfLine, TellsRun, TellsSoMany};
-ghost use Rattle.cwr_lint.specs.Steps.Runs.{TellsToEnd, asking_of};
+ghost use Rattle.cwr_lint.specs.Steps.Runs.{TellsAfter, TellsToEnd, asking_of};
 
 use crate::findings::{after_line, put_ended};
 use crate::puts::{Asked, Shown, put_end, report_number};
@@ -93,8 +93,8 @@ impl LintRun {
         requires judged { IsJudged line.now judged.now }
         requires first { 1 ≤ from }
         ensures { PutsWith (TellsSoMany (asking_of asked.now)
-            (judged_at self.now.state.lines (scope_by self.now.state.group) line.now judged.now)
-            from (fields_end (held_kind line.now))) W.contents W.failures result sink.old sink.new }
+            (judged_in self.now.state line.now judged.now) from (fields_end (held_kind line.now)))
+            W.contents W.failures result sink.old sink.new }
     {
         let mut told: u64 = 0;
         for field in 1..judged.places() {
@@ -125,7 +125,7 @@ impl LintRun {
         requires judged { IsJudged line.now judged.now }
         requires first { 1 ≤ from }
         ensures puts { PutsWith (TellsOfLine (asking_of asked.now)
-            (judged_at self.old.state.lines (scope_by self.old.state.group) line.now judged.now)
+            (judged_in self.old.state line.now judged.now)
             (ended_by judged.now self.old.state self.old.begun)
             from) W.contents W.failures result sink.old sink.new }
         ensures state { self.new.state ≡ self.old.state }
@@ -238,10 +238,9 @@ impl LintRun {
         sink: &mut Sink<W>,
     ) -> Result<bool, ToolFault>
         requires { has_failed sink.old ≡ false }
-        ensures { ReadsAndPutsWith (TakesNextIf (asking_of asked.now) (R.remaining reader.old)
-            (R.remaining reader.new) before.now raw.new self.old self.new) (R.remaining
-            reader.old) (R.remaining reader.new) (R.failures reader.old) (R.failures
-            reader.new) W.contents W.failures result sink.old sink.new }
+        ensures { TellsWith R.remaining R.failures reader.old reader.new W.contents W.failures
+            (λ left after. TakesNextIf (asking_of asked.now) left after before.now raw.new self.old self.new)
+            result sink.old sink.new }
     {
         if self.state.over || !before.has_ended() {
             return Ok(false);
@@ -263,10 +262,9 @@ impl LintRun {
         sink: &mut Sink<W>,
     ) -> Result<(), ToolFault>
         requires { has_failed sink.old ≡ false }
-        ensures { ReadsAndPutsWith (λ _. TakesAll (asking_of asked.now) (R.remaining reader.old)
-            (R.remaining reader.new) first.ended self.old self.new) (R.remaining
-            reader.old) (R.remaining reader.new) (R.failures reader.old) (R.failures
-            reader.new) W.contents W.failures result sink.old sink.new }
+        ensures { TellsRead R.remaining R.failures reader.old reader.new W.contents W.failures
+            (λ left after. TakesAll (asking_of asked.now) left after first.ended self.old self.new)
+            result sink.old sink.new }
     {
         let mut before = first;
         let mut raw = RawLine::new();
@@ -318,10 +316,9 @@ impl LintRun {
     ) -> Result<(), ToolFault>
         requires unfailed { has_failed sink.old ≡ false }
         requires line { IsOfLine raw }
-        ensures { ReadsAndPutsWith (λ _. TakesFrom (asking_of asked.now) refusal.now
-            (R.remaining reader.old) (R.remaining reader.new) raw self.old self.new) (R.remaining
-            reader.old) (R.remaining reader.new) (R.failures reader.old) (R.failures
-            reader.new) W.contents W.failures result sink.old sink.new }
+        ensures { TellsRead R.remaining R.failures reader.old reader.new W.contents W.failures
+            (λ left after. TakesFrom (asking_of asked.now) refusal.now left after raw self.old self.new)
+            result sink.old sink.new }
     {
         let mut cut = LineBuf::new();
         match self.take_first(asked, refusal, &raw, &mut cut, sink) {
@@ -342,10 +339,9 @@ impl LintRun {
         requires unfailed { has_failed sink.old ≡ false }
         requires line { IsOfLine raw }
         requires begins { BeginsAt refusal.now self.old }
-        ensures { ReadsAndPutsWith (λ _. TellsToEnd (asking_of asked.now) self.old.state refusal.now
-            (R.remaining reader.old) (R.remaining reader.new) raw) (R.remaining
-            reader.old) (R.remaining reader.new) (R.failures reader.old) (R.failures
-            reader.new) W.contents W.failures result sink.old sink.new }
+        ensures { TellsRead R.remaining R.failures reader.old reader.new W.contents W.failures
+            (λ left after. TellsToEnd (asking_of asked.now) self.old.state refusal.now left after raw)
+            result sink.old sink.new }
     {
         match self.tell_from(asked, refusal, reader, raw, sink) {
             Ok(()) => put_end(
@@ -371,10 +367,9 @@ impl LintRun {
     ) -> Result<(), ToolFault>
         requires unfailed { has_failed sink.old ≡ false }
         requires begins { BeginsAt refusal.now self.old }
-        ensures { ReadsAndPutsWith (λ _. TellsRun (asking_of asked.now) self.old.state refusal.now
-            last.now.bytes (R.remaining reader.old) (R.remaining reader.new)) (R.remaining
-            reader.old) (R.remaining reader.new) (R.failures reader.old) (R.failures
-            reader.new) W.contents W.failures result sink.old sink.new }
+        ensures { TellsRead R.remaining R.failures reader.old reader.new W.contents W.failures
+            (TellsRun (asking_of asked.now) self.old.state refusal.now last.now.bytes)
+            result sink.old sink.new }
     {
         match RawLine::of_last(&last.bytes, reader) {
             Ok(raw) => self.tell_to_end(asked, refusal, reader, raw, sink),
@@ -431,10 +426,8 @@ fn tell_faults<R: Source, W: Target>(
     reader: &mut R,
     writer: W,
 ) -> (W, Result<Verdict, ToolFault>)
-    ensures told { OnOk result.1 ((text : List ℕ) × TellsRun (asking_of asked.now)
-        (state_at last.now.stage last.now.counts (refusal.rec - 1)) refusal last.now.bytes
-        (R.remaining reader.old) (R.remaining reader.new) text × Appends (W.contents writer)
-        (W.contents result.0) text) }
+    ensures told { OnOk result.1 (AppendsSuch W.contents writer result.0 (TellsAfter
+        (asking_of asked.now) last.now refusal (R.remaining reader.old) (R.remaining reader.new))) }
     ensures words { AddsWords W.contents writer result.0 }
     ensures taken { TakesMore (R.remaining reader.old) (R.remaining reader.new) }
     ensures answered { IsAnswerTo (Verdict.Refused refusal) result.1 }

@@ -4,6 +4,7 @@ pub mod Bars
 pub mod Candidates
 pub mod ExpectedNumbers
 pub mod LastSymbols
+pub mod Laws
 pub mod Levels
 pub mod NextSymbols
 pub mod Numbers

@@ -1,8 +1,8 @@
 //! Laws over the order of records.
 
-ghost use Rattle.std.specs.Prelude.{List, [], ◌∷◌, ◌++◌, ◌≡◌, ◌↔◌, length, slice_index_or};
-ghost use Rattle.cwr_shape.specs.Format.Numbers.{numbers_of, lengths_of, symbol_kind};
-ghost use Rattle.cwr_shape.specs.Format.Outlines.{GroupOutline, IsOutline, IsWhole, symbols_of};
+ghost use Rattle.std.specs.Prelude.{List, [], ◌++◌, ◌≡◌, ◌↔◌};
+ghost use Rattle.cwr_shape.specs.Format.Laws.{NumbersDependOnRecordsBefore};
+ghost use Rattle.cwr_shape.specs.Format.Outlines.{IsWhole};
 ghost use Rattle.cwr_shape.specs.declared.symbols.Symbol.{Symbol};
 ghost use Rattle.cwr_shape.specs.declared.stages.Stage.{Stage};
 ghost use Rattle.cwr_shape.specs.Steps.Left.{StandsAt, LeavesAt};
@@ -23,10 +23,7 @@ pub fn stages_say_what_is_left()
 /// The numbers of a record depend on its kind and on the records before it alone: where two transmissions begin with
 /// the same records and continue with one of the same kind, that one has the same numbers in both.
 pub fn numbers_depend_on_records_before()
-    ensures { (groups others : List GroupOutline) (xs : List Symbol) (s t : Symbol) (rest more : List Symbol)
-        → IsOutline groups → IsOutline others → symbols_of groups ≡ xs ++ s ∷ rest → symbols_of others ≡ xs ++ t ∷ more
-        → symbol_kind s ≡ symbol_kind t
-        → slice_index_or (numbers_of (lengths_of groups)) (length xs) [] ≡ slice_index_or (numbers_of (lengths_of others)) (length xs) [] }
+    ensures { NumbersDependOnRecordsBefore }
 {}
 
 /// Carried records and copies change no order without them: the records of a transaction among which none is carried,

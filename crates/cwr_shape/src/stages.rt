@@ -7,9 +7,9 @@ ghost use Rattle.cwr_shape.specs.Format.AnyTransmission.{Any};
 ghost use Rattle.cwr_shape.specs.Steps.Left.{StandsAt, ContinuesIn, StandsAtStep};
 ghost use Rattle.cwr_shape.specs.Format.Shapes.{IsShape};
 ghost use Rattle.cwr_fields.specs.declared.codes.TransactionType.{TransactionType};
-ghost use Rattle.cwr_shape.specs.Steps.Needs.{needs_at, AreNeeds};
+ghost use Rattle.cwr_shape.specs.Steps.Needs.{needs_at, AreNeedsAt};
 ghost use Rattle.cwr_shape.specs.Steps.NextStages.{header_step, party_step, tail_step, party_of_work, after_writer, ordered_step, carried_step, step_on};
-ghost use Rattle.cwr_shape.specs.Steps.NextStages.{may_end, next_stage};
+ghost use Rattle.cwr_shape.specs.Steps.NextStages.{may_end, next_or_foot, next_stage, on_or_next, within};
 
 use crate::symbols::Symbol;
 use cwr_fields::{Kind, Role, TransactionType};
@@ -210,21 +210,48 @@ impl TransactionStep {
     }
 }
 
+/// The stage at that step of a group, where there is one.
+#[inline(always)]
+fn within(ty: TransactionType, step: Option<TransactionStep>) -> Option<Stage>
+    ensures { result ≡ within ty step }
+{
+    match step {
+        Some(step) => Some(Stage::Within(ty, step)),
+        None => None,
+    }
+}
+
+/// The stage after the group's foot, or after the header of its next transaction.
+#[inline(always)]
+fn next_or_foot(ty: TransactionType, symbol: Symbol) -> Option<Stage>
+    ensures { result ≡ next_or_foot ty symbol }
+{
+    match symbol {
+        Symbol::Plain(Kind::Grt) => Some(Stage::Closed),
+        _ => within(ty, header_step(ty, symbol)),
+    }
+}
+
+/// The stage after one more record, where a transaction that may end goes on with it or is over.
+#[inline(always)]
+fn on_or_next(ty: TransactionType, on: Option<TransactionStep>, symbol: Symbol) -> Option<Stage>
+    ensures { result ≡ on_or_next ty on symbol }
+{
+    match on {
+        Some(step) => Some(Stage::Within(ty, step)),
+        None => next_or_foot(ty, symbol),
+    }
+}
+
 /// The stage after one more record inside a group of the type.
 #[inline(always)]
 fn next_within(ty: TransactionType, step: TransactionStep, symbol: Symbol) -> Option<Stage>
     ensures { result ≡ next_stage (Stage.Within ty step) symbol }
 {
-    if let Some(on) = step.on(symbol) {
-        return Some(Stage::Within(ty, on));
-    }
-    match (step, symbol) {
-        (_, Symbol::Plain(Kind::Grt)) if step.may_end() => Some(Stage::Closed),
-        (TransactionStep::InGroup, _) => header_step(ty, symbol).map(|first| Stage::Within(
-            ty, first,
-        )),
-        _ if step.may_end() => header_step(ty, symbol).map(|first| Stage::Within(ty, first)),
-        _ => None,
+    match step {
+        TransactionStep::InGroup => within(ty, header_step(ty, symbol)),
+        _ if step.may_end() => on_or_next(ty, step.on(symbol), symbol),
+        _ => within(ty, step.on(symbol)),
     }
 }
 
@@ -348,7 +375,7 @@ impl Stage {
     #[inline(always)]
     pub fn needs(self) -> Needs
         ensures value { result ≡ needs_at self }
-        ensures least { (xs : List Symbol) → StandsAt xs self → AreNeeds xs result }
+        ensures least { AreNeedsAt self result }
     {
         needs_at(self)
     }

@@ -5,12 +5,11 @@ ghost use Rattle.std.specs.Prelude.{◌≡◌, ◌<◌, List, [], ◌∷◌, ◌
 ghost use Rattle.cwr_fields.specs.declared.codes.TransactionType.TheVariants.{Acknowledgement};
 ghost use Rattle.cwr_shape.specs.declared.symbols.Symbol.{Symbol};
 ghost use Rattle.cwr_shape.specs.Format.LastSymbols.{is_grh};
-ghost use Rattle.cwr_shape.specs.Steps.Stages.{stage_after};
 ghost use Rattle.cwr_shape.specs.Format.Numbers.{number_in, IsNumberAt};
 ghost use Rattle.cwr_shape.specs.Format.ExpectedNumbers.{expected_numbers};
 ghost use Rattle.cwr_shape.specs.Steps.Counting.{counts_with, wanted_role, scope_at, stage_type, passed_limit_at, number_inside, HaveRoom};
 ghost use Rattle.cwr_shape.specs.Format.NextSymbols.{header_kind, is_header_of, MayCome, Answers, AnswersKind, transactions_begun, scope_after};
-ghost use Rattle.cwr_shape.specs.Steps.Tallies.{IsTallyOf, IsAdmitted, KeepsTally};
+ghost use Rattle.cwr_shape.specs.Steps.Tallies.{IsTallyOf, IsAdmitted, IsStageOf, KeepsTally};
 
 use crate::limits::{LimitKind, Limits};
 use crate::stages::{Stage, TransactionStep};
@@ -259,7 +258,7 @@ impl Tally {
     /// How far the records have come.
     pub fn stage(&self) -> Stage
         ensures value { result ≡ self.now.stage }
-        ensures named { (xs : List Symbol) → IsTallyOf self.now xs → result ≡ stage_after xs }
+        ensures named { IsStageOf self.now result }
     {
         self.stage
     }

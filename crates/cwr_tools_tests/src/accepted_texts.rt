@@ -113,17 +113,20 @@ const BARE_COPY: &[&[u8]] = &[
     b"TRL000010000000100000007",
 ];
 
+/// Whether the record there is of that kind.
+fn is_of_kind(transaction: &Transaction, i: usize, kind: Kind) -> bool {
+    match transaction.record(i) {
+        Some(record) => record.kind() == kind,
+        None => false,
+    }
+}
+
 /// Checks that the transaction has records of just these kinds, and is complete.
 fn check_kinds(rt: &impl Abort, transaction: &Transaction, kinds: &[Kind]) {
     check_equal(rt, transaction.len(), kinds.len());
     assert!(rt; transaction.complete());
     for (i, kind) in kinds.iter().enumerate() {
-        let record = transaction.record(i);
-        check_equal(
-            rt,
-            (i, record.map(|record| record.kind())),
-            (i, Some(*kind)),
-        );
+        assert!(rt; is_of_kind(transaction, i, *kind));
     }
 }
 

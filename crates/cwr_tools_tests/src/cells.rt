@@ -9,7 +9,6 @@ use cwr_fields::{Cell, CivilDate, DateCell, Kind, Number, TimeOfDay, Transaction
 use cwr_lines::RecordRef;
 use cwr_values::{Item, Transaction};
 use cwr_worked::texts::ONE_ACKNOWLEDGEMENT;
-use std::fmt::Debug;
 use std::process::Abort;
 
 /// The transaction that a step hands out.
@@ -44,7 +43,7 @@ fn check_cells(rt: &impl Abort, record: &RecordRef<'_>, cells: &[(u8, Option<&[u
 }
 
 /// Checks a cell of a record that is read as a value of a type.
-fn check_read<C: Cell + PartialEq + Debug + Drop>(
+fn check_read<C: Cell + PartialEq + Drop>(
     rt: &impl Abort,
     record: &RecordRef<'_>,
     j: u8,
@@ -53,7 +52,7 @@ fn check_read<C: Cell + PartialEq + Debug + Drop>(
     requires least { 0 < C.WIDTH }
     requires most { C.WIDTH ≤ 10 }
 {
-    check_equal(rt, (j, record.read::<C>(j)), (j, wanted));
+    assert!(rt; record.read::<C>(j) == wanted);
 }
 
 /// Checks typed cells of the acknowledgement.

@@ -43,7 +43,7 @@ pub enum Look {
 }
 
 /// Whether bytes stand after a transmission.
-pub(crate) fn follows(trailing: &Trailing) -> bool
+pub fn follows(trailing: &Trailing) -> bool
     ensures { result ≡ follows trailing.now }
 {
     trailing.bytes > 0 || !trailing.is_all
@@ -72,7 +72,7 @@ pub fn status_of(wanted: Wanted, verdict: &Verdict, look: Look, found: bool) -> 
 }
 
 /// What the end of a run means for the program, by the fault at which it stopped: that of the input, that of the output, or another.
-pub(crate) fn ended_by<'a>(
+pub fn ended_by<'a>(
     fault: Option<ToolFault>,
     input: Told<'a>,
     output: Told<'a>,

@@ -51,7 +51,7 @@ fn open_inputs<'a, R: Files, I: Read + Drop>(
 }
 
 /// Refuses to write to one of the inputs, or to a file that is there where only a new one may be made.
-pub(crate) fn refuse_out<'a, R: Files>(
+pub fn refuse_out<'a, R: Files>(
     rt: &R,
     out: &'a str,
     only_new: bool,

@@ -37,7 +37,7 @@ pub struct Cut<'a> {
 }
 
 /// Hands on the lines that were put, where they could be.
-pub(crate) fn hand_on<'a, O: Write + Drop>(
+pub fn hand_on<'a, O: Write + Drop>(
     put: Result<(), SinkFault>,
     sink: Sink<Gathered<'a, O>>,
 ) -> Result<(), Fault<'a>> {

@@ -3,6 +3,7 @@ pub mod Begins
 pub mod Begun
 pub mod Fits
 pub mod FormerOrders
+pub mod Laws
 pub mod Rows
 pub mod ValueFaultTexts
 pub mod Values

@@ -1,20 +1,18 @@
 //! Laws over transmissions, their rows and the texts that spell them.
 
-ghost use Rattle.std.specs.Prelude.{Contains, List, None, filter, length, map, take, ℕ, ◌++◌, ◌≡◌, ◌↔◌, ◌<◌, ◌≤◌, ◌^◌};
-ghost use Rattle.std.specs.List.{AllByRecursion, AllZip};
-ghost use Rattle.cwr_fields.specs.Format.Layouts.{fields_after_type};
+ghost use Rattle.std.specs.Prelude.{Contains, List, None, length, map, ℕ, ◌++◌, ◌≡◌, ◌↔◌, ◌<◌};
+ghost use Rattle.std.specs.List.{AllByRecursion};
 ghost use Rattle.cwr_lines.specs.Format.Lines.{IsLineOf};
 ghost use Rattle.cwr_lines.specs.Format.Records.{IsRecord, RecordValue, Row};
-ghost use Rattle.cwr_shape.specs.Format.Numbers.{numbers_of};
-ghost use Rattle.cwr_shape.specs.Format.Outlines.{GroupOutline, IsOutline, IsWhole, symbols_of};
+ghost use Rattle.cwr_shape.specs.Format.Outlines.{IsWhole};
 ghost use Rattle.cwr_shape.specs.Format.UncarriedOrder.{IsUncarriedShape, IsUncopiedShape};
 ghost use Rattle.cwr_shape.specs.declared.limits.Limits.{Limits};
-ghost use Rattle.cwr_shape.specs.declared.symbols.Symbol.{Symbol};
 ghost use Rattle.cwr_values.specs.Format.Begins.{rows_so_far};
 ghost use Rattle.cwr_values.specs.Format.Fits.{value_fault};
 ghost use Rattle.cwr_values.specs.Format.FormerOrders.{IsTransmissionIn};
-ghost use Rattle.cwr_values.specs.Format.Rows.{canonical_text, lengths_of_value, records_of, rows, Spells};
-ghost use Rattle.cwr_values.specs.Format.Values.{FitsIn, IsTransmission, outline_of, symbol_of, TransmissionValue};
+ghost use Rattle.cwr_values.specs.Format.Laws.{NumbersFitTheirFields, RecordsAreCompleted, RowsDependOnRecordsBefore};
+ghost use Rattle.cwr_values.specs.Format.Rows.{canonical_text, records_of, rows, Spells};
+ghost use Rattle.cwr_values.specs.Format.Values.{FitsIn, IsTransmission, symbol_of, TransmissionValue};
 
 /// The canonical text of a transmission spells it.
 pub fn canonical_text_spells()
@@ -35,10 +33,7 @@ pub fn text_begins_with_one_spelling()
 
 /// Within limits of at most 99,999,999 records and 99,999 groups each number of a transmission fits its field.
 pub fn numbers_fit_their_fields()
-    ensures { (limits : Limits) (v : TransmissionValue) → IsTransmission v → FitsIn limits v
-        → limits.records ≤ 99999999 → limits.groups ≤ 99999
-        → AllZip (λ numbers r. AllZip (λ f n. n < 10 ^ f.width) (filter (λ f. f.derived) (fields_after_type r.kind)) numbers)
-        (numbers_of (lengths_of_value v)) (records_of v) }
+    ensures { NumbersFitTheirFields }
 {}
 
 /// No fault is reported of a transmission exactly where it has a group and is within the limits.
@@ -58,9 +53,7 @@ pub fn whole_records_are_a_transmission()
 /// A row depends on its record and on the records before it alone: transmissions that begin with the same records
 /// begin with the same rows, which are those that are counted as the records come.
 pub fn rows_depend_on_records_before()
-    ensures same { (v w : TransmissionValue) (before rest others : List RecordValue) → IsTransmission v → IsTransmission w
-        → records_of v ≡ before ++ rest → records_of w ≡ before ++ others
-        → take (length before) (rows v) ≡ take (length before) (rows w) }
+    ensures same { RowsDependOnRecordsBefore }
     ensures counted { (v : TransmissionValue) (before rest : List RecordValue) → IsTransmission v → records_of v ≡ before ++ rest
         → (more : List Row) × (rows v ≡ rows_so_far before ++ more) }
 {}
@@ -68,9 +61,7 @@ pub fn rows_depend_on_records_before()
 /// Records in order, with whose symbols an outline begins, begin a transmission of that outline: for each further
 /// symbol there is a record that fits.
 pub fn records_are_completed()
-    ensures { (groups : List GroupOutline) (records : List RecordValue) (rest : List Symbol) → IsOutline groups → AllByRecursion IsRecord records
-        → symbols_of groups ≡ map symbol_of records ++ rest
-        → (v : TransmissionValue) × IsTransmission v × (outline_of v ≡ groups) × (more : List RecordValue) × (records_of v ≡ records ++ more) }
+    ensures { RecordsAreCompleted }
 {}
 
 /// Each transmission without copies, with carried records or without, is a transmission in today's order: the same value.

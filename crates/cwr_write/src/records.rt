@@ -13,7 +13,8 @@ ghost use Rattle.cwr_json.specs.declared.encodings.Encoding.{Encoding};
 ghost use Rattle.cwr_json.specs.Format.Encodings.{StandFor, are_read_as_is, byte_by_byte, character};
 ghost use Rattle.cwr_json.specs.Format.Forms.{IsDataOf, IsRecordData, first_of, is_note, kind_key, says, told};
 ghost use Rattle.cwr_write.specs.Format.Faults.{AreBytes, IsKindReason, IsMemberReason, IsOfData, IsRecordReason, IsValueReason};
-ghost use Rattle.cwr_write.specs.Steps.Filling.{FitsField, IsBytesReason, IsDraftReason, IsFilled, IsTextOf, NoneFrom, joined, with_last};
+ghost use Rattle.cwr_write.specs.Steps.Filling.{FitsField, IsBytesReason, IsDraftReason, IsFilled, IsFirstByte, IsReasonOfFilled, IsTextOf, NoneFrom, OfFilled};
+ghost use Rattle.cwr_write.specs.Steps.Filling.{joined, with_last, with_told};
 
 use crate::keys::field_of_key;
 use crate::refusals::{Key, LineFault, Why, text_key};
@@ -94,8 +95,7 @@ type Cell = ArrayVec<u8, WIDEST_CELL>;
 /// The byte that the first character stands for in ISO 8859-1, and how many bytes that has. It is `None` where no character up to
 /// U+00FF comes.
 fn first_latin(text: &[u8]) -> Option<(u8, usize)>
-    ensures { MatchOption result ((b : ℕ) (rest : List ℕ) → b < 256 → ¬ (text.now ≡ character Encoding.Latin1 b ++ rest))
-        (λ p. (0 < p.1) × (p.1 ≤ length text.now) × (character Encoding.Latin1 p.0 ≡ take p.1 text.now) × (p.0 < 256)) }
+    ensures { IsFirstByte Encoding.Latin1 text.now result }
 {
     let first = *text.first()?;
     if first < 128 {
@@ -111,8 +111,7 @@ fn first_latin(text: &[u8]) -> Option<(u8, usize)>
 
 /// The byte that the first character or escape stands for, and how many bytes that has. It is `None` where another one comes.
 fn first_escaped(text: &[u8]) -> Option<(u8, usize)>
-    ensures { MatchOption result ((b : ℕ) (rest : List ℕ) → b < 256 → ¬ (text.now ≡ character Encoding.Utf8 b ++ rest))
-        (λ p. (0 < p.1) × (p.1 ≤ length text.now) × (character Encoding.Utf8 p.0 ≡ take p.1 text.now) × (p.0 < 256)) }
+    ensures { IsFirstByte Encoding.Utf8 text.now result }
 {
     let first = *text.first()?;
     if first < 128 {
@@ -132,8 +131,7 @@ fn first_escaped(text: &[u8]) -> Option<(u8, usize)>
 
 /// The byte that the first character stands for, and how many bytes that has. It is `None` where none comes that stands for one.
 fn first_byte(encoding: Encoding, text: &[u8]) -> Option<(u8, usize)>
-    ensures { MatchOption result ((b : ℕ) (rest : List ℕ) → b < 256 → ¬ (text.now ≡ character encoding b ++ rest))
-        (λ p. (0 < p.1) × (p.1 ≤ length text.now) × (character encoding p.0 ≡ take p.1 text.now) × (p.0 < 256)) }
+    ensures { IsFirstByte encoding text.now result }
 {
     match encoding {
         Encoding::Latin1 => first_latin(text),
@@ -306,13 +304,13 @@ impl Filling {
 
     /// Takes a member that says something.
     fn take(&mut self, encoding: Encoding, key: &str, value: &Value<'_>) -> Result<(), (Key, Why)>
-        ensures ok { OnOk result ((ms : Members) → IsFilled encoding self.old.kind ms self.old.draft self.old.seen
-            → IsFilled encoding self.old.kind (with_last ms key.now (value_view value.now)) self.new.draft self.new.seen) }
-        ensures err { OnErr result ((ms : Members) → IsFilled encoding self.old.kind ms self.old.draft self.old.seen
-            → NoneFrom encoding self.old.kind (with_last ms key.now (value_view value.now))) }
+        ensures ok { OnOk result (OfFilled encoding self.old.kind self.old.draft self.old.seen
+            (λ ms. IsFilled encoding self.old.kind (with_last ms key.now (value_view value.now)) self.new.draft self.new.seen)) }
+        ensures err { OnErr result (OfFilled encoding self.old.kind self.old.draft self.old.seen
+            (λ ms. NoneFrom encoding self.old.kind (with_last ms key.now (value_view value.now)))) }
         ensures why { IfErr result (λ f. IsOfData f.1) }
-        ensures reason { IfErr result (λ f. (ms rest : Members) → IsFilled encoding self.old.kind ms self.old.draft self.old.seen
-            → IsMemberReason encoding self.old.kind (joined (with_last ms key.now (value_view value.now)) rest) f.0 f.1) }
+        ensures reason { IfErr result (λ f. IsReasonOfFilled encoding self.old.kind self.old.draft self.old.seen
+            (λ ms. with_last ms key.now (value_view value.now)) f.0 f.1) }
         ensures kind { self.new.kind ≡ self.old.kind }
     {
         let Some(j) = field_of_key(self.kind, key, self.last) else {
@@ -334,13 +332,13 @@ impl Filling {
 
     /// Takes a member, if it says something.
     fn meet(&mut self, encoding: Encoding, key: &str, value: &Value<'_>) -> Result<(), (Key, Why)>
-        ensures ok { OnOk result ((ms : Members) → IsFilled encoding self.old.kind ms self.old.draft self.old.seen
-            → IsFilled encoding self.old.kind (if says key.now (value_view value.now) then with_last ms key.now (value_view value.now) else ms) self.new.draft self.new.seen) }
-        ensures err { OnErr result ((ms : Members) → IsFilled encoding self.old.kind ms self.old.draft self.old.seen
-            → NoneFrom encoding self.old.kind (if says key.now (value_view value.now) then with_last ms key.now (value_view value.now) else ms)) }
+        ensures ok { OnOk result (OfFilled encoding self.old.kind self.old.draft self.old.seen
+            (λ ms. IsFilled encoding self.old.kind (with_told ms key.now (value_view value.now)) self.new.draft self.new.seen)) }
+        ensures err { OnErr result (OfFilled encoding self.old.kind self.old.draft self.old.seen
+            (λ ms. NoneFrom encoding self.old.kind (with_told ms key.now (value_view value.now)))) }
         ensures why { IfErr result (λ f. IsOfData f.1) }
-        ensures reason { IfErr result (λ f. (ms rest : Members) → IsFilled encoding self.old.kind ms self.old.draft self.old.seen
-            → IsMemberReason encoding self.old.kind (joined (if says key.now (value_view value.now) then with_last ms key.now (value_view value.now) else ms) rest) f.0 f.1) }
+        ensures reason { IfErr result (λ f. IsReasonOfFilled encoding self.old.kind self.old.draft self.old.seen
+            (λ ms. with_told ms key.now (value_view value.now)) f.0 f.1) }
         ensures kind { self.new.kind ≡ self.old.kind }
     {
         if says(key, value) {

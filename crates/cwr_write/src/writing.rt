@@ -10,7 +10,7 @@ ghost use Rattle.cwr_encode.specs.Steps.Encoders.{AddsRecords, Encodes, encoder_
 ghost use Rattle.cwr_encode.specs.Steps.Finishing.{FinishesWriting};
 ghost use Rattle.cwr_write.specs.Format.Imports.{CountsReaderFault, CountsWriterFault, SaysItem, WritesWhole};
 ghost use Rattle.cwr_write.specs.Format.Faults.{IsOfLine, IsPlaceReason, IsReason, JudgesTrailer, reached_with};
-ghost use Rattle.cwr_write.specs.Format.Endings.{EndsAtLine, SaysTransmission, WritesTransmission};
+ghost use Rattle.cwr_write.specs.Format.Endings.{EndsAtLine, WritesWhatIsSaid};
 ghost use Rattle.cwr_write.specs.Steps.Taking.{EndsLines, EndsWith, FinishesLines, IsFinishFault, IsNoWriter, IsRunFaultOf, IsUnreadFault, JudgesNext};
 ghost use Rattle.cwr_write.specs.Steps.Taking.{NoReader, Stands, TakesLine, TakesLines, given_records};
 
@@ -275,8 +275,8 @@ pub fn write<R: Source, W: Target>(
     ensures ends { IfSome (R.remaining reader.old)
         (λ text. length text < 2 ^ 64 - 1 → EndsAtLine encoding limits most text result.1) }
     // Nothing else is refused: lines that are data of a transmission within the limits are taken, and it is written.
-    ensures takes { IfSome (R.remaining reader.old) (λ text. length text < 2 ^ 64 - 1 → (v : TransmissionValue) → IsTransmission v → FitsIn limits v
-        → SaysTransmission encoding most text v → WritesTransmission W.contents writer result.0 v result.1) }
+    ensures takes { IfSome (R.remaining reader.old) (λ text. WritesWhatIsSaid limits encoding most text
+        W.contents writer result.0 result.1) }
     // All that was written was handed on.
     ensures handed_on { OnOk result.1 (W.handed_on result.0 ≡ true) }
 {

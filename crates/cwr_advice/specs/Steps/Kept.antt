@@ -1,6 +1,6 @@
 -- What is kept of the records of a transaction in place of them, and what that says of them.
 use Rattle.std.specs.Prelude.{◌≡◌, ◌⊎◌, ℕ, ◌+◌, Bool, true, false, not, ◌&&◌, if◌then◌else◌, List, filter, drop, take, slice_get}
-use Rattle.std.specs.Prelude.{Option, Some}
+use Rattle.std.specs.Prelude.{Option, Some, [], ◌∷◌, ◌++◌}
 use Rattle.std.specs.List.{list_any, sum_by, after_last}
 use Rattle.std.specs.Option.{is_some}
 use Rattle.std.specs.Str.{bytes_eq}
@@ -113,3 +113,10 @@ pub record AreKept (s : AdviceSums) (t : List RecordValue) : Type 0 where
 -- it is kept of these records, or they are those of an acknowledgement
 abbrev pub StandsFor : AdviceSums → List RecordValue → Type 0
 StandsFor s t = ((s.is_acknowledgement ≡ true) × (is_acknowledgement t ≡ true)) ⊎ ((s.is_acknowledgement ≡ false) × AreKept s t)
+
+-- what is said of writers goes on to be so with one more record, of which that is said
+abbrev pub OwesAfter : Owing → Bool → Bool → Bool → Owing → Type 0
+OwesAfter old writes asks gives new =
+    (asking giving : RecordValue → Bool) (t : List RecordValue) (r : RecordValue) → AreOwing asking giving t old
+    → ((x : RecordValue) → asking x ≡ true → is_writer x ≡ true) → writes ≡ is_writer r → asks ≡ asking r → gives ≡ giving r
+    → AreOwing asking giving (t ++ r ∷ []) new

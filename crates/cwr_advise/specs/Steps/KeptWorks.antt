@@ -5,10 +5,11 @@ use Rattle.std.specs.Cmp.Lexicographic.{slice_cmp}
 use Rattle.std.specs.Ordering.{nat_cmp}
 use Rattle.cwr_values.specs.declared.items.Item.{Item}
 use Rattle.cwr_tools.specs.declared.totals.Totals.{Totals}
+use Rattle.cwr_tools.specs.Steps.Counts.{IsCount}
 use Rattle.cwr_advise.specs.declared.repeats.Place.{Place}
 use Rattle.cwr_advise.specs.declared.repeats.Repeated.{Repeated}
 use Rattle.cwr_advise.specs.declared.repeats.Repeats.{Repeats}
-use Rattle.cwr_advise.specs.Format.RepeatedWorks.{place_of, repeated_text, work_header}
+use Rattle.cwr_advise.specs.Format.RepeatedWorks.{place_of, repeated_in, repeated_text, work_header, works_in}
 
 -- the places of the first of these works are kept by their numbers, and where some are to be kept all are counted, up to one more
 pub record AreKeptOf (s : Repeats) (works : List (List ℕ × Place)) : Type 0 where
@@ -23,3 +24,9 @@ place_at counts = record { group = counts.groups; sequence = counts.in_group; li
 abbrev pub repeated_at : ℕ → Totals → Item → Repeated → List ℕ
 repeated_at limit counts item told =
     flat_map (λ h. repeated_text limit (place_at counts) h told.first told.is_beyond) (work_header item)
+
+-- what is told of an item after others, whose works are kept, is what is to be told of it
+abbrev pub TellsRepeated : Repeats → Totals → Item → Repeated → Type 0
+TellsRepeated s counts item told =
+    (given : List Item) → IsCount counts given → AreKeptOf s (works_in given)
+    → repeated_at s.limit counts item told ≡ repeated_in s.limit given item

@@ -2,6 +2,8 @@
 use Rattle.std.specs.Prelude.{◌≡◌, ◌⊎◌, ◌↔◌, ℕ, ◌-◌, ◌^◌, ◌<◌, ◌≤◌, Bool, true, false, IsFalse, List, [], ◌∷◌, ◌++◌, length}
 use Rattle.std.specs.List.{list_any}
 use Rattle.cwr_lines.specs.Format.Lines.{is_lf, longest_line}
+use Rattle.cwr_decode.specs.declared.last_bytes.LastBytes.{LastBytes}
+use Rattle.cwr_decode.specs.Steps.LastReads.{HoldsLast}
 use Rattle.cwr_decode.specs.Steps.Represents.{EndsInLf}
 use Rattle.cwr_causes.specs.declared.lines_at_end.LineAtEnd.{LineAtEnd}
 
@@ -43,3 +45,8 @@ pub record IsFound (read front line : List ℕ) (found : LineAtEnd) : Type 0 whe
   pub bytes : found.bytes.now ≡ line
   pub ended : (found.ended ≡ true) ↔ EndsInLf read
   pub offset : length read < 2 ^ 64 - 1 → found.offset ≡ length front
+
+-- of any bytes that were read, and whose last ones are held, it is that line with which they end
+abbrev pub IsLineAtEnd : LastBytes → LineAtEnd → Type 0
+IsLineAtEnd last found =
+    (read front line : List ℕ) → HoldsLast read last → EndsWithLine read front line → IsFound read front line found

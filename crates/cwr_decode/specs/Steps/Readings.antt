@@ -15,7 +15,7 @@ use Rattle.cwr_decode.specs.declared.readings.Quick.TheVariants as quicks
 use Rattle.cwr_decode.specs.declared.readings.ReadFault.{ReadFault}
 use Rattle.cwr_decode.specs.declared.readings.ReadFault.TheVariants as faults
 use Rattle.cwr_decode.specs.Format.Headline.{IsEndOf, answer_end}
-use Rattle.cwr_decode.specs.Steps.Machines.{Standing, Empties, state_after}
+use Rattle.cwr_decode.specs.Steps.Machines.{Standing, Empties, again, state_after}
 use Rattle.cwr_decode.specs.Steps.Represents.{EndsInLf, GoesTooFar, Represents}
 use Rattle.cwr_decode.specs.Steps.Calls.{IsLive, RunsOutOfMemory}
 
@@ -119,3 +119,15 @@ abbrev pub CountsQuickly : Quick → ℕ → ℕ → Type 0
 CountsQuickly (quicks.Whole whole) old new = new ≡ old
 CountsQuickly quicks.Failed old new = new ≡ one_more_failure old
 CountsQuickly quicks.Nothing old new = new ≡ old
+
+-- what the decoder answered for good is answered again, and neither it nor the reader changes
+abbrev pub ReadsAgain : {R : Type 0} → Standing → R → Result (Option Item) ReadFault → Standing → R → Type 0
+ReadsAgain old before result new after =
+    IfSome (again old.state) (λ outcome. (Some result ≡ answer_of outcome) × (new ≡ old) × (after ≡ before))
+
+-- out of memory comes only with a record that was being added: where none was accepted, it was the one that waited, and the reader is as
+-- it was
+abbrev pub FindsNoMemory : {R : Type 0} → Standing → R → Result (Option Item) ReadFault → Standing → R → Type 0
+FindsNoMemory old before result new after =
+    result ≡ Err faults.Memory → again old.state ≡ None → new.tally.counts.records ≤ old.tally.counts.records
+    → (old.state ≡ states.Pending) × (after ≡ before)

@@ -116,3 +116,8 @@ passed_with t n = if nat_lt t.limits.records (t.counts.records + 2 + n) then Som
 abbrev pub end_fault : Reached → EncodeFault
 end_fault reached_to.Opening = Incomplete
 end_fault r = OutOfOrder
+
+-- that is so of the records that the encoder has taken, where its writer hasn't failed
+abbrev pub OfTaken : {W : Type 0} → (W → Option (List ℕ)) → Encoder W → (List RecordValue → Type 0) → Type 0
+OfTaken contents e P =
+    is_stopped e ≡ false → (start : Option (List ℕ)) (records : List RecordValue) → Encodes contents start records e → P records

@@ -1,6 +1,6 @@
 -- Whether a line that was cut may come next, after records of which these symbols were seen.
 use Rattle.std.specs.Prelude.{◌≡◌, ◌≢◌, ℕ, ◌+◌, ◌<◌, ◌≤◌, ◌==◌, Bool, true, false, List, [], ◌∷◌, ◌++◌, length, Option, Some}
-use Rattle.std.specs.Prelude.{None, option_map, IfSome, IsSomeAnd, if◌then◌else◌}
+use Rattle.std.specs.Prelude.{None, option_map, IfSome, IsSomeAnd, IfOk, IfErr, Result, if◌then◌else◌}
 use Rattle.std.specs.List.{IsAmong}
 use Rattle.cwr_fields.specs.declared.cell_types.CellType.{CellType}
 use Rattle.cwr_fields.specs.Format.Bytes.{digits}
@@ -24,6 +24,7 @@ use Rattle.cwr_shape.specs.Format.Candidates.{candidates, role_in, type_in}
 use Rattle.cwr_shape.specs.Format.NextSymbols.{MayCome, IsBarred, IsBarredAmong}
 use Rattle.cwr_shape.specs.Steps.Tallies.{TallyValue, IsTallyOf}
 use Rattle.cwr_values.specs.Format.Values.{symbol_of}
+use Rattle.cwr_judge.specs.declared.judging.LineFault.{LineFault}
 
 -- the cell is the number that belongs in field j of the next record, in that width
 pub record IsNumberCell (xs : List Symbol) (kind : Kind) (j width : ℕ) (cell : Option (List ℕ)) : Type 0 where
@@ -146,3 +147,19 @@ IsFirstBy (Some this_kind) limits xs h field reason = IsFirstWrong limits xs h t
 
 abbrev pub IsFirstFault : LimitValues → List Symbol → HeldLine → ℕ → Reason → Type 0
 IsFirstFault limits xs h field reason = IsFirstBy (held_kind h) limits xs h field reason
+
+-- ---- after any records that are tallied so
+
+-- the line is found to be that of a record with its symbol that may come next
+abbrev pub FindsNext : {E : Type 0} → TallyValue → HeldLine → Result (Symbol × RecordValue) E → Type 0
+FindsNext t h result =
+    (xs : List Symbol) → IsTallyOf t xs → IfOk result (λ found. IsNext t.limits xs h found.0 found.1)
+
+-- it is found to be that of none
+abbrev pub FindsNone : {A E : Type 0} → TallyValue → HeldLine → Result A E → Type 0
+FindsNone t h result = (xs : List Symbol) → IsTallyOf t xs → IfErr result (λ _. IsOfNone t.limits xs h)
+
+-- and its first field that is wrong is found
+abbrev pub FindsFirst : {A : Type 0} → TallyValue → HeldLine → Result A LineFault → Type 0
+FindsFirst t h result =
+    (xs : List Symbol) → IsTallyOf t xs → IfErr result (λ fault. IsFirstFault t.limits xs h fault.field fault.reason)

@@ -1,5 +1,6 @@
 -- What the steps of a lint put to a sink and take from a reader.
 use Rattle.std.specs.Prelude.{◌≡◌, ℕ, false, List, ◌++◌, Option, Result, Ok, Err, IfOk, OnOk}
+use Rattle.std.specs.Io.KnownBytes.{Appends}
 use Rattle.cwr_devices.specs.Format.Failures.{one_more_failure}
 use Rattle.cwr_devices.specs.declared.sinks.Sink.{Sink}
 use Rattle.cwr_devices.specs.declared.sinks.SinkFault.{SinkFault}
@@ -66,3 +67,20 @@ abbrev pub ReadsAndPutsWith : {W A : Type 0} → (A → List ℕ → Type 0) →
     → (W → Option (List ℕ)) → (W → ℕ) → Result A ToolFault → Sink W → Sink W → Type 0
 ReadsAndPutsWith P left after reader read contents failures result old new =
     (text : List ℕ) × ReadsAndPuts left after reader read contents failures text result old new × IfOk result (λ x. P x text)
+
+-- so it is over a reader, where what is said of the text speaks of what the reader had left and of what it then has
+abbrev pub TellsWith : {R W A : Type 0} → (R → Option (List ℕ)) → (R → ℕ) → R → R → (W → Option (List ℕ)) → (W → ℕ)
+    → (Option (List ℕ) → Option (List ℕ) → A → List ℕ → Type 0) → Result A ToolFault → Sink W → Sink W → Type 0
+TellsWith remaining read_failures reader read contents failures P result old new =
+    ReadsAndPutsWith (P (remaining reader) (remaining read)) (remaining reader) (remaining read) (read_failures reader)
+    (read_failures read) contents failures result old new
+
+-- and of no answer
+abbrev pub TellsRead : {R W A : Type 0} → (R → Option (List ℕ)) → (R → ℕ) → R → R → (W → Option (List ℕ)) → (W → ℕ)
+    → (Option (List ℕ) → Option (List ℕ) → List ℕ → Type 0) → Result A ToolFault → Sink W → Sink W → Type 0
+TellsRead remaining read_failures reader read contents failures P result old new =
+    TellsWith remaining read_failures reader read contents failures (λ left after _. P left after) result old new
+
+-- such a text was written after what the writer had
+abbrev pub AppendsSuch : {W : Type 0} → (W → Option (List ℕ)) → W → W → (List ℕ → Type 0) → Type 0
+AppendsSuch contents old new P = (text : List ℕ) × P text × Appends (contents old) (contents new) text

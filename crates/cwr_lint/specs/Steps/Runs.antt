@@ -19,6 +19,8 @@ use Rattle.cwr_lint.specs.Steps.Walks.{IsTold, Walk, WalksLine, WalksLines}
 use Rattle.cwr_lint_lines.specs.Steps.Cells.{held_cut}
 use Rattle.cwr_lint.specs.Steps.LinesRead.{GoesOn, HoldsRaw, IsAllRead, IsOfLine, ReadsLast, ReadsLine, held_raw}
 use Rattle.cwr_decode.specs.declared.last_bytes.LastBytes.{LastBytes}
+use Rattle.cwr_decode.specs.declared.readings.LastRead.{LastRead}
+use Rattle.cwr_lint_lines.specs.Steps.Fronts.{state_at}
 
 -- what is asked for
 abbrev pub asking_of : Asked → Asking
@@ -156,3 +158,8 @@ pub record TellsRun (asked : Asking) (begins : LintState) (refusal : Refusal) (l
 -- how it ended, and how many faults there are, in how many lines
 abbrev pub IsEndText : Bool → ℕ → ℕ → ℕ → List ℕ → Type 0
 IsEndText over faults findings n text = text ≡ truncated_unless over n ++ faults_line faults findings n
+
+-- so it is told from where the records had come before the refused line, of which the last bytes are held
+abbrev pub TellsAfter : Asking → LastRead → Refusal → Option (List ℕ) → Option (List ℕ) → List ℕ → Type 0
+TellsAfter asked last refusal left after text =
+    TellsRun asked (state_at last.stage last.counts (refusal.rec - 1)) refusal last.bytes left after text

@@ -2,7 +2,7 @@
 use Rattle.std.specs.Prelude.{◌≡◌, ◌⊎◌, ℕ, ◌+◌, ◌-◌, ◌^◌, ◌==◌, min, Bool, true, false, ◌&&◌, is_some, List, [], ◌∷◌, ◌++◌}
 use Rattle.std.specs.Prelude.{length, Option, Some, None, if◌then◌else◌}
 use Rattle.cwr_lines.specs.Format.Records.{RecordValue, IsRecord}
-use Rattle.cwr_lines.specs.Steps.Held.{carried_by}
+use Rattle.cwr_lines.specs.Steps.Held.{HeldLine, carried_by}
 use Rattle.cwr_values.specs.Format.Begun.{BeginsWithOneMore}
 use Rattle.cwr_judge.specs.declared.refusals.Refusal.{Refusal}
 use Rattle.cwr_levels.specs.Format.ReportLines.{faults_line}
@@ -15,7 +15,7 @@ use Rattle.cwr_lint_lines.specs.declared.takings.Taking.{Taking}
 use Rattle.cwr_lint_lines.specs.declared.takings.Taking.TheVariants as takings
 use Rattle.cwr_lint_lines.specs.Format.FaultsAtFields.{JudgedLine, LineCut, cut_of, one_more_line, report_number}
 use Rattle.cwr_lint.specs.Format.FaultsOfLines.{Asking, EndedTransaction, IsFaultText, TellsLine, count_after}
-use Rattle.cwr_lint_lines.specs.Steps.JudgedLines.{judged_as, judged_cut, scope_by}
+use Rattle.cwr_lint_lines.specs.Steps.JudgedLines.{judged_as, judged_at, judged_cut, scope_by}
 use Rattle.cwr_lint_lines.specs.Steps.NextStates.{state_with, state_with_unknown}
 use Rattle.cwr_lint_lines.specs.Steps.States.{is_whole, open_transaction}
 
@@ -44,6 +44,10 @@ ends_by_taking taken = true
 abbrev pub ends_transaction : Judged → Bool
 ends_transaction Unknown = false
 ends_transaction (Of known) = ends_by_taking known.taken
+
+-- what is judged of a line that comes in that state
+abbrev pub judged_in : LintState → HeldLine → Judged → JudgedLine
+judged_in st h judged = judged_at st.lines (scope_by st.group) h judged
 
 -- as it is reported, in that group
 abbrev pub ended_in : LintState → Option OpenGroup → Option (List RecordValue) → Option EndedTransaction

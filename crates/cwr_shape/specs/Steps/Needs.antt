@@ -11,6 +11,7 @@ use Rattle.cwr_shape.specs.declared.stages.TransactionStep.TheVariants as steps
 use Rattle.cwr_shape.specs.declared.stages.Needs.{Needs}
 use Rattle.cwr_shape.specs.Format.Outlines.{IsWhole}
 use Rattle.cwr_shape.specs.Format.LastSymbols.{is_grh}
+use Rattle.cwr_shape.specs.Steps.Left.{StandsAt}
 use Rattle.cwr_shape.specs.Steps.Stages.{stage_after}
 use Rattle.cwr_shape.specs.Format.NextSymbols.{is_header_of, type_after, has_open_transaction, scope_by}
 use Rattle.std.specs.Prelude.{Some}
@@ -87,3 +88,7 @@ needs_at stages.Opened = needs_of 4 1 1
 needs_at (stages.Within ty step) = needs_within ty step
 needs_at stages.Closed = needs_of 1 0 0
 needs_at stages.Ended = needs_of 0 0 0
+
+-- so it is after any records that stand at the stage
+abbrev pub AreNeedsAt : Stage → Needs → Type 0
+AreNeedsAt stage needs = (xs : List Symbol) → StandsAt xs stage → AreNeeds xs needs

@@ -6,6 +6,7 @@ use Rattle.cwr_shape.specs.declared.tallies.Counts.{Counts}
 use Rattle.cwr_shape.specs.Format.Ranges.{LimitValues, AreInRange}
 use Rattle.cwr_shape.specs.Format.Outlines.{IsWithin, Continues}
 use Rattle.cwr_shape.specs.Steps.Left.{StandsAt}
+use Rattle.cwr_shape.specs.Steps.Stages.{stage_after}
 use Rattle.cwr_shape.specs.Format.NextSymbols.{counts_of, MayCome}
 
 -- the limits, how far the records have come, and what was counted of them
@@ -38,3 +39,7 @@ pub record KeepsCounts (limits : LimitValues) (counts : Counts) : Type 0 where
 pub record KeepsTally (t : TallyValue) : Type 0 where
   pub counts : KeepsCounts t.limits t.counts
   pub stands : (xs : List Symbol) × IsTallyOf t xs
+
+-- that is the stage after any records that are tallied so
+abbrev pub IsStageOf : TallyValue → Stage → Type 0
+IsStageOf t stage = (xs : List Symbol) → IsTallyOf t xs → stage ≡ stage_after xs

@@ -1,5 +1,5 @@
 -- Transmissions whose transactions are in another order of records, for the laws on the orders without copies.
-use Rattle.std.specs.Prelude.{◌≡◌, ◌<◌, List, length, map}
+use Rattle.std.specs.Prelude.{◌<◌, List, length, map}
 use Rattle.std.specs.List.{AllByRecursion}
 use Rattle.cwr_fields.specs.declared.codes.TransactionType.{TransactionType}
 use Rattle.cwr_fields.specs.declared.kinds.Kind.TheVariants as kinds

@@ -1,7 +1,8 @@
 -- How a run over lines of JSON ends: all lines are taken, or up to which line no transmission continues.
-use Rattle.std.specs.Prelude.{◌≡◌, ℕ, ◌+◌, ◌≤◌, not, List, [], ◌∷◌, ◌++◌, length, Option, Result, Ok, Err}
+use Rattle.std.specs.Prelude.{◌≡◌, ℕ, ◌+◌, ◌-◌, ◌^◌, ◌<◌, ◌≤◌, not, List, [], ◌∷◌, ◌++◌, length, Option, Result, Ok, Err}
 use Rattle.std.specs.List.{AllZip, AllByRecursion, filter}
 use Rattle.cwr_shape.specs.Format.Ranges.{LimitValues}
+use Rattle.cwr_shape.specs.declared.limits.Limits.{Limits}
 use Rattle.cwr_values.specs.Format.Values.{TransmissionValue, IsTransmission, FitsIn}
 use Rattle.cwr_values.specs.Format.Rows.{canonical_text}
 use Rattle.cwr_values.specs.declared.items.Item.{Item}
@@ -84,3 +85,10 @@ WritesTransmission contents old new v (Err Reader) = Unit {0}
 WritesTransmission contents old new v (Err (Writer written)) = Unit {0}
 WritesTransmission contents old new v (Err Memory) = Unit {0}
 WritesTransmission contents old new v (Err fault) = ⊥
+
+-- so it is where lines say a transmission within the limits
+abbrev pub WritesWhatIsSaid : {W : Type 0} → Limits → Encoding → ℕ → List ℕ → (W → Option (List ℕ)) → W → W
+    → Result Written WriteFault → Type 0
+WritesWhatIsSaid limits enc most text contents old new result =
+    length text < 2 ^ 64 - 1 → (v : TransmissionValue) → IsTransmission v → FitsIn limits v → SaysTransmission enc most text v
+    → WritesTransmission contents old new v result

@@ -1,5 +1,6 @@
 -- A draft that members fill.
-use Rattle.std.specs.Prelude.{◌≡◌, ℕ, ◌≤◌, ◌<◌, Bool, true, false, List, length, get_or, None, option_map, unwrap_or, IsSomeAnd}
+use Rattle.std.specs.Prelude.{◌≡◌, ℕ, ◌≤◌, ◌<◌, Bool, true, false, List, ◌++◌, length, take, get_or, Option, None, option_map, unwrap_or, IsSomeAnd}
+use Rattle.std.specs.Prelude.{MatchOption, if◌then◌else◌}
 use Rattle.std.specs.List.{AllZip, list_all, list_any}
 use Rattle.std.specs.Str.{bytes_eq}
 use Rattle.json.specs.Json.{Json, string, Members, no_members, member}
@@ -15,8 +16,9 @@ use Rattle.cwr_write.specs.declared.refusals.Why.TheVariants.{Cell, Computed, To
 use Rattle.cwr_fields.specs.Format.Layouts.{field_at}
 use Rattle.cwr_lines.specs.Format.Records.{RecordValue, carried_fields}
 use Rattle.cwr_json.specs.declared.encodings.Encoding.{Encoding}
-use Rattle.cwr_json.specs.Format.Encodings.{StandFor}
-use Rattle.cwr_json.specs.Format.Forms.{IsCellFrom, IsDataOf, are_distinct, first_of, is_known, key_of}
+use Rattle.cwr_json.specs.Format.Encodings.{StandFor, character}
+use Rattle.cwr_write.specs.Format.Faults.{IsMemberReason}
+use Rattle.cwr_json.specs.Format.Forms.{IsCellFrom, IsDataOf, are_distinct, first_of, is_known, key_of, says}
 
 -- the kind has a field j, and that has the key
 abbrev pub names_field : Kind → ℕ → List ℕ → Bool
@@ -69,3 +71,22 @@ NoneFrom enc kind ms = (rest : Members) (r : RecordValue) → r.kind ≡ kind �
 abbrev pub IsDraftReason : RecordValue → Key → Why → Type 0
 IsDraftReason draft (said_of.Field j) (Cell fault) = HasCellFault draft j fault
 IsDraftReason draft key why = ⊥
+
+-- members, and one more after them where it says something
+abbrev pub with_told : Members → List ℕ → Json → Members
+with_told ms k j = if says k j then with_last ms k j else ms
+
+-- that is so of whatever members fill the draft
+abbrev pub OfFilled : Encoding → Kind → RecordValue → List Bool → (Members → Type 0) → Type 0
+OfFilled enc kind draft seen P = (ms : Members) → IsFilled enc kind ms draft seen → P ms
+
+-- that is why these members aren't data of a record, whatever others follow them
+abbrev pub IsReasonOfFilled : Encoding → Kind → RecordValue → List Bool → (Members → Members) → Key → Why → Type 0
+IsReasonOfFilled enc kind draft seen more key why =
+    (ms rest : Members) → IsFilled enc kind ms draft seen → IsMemberReason enc kind (joined (more ms) rest) key why
+
+-- the byte that the first character of a text stands for, and how many bytes that has; none where no character comes that stands for one
+abbrev pub IsFirstByte : Encoding → List ℕ → Option (ℕ × ℕ) → Type 0
+IsFirstByte enc text found =
+    MatchOption found ((b : ℕ) (rest : List ℕ) → b < 256 → ¬ (text ≡ character enc b ++ rest))
+    (λ p. (0 < p.1) × (p.1 ≤ length text) × (character enc p.0 ≡ take p.1 text) × (p.0 < 256))

@@ -1,4 +1,4 @@
-use Rattle.std.proofs.Common.{sym, ◌∙◌, arith}
+use Rattle.std.proofs.Common.{arith}
 use Rattle.std.proofs.lemmas.Result.{IfErr-weaker}
 use Rattle.cwr_json.specs.Format.Encodings.{StandFor}
 use Rattle.cwr_write.proofs.CharactersRead.{slice_bytes}

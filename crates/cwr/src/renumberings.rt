@@ -1,9 +1,5 @@
 //! A transmission whose numbers are put right.
 
-use crate::endings::{Look, Status, ended_by, follows};
-use crate::joins::refuse_out;
-use crate::looks::{look_beyond, tell_following};
-use crate::splits::hand_on;
 use cwr_devices::{Counted, Sink};
 use cwr_files::{
     DASH, Fault, Gathered, Input, Name, Pace, Told, create_output, gathered, open_input, told_of,
@@ -11,22 +7,25 @@ use cwr_files::{
 use cwr_renumber::{put_renumber_outcome, renumber};
 use cwr_shape::Limits;
 use cwr_tools::{JoinReport, ToolFault};
+use cwr_transform::{
+    Look, Status, ended_by, follows, hand_on, look_beyond, refuse_out, tell_following,
+};
 use std::alloc::Global;
 use std::io::{Read, Write};
 use std::rt::Files;
 
 /// How numbers are put right.
 #[derive(Clone, Copy, Debug)]
-pub struct Repair<'a> {
-    pub limits: Limits,
+pub(crate) struct Repair<'a> {
+    pub(crate) limits: Limits,
     /// Nothing may follow the transmission.
-    pub whole: bool,
+    pub(crate) whole: bool,
     /// The name of the transmission's file, or none for that on standard input.
-    pub file: Option<&'a str>,
+    pub(crate) file: Option<&'a str>,
     /// The name of the file that is written, or none for standard output.
-    pub out: Option<&'a str>,
+    pub(crate) out: Option<&'a str>,
     /// That file may replace none.
-    pub only_new: bool,
+    pub(crate) only_new: bool,
 }
 
 /// What came of a run.
@@ -129,7 +128,7 @@ fn repair_to_file<
 
 /// Writes the transmission of a file, or of standard input, with its numbers put right: to a file, or to the output. There the line
 /// that says how that ended goes to standard error.
-pub fn repair_numbers<
+pub(crate) fn repair_numbers<
     'a,
     R: Files + AllocGlobal,
     I: Read + Drop,
