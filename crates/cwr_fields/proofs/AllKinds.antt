@@ -1,6 +1,6 @@
 -- Facts that hold of each kind, one by one.
 use Rattle.std.proofs.Common.{◌≡◌, ℕ, ◌≤◌, false, List, [], ◌∷◌, ◌++◌, length, refl, sym, ap, ◌∙◌, lit≤, find, None, arith}
-use Rattle.std.specs.Prelude.{Some}
+use Rattle.std.specs.Prelude.{Some, slice_index}
 use Rattle.std.specs.Str.{bytes_eq}
 use Rattle.std.proofs.lemmas.Bool.{false_from_ne_true}
 use Rattle.std.proofs.lemmas.Slice.Eq.{bytes_eq-Decides}
@@ -28,6 +28,12 @@ pub length-letters : (kind : Kind) → length (letters kind) ≡ 3
 length-letters Hdr = refl
 length-letters this_kind = refl
 
+-- one after another
+pub three_letters : (kind : Kind)
+    → letters kind ≡ slice_index (letters kind) 0 ∷ slice_index (letters kind) 1 ∷ slice_index (letters kind) 2 ∷ []
+three_letters Hdr = refl
+three_letters this_kind = refl
+
 -- letters have no line feed
 pub NoLf-letters : (kind : Kind) → NoLf (letters kind)
 NoLf-letters Hdr = refl
@@ -52,15 +58,18 @@ pub trimmed-letters : (kind : Kind) (rest : List ℕ) → (ys : List ℕ) × (tr
 trimmed-letters Hdr rest = trimmed_three _ _ _ rest refl
 trimmed-letters this_kind rest = trimmed_three _ _ _ rest refl
 
-none_among : (kinds : List Kind) (text : List ℕ) → (length text ≡ 3 → ⊥)
+none_among : (kinds : List Kind) (text : List ℕ) → ((kind : Kind) → letters kind ≡ text → ⊥)
     → find (λ kind. bytes_eq (letters kind) text) kinds ≡ None
 none_among [] text h = refl
 none_among (kind ∷ kinds) text h =
     let other : bytes_eq (letters kind) text ≡ false =
-    false_from_ne_true (bytes_eq (letters kind) text)
-    (λ e. h (sym (ap length ((bytes_eq-Decides (letters kind) text).0 e)) ∙ length-letters kind)) in
+    false_from_ne_true (bytes_eq (letters kind) text) (λ e. h kind ((bytes_eq-Decides (letters kind) text).0 e)) in
     rw other (none_among kinds text h)
+
+-- a text that is no kind's letters names no kind
+pub kind_of-other : (text : List ℕ) → ((kind : Kind) → letters kind ≡ text → ⊥) → kind_of text ≡ None
+kind_of-other text h = none_among all_kinds text h
 
 -- a text that isn't three bytes long names no kind
 pub kind_of-other_length : (text : List ℕ) → (length text ≡ 3 → ⊥) → kind_of text ≡ None
-kind_of-other_length text h = none_among all_kinds text h
+kind_of-other_length text h = kind_of-other text (λ kind e. h (sym (ap length e) ∙ length-letters kind))

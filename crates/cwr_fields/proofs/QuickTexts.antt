@@ -1,5 +1,5 @@
 -- Texts that quick tests find to be cells of their types.
-use Rattle.std.proofs.Common.{◌≡◌, ℕ, ◌+◌, ◌-◌, ◌*◌, ◌≤◌, ◌⊎◌, inl, inr, Bool, true, false, ◌&&◌, ◌||◌, eqb, List, [], ◌∷◌}
+use Rattle.std.proofs.Common.{◌≡◌, ℕ, ◌≤◌, ◌⊎◌, inl, inr, Bool, true, false, ◌&&◌, ◌||◌, eqb, List, [], ◌∷◌}
 use Rattle.std.proofs.Common.{length, get_or, replicate, refl, sym, ap, ap₂, subst, ◌∙◌, arith, lit≤, lit<, true≢false}
 use Rattle.std.proofs.lemmas.Bool.{and_parts, eqb-true, leb-true}
 use Rattle.cwr_fields.specs.declared.cell_types.CellType.TheVariants as types

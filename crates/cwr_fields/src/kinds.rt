@@ -1,6 +1,7 @@
 //! The kinds of records.
 
-ghost use Rattle.std.specs.Prelude.{◌≡◌};
+ghost use Rattle.std.specs.Prelude.{◌≡◌, ◌∷◌, []};
+ghost use Rattle.cwr_fields.specs.declared.kinds.Kind.{Kind};
 ghost use Rattle.cwr_fields.specs.Format.Kinds.{is_carried, is_in_transaction, kind_of, letters as letters_of};
 
 /// The kind of a record, by the three bytes that its line begins with.
@@ -88,54 +89,49 @@ pub enum Kind {
     Xrf,
 }
 
+/// At the place that a kind's letters give stands that kind. No two kinds have one place, and at each that is left stands HDR.
+#[rattlefmt::skip]
+static AT_PLACES: [Kind; 128] = [
+    Kind::Hdr, Kind::Hdr, Kind::Hdr, Kind::Hdr, Kind::Hdr, Kind::Ter, Kind::Trl, Kind::Grt,
+    Kind::Hdr, Kind::Spt, Kind::Hdr, Kind::Spu, Kind::Swr, Kind::Hdr, Kind::Hdr, Kind::Hdr,
+    Kind::Swt, Kind::Hdr, Kind::Hdr, Kind::Hdr, Kind::Hdr, Kind::Hdr, Kind::Hdr, Kind::Ins,
+    Kind::Hdr, Kind::Hdr, Kind::Hdr, Kind::Ver, Kind::Hdr, Kind::Hdr, Kind::Hdr, Kind::Hdr,
+    Kind::Hdr, Kind::Hdr, Kind::Hdr, Kind::Hdr, Kind::Ack, Kind::Hdr, Kind::Xrf, Kind::Hdr,
+    Kind::Hdr, Kind::Hdr, Kind::Hdr, Kind::Hdr, Kind::Npa, Kind::Hdr, Kind::Hdr, Kind::Ari,
+    Kind::Msg, Kind::Hdr, Kind::Hdr, Kind::Hdr, Kind::Hdr, Kind::Hdr, Kind::Agr, Kind::Hdr,
+    Kind::Hdr, Kind::Hdr, Kind::Hdr, Kind::Hdr, Kind::Hdr, Kind::Hdr, Kind::Hdr, Kind::Alt,
+    Kind::Hdr, Kind::Hdr, Kind::Hdr, Kind::Nat, Kind::Hdr, Kind::Nct, Kind::Npn, Kind::Net,
+    Kind::Hdr, Kind::Hdr, Kind::Com, Kind::Hdr, Kind::Hdr, Kind::Nwn, Kind::Npr, Kind::Hdr,
+    Kind::Hdr, Kind::Rec, Kind::Hdr, Kind::Orn, Kind::Hdr, Kind::Nwr, Kind::Hdr, Kind::Now,
+    Kind::Nvt, Kind::Per, Kind::Hdr, Kind::Hdr, Kind::Hdr, Kind::Opt, Kind::Hdr, Kind::Opu,
+    Kind::Owr, Kind::Hdr, Kind::Hdr, Kind::Hdr, Kind::Owt, Kind::Hdr, Kind::Hdr, Kind::Hdr,
+    Kind::Hdr, Kind::Hdr, Kind::Hdr, Kind::Pwr, Kind::Hdr, Kind::Hdr, Kind::Hdr, Kind::Grh,
+    Kind::Hdr, Kind::Hdr, Kind::Hdr, Kind::Hdr, Kind::Hdr, Kind::Ipa, Kind::Ewt, Kind::Rev,
+    Kind::Hdr, Kind::Ind, Kind::Hdr, Kind::Hdr, Kind::Hdr, Kind::Hdr, Kind::Hdr, Kind::Hdr,
+];
+
+/// The one kind that three bytes may name.
+#[inline(always)]
+fn guess(a: u8, b: u8, c: u8) -> Kind
+    ensures { (kind : Kind) → letters_of kind ≡ a ∷ b ∷ c ∷ [] → result ≡ kind }
+{
+    AT_PLACES[(11 * usize::from(a) + usize::from(b) + 2 * usize::from(c)) % 128]
+}
+
 impl Kind {
     /// The kind that three bytes name, as CWR 2.1 spells it. `None` where they name none, and for a text that isn't
     /// three bytes long.
     pub fn of(text: &[u8]) -> Option<Kind>
         ensures { result ≡ kind_of text.now }
     {
-        match text {
-            b"HDR" => Some(Kind::Hdr),
-            b"GRH" => Some(Kind::Grh),
-            b"GRT" => Some(Kind::Grt),
-            b"TRL" => Some(Kind::Trl),
-            b"AGR" => Some(Kind::Agr),
-            b"TER" => Some(Kind::Ter),
-            b"IPA" => Some(Kind::Ipa),
-            b"NWR" => Some(Kind::Nwr),
-            b"REV" => Some(Kind::Rev),
-            b"SPU" => Some(Kind::Spu),
-            b"OPU" => Some(Kind::Opu),
-            b"SPT" => Some(Kind::Spt),
-            b"SWR" => Some(Kind::Swr),
-            b"OWR" => Some(Kind::Owr),
-            b"SWT" => Some(Kind::Swt),
-            b"PWR" => Some(Kind::Pwr),
-            b"ALT" => Some(Kind::Alt),
-            b"EWT" => Some(Kind::Ewt),
-            b"VER" => Some(Kind::Ver),
-            b"PER" => Some(Kind::Per),
-            b"REC" => Some(Kind::Rec),
-            b"ORN" => Some(Kind::Orn),
-            b"COM" => Some(Kind::Com),
-            b"ACK" => Some(Kind::Ack),
-            b"MSG" => Some(Kind::Msg),
-            b"OPT" => Some(Kind::Opt),
-            b"OWT" => Some(Kind::Owt),
-            b"NPN" => Some(Kind::Npn),
-            b"NPR" => Some(Kind::Npr),
-            b"NWN" => Some(Kind::Nwn),
-            b"NPA" => Some(Kind::Npa),
-            b"NET" => Some(Kind::Net),
-            b"NOW" => Some(Kind::Now),
-            b"NCT" => Some(Kind::Nct),
-            b"NVT" => Some(Kind::Nvt),
-            b"NAT" => Some(Kind::Nat),
-            b"INS" => Some(Kind::Ins),
-            b"IND" => Some(Kind::Ind),
-            b"ARI" => Some(Kind::Ari),
-            b"XRF" => Some(Kind::Xrf),
-            _ => None,
+        let [a, b, c] = text else {
+            return None;
+        };
+        let kind = guess(*a, *b, *c);
+        if letters(kind) == text {
+            Some(kind)
+        } else {
+            None
         }
     }
 }

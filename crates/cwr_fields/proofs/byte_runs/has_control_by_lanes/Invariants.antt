@@ -1,4 +1,4 @@
-use Rattle.std.proofs.Common.{◌-◌, ◌≤◌, ◌+◌, length, ◌≡◌, take, ◌<◌}
+use Rattle.std.proofs.Common.{◌-◌, ◌+◌, length, ◌≡◌, take, ◌<◌}
 use Rattle.cwr_fields.specs.Format.Bytes.{has_control}
 use Rattle.cwr_fields.proofs.byte_runs.has_control_by_lanes.Given as goal
 

@@ -1,4 +1,4 @@
-use Rattle.std.proofs.Common.{◌+◌, ◌-◌, ◌≡◌, ◌↔◌, All, take, drop, ◌||◌, false, eqb, arith, subst, List, ℕ}
+use Rattle.std.proofs.Common.{take, drop, ◌||◌, eqb}
 use Rattle.std.proofs.Math.Dec.{ltb}
 use Rattle.cwr_fields.proofs.ClearLanes.{both}
 use Rattle.cwr_fields.proofs.Covers.{is_found}

@@ -1,5 +1,4 @@
-use Rattle.std.proofs.Common.{w8, eqb, arith, lit≤}
-use Rattle.std.proofs.Math.Dec.{ltb}
+use Rattle.std.proofs.Common.{w8, eqb, lit≤}
 use Rattle.std.proofs.lemmas.Simd.{bitmask_splat}
 use Rattle.cwr_fields.proofs.ClearLanes.{clears}
 use Rattle.cwr_fields.proofs.lanes.has_deleted.Goals as goal

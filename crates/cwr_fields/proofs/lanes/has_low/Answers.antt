@@ -1,4 +1,4 @@
-use Rattle.std.proofs.Common.{w8, eqb, arith, lit≤}
+use Rattle.std.proofs.Common.{w8, lit≤}
 use Rattle.std.proofs.Math.Dec.{ltb}
 use Rattle.std.proofs.lemmas.Simd.{bitmask_splat}
 use Rattle.cwr_fields.proofs.ClearLanes.{clears}
