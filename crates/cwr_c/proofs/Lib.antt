@@ -1,9 +1,1 @@
-mod PutElements
-mod CarriedLines
-mod CountedItems
-mod ReadItems
-mod WrittenRecords
-mod WrittenLines
-mod ListedFindings
-mod ReportedTexts
-mod BlankTexts
+mod lemmas

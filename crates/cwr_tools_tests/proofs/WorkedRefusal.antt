@@ -8,17 +8,17 @@ use Rattle.cwr_fields.specs.declared.cell_types.CellType.TheVariants.{Date}
 use Rattle.cwr_fields.specs.declared.cell_types.CellFault.TheVariants.{NotADate}
 use Rattle.cwr_fields.specs.Format.Bytes.{digits}
 use Rattle.cwr_fields.specs.Format.Cells.{Allows}
-use Rattle.cwr_fields.proofs.NumbersInParts.{day_of_parts}
-use Rattle.cwr_fields.proofs.LineFeeds.{NoLf}
+use Rattle.cwr_fields.proofs.lemmas.NumbersInParts.{day_of_parts}
+use Rattle.cwr_fields.proofs.lemmas.LineFeeds.{NoLf}
 use Rattle.cwr_fields.specs.declared.kinds.Kind.{Kind}
 use Rattle.cwr_fields.specs.declared.kinds.Kind.TheVariants as kinds
 use Rattle.cwr_fields.specs.Format.Kinds.{letters}
 use Rattle.cwr_fields.specs.Format.Layouts.{cell, fields_after_type}
 use Rattle.cwr_lines.specs.Format.Records.{RecordValue, IsRecord, IsCellOf, Row, row_of, row_cells, carried_fields}
 use Rattle.cwr_lines.specs.Format.Lines.{IsLineOf, line_cells}
-use Rattle.cwr_lines.proofs.RowLaws.{IsRow-row_of}
-use Rattle.cwr_lines.proofs.LineLaws.{first_line, lines_text}
-use Rattle.cwr_lines.proofs.CutLaws.{line_is_cut}
+use Rattle.cwr_lines.proofs.lemmas.RowLaws.{IsRow-row_of}
+use Rattle.cwr_lines.proofs.lemmas.LineLaws.{first_line, lines_text}
+use Rattle.cwr_lines.proofs.lemmas.CutLaws.{line_is_cut}
 use Rattle.cwr_shape.specs.declared.symbols.Symbol.TheVariants.{Plain}
 use Rattle.cwr_shape.specs.declared.reasons.Reason.{Reason}
 use Rattle.cwr_shape.specs.declared.reasons.Reason.TheVariants.{UnknownKind, Misplaced, Cell, Number, Limit, Excess}
@@ -26,7 +26,7 @@ use Rattle.cwr_shape.specs.declared.limits.LimitKind.TheVariants as limit_kinds
 use Rattle.cwr_shape.specs.declared.reasons.Level.TheVariants.{E}
 use Rattle.cwr_values.specs.Format.Values.{TransmissionValue, IsTransmission, outline_of}
 use Rattle.cwr_values.specs.Format.Rows.{rows, Spells}
-use Rattle.cwr_values.proofs.OneSpelling.{outline_whole}
+use Rattle.cwr_values.proofs.lemmas.OneSpelling.{outline_whole}
 use Rattle.cwr_judge.specs.Format.Places.{Viable, IsBadAt, IsFirstBad}
 use Rattle.cwr_judge.specs.Format.Reasons.{Applies, rank}
 use Rattle.cwr_judge.specs.Format.Ends.{IsAccepted, IsRefused}

@@ -2,25 +2,25 @@
 use Rattle.std.proofs.Common.{ℕ, List, [], ◌∷◌, ◌++◌, refl, lit<, lit≤}
 use Rattle.cwr_fields.specs.Format.Bytes.{digits}
 use Rattle.cwr_fields.specs.declared.codes.TransactionType.TheVariants.{Acknowledgement}
-use Rattle.cwr_fields.proofs.CellTests.{holds_test, number_test, day_test, time_test, share_test}
+use Rattle.cwr_fields.proofs.lemmas.CellTests.{holds_test, number_test, day_test, time_test, share_test}
 use Rattle.cwr_fields.specs.declared.kinds.Kind.TheVariants as kinds
-use Rattle.cwr_lines.proofs.RecordTest.{record_sound}
+use Rattle.cwr_lines.proofs.lemmas.RecordTest.{record_sound}
 use Rattle.cwr_shape.specs.declared.symbols.Symbol.TheVariants.{Plain}
 use Rattle.cwr_shape.specs.declared.limits.Limits.{Limits}
 use Rattle.cwr_shape.specs.Format.Shapes.{IsShape}
 use Rattle.cwr_values.specs.Format.Values.{IsTransmission, FitsIn}
 use Rattle.cwr_values.specs.Format.Rows.{canonical_text, rows}
 use Rattle.cwr_judge.specs.Format.Ends.{IsAccepted}
-use Rattle.cwr_judge.proofs.Accepted.{canonical_accepted}
+use Rattle.cwr_judge.proofs.lemmas.Accepted.{canonical_accepted}
 use Rattle.std.proofs.Common.{true, map, ◌≡◌}
 use Rattle.std.specs.List.{list_all}
 use Rattle.std.proofs.lemmas.Bool.{and_parts}
 use Rattle.cwr_fields.specs.declared.codes.TransactionType.{TransactionType}
 use Rattle.cwr_fields.specs.declared.codes.TransactionType.TheVariants.{Agreement, NewWork, RevisedWork}
 use Rattle.cwr_lines.specs.Format.Records.{RecordValue, IsRecord}
-use Rattle.cwr_lines.proofs.RecordTest.{record_test}
+use Rattle.cwr_lines.proofs.lemmas.RecordTest.{record_test}
 use Rattle.cwr_shape.specs.Format.Shapes.{pattern_of}
-use Rattle.cwr_shape.proofs.Matcher.{accepts_sound, nullable, after, after_all}
+use Rattle.cwr_shape.proofs.lemmas.Matcher.{accepts_sound, nullable, after, after_all}
 use Rattle.cwr_values.specs.Format.Values.{IsTransaction, symbol_of}
 use Rattle.std.specs.List.{AllByRecursion}
 use Rattle.cwr_tools_tests.proofs.Samples

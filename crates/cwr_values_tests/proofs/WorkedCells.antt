@@ -10,8 +10,8 @@ use Rattle.cwr_fields.specs.declared.cell_types.CellFault.TheVariants.{NotACode}
 use Rattle.cwr_fields.specs.Format.Bytes.{digits, number_of}
 use Rattle.cwr_fields.specs.Format.Cells.{Allows, HasFault}
 use Rattle.cwr_fields.specs.Format.Iswc.{is_iswc}
-use Rattle.cwr_fields.proofs.Digits.{number_of-digits}
-use Rattle.cwr_fields.proofs.NumbersInParts.{day_of_parts, time_of_parts}
+use Rattle.cwr_fields.proofs.lemmas.Digits.{number_of-digits}
+use Rattle.cwr_fields.proofs.lemmas.NumbersInParts.{day_of_parts, time_of_parts}
 
 -- two texts that differ at a place
 apart : (k : ℕ) (xs ys : List ℕ) → (slice_index xs k < slice_index ys k) ⊎ (slice_index ys k < slice_index xs k) → xs ≡ ys → ⊥

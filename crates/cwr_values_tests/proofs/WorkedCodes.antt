@@ -13,7 +13,7 @@ use Rattle.cwr_fields.specs.declared.tables.Table.TheVariants as tables
 use Rattle.cwr_fields.specs.Format.Bytes.{digits, filled}
 use Rattle.cwr_fields.specs.Format.Codes.{codes_of, code_width}
 use Rattle.cwr_fields.specs.Format.Cells.{Allows, HasFault, IsCodeOf, SpellsCode}
-use Rattle.cwr_fields.proofs.CellTests.{holds_test}
+use Rattle.cwr_fields.proofs.lemmas.CellTests.{holds_test}
 
 -- the cells of each table
 abbrev cells_of : Table → List (List ℕ)

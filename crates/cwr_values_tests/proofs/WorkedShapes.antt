@@ -11,7 +11,7 @@ use Rattle.cwr_shape.specs.declared.symbols.Symbol.{Symbol}
 use Rattle.cwr_shape.specs.declared.symbols.Symbol.TheVariants.{Plain, Ipa, Grh}
 use Rattle.cwr_shape.specs.Format.Shapes.{IsShape, pattern_of, BeginsShape}
 use Rattle.cwr_shape.specs.Format.Outlines.{Continues, group_symbols}
-use Rattle.cwr_shape.proofs.Matcher.{accepts_sound, no_match, no_begin, nullable, after, after_all, is_dead}
+use Rattle.cwr_shape.proofs.lemmas.Matcher.{accepts_sound, no_match, no_begin, nullable, after, after_all, is_dead}
 
 abbrev p : Kind → Symbol
 p = Plain

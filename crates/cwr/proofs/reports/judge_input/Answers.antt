@@ -3,7 +3,7 @@ use Rattle.std.specs.Prelude.{IfOk, Ok}
 use Rattle.cwr_files.specs.Steps.Inputs.{remaining_of}
 use Rattle.cwr.specs.Steps.Looks.{JudgesOn}
 use Rattle.cwr.specs.Steps.Tellings.{TellsText}
-use Rattle.cwr_transform.proofs.StatusesOnTexts.{from_source}
+use Rattle.cwr_transform.proofs.lemmas.StatusesOnTexts.{from_source}
 use Rattle.cwr.proofs.reports.judge_input.Goals as goal
 
 pub returns-clause-judges : goal.returns-clause-judges

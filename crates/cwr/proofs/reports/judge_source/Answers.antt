@@ -4,7 +4,7 @@ use Rattle.cwr_tools.specs.declared.verdicts.ToolFault.{ToolFault}
 use Rattle.cwr.specs.declared.reports.Judgement.{Judgement}
 use Rattle.cwr.specs.Steps.Looks.{JudgesOn}
 use Rattle.cwr.specs.Steps.Tellings.{CountsInput, CountsWriting, TellsText}
-use Rattle.cwr.proofs.EndsOnTexts.{counts_input, judged_counts, judged_on, judges_on, told_verdict}
+use Rattle.cwr.proofs.lemmas.EndsOnTexts.{counts_input, judged_counts, judged_on, judges_on, told_verdict}
 use Rattle.cwr.proofs.reports.judge_source.Goals as goal
 
 pub returns-clause-judges : goal.returns-clause-judges

@@ -9,7 +9,7 @@ use Rattle.cwr_csv.specs.Format.TableLines.{lines_of_table}
 use Rattle.cwr_transform.specs.declared.endings.Look.{Look}
 use Rattle.cwr.specs.Steps.Looks.{LooksAfter, tells_findings}
 use Rattle.cwr.specs.Steps.Tellings.{CountsReading}
-use Rattle.cwr.proofs.EndsOnTexts.{counts_explained, counts_reading, looks_after, looks_found, sees_nothing, told_as}
+use Rattle.cwr.proofs.lemmas.EndsOnTexts.{counts_explained, counts_reading, looks_after, looks_found, sees_nothing, told_as}
 use Rattle.cwr.proofs.reports.tell.Goals as goal
 
 pub returns-in-Findings-clause-looks : goal.returns-in-Findings-clause-looks

@@ -1,6 +1,6 @@
 use Rattle.std.proofs.Common.{◌++◌, ℕ, List, ap, sym, ◌∙◌}
 use Rattle.cwr_json.specs.declared.encodings.Encoding.TheVariants.{Latin1}
-use Rattle.cwr_json.proofs.Spelled.{spelled_high, spelled_low}
+use Rattle.cwr_json.proofs.lemmas.Spelled.{spelled_high, spelled_low}
 use Rattle.cwr_acks.proofs.data_texts.push_character.Goals as goal
 
 pub returns-then-b-lt128-clause-value : goal.returns-then-b-lt128-clause-value

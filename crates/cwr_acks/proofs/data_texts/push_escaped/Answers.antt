@@ -1,5 +1,5 @@
 use Rattle.std.proofs.Common.{◌≡◌, ◌⊎◌, ◌++◌, ℕ, List, ap, sym, ◌∙◌, inl, inr}
-use Rattle.cwr_json.proofs.Spelled.{escaped_mark, escaped_same}
+use Rattle.cwr_json.proofs.lemmas.Spelled.{escaped_mark, escaped_same}
 use Rattle.cwr_acks.proofs.data_texts.push_escaped.Goals as goal
 
 pub returns-then-b-eq92-clause-value : goal.returns-then-b-eq92-clause-value

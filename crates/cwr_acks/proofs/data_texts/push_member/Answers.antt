@@ -1,6 +1,6 @@
 use Rattle.std.proofs.Common.{List, ℕ, ◌++◌, ap, ap₂, ◌∙◌, arith, append_assoc}
 use Rattle.cwr_acks.specs.Steps.DataTexts.{cell_at, shown_cell}
-use Rattle.cwr_acks.proofs.NamedParts.{cell_high, cell_short}
+use Rattle.cwr_acks.proofs.lemmas.NamedParts.{cell_high, cell_short}
 use Rattle.cwr_acks.proofs.data_texts.push_member.Goals as goal
 
 pub push_shown-requires-clause-room : goal.push_shown-requires-clause-room

@@ -1,7 +1,7 @@
 use Rattle.std.proofs.Common.{ℕ, List, ◌++◌, take, get_or, ap, sym, ◌∙◌, arith, append_assoc}
 use Rattle.cwr_json.specs.declared.encodings.Encoding.TheVariants.{Latin1}
 use Rattle.cwr_json.specs.Steps.FormTexts.{spelled_byte, spelled_bytes}
-use Rattle.cwr_json.proofs.Spelled.{high_at, spelled_more}
+use Rattle.cwr_json.proofs.lemmas.Spelled.{high_at, spelled_more}
 use Rattle.cwr_acks.proofs.data_texts.push_spelled.Goals as goal
 
 pub push_character-requires-clause-high : goal.push_character-requires-clause-high

@@ -5,8 +5,8 @@ use Rattle.cwr_lines.specs.Format.Records.{cell_named}
 use Rattle.cwr_acks.specs.Format.Acknowledgements.{status_in}
 use Rattle.cwr_acks.specs.Format.AckTexts.{status_words}
 use Rattle.cwr_acks.specs.Steps.DataTexts.{cell_at, cell_member}
-use Rattle.cwr_acks.proofs.AckFields.{status}
-use Rattle.cwr_acks.proofs.NamedParts.{cell_is, four_parts}
+use Rattle.cwr_acks.proofs.lemmas.AckFields.{status}
+use Rattle.cwr_acks.proofs.lemmas.NamedParts.{cell_is, four_parts}
 use Rattle.cwr_acks.proofs.data_texts.push_status_data.Goals as goal
 
 pub returns-clause-value : goal.returns-clause-value

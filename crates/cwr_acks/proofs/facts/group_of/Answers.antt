@@ -1,7 +1,7 @@
 use Rattle.std.proofs.Common.{ap, ◌∙◌, arith}
 use Rattle.cwr_fields.specs.Format.Bytes.{number_of}
-use Rattle.cwr_acks.proofs.AckFields.{group}
-use Rattle.cwr_acks.proofs.NamedParts.{cell_is, cell_long}
+use Rattle.cwr_acks.proofs.lemmas.AckFields.{group}
+use Rattle.cwr_acks.proofs.lemmas.NamedParts.{cell_is, cell_long}
 use Rattle.cwr_acks.proofs.facts.group_of.Goals as goal
 
 pub number_of-requires : goal.number_of-requires

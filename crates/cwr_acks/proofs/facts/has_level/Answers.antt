@@ -3,9 +3,9 @@ use Rattle.std.specs.Prelude.{◌||◌}
 use Rattle.std.specs.List.{list_any}
 use Rattle.std.proofs.lemmas.List.{take_all}
 use Rattle.cwr_lines.specs.Format.Records.{RecordValue}
-use Rattle.cwr_encode.proofs.PutRows.{found_within, none_within}
+use Rattle.cwr_encode.proofs.lemmas.PutRows.{found_within, none_within}
 use Rattle.cwr_acks.specs.Format.Acknowledgements.{is_message_of}
-use Rattle.cwr_acks.proofs.NamedParts.{any_more}
+use Rattle.cwr_acks.proofs.lemmas.NamedParts.{any_more}
 use Rattle.cwr_acks.proofs.facts.has_level.Goals as goal
 
 pub loop-shown-preserved : goal.loop-shown-preserved

@@ -1,6 +1,6 @@
 use Rattle.std.proofs.Common.{◌∙◌}
 use Rattle.cwr_acks.specs.Format.Acknowledgements.{is_ack_of}
-use Rattle.cwr_acks.proofs.NamedParts.{any_first}
+use Rattle.cwr_acks.proofs.lemmas.NamedParts.{any_first}
 use Rattle.cwr_acks.proofs.facts.has_status.Goals as goal
 
 pub returns-in-Some : goal.returns-in-Some

@@ -1,8 +1,8 @@
 use Rattle.std.proofs.Common.{ap, ◌∙◌}
 use Rattle.cwr_fields.specs.Format.Bytes.{trimmed}
 use Rattle.cwr_sent.specs.Format.SentFacts.{title_check}
-use Rattle.cwr_acks.proofs.AckFields.{title}
-use Rattle.cwr_acks.proofs.NamedParts.{cell_is}
+use Rattle.cwr_acks.proofs.lemmas.AckFields.{title}
+use Rattle.cwr_acks.proofs.lemmas.NamedParts.{cell_is}
 use Rattle.cwr_acks.proofs.facts.named_check.Goals as goal
 
 pub returns : goal.returns

@@ -1,4 +1,4 @@
-use Rattle.cwr_acks.proofs.Statuses.{names_status, status_named}
+use Rattle.cwr_acks.proofs.lemmas.Statuses.{names_status, status_named}
 use Rattle.cwr_acks.proofs.facts.status_of.Goals as goal
 
 pub unreachable-requires : goal.unreachable-requires

@@ -1,8 +1,8 @@
 use Rattle.std.proofs.Common.{◌++◌}
-use Rattle.cwr_encode.proofs.Numbered.{puts_as, puts_both, puts_cut}
+use Rattle.cwr_encode.proofs.lemmas.Numbered.{puts_as, puts_both, puts_cut}
 use Rattle.cwr_acks.specs.Format.Acknowledgements.{worst_level}
 use Rattle.cwr_acks.specs.Steps.AckSteps.{closing_in, messages_in, opening_in}
-use Rattle.cwr_acks.proofs.AnswerLines.{answer_is}
+use Rattle.cwr_acks.proofs.lemmas.AnswerLines.{answer_is}
 use Rattle.cwr_acks.proofs.item_lines.put_answer.Goals as goal
 
 pub returns-in_err-put_begun-clause-puts : goal.returns-in_err-put_begun-clause-puts

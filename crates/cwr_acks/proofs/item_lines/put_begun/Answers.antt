@@ -1,4 +1,4 @@
-use Rattle.cwr_encode.proofs.Numbered.{puts_both, puts_cut}
+use Rattle.cwr_encode.proofs.lemmas.Numbered.{puts_both, puts_cut}
 use Rattle.cwr_acks.specs.Format.Acknowledgements.{worst_level}
 use Rattle.cwr_acks.specs.Steps.AckSteps.{messages_in, opening_in}
 use Rattle.cwr_acks.proofs.item_lines.put_begun.Goals as goal

@@ -1,4 +1,4 @@
-use Rattle.cwr_encode.proofs.Numbered.{puts_both, puts_cut}
+use Rattle.cwr_encode.proofs.lemmas.Numbered.{puts_both, puts_cut}
 use Rattle.cwr_acks.specs.Steps.AckSteps.{counts_in, rows_if, table_lines_if}
 use Rattle.cwr_acks.proofs.item_lines.put_end.Goals as goal
 

@@ -1,5 +1,5 @@
 use Rattle.std.specs.Prelude.{codes}
-use Rattle.cwr_encode.proofs.Numbered.{puts_both, puts_cut}
+use Rattle.cwr_encode.proofs.lemmas.Numbered.{puts_both, puts_cut}
 use Rattle.cwr_acks.specs.Format.AckTexts.{marked_if, sent_lines}
 use Rattle.cwr_acks.proofs.item_lines.put_notes.Goals as goal
 

@@ -1,9 +1,9 @@
 use Rattle.std.proofs.Common.{sym, ap, ◌∙◌}
-use Rattle.cwr_encode.proofs.Numbered.{puts_as}
+use Rattle.cwr_encode.proofs.lemmas.Numbered.{puts_as}
 use Rattle.cwr_acks.specs.declared.matching.Notes.{Notes}
 use Rattle.cwr_acks.specs.Format.AckLines.{answer_in}
 use Rattle.cwr_acks.specs.Steps.AckSteps.{rows_if}
-use Rattle.cwr_acks.proofs.AnswerLines.{lines_of_answer}
+use Rattle.cwr_acks.proofs.lemmas.AnswerLines.{lines_of_answer}
 use Rattle.cwr_acks.proofs.item_lines.put_transaction.Goals as goal
 
 pub returns-clause-puts : goal.returns-clause-puts

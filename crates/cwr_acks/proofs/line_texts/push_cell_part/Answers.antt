@@ -1,5 +1,5 @@
 use Rattle.std.proofs.Common.{length, ap, arith}
-use Rattle.cwr_json.proofs.FieldsShown.{length-trimmed-le}
+use Rattle.cwr_json.proofs.lemmas.FieldsShown.{length-trimmed-le}
 use Rattle.cwr_acks.proofs.line_texts.push_cell_part.Goals as goal
 
 pub push-requires-2 : goal.push-requires-2

@@ -1,6 +1,6 @@
 use Rattle.std.proofs.Common.{sym, ◌∙◌}
 use Rattle.cwr_sent.specs.Format.SentRows.{rows}
-use Rattle.cwr_acks.proofs.Matched.{marked_is, unmarked_is}
+use Rattle.cwr_acks.proofs.lemmas.Matched.{marked_is, unmarked_is}
 use Rattle.cwr_acks.proofs.matching.mark_by.Goals as goal
 
 pub returns-then-group-gt0 : goal.returns-then-group-gt0

@@ -3,8 +3,8 @@ use Rattle.cwr_acks.specs.declared.counts.Answers.{Answers}
 use Rattle.cwr_acks.specs.Format.AckLines.{lines_of_acks}
 use Rattle.cwr_acks.specs.Format.SentAnswers.{facts_if}
 use Rattle.cwr_acks.specs.Steps.AckSteps.{IsAnswers}
-use Rattle.cwr_acks.proofs.LinesOfItems.{answers_none, matched_none}
-use Rattle.cwr_tools.proofs.RightReports.{accepted_reports, canonical_reports, judged_text}
+use Rattle.cwr_acks.proofs.lemmas.LinesOfItems.{answers_none, matched_none}
+use Rattle.cwr_tools.proofs.lemmas.RightReports.{accepted_reports, canonical_reports, judged_text}
 use Rattle.cwr_acks.proofs.running.acks.Goals as goal
 
 pub write_report-writer-requires : goal.write_report-writer-requires

@@ -1,6 +1,6 @@
 use Rattle.std.proofs.Common.{refl, sym, ◌∙◌, arith}
 use Rattle.std.proofs.lemmas.Option.{slice_get_read}
-use Rattle.cwr_encode.proofs.Numbered.{step_more, steps_refused}
+use Rattle.cwr_encode.proofs.lemmas.Numbered.{step_more, steps_refused}
 use Rattle.cwr_acks.specs.Steps.AckSteps.{entry_line}
 use Rattle.cwr_acks.proofs.unanswered.put_row.Goals as goal
 

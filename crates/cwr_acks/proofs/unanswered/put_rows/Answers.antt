@@ -1,8 +1,8 @@
 use Rattle.std.proofs.Common.{◌+◌, ◌<◌, Some, length, ap, ◌∙◌, arith}
-use Rattle.cwr_encode.proofs.Numbered.{step_more, steps_refused}
+use Rattle.cwr_encode.proofs.lemmas.Numbered.{step_more, steps_refused}
 use Rattle.cwr_sent.specs.Format.SentRows.{rows}
 use Rattle.cwr_acks.specs.Steps.AckSteps.{row_lines}
-use Rattle.cwr_acks.proofs.Matched.{row_there}
+use Rattle.cwr_acks.proofs.lemmas.Matched.{row_there}
 use Rattle.cwr_acks.proofs.unanswered.put_rows.Goals as goal
 
 pub returns-in_err-put_row-clause-puts : goal.returns-in_err-put_row-clause-puts

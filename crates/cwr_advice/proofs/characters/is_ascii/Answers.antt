@@ -1,4 +1,4 @@
-use Rattle.cwr_advice.proofs.AsciiTexts.{ascii_is}
+use Rattle.cwr_advice.proofs.lemmas.AsciiTexts.{ascii_is}
 use Rattle.cwr_advice.proofs.characters.is_ascii.Goals as goal
 
 pub returns : goal.returns

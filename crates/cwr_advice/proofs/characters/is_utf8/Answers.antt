@@ -1,5 +1,5 @@
 use Rattle.std.proofs.Common.{◌∙◌}
-use Rattle.cwr_advice.proofs.AsciiTexts.{utf8_is}
+use Rattle.cwr_advice.proofs.lemmas.AsciiTexts.{utf8_is}
 use Rattle.cwr_advice.proofs.characters.is_utf8.Goals as goal
 
 pub returns : goal.returns

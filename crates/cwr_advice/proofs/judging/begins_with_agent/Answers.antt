@@ -4,7 +4,7 @@ use Rattle.std.specs.List.{list_any}
 use Rattle.std.proofs.lemmas.Bool.{and_parts}
 use Rattle.cwr_lines.specs.Format.Records.{cell_named}
 use Rattle.cwr_advice.specs.Format.Rules.{in_chain, is_agent, is_publisher, names_agent}
-use Rattle.cwr_advice.proofs.AdvisedFields.{and_true, named_sequence}
+use Rattle.cwr_advice.proofs.lemmas.AdvisedFields.{and_true, named_sequence}
 use Rattle.cwr_advice.proofs.judging.begins_with_agent.Goals as goal
 
 pub returns : goal.returns

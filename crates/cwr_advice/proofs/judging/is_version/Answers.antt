@@ -3,7 +3,7 @@ use Rattle.std.specs.Prelude.{codes}
 use Rattle.std.specs.Str.{bytes_eq}
 use Rattle.cwr_lines.specs.Format.Records.{cell_named}
 use Rattle.cwr_advice.specs.Format.Rules.{is_header}
-use Rattle.cwr_advice.proofs.AdvisedFields.{and_true, named_version}
+use Rattle.cwr_advice.proofs.lemmas.AdvisedFields.{and_true, named_version}
 use Rattle.cwr_advice.proofs.judging.is_version.Goals as goal
 
 pub returns : goal.returns

@@ -1,5 +1,5 @@
 use Rattle.std.proofs.Common.{sym, ◌∙◌}
-use Rattle.cwr_advice.proofs.CalmRecords.{begun_by, begun_still, some_is}
+use Rattle.cwr_advice.proofs.lemmas.CalmRecords.{begun_by, begun_still, some_is}
 use Rattle.cwr_advice.proofs.kept.chain_with.Goals as goal
 
 pub returns-then-not-is_publisher : goal.returns-then-not-is_publisher

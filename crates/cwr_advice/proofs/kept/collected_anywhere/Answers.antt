@@ -1,7 +1,7 @@
 use Rattle.std.proofs.Common.{sym, ◌∙◌}
 use Rattle.cwr_levels.specs.Format.Findings.{share_of}
 use Rattle.cwr_advice.specs.Format.Rules.{is_territory}
-use Rattle.cwr_advice.proofs.AdvisedFields.{all_if, none_if}
+use Rattle.cwr_advice.proofs.lemmas.AdvisedFields.{all_if, none_if}
 use Rattle.cwr_advice.proofs.kept.collected_anywhere.Goals as goal
 
 pub collection_of-requires : goal.collection_of-requires

@@ -1,6 +1,6 @@
 use Rattle.std.proofs.Common.{sym, ◌∙◌}
-use Rattle.cwr_levels.proofs.SummedRecords.{on_ok}
-use Rattle.cwr_advice.proofs.CalmRecords.{since_territory}
+use Rattle.cwr_levels.proofs.lemmas.SummedRecords.{on_ok}
+use Rattle.cwr_advice.proofs.lemmas.CalmRecords.{since_territory}
 use Rattle.cwr_advice.proofs.kept.keep_number.Goals as goal
 
 pub returns-in-Some : goal.returns-in-Some

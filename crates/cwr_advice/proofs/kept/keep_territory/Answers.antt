@@ -1,5 +1,5 @@
 use Rattle.std.proofs.Common.{sym, ◌∙◌}
-use Rattle.cwr_advice.proofs.CalmRecords.{since_other, since_owner}
+use Rattle.cwr_advice.proofs.lemmas.CalmRecords.{since_other, since_owner}
 use Rattle.cwr_advice.proofs.kept.keep_territory.Goals as goal
 
 pub keep_number-requires-clause-owner : goal.keep_number-requires-clause-owner

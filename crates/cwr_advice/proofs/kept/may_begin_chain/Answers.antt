@@ -2,7 +2,7 @@ use Rattle.std.proofs.Common.{◌≡◌, true, sym, ◌∙◌}
 use Rattle.std.proofs.lemmas.Bool.{and_parts, not-false}
 use Rattle.cwr_lines.specs.Format.Records.{cell_named}
 use Rattle.cwr_advice.specs.Format.Rules.{is_agent, is_publisher, names_agent}
-use Rattle.cwr_advice.proofs.CalmRecords.{chain_known, no_agent}
+use Rattle.cwr_advice.proofs.lemmas.CalmRecords.{chain_known, no_agent}
 use Rattle.cwr_advice.proofs.kept.may_begin_chain.Goals as goal
 
 pub returns-then-not-is_agent : goal.returns-then-not-is_agent

@@ -1,6 +1,6 @@
 use Rattle.std.proofs.Common.{◌≡◌, ◌+◌, ◌*◌, ◌≤◌, ◌<◌, ◌-◌, ◌++◌, ◌∷◌, [], length, length-append, sym, ap₂, ◌∙◌, arith}
 use Rattle.std.proofs.lemmas.Slice.Zip.{zip_turn, zip_end}
-use Rattle.cwr_advice.proofs.WeightedDigits.{pairs_more, pairs_whole, pair_at_most}
+use Rattle.cwr_advice.proofs.lemmas.WeightedDigits.{pairs_more, pairs_whole, pair_at_most}
 use Rattle.cwr_advice.proofs.numbers.weighted.Goals as goal
 
 pub loop-weight-preserved : goal.loop-weight-preserved

@@ -2,7 +2,7 @@ use Rattle.std.proofs.Common.{◌≡◌, true, sym, ap, ◌∙◌}
 use Rattle.std.specs.Prelude.{nat_lt}
 use Rattle.cwr_levels.specs.Format.Findings.{share_of}
 use Rattle.cwr_advice.specs.Format.Rules.{is_publisher}
-use Rattle.cwr_advice.proofs.AdvisedFields.{and_true, publisher_owns}
+use Rattle.cwr_advice.proofs.lemmas.AdvisedFields.{and_true, publisher_owns}
 use Rattle.cwr_advice.proofs.owners.owns_over_half.Goals as goal
 
 pub shares_of-requires : goal.shares_of-requires

@@ -1,5 +1,5 @@
 use Rattle.std.proofs.Common.{◌∙◌}
-use Rattle.cwr_advice.proofs.OwnedShares.{owns_something}
+use Rattle.cwr_advice.proofs.lemmas.OwnedShares.{owns_something}
 use Rattle.cwr_advice.proofs.owners.owns_shares.Goals as goal
 
 pub is_something-requires : goal.is_something-requires

@@ -1,5 +1,5 @@
 use Rattle.std.proofs.Common.{sym, ◌∙◌}
-use Rattle.cwr_advice.proofs.AdvisedFields.{shares_of_other, shares_of_publisher}
+use Rattle.cwr_advice.proofs.lemmas.AdvisedFields.{shares_of_other, shares_of_publisher}
 use Rattle.cwr_advice.proofs.owners.shares_of.Goals as goal
 
 pub shares_from-requires-clause-there : goal.shares_from-requires-clause-there

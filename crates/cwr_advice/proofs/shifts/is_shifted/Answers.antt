@@ -1,6 +1,6 @@
 use Rattle.std.proofs.Common.{◌≤◌, length, sym, ap, arith}
 use Rattle.cwr_fields.specs.Format.Layouts.{layout}
-use Rattle.cwr_advice.proofs.LastFields.{last_ends}
+use Rattle.cwr_advice.proofs.lemmas.LastFields.{last_ends}
 use Rattle.cwr_advice.proofs.shifts.is_shifted.Goals as goal
 
 pub returns-then-field-fields : goal.returns-then-field-fields

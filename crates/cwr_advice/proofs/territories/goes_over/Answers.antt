@@ -2,8 +2,8 @@ use Rattle.std.proofs.Common.{◌≡◌, ◌+◌, ℕ, List, true, take, sym, ap
 use Rattle.std.specs.Prelude.{not}
 use Rattle.cwr_lines.specs.Format.Records.{cell_named}
 use Rattle.cwr_advice.specs.Format.Rules.{are_over_in, is_compared}
-use Rattle.cwr_advice.proofs.AdvisedFields.{all_three, second_fails}
-use Rattle.cwr_advice.proofs.SinceParty.{compared_territory}
+use Rattle.cwr_advice.proofs.lemmas.AdvisedFields.{all_three, second_fails}
+use Rattle.cwr_advice.proofs.lemmas.SinceParty.{compared_territory}
 use Rattle.cwr_advice.proofs.territories.goes_over.Goals as goal
 
 pub code_of-code-requires : goal.code_of-code-requires

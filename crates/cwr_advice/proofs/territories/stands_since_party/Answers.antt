@@ -3,8 +3,8 @@ use Rattle.std.specs.List.{after_last, list_any}
 use Rattle.cwr_lines.specs.Format.Records.{RecordValue}
 use Rattle.cwr_levels.specs.Format.Findings.{is_owner}
 use Rattle.cwr_advice.specs.Format.Rules.{is_territory_of}
-use Rattle.cwr_advice.proofs.BegunChains.{none_within}
-use Rattle.cwr_advice.proofs.SinceParty.{same_first, since_before, since_here, since_none, since_other}
+use Rattle.cwr_advice.proofs.lemmas.BegunChains.{none_within}
+use Rattle.cwr_advice.proofs.lemmas.SinceParty.{same_first, since_before, since_here, since_none, since_other}
 use Rattle.cwr_advice.proofs.territories.stands_since_party.Goals as goal
 
 pub returns-then-is_owner : goal.returns-then-is_owner

@@ -1,5 +1,5 @@
 use Rattle.std.proofs.Common.{sym, ◌∙◌}
-use Rattle.cwr_advice.proofs.TerritoryFields.{code_of_publisher, code_of_writer}
+use Rattle.cwr_advice.proofs.lemmas.TerritoryFields.{code_of_publisher, code_of_writer}
 use Rattle.cwr_advice.proofs.territory_cells.code_of.Goals as goal
 
 pub returns-then-is_of : goal.returns-then-is_of

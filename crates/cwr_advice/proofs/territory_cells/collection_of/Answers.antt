@@ -1,5 +1,5 @@
 use Rattle.std.proofs.Common.{sym, ◌∙◌}
-use Rattle.cwr_advice.proofs.TerritoryFields.{collection_of_publisher, collection_of_writer}
+use Rattle.cwr_advice.proofs.lemmas.TerritoryFields.{collection_of_publisher, collection_of_writer}
 use Rattle.cwr_advice.proofs.territory_cells.collection_of.Goals as goal
 
 pub collection_from-requires-clause-there : goal.collection_from-requires-clause-there

@@ -2,7 +2,7 @@ use Rattle.std.proofs.Common.{List, ℕ, sym, ap, ◌∙◌}
 use Rattle.std.specs.Str.{bytes_eq}
 use Rattle.cwr_lines.specs.Format.Records.{cell_named}
 use Rattle.cwr_advice.specs.Format.Rules.{is_territory}
-use Rattle.cwr_advice.proofs.AdvisedFields.{and_true}
+use Rattle.cwr_advice.proofs.lemmas.AdvisedFields.{and_true}
 use Rattle.cwr_advice.proofs.territory_cells.is_territory_of.Goals as goal
 
 pub returns : goal.returns

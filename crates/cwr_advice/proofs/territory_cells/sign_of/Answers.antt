@@ -1,5 +1,5 @@
 use Rattle.std.proofs.Common.{sym, ◌∙◌}
-use Rattle.cwr_advice.proofs.TerritoryFields.{sign_of_publisher, sign_of_writer}
+use Rattle.cwr_advice.proofs.lemmas.TerritoryFields.{sign_of_publisher, sign_of_writer}
 use Rattle.cwr_advice.proofs.territory_cells.sign_of.Goals as goal
 
 pub returns-then-is_of : goal.returns-then-is_of

@@ -1,7 +1,7 @@
 use Rattle.std.proofs.Common.{◌≡◌, ◌++◌, ap, sym, ◌∙◌}
 use Rattle.cwr_advice.specs.declared.rules.Asked.{Asked}
 use Rattle.cwr_advice.specs.Format.Rules.{advice_of_asked, asked_of, breaks}
-use Rattle.cwr_advice.proofs.KeptInTurn.{kept, kept_all, on_err, some_kept}
+use Rattle.cwr_advice.proofs.lemmas.KeptInTurn.{kept, kept_all, on_err, some_kept}
 use Rattle.cwr_advice.proofs.walk.add_advice_at.Goals as goal
 
 pub returns-in_err-push-clause-err : goal.returns-in_err-push-clause-err

@@ -1,6 +1,6 @@
 use Rattle.std.proofs.Common.{◌≡◌, ◌++◌, take}
 use Rattle.cwr_advice.specs.Format.Rules.{advice_of_asked, breaks}
-use Rattle.cwr_advice.proofs.KeptInTurn.{kept}
+use Rattle.cwr_advice.proofs.lemmas.KeptInTurn.{kept}
 use Rattle.cwr_advice.proofs.walk.add_advice_at.Given as goal
 
 abbrev pub invariant-loop-asked : goal.invariant-loop-asked

@@ -2,9 +2,9 @@ use Rattle.std.proofs.Common.{◌≡◌, ◌++◌, ◌≤◌, List, [], false, l
 use Rattle.std.specs.Prelude.{◌≢◌}
 use Rattle.cwr_advice.specs.declared.rules.Advice.{Advice}
 use Rattle.cwr_advice.specs.Format.Rules.{advice_at, advice_of, is_acknowledgement}
-use Rattle.cwr_advice.proofs.AdviceByRecord.{advice_more, advice_whole, none_on, some_advice}
-use Rattle.cwr_advice.proofs.BegunChains.{none_within}
-use Rattle.cwr_advice.proofs.KeptInTurn.{on_err}
+use Rattle.cwr_advice.proofs.lemmas.AdviceByRecord.{advice_more, advice_whole, none_on, some_advice}
+use Rattle.cwr_advice.proofs.lemmas.BegunChains.{none_within}
+use Rattle.cwr_advice.proofs.lemmas.KeptInTurn.{on_err}
 use Rattle.cwr_advice.proofs.walk.advice.Goals as goal
 
 pub returns-then-is_acknowledgement-clause-ok : goal.returns-then-is_acknowledgement-clause-ok

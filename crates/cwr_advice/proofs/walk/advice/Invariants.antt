@@ -1,5 +1,5 @@
 use Rattle.std.proofs.Common.{◌≡◌}
-use Rattle.cwr_advice.proofs.AdviceByRecord.{advice_before}
+use Rattle.cwr_advice.proofs.lemmas.AdviceByRecord.{advice_before}
 use Rattle.cwr_advice.proofs.walk.advice.Given as goal
 
 abbrev pub invariant-loop-sequence : goal.invariant-loop-sequence

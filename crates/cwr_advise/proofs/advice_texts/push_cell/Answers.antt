@@ -4,8 +4,8 @@ use Rattle.cwr_fields.specs.declared.kinds.Kind.{Kind}
 use Rattle.cwr_fields.specs.Format.Layouts.{field_with_start}
 use Rattle.cwr_fields.specs.Steps.Views.{field_view}
 use Rattle.cwr_notes.specs.Format.FindingNotes.{noted_line}
-use Rattle.cwr_json.proofs.FieldsShown.{short_line}
-use Rattle.cwr_advise.proofs.CellLines.{cell_line-none, cell_line-some, cell_line-uncarried}
+use Rattle.cwr_json.proofs.lemmas.FieldsShown.{short_line}
+use Rattle.cwr_advise.proofs.lemmas.CellLines.{cell_line-none, cell_line-some, cell_line-uncarried}
 use Rattle.cwr_advise.proofs.advice_texts.push_cell.Goals as goal
 
 pub returns-in_default-clause-value : goal.returns-in_default-clause-value

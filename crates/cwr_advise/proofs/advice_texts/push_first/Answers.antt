@@ -1,6 +1,6 @@
 use Rattle.std.proofs.Common.{refl, ap}
 use Rattle.std.specs.Prelude.{codes, decimal, ◌∷◌, []}
-use Rattle.cwr_advise.proofs.TextsAdded.{first_added, then_added}
+use Rattle.cwr_advise.proofs.lemmas.TextsAdded.{first_added, then_added}
 use Rattle.cwr_advise.proofs.advice_texts.push_first.Goals as goal
 
 pub returns-clause-value : goal.returns-clause-value

@@ -3,7 +3,7 @@ use Rattle.std.specs.Prelude.{codes, decimal, ◌∷◌, []}
 use Rattle.cwr_shape.specs.Format.ReasonTexts.{level_text}
 use Rattle.cwr_advice.specs.Format.Rules.{level_of_rule}
 use Rattle.cwr_advice.specs.Format.Words.{rule_text}
-use Rattle.cwr_advise.proofs.TextsAdded.{first_added, then_added}
+use Rattle.cwr_advise.proofs.lemmas.TextsAdded.{first_added, then_added}
 use Rattle.cwr_advise.proofs.advice_texts.push_line.Goals as goal
 
 pub returns-clause-value : goal.returns-clause-value

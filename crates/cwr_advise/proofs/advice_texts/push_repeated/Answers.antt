@@ -2,7 +2,7 @@ use Rattle.std.proofs.Common.{refl, ap, ap₂}
 use Rattle.cwr_notes.specs.Format.FindingNotes.{where_line}
 use Rattle.cwr_advise.specs.Format.AdviceTexts.{advice_line, cell_line, words_line}
 use Rattle.cwr_advise.specs.Format.RepeatedWorks.{first_line, repeated_advice}
-use Rattle.cwr_advise.proofs.TextsAdded.{first_added, then_added}
+use Rattle.cwr_advise.proofs.lemmas.TextsAdded.{first_added, then_added}
 use Rattle.cwr_advise.proofs.advice_texts.push_repeated.Goals as goal
 
 pub returns-clause-value : goal.returns-clause-value

@@ -1,5 +1,5 @@
 use Rattle.std.proofs.Common.{length, ap, arith}
-use Rattle.cwr_json.proofs.FieldsShown.{length-trimmed-le}
+use Rattle.cwr_json.proofs.lemmas.FieldsShown.{length-trimmed-le}
 use Rattle.cwr_advise.proofs.advice_texts.push_value.Goals as goal
 
 pub push-requires-else-is_spaces : goal.push-requires-else-is_spaces

@@ -6,15 +6,15 @@ use Rattle.cwr_values.specs.declared.items.Item.TheVariants.{Transaction}
 use Rattle.cwr_tools.specs.declared.verdicts.ToolFault.{ToolFault}
 use Rattle.cwr_tools.specs.Format.Reports.{has_findings, transaction_lines}
 use Rattle.cwr_tools.specs.Steps.Reports.{PutsLines}
-use Rattle.cwr_tools.proofs.ReportsOn.{same_fault}
+use Rattle.cwr_tools.proofs.lemmas.ReportsOn.{same_fault}
 use Rattle.cwr_advice.specs.declared.characters.Characters.TheVariants.{Unsaid, Utf8, Other}
 use Rattle.cwr_advice.specs.declared.rules.Advice.{Advice}
 use Rattle.cwr_advice.specs.Format.Rules.{advice_of}
 use Rattle.cwr_advice.specs.Format.Said.{before_all_days}
 use Rattle.cwr_advise.specs.Format.AdviceLines.{advised_transaction, has_advice}
 use Rattle.cwr_advise.specs.Format.AdviceTexts.{noted_advice}
-use Rattle.cwr_advise.proofs.AdvicePut.{first_fault, found_first, found_second, some_there, then_put}
-use Rattle.cwr_advise.proofs.SaidBefore.{said_some}
+use Rattle.cwr_advise.proofs.lemmas.AdvicePut.{first_fault, found_first, found_second, some_there, then_put}
+use Rattle.cwr_advise.proofs.lemmas.SaidBefore.{said_some}
 use Rattle.cwr_advise.proofs.item_advice.put_advised_in.Goals as goal
 
 pub returns-in_err-put_transaction_findings : goal.returns-in_err-put_transaction_findings

@@ -2,7 +2,7 @@ use Rattle.std.proofs.Common.{◌≡◌, length, Some, refl, sym, ◌∙◌, ari
 use Rattle.std.specs.Prelude.{slice_get}
 use Rattle.std.proofs.lemmas.Option.{slice_get_read}
 use Rattle.cwr_advise.specs.Format.AdviceTexts.{noted_advice}
-use Rattle.cwr_advise.proofs.TextsPut.{line_more, lines_refused}
+use Rattle.cwr_advise.proofs.lemmas.TextsPut.{line_more, lines_refused}
 use Rattle.cwr_advise.proofs.item_advice.put_all.Goals as goal
 
 pub returns-in_err-put_noted-clause-puts : goal.returns-in_err-put_noted-clause-puts

@@ -2,11 +2,11 @@ use Rattle.std.proofs.Common.{◌++◌, sym, subst}
 use Rattle.std.specs.Prelude.{Result}
 use Rattle.cwr_tools.specs.declared.verdicts.ToolFault.{ToolFault}
 use Rattle.cwr_tools.specs.Steps.Reports.{PutsLines}
-use Rattle.cwr_tools.proofs.ReportsOn.{same_fault}
+use Rattle.cwr_tools.proofs.lemmas.ReportsOn.{same_fault}
 use Rattle.cwr_advise.specs.Format.AdviceLines.{has_advised}
 use Rattle.cwr_advise.specs.Steps.AdvisedItems.{advised_at}
 use Rattle.cwr_advise.specs.Steps.KeptWorks.{repeated_at}
-use Rattle.cwr_advise.proofs.AdvicePut.{first_fault, then_put}
+use Rattle.cwr_advise.proofs.lemmas.AdvicePut.{first_fault, then_put}
 use Rattle.cwr_advise.proofs.item_advice.put_item.Goals as goal
 
 pub returns-in_err-put_own : goal.returns-in_err-put_own

@@ -1,6 +1,6 @@
 use Rattle.std.proofs.Common.{◌∙◌}
-use Rattle.cwr_advise.proofs.TextsPut.{puts_nothing, puts_set}
-use Rattle.cwr_advise.proofs.AdvicePut.{noted_none, noted_some}
+use Rattle.cwr_advise.proofs.lemmas.TextsPut.{puts_nothing, puts_set}
+use Rattle.cwr_advise.proofs.lemmas.AdvicePut.{noted_none, noted_some}
 use Rattle.cwr_advise.proofs.item_advice.put_noted.Goals as goal
 
 pub returns-clause-puts : goal.returns-clause-puts

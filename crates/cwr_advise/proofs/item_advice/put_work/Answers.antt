@@ -1,6 +1,6 @@
 use Rattle.std.proofs.Common.{◌∙◌}
-use Rattle.cwr_advise.proofs.TextsPut.{puts_set}
-use Rattle.cwr_advise.proofs.WorksKept.{told_here}
+use Rattle.cwr_advise.proofs.lemmas.TextsPut.{puts_set}
+use Rattle.cwr_advise.proofs.lemmas.WorksKept.{told_here}
 use Rattle.cwr_advise.proofs.item_advice.put_work.Goals as goal
 
 pub returns-clause-puts : goal.returns-clause-puts

@@ -1,7 +1,7 @@
 use Rattle.std.proofs.Common.{true, false}
 use Rattle.cwr_advise.specs.Format.AdviceLines.{lines_of_advice}
-use Rattle.cwr_tools.proofs.RightReports.{accepted_reports, canonical_reports, judged_text}
-use Rattle.cwr_advise.proofs.Begun.{begun_lines}
+use Rattle.cwr_tools.proofs.lemmas.RightReports.{accepted_reports, canonical_reports, judged_text}
+use Rattle.cwr_advise.proofs.lemmas.Begun.{begun_lines}
 use Rattle.cwr_advise.proofs.running.advise.Goals as goal
 
 pub write_report-writer-requires : goal.write_report-writer-requires

@@ -1,7 +1,7 @@
 use Rattle.std.proofs.Common.{true}
 use Rattle.cwr_advise.specs.Format.AdviceLines.{lines_advised}
-use Rattle.cwr_tools.proofs.RightReports.{judged_text}
-use Rattle.cwr_advise.proofs.Begun.{begun_lines, said_after}
+use Rattle.cwr_tools.proofs.lemmas.RightReports.{judged_text}
+use Rattle.cwr_advise.proofs.lemmas.Begun.{begun_lines, said_after}
 use Rattle.cwr_advise.proofs.running.advise_up_to_fault.Goals as goal
 
 pub write_report-writer-requires : goal.write_report-writer-requires

@@ -1,6 +1,6 @@
 use Rattle.std.proofs.Common.{ℕ, List, ◌+◌, ◌-◌, ◌++◌, refl, sym, ap₂, ◌∙◌, arith}
 use Rattle.cwr_fields.specs.Steps.Views.{field_view}
-use Rattle.cwr_c.proofs.BlankTexts.{blank_begins, blank_more, blank_whole}
+use Rattle.cwr_c.proofs.lemmas.BlankTexts.{blank_begins, blank_more, blank_whole}
 use Rattle.cwr_c.proofs.codes.blank_line.Goals as goal
 
 pub loop-i-init : goal.loop-i-init

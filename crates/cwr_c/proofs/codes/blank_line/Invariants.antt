@@ -1,5 +1,5 @@
 use Rattle.std.proofs.Common.{◌≡◌, ◌-◌}
-use Rattle.cwr_c.proofs.BlankTexts.{blank_front}
+use Rattle.cwr_c.proofs.lemmas.BlankTexts.{blank_front}
 use Rattle.cwr_c.proofs.codes.blank_line.Given as goal
 
 abbrev pub invariant-loop-i : goal.invariant-loop-i

@@ -1,12 +1,12 @@
 use Rattle.std.proofs.Common.{rules, refl, sym, ap, subst, ◌∙◌, arith}
 use Rattle.std.specs.Prelude.{Ok}
-use Rattle.cwr_decode.proofs.ItemsReadSoFar.{none_read, nothing_read_yet, some_read}
+use Rattle.cwr_decode.proofs.lemmas.ItemsReadSoFar.{none_read, nothing_read_yet, some_read}
 use Rattle.cwr_tools.specs.declared.verdicts.Verdict.TheVariants.{Good}
 use Rattle.cwr_c.specs.declared.listing.Numbers.{Numbers}
 use Rattle.cwr_c.specs.Steps.Listed.{ListsFrom}
-use Rattle.cwr_c.proofs.CountedItems.{counts_none, has_room, next_room, total_grows}
-use Rattle.cwr_c.proofs.ListedFindings.{IsListing, lists_before, lists_item, lists_nothing}
-use Rattle.cwr_c.proofs.ReadItems.{fault_right, good_right, stops_after}
+use Rattle.cwr_c.proofs.lemmas.CountedItems.{counts_none, has_room, next_room, total_grows}
+use Rattle.cwr_c.proofs.lemmas.ListedFindings.{IsListing, lists_before, lists_item, lists_nothing}
+use Rattle.cwr_c.proofs.lemmas.ReadItems.{fault_right, good_right, stops_after}
 use Rattle.cwr_c.proofs.listing.list_items.Goals as goal
 
 pub items-init : goal.items-init

@@ -1,5 +1,5 @@
 use Rattle.std.proofs.Common.{◌≡◌, ◌+◌, ◌-◌}
-use Rattle.cwr_c.proofs.ListedFindings.{IsListing}
+use Rattle.cwr_c.proofs.lemmas.ListedFindings.{IsListing}
 use Rattle.cwr_c.proofs.listing.list_items.Given as goal
 
 abbrev pub invariant-items : goal.invariant-items

@@ -1,4 +1,4 @@
-use Rattle.cwr_c.proofs.ListedFindings.{puts_next}
+use Rattle.cwr_c.proofs.lemmas.ListedFindings.{puts_next}
 use Rattle.cwr_c.proofs.listing.put_findings.Goals as goal
 
 pub loop-one-preserved : goal.loop-one-preserved

@@ -1,5 +1,5 @@
 use Rattle.std.proofs.Common.{rules}
-use Rattle.cwr_c.proofs.ReportedTexts.{explained_on_items}
+use Rattle.cwr_c.proofs.lemmas.ReportedTexts.{explained_on_items}
 use Rattle.cwr_c.proofs.reports.explain_report.Goals as goal
 
 pub returns-clause-written : goal.returns-clause-written

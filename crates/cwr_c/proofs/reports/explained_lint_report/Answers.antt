@@ -1,5 +1,5 @@
 use Rattle.std.proofs.Common.{rules, true}
-use Rattle.cwr_c.proofs.ReportedTexts.{lint_on_items}
+use Rattle.cwr_c.proofs.lemmas.ReportedTexts.{lint_on_items}
 use Rattle.cwr_c.proofs.reports.explained_lint_report.Goals as goal
 
 pub returns-clause-written : goal.returns-clause-written

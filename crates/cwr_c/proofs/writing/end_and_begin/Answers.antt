@@ -1,7 +1,7 @@
 use Rattle.std.proofs.Common.{◌≡◌, [], ◌∷◌, subst}
 use Rattle.std.specs.Prelude.{IfOk}
 use Rattle.cwr_lines.specs.Format.Records.{RecordValue}
-use Rattle.cwr_c.proofs.WrittenRecords.{begins_after}
+use Rattle.cwr_c.proofs.lemmas.WrittenRecords.{begins_after}
 use Rattle.cwr_c.proofs.writing.end_and_begin.Goals as goal
 
 pub returns : goal.returns

@@ -1,7 +1,7 @@
 use Rattle.std.proofs.Common.{[], ◌∷◌}
 use Rattle.std.proofs.lemmas.Result.{on_ok_weaker}
 use Rattle.cwr_c.specs.Steps.Writings.{held_records}
-use Rattle.cwr_c.proofs.WrittenRecords.{ends_and_puts}
+use Rattle.cwr_c.proofs.lemmas.WrittenRecords.{ends_and_puts}
 use Rattle.cwr_c.proofs.writing.end_and_put.Goals as goal
 
 pub returns : goal.returns

@@ -1,4 +1,4 @@
-use Rattle.cwr_c.proofs.WrittenRecords.{finished}
+use Rattle.cwr_c.proofs.lemmas.WrittenRecords.{finished}
 use Rattle.cwr_c.proofs.writing.finish.Goals as goal
 
 pub returns-in_default-Ok : goal.returns-in_default-Ok

@@ -1,9 +1,9 @@
 use Rattle.std.proofs.Common.{[], refl, sym, subst, ◌∙◌, List, ℕ}
 use Rattle.cwr_decode.specs.Steps.TextLines.{FirstLine}
-use Rattle.cwr_decode.proofs.WalkedText.{all_left}
+use Rattle.cwr_decode.proofs.lemmas.WalkedText.{all_left}
 use Rattle.cwr_c.specs.declared.writing.After.{After}
 use Rattle.cwr_c.specs.Steps.Writings.{WritesLine, held_records}
-use Rattle.cwr_c.proofs.WrittenLines.{written_all, written_more, written_none, written_to_trailer}
+use Rattle.cwr_c.proofs.lemmas.WrittenLines.{written_all, written_more, written_none, written_to_trailer}
 use Rattle.cwr_c.proofs.writing.put_lines.Goals as goal
 
 pub lines-init : goal.lines-init

@@ -1,7 +1,7 @@
 use Rattle.std.proofs.Common.{◌≡◌, ◌-◌, length}
 use Rattle.cwr_lines.specs.Steps.Held.{empty_line}
 use Rattle.cwr_c.specs.Steps.Writings.{held_records}
-use Rattle.cwr_c.proofs.WrittenLines.{WrittenTo}
+use Rattle.cwr_c.proofs.lemmas.WrittenLines.{WrittenTo}
 use Rattle.cwr_c.proofs.writing.put_lines.Given as goal
 
 abbrev pub invariant-lines : goal.invariant-lines

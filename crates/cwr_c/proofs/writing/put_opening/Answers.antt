@@ -1,6 +1,6 @@
 use Rattle.std.proofs.Common.{[], ◌∷◌}
 use Rattle.std.proofs.lemmas.Result.{on_ok_weaker}
-use Rattle.cwr_c.proofs.WrittenRecords.{added}
+use Rattle.cwr_c.proofs.lemmas.WrittenRecords.{added}
 use Rattle.cwr_c.proofs.writing.put_opening.Goals as goal
 
 pub returns : goal.returns

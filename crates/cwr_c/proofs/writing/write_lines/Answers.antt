@@ -1,4 +1,4 @@
-use Rattle.cwr_c.proofs.WrittenRecords.{ended_writing}
+use Rattle.cwr_c.proofs.lemmas.WrittenRecords.{ended_writing}
 use Rattle.cwr_c.proofs.writing.write_lines.Goals as goal
 
 pub returns-in-Ok : goal.returns-in-Ok

@@ -1,5 +1,5 @@
 use Rattle.std.proofs.Common.{rules}
-use Rattle.cwr_c.proofs.WrittenRecords.{canonical_whole}
+use Rattle.cwr_c.proofs.lemmas.WrittenRecords.{canonical_whole}
 use Rattle.cwr_c.proofs.writing.write_text.Goals as goal
 
 pub returns-in-Ok-clause-ok : goal.returns-in-Ok-clause-ok

@@ -1,4 +1,4 @@
-use Rattle.cwr_causes.proofs.TakenPieces.{takes_shown}
+use Rattle.cwr_causes.proofs.lemmas.TakenPieces.{takes_shown}
 use Rattle.cwr_causes.proofs.ahead.follow_piece.Goals as goal
 
 pub returns-clause-ok : goal.returns-clause-ok

@@ -1,5 +1,5 @@
 use Rattle.std.proofs.Common.{◌∙◌}
-use Rattle.cwr_causes.proofs.TakenPieces.{takes_both}
+use Rattle.cwr_causes.proofs.lemmas.TakenPieces.{takes_both}
 use Rattle.cwr_causes.proofs.ahead.look_ahead.Goals as goal
 
 pub returns-in_err-follow_piece-clause-taken : goal.returns-in_err-follow_piece-clause-taken

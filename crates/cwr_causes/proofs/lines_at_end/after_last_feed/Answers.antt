@@ -1,5 +1,5 @@
 use Rattle.std.proofs.Common.{refl}
-use Rattle.cwr_causes.proofs.FeedPlaces.{after_none, after_some}
+use Rattle.cwr_causes.proofs.lemmas.FeedPlaces.{after_none, after_some}
 use Rattle.cwr_causes.proofs.lines_at_end.after_last_feed.Goals as goal
 
 pub returns-in-Some : goal.returns-in-Some

@@ -1,6 +1,6 @@
 use Rattle.std.proofs.Common.{List, ℕ, sym, subst, ◌∙◌, arith}
 use Rattle.cwr_causes.specs.Steps.LinesAtEnd.{IsAfterFeed}
-use Rattle.cwr_causes.proofs.LastLines.{found_ended, found_open}
+use Rattle.cwr_causes.proofs.lemmas.LastLines.{found_ended, found_open}
 use Rattle.cwr_causes.proofs.lines_at_end.line_at_end.Goals as goal
 use Rattle.cwr_causes.proofs.lines_at_end.line_at_end.Goals.{then-ended, else-ended}
 

@@ -1,4 +1,4 @@
-use Rattle.cwr_causes.proofs.LastLines.{before_found}
+use Rattle.cwr_causes.proofs.lemmas.LastLines.{before_found}
 use Rattle.cwr_causes.proofs.lines_at_end.line_before.Goals as goal
 
 pub returns : goal.returns

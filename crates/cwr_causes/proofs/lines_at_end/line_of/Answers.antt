@@ -1,6 +1,6 @@
 use Rattle.std.proofs.Common.{subst}
 use Rattle.cwr_lines.specs.Steps.Held.{HeldLine, Takes}
-use Rattle.cwr_causes.proofs.LastLines.{taken_whole}
+use Rattle.cwr_causes.proofs.lemmas.LastLines.{taken_whole}
 use Rattle.cwr_causes.proofs.lines_at_end.line_of.Goals as goal
 
 pub returns-clause-whole : goal.returns-clause-whole

@@ -1,7 +1,7 @@
 use Rattle.std.proofs.Common.{List, ◌∷◌, [], ◌++◌, sym, subst}
 use Rattle.cwr_shape.specs.declared.symbols.Symbol.{Symbol}
 use Rattle.cwr_causes.specs.Steps.Coming.{ComesAt, HaveCome}
-use Rattle.cwr_causes.proofs.ComingSymbols.{on_err, one_comes, one_stays}
+use Rattle.cwr_causes.proofs.lemmas.ComingSymbols.{on_err, one_comes, one_stays}
 use Rattle.cwr_causes.proofs.next_symbols.ask.Goals as goal
 
 pub returns-in_ok-push-clause-ok : goal.returns-in_ok-push-clause-ok

@@ -2,7 +2,7 @@ use Rattle.std.proofs.Common.{ℕ, List, sym, ap, subst, ◌∙◌, arith, take,
 use Rattle.std.proofs.lemmas.List.{take_all}
 use Rattle.cwr_shape.specs.declared.symbols.Symbol.{Symbol}
 use Rattle.cwr_causes.specs.Steps.Coming.{ComesAt, HaveCome}
-use Rattle.cwr_causes.proofs.ComingSymbols.{all_come, all_symbols, on_err}
+use Rattle.cwr_causes.proofs.lemmas.ComingSymbols.{all_come, all_symbols, on_err}
 use Rattle.cwr_causes.proofs.next_symbols.coming.Goals as goal
 
 pub loop-symbol-preserved : goal.loop-symbol-preserved

@@ -1,5 +1,5 @@
 use Rattle.std.proofs.Common.{◌∙◌, refl}
-use Rattle.cwr_causes.proofs.TakenPieces.{taken_all, taken_by, taken_more, taken_none, taken_so_far, takes_both}
+use Rattle.cwr_causes.proofs.lemmas.TakenPieces.{taken_all, taken_by, taken_more, taken_none, taken_so_far, takes_both}
 use Rattle.cwr_causes.proofs.trailing.read_trailing.Goals as goal
 
 pub loop-pieces-init : goal.loop-pieces-init

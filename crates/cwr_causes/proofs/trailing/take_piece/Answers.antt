@@ -1,4 +1,4 @@
-use Rattle.cwr_causes.proofs.TakenPieces.{takes_piece}
+use Rattle.cwr_causes.proofs.lemmas.TakenPieces.{takes_piece}
 use Rattle.cwr_causes.proofs.trailing.take_piece.Goals as goal
 
 pub returns-clause-ok : goal.returns-clause-ok

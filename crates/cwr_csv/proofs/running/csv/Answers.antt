@@ -1,6 +1,6 @@
 use Rattle.std.proofs.Common.{ap, sym}
 use Rattle.cwr_csv.specs.Format.TableLines.{lines_of_table}
-use Rattle.cwr_tools.proofs.RightReports.{accepted_reports, canonical_reports, judged_text}
+use Rattle.cwr_tools.proofs.lemmas.RightReports.{accepted_reports, canonical_reports, judged_text}
 use Rattle.cwr_csv.proofs.running.csv.Goals as goal
 
 pub write_report-writer-requires : goal.write_report-writer-requires

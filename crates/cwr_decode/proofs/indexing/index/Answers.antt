@@ -4,10 +4,10 @@ use Rattle.std.proofs.lemmas.List.{length-drop}
 use Rattle.cwr_shape.specs.declared.symbols.Symbol.{Symbol}
 use Rattle.cwr_values.specs.Format.Values.{symbol_of}
 use Rattle.cwr_decode.specs.Steps.TextLines.{AcceptsLine}
-use Rattle.cwr_decode.proofs.WalkedText.{all_left}
+use Rattle.cwr_decode.proofs.lemmas.WalkedText.{all_left}
 use Rattle.cwr_decode.specs.declared.indexing.Accepted.{Accepted}
 use Rattle.cwr_decode.specs.Steps.TakenLines.{RefusesText, TakesLine}
-use Rattle.cwr_decode.proofs.IndexedText.{ends_accepted, ends_refused, ends_truncated, indexed_more, indexed_none}
+use Rattle.cwr_decode.proofs.lemmas.IndexedText.{ends_accepted, ends_refused, ends_truncated, indexed_more, indexed_none}
 use Rattle.cwr_decode.proofs.indexing.index.Goals as goal
 
 pub lines-init : goal.lines-init

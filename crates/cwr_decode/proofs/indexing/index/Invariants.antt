@@ -1,6 +1,6 @@
 use Rattle.std.proofs.Common.{◌≡◌, ◌-◌, length}
 use Rattle.cwr_lines.specs.Steps.Held.{empty_line}
-use Rattle.cwr_decode.proofs.IndexedText.{IndexedTo}
+use Rattle.cwr_decode.proofs.lemmas.IndexedText.{IndexedTo}
 use Rattle.cwr_decode.proofs.indexing.index.Given as goal
 
 abbrev pub invariant-lines : goal.invariant-lines

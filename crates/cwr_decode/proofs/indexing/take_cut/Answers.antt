@@ -5,7 +5,7 @@ use Rattle.cwr_lines.specs.Format.Lines.{without_cr}
 use Rattle.cwr_shape.specs.declared.symbols.Symbol.{Symbol}
 use Rattle.cwr_shape.specs.declared.symbols.Symbol.TheVariants.{Plain}
 use Rattle.cwr_decode.specs.declared.indexing.Accepted.{Accepted}
-use Rattle.cwr_decode.proofs.LinesAtFront.{quick_line}
+use Rattle.cwr_decode.proofs.lemmas.LinesAtFront.{quick_line}
 use Rattle.cwr_decode.proofs.indexing.take_cut.Goals as goal
 
 pub returns-clause-some : goal.returns-clause-some

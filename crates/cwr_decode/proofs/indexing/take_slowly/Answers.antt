@@ -1,4 +1,4 @@
-use Rattle.cwr_decode.proofs.LinesAtFront.{slow_line}
+use Rattle.cwr_decode.proofs.lemmas.LinesAtFront.{slow_line}
 use Rattle.cwr_decode.proofs.indexing.take_slowly.Goals as goal
 
 pub returns-in-Ok-clause-some : goal.returns-in-Ok-clause-some

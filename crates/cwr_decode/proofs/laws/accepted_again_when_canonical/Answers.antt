@@ -1,4 +1,4 @@
-use Rattle.cwr_judge.proofs.Accepted.{canonical_accepted}
+use Rattle.cwr_judge.proofs.lemmas.Accepted.{canonical_accepted}
 use Rattle.cwr_decode.proofs.laws.accepted_again_when_canonical.Goals as goal
 
 pub returns : goal.returns

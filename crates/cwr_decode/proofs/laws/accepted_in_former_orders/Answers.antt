@@ -4,10 +4,10 @@ use Rattle.cwr_shape.specs.declared.limits.Limits.{Limits}
 use Rattle.cwr_shape.specs.declared.symbols.Symbol.{Symbol}
 use Rattle.cwr_shape.specs.Format.Shapes.{IsShape}
 use Rattle.cwr_shape.specs.Format.UncarriedOrder.{IsUncarriedShape, IsUncopiedShape}
-use Rattle.cwr_shape.proofs.UncarriedOrders.{uncarried_forth, uncopied_forth}
+use Rattle.cwr_shape.proofs.lemmas.UncarriedOrders.{uncarried_forth, uncopied_forth}
 use Rattle.cwr_values.specs.Format.FormerOrders.{Order}
 use Rattle.cwr_values.specs.Format.Values.{TransmissionValue}
-use Rattle.cwr_values.proofs.FormerOrders.{transmission_kept}
+use Rattle.cwr_values.proofs.lemmas.FormerOrders.{transmission_kept}
 use Rattle.cwr_judge.specs.Format.Ends.{IsAccepted}
 use Rattle.cwr_judge.specs.Format.FormerEnds.{IsAcceptedIn}
 use Rattle.cwr_decode.proofs.laws.accepted_in_former_orders.Goals as goal

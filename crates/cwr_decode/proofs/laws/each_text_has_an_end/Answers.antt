@@ -1,4 +1,4 @@
-use Rattle.cwr_judge.proofs.EachEnd.{each_end}
+use Rattle.cwr_judge.proofs.lemmas.EachEnd.{each_end}
 use Rattle.cwr_decode.proofs.laws.each_text_has_an_end.Goals as goal
 
 pub returns : goal.returns

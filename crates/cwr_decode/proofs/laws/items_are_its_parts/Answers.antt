@@ -1,5 +1,5 @@
 use Rattle.std.proofs.Common.{arith}
-use Rattle.cwr_judge.proofs.ItemLaws.{items_of_parts}
+use Rattle.cwr_judge.proofs.lemmas.ItemLaws.{items_of_parts}
 use Rattle.cwr_decode.proofs.laws.items_are_its_parts.Goals as goal
 
 pub returns : goal.returns

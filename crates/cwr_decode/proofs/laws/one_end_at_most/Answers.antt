@@ -1,5 +1,5 @@
 use Rattle.std.proofs.Common.{sym, ◌∙◌}
-use Rattle.cwr_judge.proofs.OneEnd.{refused_once, refused_or_truncated}
+use Rattle.cwr_judge.proofs.lemmas.OneEnd.{refused_once, refused_or_truncated}
 use Rattle.cwr_decode.proofs.laws.one_end_at_most.Goals as goal
 
 pub returns : goal.returns

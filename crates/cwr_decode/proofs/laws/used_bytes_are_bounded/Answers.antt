@@ -1,4 +1,4 @@
-use Rattle.cwr_decode.proofs.BoundedInputs.{input_bounded}
+use Rattle.cwr_decode.proofs.lemmas.BoundedInputs.{input_bounded}
 use Rattle.cwr_decode.proofs.laws.used_bytes_are_bounded.Goals as goal
 
 pub returns : goal.returns

@@ -1,4 +1,4 @@
-use Rattle.cwr_judge.proofs.ViableCells.{viable_continues, continuing_viable}
+use Rattle.cwr_judge.proofs.lemmas.ViableCells.{viable_continues, continuing_viable}
 use Rattle.cwr_decode.proofs.laws.viable_where_cells_are_good.Goals as goal
 
 pub returns : goal.returns

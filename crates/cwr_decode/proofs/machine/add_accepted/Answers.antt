@@ -1,5 +1,5 @@
 use Rattle.std.proofs.Common.{◌∙◌}
-use Rattle.cwr_decode.proofs.HeldOpen.{inside_unless}
+use Rattle.cwr_decode.proofs.lemmas.HeldOpen.{inside_unless}
 use Rattle.cwr_decode.proofs.machine.add_accepted.Goals as goal
 
 pub add-requires : goal.add-requires

@@ -3,7 +3,7 @@ use Rattle.std.specs.Prelude.{IfErr}
 use Rattle.cwr_decode.specs.Format.Headline.{Means, text_in}
 use Rattle.cwr_decode.specs.Steps.PiecesLeft.{text_left}
 use Rattle.cwr_decode.specs.Steps.Runs.{StopsText}
-use Rattle.cwr_decode.proofs.Headlines.{no_failures, run_means, means_accepted, means_refused, means_truncated, stops_text}
+use Rattle.cwr_decode.proofs.lemmas.Headlines.{no_failures, run_means, means_accepted, means_refused, means_truncated, stops_text}
 use Rattle.cwr_decode.proofs.piecewise.read_pieces.Goals as goal
 
 -- the answer is the end of the pieces put together

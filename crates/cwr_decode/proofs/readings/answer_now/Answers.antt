@@ -1,6 +1,6 @@
 use Rattle.std.proofs.Common.{take, [], sym, ◌∙◌, arith}
-use Rattle.cwr_decode.proofs.FromReader.{needs_more}
-use Rattle.cwr_decode.proofs.FedFromReader.{feeds_called, keeps_none, reads_settled, same_fed, reported_none, reported_some}
+use Rattle.cwr_decode.proofs.lemmas.FromReader.{needs_more}
+use Rattle.cwr_decode.proofs.lemmas.FedFromReader.{feeds_called, keeps_none, reads_settled, same_fed, reported_none, reported_some}
 use Rattle.cwr_decode.proofs.readings.answer_now.Goals as goal
 
 pub returns-clause-continues : goal.returns-clause-continues

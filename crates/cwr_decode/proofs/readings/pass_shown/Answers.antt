@@ -1,7 +1,7 @@
 use Rattle.std.proofs.Common.{None, take}
-use Rattle.cwr_decode.proofs.FedFromReader.{reads_failed}
-use Rattle.cwr_decode.proofs.FromReader.{consumes_taken, reads_after}
-use Rattle.cwr_decode.proofs.PassedOver.{passes_nothing, passes_shown}
+use Rattle.cwr_decode.proofs.lemmas.FedFromReader.{reads_failed}
+use Rattle.cwr_decode.proofs.lemmas.FromReader.{consumes_taken, reads_after}
+use Rattle.cwr_decode.proofs.lemmas.PassedOver.{passes_nothing, passes_shown}
 use Rattle.cwr_decode.proofs.readings.pass_shown.Goals as goal
 
 pub returns-then-not-is_settled-clause-passes : goal.returns-then-not-is_settled-clause-passes

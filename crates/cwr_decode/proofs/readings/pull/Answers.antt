@@ -2,10 +2,10 @@ use Rattle.std.proofs.Common.{[], take, length, sym, ◌∙◌, arith}
 use Rattle.std.proofs.lemmas.Bool.{eqb-true, eqb-false}
 use Rattle.std.proofs.lemmas.List.{length-take-le}
 use Rattle.std.proofs.KnownBytes.{Consumes-kept, Consumes-nil}
-use Rattle.cwr_decode.proofs.FromReader.{consumes_taken, needs_more}
-use Rattle.cwr_decode.proofs.LastHeld.{reads_nothing}
-use Rattle.cwr_decode.proofs.FedFromReader.{at_end, feeds_called, reads_failed, reads_fed, reads_finished, same_fed}
-use Rattle.cwr_decode.proofs.FedFromReader.{same_finished, reported_none, reported_some}
+use Rattle.cwr_decode.proofs.lemmas.FromReader.{consumes_taken, needs_more}
+use Rattle.cwr_decode.proofs.lemmas.LastHeld.{reads_nothing}
+use Rattle.cwr_decode.proofs.lemmas.FedFromReader.{at_end, feeds_called, reads_failed, reads_fed, reads_finished, same_fed}
+use Rattle.cwr_decode.proofs.lemmas.FedFromReader.{same_finished, reported_none, reported_some}
 use Rattle.cwr_decode.proofs.readings.pull.Goals as goal
 
 pub returns-in-Err-clause-reads : goal.returns-in-Err-clause-reads

@@ -7,8 +7,8 @@ use Rattle.cwr_decode.specs.declared.outcomes.Outcome.{Outcome}
 use Rattle.cwr_decode.specs.declared.outcomes.Outcome.TheVariants as outcomes
 use Rattle.cwr_decode.specs.Steps.Calls.{Feeds}
 use Rattle.cwr_decode.specs.Steps.Machines.{again}
-use Rattle.cwr_decode.proofs.FromReader.{consumes_taken}
-use Rattle.cwr_decode.proofs.FedFromReader.{reads_failed, reads_fed}
+use Rattle.cwr_decode.proofs.lemmas.FromReader.{consumes_taken}
+use Rattle.cwr_decode.proofs.lemmas.FedFromReader.{reads_failed, reads_fed}
 use Rattle.cwr_decode.proofs.readings.pull_quickly.Goals as goal
 
 pub returns-in-Err-clause-reads : goal.returns-in-Err-clause-reads

@@ -1,8 +1,8 @@
 use Rattle.std.proofs.Common.{◌∙◌, arith, refl, inl, inr}
-use Rattle.cwr_decode.proofs.FromReader.{feeds_both, feeds_none, reads_after, was_under_way}
+use Rattle.cwr_decode.proofs.lemmas.FromReader.{feeds_both, feeds_none, reads_after, was_under_way}
 use Rattle.std.proofs.KnownBytes.{Consumes-nil}
-use Rattle.cwr_decode.proofs.BoundedInputs.{feeds_short}
-use Rattle.cwr_decode.proofs.LastHeld.{reads_both, reads_nothing}
+use Rattle.cwr_decode.proofs.lemmas.BoundedInputs.{feeds_short}
+use Rattle.cwr_decode.proofs.lemmas.LastHeld.{reads_both, reads_nothing}
 use Rattle.cwr_decode.proofs.readings.read_on.Goals as goal
 
 pub loop-reported-init : goal.loop-reported-init

@@ -1,5 +1,5 @@
 use Rattle.cwr_values.specs.Format.Values.{type_of}
-use Rattle.cwr_decode.proofs.ItemsMakeOneTransmission.{never_refused}
+use Rattle.cwr_decode.proofs.lemmas.ItemsMakeOneTransmission.{never_refused}
 use Rattle.cwr_decode.proofs.whole.add_transaction.Goals as goal
 
 pub unreachable-requires : goal.unreachable-requires

@@ -6,7 +6,7 @@ use Rattle.cwr_values.specs.declared.items.Item.{Item}
 use Rattle.cwr_values.specs.declared.items.Item.TheVariants.{Opened, GroupOpened, Ended}
 use Rattle.cwr_values.specs.Format.Values.{TransmissionValue}
 use Rattle.cwr_judge.specs.Format.Items.{group_items, group_rest}
-use Rattle.cwr_decode.proofs.ItemsMakeOneTransmission.{AreGroups, group_begins, group_ends, groups_end, more_groups, next_group}
+use Rattle.cwr_decode.proofs.lemmas.ItemsMakeOneTransmission.{AreGroups, group_begins, group_ends, groups_end, more_groups, next_group}
 use Rattle.cwr_decode.proofs.whole.collect.Goals as goal
 
 pub collect_group-requires : goal.collect_group-requires

@@ -3,7 +3,7 @@ use Rattle.std.specs.List.{flat_map}
 use Rattle.std.specs.Vec.Iter.{into_iter_items}
 use Rattle.cwr_values.specs.declared.items.Item.TheVariants.{Opened}
 use Rattle.cwr_judge.specs.Format.Items.{group_items}
-use Rattle.cwr_decode.proofs.ItemsMakeOneTransmission.{AreGroups}
+use Rattle.cwr_decode.proofs.lemmas.ItemsMakeOneTransmission.{AreGroups}
 use Rattle.cwr_decode.proofs.whole.collect.Given as goal
 
 abbrev pub invariant-groups : goal.invariant-groups

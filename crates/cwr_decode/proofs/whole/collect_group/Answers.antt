@@ -5,7 +5,7 @@ use Rattle.cwr_values.specs.declared.items.Item.{Item}
 use Rattle.cwr_values.specs.declared.items.Item.TheVariants.{Transaction, GroupClosed}
 use Rattle.cwr_values.specs.Format.Values.{GroupValue, IsTransaction, type_of}
 use Rattle.cwr_decode.specs.Format.Runs.{AreGroupItems}
-use Rattle.cwr_decode.proofs.ItemsMakeOneTransmission.{more_transactions, next_foot, next_in_group, next_transaction}
+use Rattle.cwr_decode.proofs.lemmas.ItemsMakeOneTransmission.{more_transactions, next_foot, next_in_group, next_transaction}
 use Rattle.cwr_decode.proofs.whole.collect_group.Goals as goal
 
 pub add_transaction-requires : goal.add_transaction-requires

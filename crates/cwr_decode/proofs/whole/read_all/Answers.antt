@@ -1,7 +1,7 @@
 use Rattle.std.proofs.Common.{Ok, sym, ◌∙◌}
-use Rattle.cwr_decode.proofs.ItemsMakeOneTransmission.{items_once}
-use Rattle.cwr_decode.proofs.ItemsReadSoFar.{all_items, all_taken, reports_accepted, reports_canonical, reports_stopped}
-use Rattle.cwr_decode.proofs.ItemsReadSoFar.{whole_lacks_room}
+use Rattle.cwr_decode.proofs.lemmas.ItemsMakeOneTransmission.{items_once}
+use Rattle.cwr_decode.proofs.lemmas.ItemsReadSoFar.{all_items, all_taken, reports_accepted, reports_canonical, reports_stopped}
+use Rattle.cwr_decode.proofs.lemmas.ItemsReadSoFar.{whole_lacks_room}
 use Rattle.cwr_decode.proofs.whole.read_all.Goals as goal
 
 pub collect-requires : goal.collect-requires

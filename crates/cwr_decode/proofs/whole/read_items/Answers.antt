@@ -4,7 +4,7 @@ use Rattle.cwr_values.specs.declared.items.Item.{Item}
 use Rattle.cwr_decode.specs.declared.readings.ReadFault.TheVariants as faults
 use Rattle.cwr_decode.specs.Steps.Runs.{IsReadingOn, HasReadAll, StopsWhole}
 use Rattle.cwr_decode.specs.declared.readings.ReadFault.{ReadFault}
-use Rattle.cwr_decode.proofs.ItemsReadSoFar.{fault_read, fewer_left, items_outgrow, none_read, of_fault, some_read}
+use Rattle.cwr_decode.proofs.lemmas.ItemsReadSoFar.{fault_read, fewer_left, items_outgrow, none_read, of_fault, some_read}
 use Rattle.cwr_decode.proofs.whole.read_items.Goals as goal
 
 pub returns-in_err-item-clause-stops : goal.returns-in_err-item-clause-stops

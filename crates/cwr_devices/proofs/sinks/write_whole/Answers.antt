@@ -1,6 +1,6 @@
 use Rattle.std.proofs.Common.{ℕ, ◌∙◌, arith}
 use Rattle.std.proofs.lemmas.List.{take_rest, length-take, length-drop}
-use Rattle.cwr_devices.proofs.Moves.{writes_on}
+use Rattle.cwr_devices.proofs.lemmas.Moves.{writes_on}
 use Rattle.cwr_devices.proofs.sinks.write_whole.Goals as goal
 
 pub loop-written-preserved : goal.loop-written-preserved

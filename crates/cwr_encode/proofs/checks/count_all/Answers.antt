@@ -1,6 +1,6 @@
 use Rattle.std.proofs.Common.{◌∙◌, arith}
-use Rattle.cwr_encode.proofs.CountedAll.{next_admitted, stands_next, stands_whole}
-use Rattle.cwr_encode.proofs.PutRows.{found_within}
+use Rattle.cwr_encode.proofs.lemmas.CountedAll.{next_admitted, stands_next, stands_whole}
+use Rattle.cwr_encode.proofs.lemmas.PutRows.{found_within}
 use Rattle.cwr_encode.proofs.checks.count_all.Goals as goal
 
 pub step-requires : goal.step-requires

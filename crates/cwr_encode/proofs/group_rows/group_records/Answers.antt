@@ -1,6 +1,6 @@
 use Rattle.std.proofs.Common.{arith, length}
-use Rattle.cwr_encode.proofs.PutRows.{found_within}
-use Rattle.cwr_encode.proofs.Totals.{sum_step, group_total}
+use Rattle.cwr_encode.proofs.lemmas.PutRows.{found_within}
+use Rattle.cwr_encode.proofs.lemmas.Totals.{sum_step, group_total}
 use Rattle.cwr_encode.proofs.group_rows.group_records.Goals as goal
 
 pub loop-transaction-preserved : goal.loop-transaction-preserved

@@ -3,7 +3,7 @@ use Rattle.cwr_lines.specs.Format.Records.{row_of}
 use Rattle.cwr_shape.specs.Format.Numbers.{group_records}
 use Rattle.cwr_values.specs.Format.Rows.{canonical_line}
 use Rattle.cwr_encode.specs.Steps.GroupTexts.{text_of_transactions}
-use Rattle.cwr_encode.proofs.Numbered.{puts_both, puts_cut, puts_as}
+use Rattle.cwr_encode.proofs.lemmas.Numbered.{puts_both, puts_cut, puts_as}
 use Rattle.cwr_encode.proofs.group_rows.put_group.Goals as goal
 
 pub returns-in_err-put_row-clause-puts : goal.returns-in_err-put_row-clause-puts

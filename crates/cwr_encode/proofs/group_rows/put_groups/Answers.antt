@@ -1,7 +1,7 @@
 use Rattle.std.proofs.Common.{◌∙◌, ◌+◌, arith}
 use Rattle.cwr_encode.specs.Steps.GroupTexts.{text_of_group}
-use Rattle.cwr_encode.proofs.PutRows.{found_within}
-use Rattle.cwr_encode.proofs.Numbered.{step_more, steps_whole, steps_refused}
+use Rattle.cwr_encode.proofs.lemmas.PutRows.{found_within}
+use Rattle.cwr_encode.proofs.lemmas.Numbered.{step_more, steps_whole, steps_refused}
 use Rattle.cwr_encode.proofs.group_rows.put_groups.Goals as goal
 
 pub returns-in_err-put_group-clause-puts : goal.returns-in_err-put_group-clause-puts

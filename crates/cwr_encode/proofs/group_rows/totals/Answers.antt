@@ -1,7 +1,7 @@
 use Rattle.std.proofs.Common.{arith, length}
-use Rattle.cwr_values.proofs.Grouping.{count_records}
-use Rattle.cwr_encode.proofs.PutRows.{found_within}
-use Rattle.cwr_encode.proofs.Totals.{sum_step, transactions_total, records_total}
+use Rattle.cwr_values.proofs.lemmas.Grouping.{count_records}
+use Rattle.cwr_encode.proofs.lemmas.PutRows.{found_within}
+use Rattle.cwr_encode.proofs.lemmas.Totals.{sum_step, transactions_total, records_total}
 use Rattle.cwr_encode.proofs.group_rows.totals.Goals as goal
 
 pub loop-group-preserved : goal.loop-group-preserved

@@ -1,6 +1,6 @@
 use Rattle.std.proofs.Common.{◌≡◌, ◌≤◌, ◌+◌, ◌-◌, ◌^◌, min, length, take}
 use Rattle.std.specs.Prelude.{sum_by}
-use Rattle.cwr_values.proofs.Grouping.{count_records}
+use Rattle.cwr_values.proofs.lemmas.Grouping.{count_records}
 use Rattle.cwr_encode.proofs.group_rows.totals.Given as goal
 
 abbrev pub invariant-loop-group : goal.invariant-loop-group

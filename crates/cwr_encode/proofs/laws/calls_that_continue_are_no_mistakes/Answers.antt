@@ -1,4 +1,4 @@
-use Rattle.cwr_encode.proofs.NoMistakes.{no_mistake_foot, no_mistake_group, no_mistake_opening, no_mistake_transaction}
+use Rattle.cwr_encode.proofs.lemmas.NoMistakes.{no_mistake_foot, no_mistake_group, no_mistake_opening, no_mistake_transaction}
 use Rattle.cwr_encode.proofs.laws.calls_that_continue_are_no_mistakes.Goals as goal
 
 pub returns-clause-opening : goal.returns-clause-opening

@@ -1,4 +1,4 @@
-use Rattle.cwr_encode.proofs.PartLaws.{one_part}
+use Rattle.cwr_encode.proofs.lemmas.PartLaws.{one_part}
 use Rattle.cwr_encode.proofs.laws.part_depends_on_its_records.Goals as goal
 
 pub returns : goal.returns

@@ -1,6 +1,6 @@
 use Rattle.std.proofs.Common.{refl, sym, ◌∙◌}
-use Rattle.cwr_values.proofs.FitsIsWithin.{no_fault}
-use Rattle.cwr_encode.proofs.Few.{few_of}
+use Rattle.cwr_values.proofs.lemmas.FitsIsWithin.{no_fault}
+use Rattle.cwr_encode.proofs.lemmas.Few.{few_of}
 use Rattle.cwr_encode.proofs.whole.encode.Goals as goal
 
 pub write_transmission-requires : goal.write_transmission-requires

@@ -2,9 +2,9 @@ use Rattle.std.proofs.Common.{[], ◌++◌, sym, ap, ◌∙◌}
 use Rattle.cwr_lines.specs.Format.Records.{row_of}
 use Rattle.cwr_values.specs.Format.Rows.{canonical_line, trailer}
 use Rattle.cwr_encode.specs.Steps.GroupTexts.{text_of_groups}
-use Rattle.cwr_encode.proofs.Numbered.{puts_both, puts_cut, puts_as}
-use Rattle.cwr_encode.proofs.WholeTexts.{text-parts, last_line}
-use Rattle.cwr_encode.proofs.WholeWrites.{line_of_three}
+use Rattle.cwr_encode.proofs.lemmas.Numbered.{puts_both, puts_cut, puts_as}
+use Rattle.cwr_encode.proofs.lemmas.WholeTexts.{text-parts, last_line}
+use Rattle.cwr_encode.proofs.lemmas.WholeWrites.{line_of_three}
 use Rattle.cwr_encode.proofs.whole.put_transmission.Goals as goal
 
 pub returns-in_err-put_row-clause-puts : goal.returns-in_err-put_row-clause-puts

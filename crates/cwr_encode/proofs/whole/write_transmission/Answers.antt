@@ -1,5 +1,5 @@
 use Rattle.cwr_values.specs.Format.Rows.{canonical_text}
-use Rattle.cwr_encode.proofs.WholeWrites.{all_flushed, cut_off}
+use Rattle.cwr_encode.proofs.lemmas.WholeWrites.{all_flushed, cut_off}
 use Rattle.cwr_encode.proofs.whole.write_transmission.Goals as goal
 
 pub returns-in-Ok-clause-writes : goal.returns-in-Ok-clause-writes

@@ -4,8 +4,8 @@ use Rattle.cwr_tools.specs.declared.verdicts.Verdict.{Verdict}
 use Rattle.cwr_tools.specs.declared.verdicts.ToolFault.{ToolFault}
 use Rattle.cwr_tools.specs.Format.Reports.{JudgesAccepted, lines_of_explained}
 use Rattle.cwr_tools.specs.Format.Verdicts.{IsAnswerAfter}
-use Rattle.cwr_causes.proofs.TakenPieces.{no_more}
-use Rattle.cwr_explain.proofs.WordsAfter.{explains_after, finds_after, no_words}
+use Rattle.cwr_causes.proofs.lemmas.TakenPieces.{no_more}
+use Rattle.cwr_explain.proofs.lemmas.WordsAfter.{explains_after, finds_after, no_words}
 use Rattle.cwr_explain.proofs.explaining.explain.Goals as goal
 
 pub returns-in-Err-clause-explains : goal.returns-in-Err-clause-explains

@@ -4,7 +4,7 @@ use Rattle.std.specs.List.{position, position_from}
 use Rattle.std.proofs.lemmas.List.{drop-drop, take_all, length-drop}
 use Rattle.std.proofs.lemmas.Iterator.Adapters.{position_from-zero}
 use Rattle.cwr_fields.specs.Format.Bytes.{is_control, has_control}
-use Rattle.cwr_fields.proofs.FirstFound.{passed, begun_at}
+use Rattle.cwr_fields.proofs.lemmas.FirstFound.{passed, begun_at}
 use Rattle.cwr_fields.proofs.byte_runs.first_control.Goals as goal
 
 pub loop-at-preserved : goal.loop-at-preserved

@@ -1,7 +1,7 @@
 use Rattle.std.proofs.Common.{◌≡◌, ◌-◌, ◌≤◌, Bool, ◌||◌, length, take, drop, ap, ap₂, ◌∙◌, arith}
 use Rattle.std.proofs.lemmas.List.{take_all, length-drop}
 use Rattle.cwr_fields.specs.Format.Bytes.{is_control, has_control}
-use Rattle.cwr_fields.proofs.Covers.{one_block, covers}
+use Rattle.cwr_fields.proofs.lemmas.Covers.{one_block, covers}
 use Rattle.cwr_fields.proofs.byte_runs.has_control_by_lanes.Goals as goal
 
 pub loop-at-preserved : goal.loop-at-preserved

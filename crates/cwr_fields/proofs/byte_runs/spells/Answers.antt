@@ -1,5 +1,5 @@
 use Rattle.std.proofs.Common.{refl, sym, arith, true≢false}
-use Rattle.cwr_fields.proofs.DigitsFromTheEnd.{spells-front, spells-wrong, spells-none}
+use Rattle.cwr_fields.proofs.lemmas.DigitsFromTheEnd.{spells-front, spells-wrong, spells-none}
 use Rattle.cwr_fields.proofs.byte_runs.spells.Goals as goal
 
 pub returns-then-last-rest : goal.returns-then-last-rest

@@ -1,6 +1,6 @@
 use Rattle.std.proofs.Common.{length}
 use Rattle.std.specs.Prelude.{◌↔◌}
-use Rattle.cwr_fields.proofs.DigitsFromTheEnd.{SpellsDigits}
+use Rattle.cwr_fields.proofs.lemmas.DigitsFromTheEnd.{SpellsDigits}
 use Rattle.cwr_fields.proofs.byte_runs.spells.Given as goal
 
 abbrev pub invariant-loop-text : goal.invariant-loop-text

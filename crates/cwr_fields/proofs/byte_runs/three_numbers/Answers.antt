@@ -1,6 +1,6 @@
 use Rattle.std.proofs.Common.{arith}
 use Rattle.std.proofs.lemmas.Grind.{common_steps}
-use Rattle.cwr_fields.proofs.DigitsWritten.{three_parts}
+use Rattle.cwr_fields.proofs.lemmas.DigitsWritten.{three_parts}
 use Rattle.cwr_fields.proofs.byte_runs.three_numbers.Goals as goal
 
 pub returns-in_err-number-clause-some : goal.returns-in_err-number-clause-some

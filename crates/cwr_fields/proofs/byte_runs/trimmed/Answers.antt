@@ -1,5 +1,5 @@
 use Rattle.std.proofs.Common.{refl, sym, ◌∙◌}
-use Rattle.cwr_fields.proofs.Trims.{trimmed-front, trimmed-stays, trimmed-none}
+use Rattle.cwr_fields.proofs.lemmas.Trims.{trimmed-front, trimmed-stays, trimmed-none}
 use Rattle.cwr_fields.proofs.byte_runs.trimmed.Goals as goal
 
 pub loop-rest-preserved : goal.loop-rest-preserved

@@ -1,6 +1,6 @@
 use Rattle.std.proofs.Common.{◌-◌, ◌+◌, ◌%◌, arith}
 use Rattle.std.proofs.lemmas.List.{length-set}
-use Rattle.cwr_fields.proofs.DigitsWritten.{digit_written, all_written}
+use Rattle.cwr_fields.proofs.lemmas.DigitsWritten.{digit_written, all_written}
 use Rattle.cwr_fields.proofs.byte_runs.write_digits.Goals as goal
 
 pub loop-at-preserved : goal.loop-at-preserved

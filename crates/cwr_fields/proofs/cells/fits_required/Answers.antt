@@ -1,7 +1,7 @@
 use Rattle.std.proofs.Common.{◌≡◌, not, arith}
 use Rattle.std.proofs.lemmas.Grind.{common_steps}
 use Rattle.cwr_fields.specs.Format.Bytes.{is_plain, has_control}
-use Rattle.cwr_fields.proofs.Blanks.{plain_unless_control}
+use Rattle.cwr_fields.proofs.lemmas.Blanks.{plain_unless_control}
 use Rattle.cwr_fields.proofs.cells.fits_required.Goals as goal
 
 pub returns-else-is_plain-clause-err : goal.returns-else-is_plain-clause-err

@@ -1,7 +1,7 @@
 use Rattle.std.proofs.Common.{◌≡◌, not, arith}
 use Rattle.std.proofs.lemmas.Grind.{common_steps}
 use Rattle.cwr_fields.specs.Format.Bytes.{is_plain, has_control}
-use Rattle.cwr_fields.proofs.Blanks.{plain_unless_control}
+use Rattle.cwr_fields.proofs.lemmas.Blanks.{plain_unless_control}
 use Rattle.cwr_fields.proofs.cells.fits_required_plain.Goals as goal
 
 pub returns-then-is_spaces-clause-err : goal.returns-then-is_spaces-clause-err

@@ -1,8 +1,8 @@
 use Rattle.std.proofs.Common.{◌≡◌, false, sym, ◌∙◌, inl, arith}
 use Rattle.std.proofs.lemmas.Grind.{common_steps}
 use Rattle.cwr_fields.specs.Format.Bytes.{is_spaces}
-use Rattle.cwr_fields.proofs.Blanks.{blank}
-use Rattle.cwr_fields.proofs.DigitsWritten.{share_or}
+use Rattle.cwr_fields.proofs.lemmas.Blanks.{blank}
+use Rattle.cwr_fields.proofs.lemmas.DigitsWritten.{share_or}
 use Rattle.cwr_fields.proofs.cells.fits_share.Goals as goal
 
 pub returns-then-is_spaces-clause-ok : goal.returns-then-is_spaces-clause-ok

@@ -1,4 +1,4 @@
-use Rattle.cwr_fields.proofs.Blanks.{blank_then, blank_else}
+use Rattle.cwr_fields.proofs.lemmas.Blanks.{blank_then, blank_else}
 use Rattle.cwr_fields.proofs.cells.is_opt_time.Goals as goal
 
 pub returns-then-is_spaces : goal.returns-then-is_spaces

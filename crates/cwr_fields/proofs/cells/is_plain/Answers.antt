@@ -1,5 +1,5 @@
 use Rattle.std.proofs.Common.{ap, not, sym, ◌∙◌, arith}
-use Rattle.cwr_fields.proofs.Blanks.{plain_unless_control}
+use Rattle.cwr_fields.proofs.lemmas.Blanks.{plain_unless_control}
 use Rattle.cwr_fields.proofs.cells.is_plain.Goals as goal
 
 pub returns : goal.returns

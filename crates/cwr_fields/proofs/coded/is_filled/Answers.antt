@@ -1,6 +1,6 @@
 use Rattle.std.proofs.Common.{◌≡◌, ◌↔◌, ℕ, List, length, IsTrue, subst, false}
 use Rattle.cwr_fields.specs.Format.Bytes.{filled}
-use Rattle.cwr_fields.proofs.Members.{fills, begins_otherwise}
+use Rattle.cwr_fields.proofs.lemmas.Members.{fills, begins_otherwise}
 use Rattle.cwr_fields.proofs.coded.is_filled.Goals as goal
 
 pub returns-in-Some : goal.returns-in-Some

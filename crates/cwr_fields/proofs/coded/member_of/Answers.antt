@@ -1,5 +1,5 @@
 use Rattle.std.proofs.Common.{sym, ◌∙◌, arith, true≢false}
-use Rattle.cwr_fields.proofs.Members.{found_at, passed_at, none_from}
+use Rattle.cwr_fields.proofs.lemmas.Members.{found_at, passed_at, none_from}
 use Rattle.cwr_fields.proofs.coded.member_of.Goals as goal
 
 pub returns-then-is_filled : goal.returns-then-is_filled

@@ -1,5 +1,5 @@
 use Rattle.std.proofs.Common.{◌≡◌, ◌<◌, ◌-◌, get_or, length, arith}
-use Rattle.cwr_fields.proofs.Weights.{weight-more, weight_at_most}
+use Rattle.cwr_fields.proofs.lemmas.Weights.{weight-more, weight_at_most}
 use Rattle.cwr_fields.proofs.iswc.weighted_sum.Goals as goal
 
 pub loop-at-preserved : goal.loop-at-preserved

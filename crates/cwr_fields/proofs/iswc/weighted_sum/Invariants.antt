@@ -1,5 +1,5 @@
 use Rattle.std.proofs.Common.{◌≡◌, ◌≤◌, ◌*◌}
-use Rattle.cwr_fields.proofs.Weights.{weight}
+use Rattle.cwr_fields.proofs.lemmas.Weights.{weight}
 use Rattle.cwr_fields.proofs.iswc.weighted_sum.Given as goal
 
 abbrev pub invariant-loop-at : goal.invariant-loop-at

@@ -1,7 +1,7 @@
 use Rattle.std.proofs.Common.{take, drop, ◌||◌, eqb}
 use Rattle.std.proofs.Math.Dec.{ltb}
-use Rattle.cwr_fields.proofs.ClearLanes.{both}
-use Rattle.cwr_fields.proofs.Covers.{is_found}
+use Rattle.cwr_fields.proofs.lemmas.ClearLanes.{both}
+use Rattle.cwr_fields.proofs.lemmas.Covers.{is_found}
 use Rattle.cwr_fields.proofs.lanes.has_control_in_lanes.Goals as goal
 
 pub returns : goal.returns

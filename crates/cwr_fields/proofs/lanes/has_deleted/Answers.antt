@@ -1,6 +1,6 @@
 use Rattle.std.proofs.Common.{w8, eqb, lit≤}
 use Rattle.std.proofs.lemmas.Simd.{bitmask_splat}
-use Rattle.cwr_fields.proofs.ClearLanes.{clears}
+use Rattle.cwr_fields.proofs.lemmas.ClearLanes.{clears}
 use Rattle.cwr_fields.proofs.lanes.has_deleted.Goals as goal
 
 pub returns : goal.returns

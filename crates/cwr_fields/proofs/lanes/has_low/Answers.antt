@@ -1,7 +1,7 @@
 use Rattle.std.proofs.Common.{w8, lit≤}
 use Rattle.std.proofs.Math.Dec.{ltb}
 use Rattle.std.proofs.lemmas.Simd.{bitmask_splat}
-use Rattle.cwr_fields.proofs.ClearLanes.{clears}
+use Rattle.cwr_fields.proofs.lemmas.ClearLanes.{clears}
 use Rattle.cwr_fields.proofs.lanes.has_low.Goals as goal
 
 pub returns : goal.returns

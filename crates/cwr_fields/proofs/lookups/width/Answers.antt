@@ -1,6 +1,6 @@
 use Rattle.std.proofs.Common.{arith}
-use Rattle.cwr_fields.proofs.AllKinds.{line_width_widest}
-use Rattle.cwr_fields.proofs.FieldStarts.{width_of_last}
+use Rattle.cwr_fields.proofs.lemmas.AllKinds.{line_width_widest}
+use Rattle.cwr_fields.proofs.lemmas.FieldStarts.{width_of_last}
 use Rattle.cwr_fields.proofs.lookups.width.Goals as goal
 
 pub overflow_add-result : goal.overflow_add-result

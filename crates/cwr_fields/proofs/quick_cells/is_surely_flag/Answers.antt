@@ -1,5 +1,5 @@
 use Rattle.std.proofs.Common.{arith}
-use Rattle.cwr_fields.proofs.QuickTexts.{flag_text}
+use Rattle.cwr_fields.proofs.lemmas.QuickTexts.{flag_text}
 use Rattle.cwr_fields.proofs.quick_cells.is_surely_flag.Goals as goal
 
 pub returns : goal.returns

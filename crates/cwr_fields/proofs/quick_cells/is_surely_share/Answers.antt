@@ -1,5 +1,5 @@
 use Rattle.std.proofs.Common.{arith}
-use Rattle.cwr_fields.proofs.QuickTexts.{share_text}
+use Rattle.cwr_fields.proofs.lemmas.QuickTexts.{share_text}
 use Rattle.cwr_fields.proofs.quick_cells.is_surely_share.Goals as goal
 
 pub returns : goal.returns

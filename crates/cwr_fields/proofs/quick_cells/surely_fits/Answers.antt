@@ -1,6 +1,6 @@
 use Rattle.std.proofs.Common.{ap}
 use Rattle.cwr_fields.specs.Format.Cells.{type_width}
-use Rattle.cwr_fields.proofs.QuickTexts.{blank_holds}
+use Rattle.cwr_fields.proofs.lemmas.QuickTexts.{blank_holds}
 use Rattle.cwr_fields.proofs.quick_cells.surely_fits.Goals as goal
 
 pub is_code-requires : goal.is_code-requires

@@ -1,5 +1,5 @@
 use Rattle.std.proofs.Common.{arith}
-use Rattle.cwr_fields.proofs.NextDigits.{last_digit, one_more}
+use Rattle.cwr_fields.proofs.lemmas.NextDigits.{last_digit, one_more}
 use Rattle.cwr_fields.proofs.spelled.next_digits.Goals as goal
 
 pub overflow_add-next : goal.overflow_add-next

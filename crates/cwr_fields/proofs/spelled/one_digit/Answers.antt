@@ -1,4 +1,4 @@
-use Rattle.cwr_fields.proofs.NextDigits.{one_alone}
+use Rattle.cwr_fields.proofs.lemmas.NextDigits.{one_alone}
 use Rattle.cwr_fields.proofs.spelled.one_digit.Goals as goal
 
 pub returns : goal.returns

@@ -1,5 +1,5 @@
 use Rattle.std.proofs.Common.{sym, ◌∙◌, append-nil}
-use Rattle.cwr_encode.proofs.Numbered.{puts_as}
+use Rattle.cwr_encode.proofs.lemmas.Numbered.{puts_as}
 use Rattle.cwr_json.specs.Steps.FormTexts.{listed_text}
 use Rattle.cwr_json.proofs.items.put_alone.Goals as goal
 

@@ -1,5 +1,5 @@
 use Rattle.cwr_judge.specs.Format.Items.{item_records}
-use Rattle.cwr_encode.proofs.Numbered.{puts_both, puts_cut}
+use Rattle.cwr_encode.proofs.lemmas.Numbered.{puts_both, puts_cut}
 use Rattle.cwr_json.specs.Steps.FormTexts.{opening_text, listed_texts}
 use Rattle.cwr_json.proofs.items.put_begun.Goals as goal
 

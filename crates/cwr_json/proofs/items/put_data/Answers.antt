@@ -1,9 +1,9 @@
 use Rattle.std.proofs.Common.{◌++◌}
 use Rattle.std.specs.Prelude.{codes}
 use Rattle.cwr_judge.specs.Format.Items.{item_records}
-use Rattle.cwr_encode.proofs.Numbered.{puts_as, puts_both, puts_cut}
+use Rattle.cwr_encode.proofs.lemmas.Numbered.{puts_as, puts_both, puts_cut}
 use Rattle.cwr_json.specs.Steps.FormTexts.{opening_text, listed_texts}
-use Rattle.cwr_json.proofs.PrintedItems.{item_printed}
+use Rattle.cwr_json.proofs.lemmas.PrintedItems.{item_printed}
 use Rattle.cwr_json.proofs.items.put_data.Goals as goal
 
 pub returns-in_err-put_begun-clause-puts : goal.returns-in_err-put_begun-clause-puts

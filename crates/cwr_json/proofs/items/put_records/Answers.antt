@@ -1,7 +1,7 @@
 use Rattle.std.proofs.Common.{◌∙◌, arith}
 use Rattle.cwr_json.specs.Steps.FormTexts.{listed_text}
-use Rattle.cwr_encode.proofs.PutRows.{found_within}
-use Rattle.cwr_encode.proofs.Numbered.{step_more, steps_refused, steps_whole}
+use Rattle.cwr_encode.proofs.lemmas.PutRows.{found_within}
+use Rattle.cwr_encode.proofs.lemmas.Numbered.{step_more, steps_refused, steps_whole}
 use Rattle.cwr_json.proofs.items.put_records.Goals as goal
 
 pub returns-in_err-put_listed-clause-puts : goal.returns-in_err-put_listed-clause-puts

@@ -1,4 +1,4 @@
-use Rattle.cwr_json.proofs.Encoded.{read_back}
+use Rattle.cwr_json.proofs.lemmas.Encoded.{read_back}
 use Rattle.cwr_json.proofs.laws.bytes_read_back.Goals as goal
 
 pub returns : goal.returns

@@ -1,4 +1,4 @@
-use Rattle.cwr_json.proofs.OneItem.{own_item}
+use Rattle.cwr_json.proofs.lemmas.OneItem.{own_item}
 use Rattle.cwr_json.proofs.laws.items_have_own_data.Goals as goal
 
 pub returns : goal.returns

@@ -1,9 +1,9 @@
 use Rattle.std.proofs.Common.{◌≡◌, ℕ, ◌+◌, ◌≤◌, ◌<◌, ◌++◌, List, length, ap, sym, ◌∙◌, append_assoc, arith}
 use Rattle.cwr_fields.specs.declared.kinds.Kind.{Kind}
 use Rattle.cwr_fields.specs.Format.Layouts.{layout}
-use Rattle.cwr_fields.proofs.AllKinds.{few_fields}
+use Rattle.cwr_fields.proofs.lemmas.AllKinds.{few_fields}
 use Rattle.cwr_json.specs.Steps.FormTexts.{field_member}
-use Rattle.cwr_json.proofs.MembersOfFields.{members_before, members_more, members_whole}
+use Rattle.cwr_json.proofs.lemmas.MembersOfFields.{members_before, members_more, members_whole}
 use Rattle.cwr_json.proofs.records.push_cells.Goals as goal
 
 pub push_field-requires : goal.push_field-requires

@@ -1,5 +1,5 @@
 use Rattle.std.proofs.Common.{◌≡◌, ◌+◌, ◌*◌, ◌≤◌, ◌++◌, length}
-use Rattle.cwr_json.proofs.MembersOfFields.{members_before}
+use Rattle.cwr_json.proofs.lemmas.MembersOfFields.{members_before}
 use Rattle.cwr_json.proofs.records.push_cells.Given as goal
 
 abbrev pub invariant-loop-before : goal.invariant-loop-before

@@ -3,8 +3,8 @@ use Rattle.std.specs.Prelude.{option_map}
 use Rattle.cwr_fields.specs.declared.kinds.Kind.{Kind}
 use Rattle.cwr_fields.specs.Format.Layouts.{field_with_start}
 use Rattle.cwr_fields.specs.Steps.Views.{field_view}
-use Rattle.cwr_json.proofs.FieldsShown.{short_line}
-use Rattle.cwr_json.proofs.MembersOfFields.{field_member-none, field_member-some, high_cell}
+use Rattle.cwr_json.proofs.lemmas.FieldsShown.{short_line}
+use Rattle.cwr_json.proofs.lemmas.MembersOfFields.{field_member-none, field_member-some, high_cell}
 use Rattle.cwr_json.proofs.records.push_field.Goals as goal
 
 pub returns-in_default-field-clause-value : goal.returns-in_default-field-clause-value

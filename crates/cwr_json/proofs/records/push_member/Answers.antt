@@ -1,7 +1,7 @@
 use Rattle.std.proofs.Common.{length, ap, sym, subst, arith}
 use Rattle.cwr_json.specs.Steps.FormTexts.{NoLow}
-use Rattle.cwr_json.proofs.FieldsShown.{length-trimmed-le}
-use Rattle.cwr_json.proofs.Spelled.{NoLow-trimmed}
+use Rattle.cwr_json.proofs.lemmas.FieldsShown.{length-trimmed-le}
+use Rattle.cwr_json.proofs.lemmas.Spelled.{NoLow-trimmed}
 use Rattle.cwr_json.proofs.records.push_member.Goals as goal
 
 pub push_spelled-requires-clause-room : goal.push_spelled-requires-clause-room

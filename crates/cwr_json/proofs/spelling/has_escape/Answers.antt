@@ -1,7 +1,7 @@
 use Rattle.std.proofs.Common.{◌≡◌, ℕ, ◌+◌, ◌-◌, true, false, [], ◌∷◌, drop, get_or, sym, ap, ◌∙◌, arith}
 use Rattle.std.proofs.lemmas.List.{length-drop}
 use Rattle.cwr_json.specs.Format.Encodings.{begins_escape, has_escape}
-use Rattle.cwr_json.proofs.Encoded.{escape_here, escape_later, escape_nowhere}
+use Rattle.cwr_json.proofs.lemmas.Encoded.{escape_here, escape_later, escape_nowhere}
 use Rattle.cwr_json.proofs.spelling.has_escape.Goals as goal
 
 pub returns-then-begins_escape : goal.returns-then-begins_escape

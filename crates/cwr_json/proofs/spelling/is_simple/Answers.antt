@@ -1,5 +1,5 @@
 use Rattle.std.proofs.lemmas.Bool.{and_parts}
-use Rattle.cwr_json.proofs.Spelled.{simple_more, simple_none}
+use Rattle.cwr_json.proofs.lemmas.Spelled.{simple_more, simple_none}
 use Rattle.cwr_json.proofs.spelling.is_simple.Goals as goal
 
 pub loop-b-init : goal.loop-b-init

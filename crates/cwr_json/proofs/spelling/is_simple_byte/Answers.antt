@@ -1,7 +1,7 @@
 use Rattle.std.proofs.Common.{leb-true, ltb-true}
 use Rattle.std.specs.Prelude.{nat_eq}
 use Rattle.std.proofs.lemmas.Bool.{eqb-false, and_parts, not-true}
-use Rattle.cwr_json.proofs.Spelled.{simple_byte}
+use Rattle.cwr_json.proofs.lemmas.Spelled.{simple_byte}
 use Rattle.cwr_json.proofs.spelling.is_simple_byte.Goals as goal
 
 pub returns : goal.returns

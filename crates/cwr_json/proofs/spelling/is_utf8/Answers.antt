@@ -1,5 +1,5 @@
 use Rattle.std.proofs.Common.{◌∙◌}
-use Rattle.cwr_json.proofs.Encoded.{is_ok_utf8}
+use Rattle.cwr_json.proofs.lemmas.Encoded.{is_ok_utf8}
 use Rattle.cwr_json.proofs.spelling.is_utf8.Goals as goal
 
 pub returns : goal.returns

@@ -1,5 +1,5 @@
 use Rattle.std.proofs.Common.{◌++◌, ℕ, List, ap, sym, ◌∙◌}
-use Rattle.cwr_json.proofs.Spelled.{spelled_high, spelled_low}
+use Rattle.cwr_json.proofs.lemmas.Spelled.{spelled_high, spelled_low}
 use Rattle.cwr_json.proofs.spelling.push_byte.Goals as goal
 
 pub returns-then-b-lt128-clause-value : goal.returns-then-b-lt128-clause-value

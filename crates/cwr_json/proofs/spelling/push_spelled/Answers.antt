@@ -1,5 +1,5 @@
 use Rattle.std.proofs.Common.{◌++◌, ℕ, List, ap, sym, ◌∙◌}
-use Rattle.cwr_json.proofs.Spelled.{spelled_as_is, spelled_each, spelled_simple}
+use Rattle.cwr_json.proofs.lemmas.Spelled.{spelled_as_is, spelled_each, spelled_simple}
 use Rattle.cwr_json.proofs.spelling.push_spelled.Goals as goal
 
 pub returns-then-is_simple-clause-value : goal.returns-then-is_simple-clause-value

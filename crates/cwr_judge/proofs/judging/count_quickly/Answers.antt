@@ -2,7 +2,7 @@ use Rattle.std.proofs.Common.{sym, ap, ◌∙◌, subst}
 use Rattle.cwr_fields.specs.declared.kinds.Kind.{Kind}
 use Rattle.std.specs.Prelude.{Some}
 use Rattle.cwr_judge.specs.Steps.Judged.{HasNumbers}
-use Rattle.cwr_judge.proofs.NumberCells.{known_of}
+use Rattle.cwr_judge.proofs.lemmas.NumberCells.{known_of}
 use Rattle.cwr_judge.proofs.judging.count_quickly.Goals as goal
 
 pub surely_has_numbers-requires : goal.surely_has_numbers-requires

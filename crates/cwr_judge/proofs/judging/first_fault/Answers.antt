@@ -1,8 +1,8 @@
 use Rattle.std.proofs.Common.{sym, subst, arith, ℕ, ◌+◌}
 use Rattle.cwr_shape.specs.declared.reasons.Reason.TheVariants.{Excess}
 use Rattle.cwr_judge.specs.Steps.Judged.{IsGoodAt, IsWrongAt, cell, past_last}
-use Rattle.cwr_judge.proofs.FirstFaults.{first_of, first_barred, one_more}
-use Rattle.cwr_judge.proofs.GoodLines.{excess_left}
+use Rattle.cwr_judge.proofs.lemmas.FirstFaults.{first_of, first_barred, one_more}
+use Rattle.cwr_judge.proofs.lemmas.GoodLines.{excess_left}
 use Rattle.cwr_judge.proofs.judging.first_fault.Goals as goal
 
 pub returns-in-Err : goal.returns-in-Err

@@ -1,7 +1,7 @@
 use Rattle.std.proofs.Common.{sym, ap, ◌∙◌, option_map, true≢false}
 use Rattle.cwr_fields.specs.Steps.Views.{field_view}
-use Rattle.cwr_judge.proofs.NumberCells.{no_field_no_number, carried_field, none_belongs, no_cell_no_number, number_cell}
-use Rattle.cwr_judge.proofs.NumberCells.{other_cell}
+use Rattle.cwr_judge.proofs.lemmas.NumberCells.{no_field_no_number, carried_field, none_belongs, no_cell_no_number, number_cell}
+use Rattle.cwr_judge.proofs.lemmas.NumberCells.{other_cell}
 use Rattle.cwr_judge.proofs.judging.has_number.Goals as goal
 
 pub returns-in_default-clause-yes : goal.returns-in_default-clause-yes

@@ -1,5 +1,5 @@
 use Rattle.std.proofs.Common.{lit≤}
-use Rattle.cwr_judge.proofs.NumberCells.{all_numbers}
+use Rattle.cwr_judge.proofs.lemmas.NumberCells.{all_numbers}
 use Rattle.cwr_judge.proofs.judging.has_numbers.Goals as goal
 
 pub returns-then-not-has_number-clause-no : goal.returns-then-not-has_number-clause-no

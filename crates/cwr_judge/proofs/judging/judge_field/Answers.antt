@@ -2,8 +2,8 @@ use Rattle.std.proofs.Common.{sym, ap, ◌∙◌, option_map, true, false}
 use Rattle.std.proofs.lemmas.Result.{on_ok_weaker, IfErr-weaker}
 use Rattle.cwr_fields.specs.Steps.Views.{field_view}
 use Rattle.cwr_judge.specs.Steps.Judged.{IsTextFault, IsNumberFault, HasReasonAt}
-use Rattle.cwr_judge.proofs.NumberCells.{wide_as_type}
-use Rattle.cwr_judge.proofs.FirstFaults.{no_field, no_cell, good_at, fault_at, no_number}
+use Rattle.cwr_judge.proofs.lemmas.NumberCells.{wide_as_type}
+use Rattle.cwr_judge.proofs.lemmas.FirstFaults.{no_field, no_cell, good_at, fault_at, no_number}
 use Rattle.cwr_judge.proofs.judging.judge_field.Goals as goal
 
 pub returns-in_default-clause-ok : goal.returns-in_default-clause-ok

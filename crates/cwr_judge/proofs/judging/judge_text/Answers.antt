@@ -1,4 +1,4 @@
-use Rattle.cwr_judge.proofs.FirstFaults.{text_barred}
+use Rattle.cwr_judge.proofs.lemmas.FirstFaults.{text_barred}
 use Rattle.cwr_judge.proofs.judging.judge_text.Goals as goal
 
 pub returns-in-Err-admits-clause-err : goal.returns-in-Err-admits-clause-err

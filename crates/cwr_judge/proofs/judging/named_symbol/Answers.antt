@@ -1,5 +1,5 @@
 use Rattle.std.proofs.Common.{sym, true≢false}
-use Rattle.cwr_judge.proofs.FirstFaults.{no_type, no_role}
+use Rattle.cwr_judge.proofs.lemmas.FirstFaults.{no_type, no_role}
 use Rattle.cwr_judge.proofs.judging.named_symbol.Goals as goal
 
 pub returns-in-None : goal.returns-in-None

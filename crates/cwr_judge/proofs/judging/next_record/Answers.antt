@@ -4,7 +4,7 @@ use Rattle.cwr_shape.specs.declared.symbols.Symbol.{Symbol}
 use Rattle.std.specs.Prelude.{Some}
 use Rattle.cwr_shape.specs.Format.NextSymbols.{IsBarred}
 use Rattle.cwr_judge.specs.Steps.Judged.{HasNumbers, Lacks}
-use Rattle.cwr_judge.proofs.NumberCells.{known_of, lacking, barred}
+use Rattle.cwr_judge.proofs.lemmas.NumberCells.{known_of, lacking, barred}
 use Rattle.cwr_judge.proofs.judging.next_record.Goals as goal
 
 pub has_numbers-requires : goal.has_numbers-requires

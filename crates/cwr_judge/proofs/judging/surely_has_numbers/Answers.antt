@@ -1,5 +1,5 @@
 use Rattle.std.proofs.Common.{refl}
-use Rattle.cwr_judge.proofs.NumberCells.{both_sequences}
+use Rattle.cwr_judge.proofs.lemmas.NumberCells.{both_sequences}
 use Rattle.cwr_judge.proofs.judging.surely_has_numbers.Goals as goal
 
 pub returns : goal.returns

@@ -1,6 +1,6 @@
 use Rattle.std.proofs.Common.{sym, drop, ◌∙◌}
 use Rattle.cwr_levels.specs.Format.Findings.{parties_after}
-use Rattle.cwr_levels.proofs.BlockParties.{block_over_whole}
+use Rattle.cwr_levels.proofs.lemmas.BlockParties.{block_over_whole}
 use Rattle.cwr_levels.proofs.judging.begins_block_over_whole.Goals as goal
 
 pub returns-then-not-before : goal.returns-then-not-before

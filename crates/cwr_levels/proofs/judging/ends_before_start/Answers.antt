@@ -1,5 +1,5 @@
 use Rattle.std.proofs.Common.{◌∙◌}
-use Rattle.cwr_levels.proofs.HeaderTests.{start_is_short, end_is_short, order_of_dates, order_with_end, order_without_end}
+use Rattle.cwr_levels.proofs.lemmas.HeaderTests.{start_is_short, end_is_short, order_of_dates, order_with_end, order_without_end}
 use Rattle.cwr_levels.proofs.judging.ends_before_start.Goals as goal
 
 pub number_of-start-requires : goal.number_of-start-requires

@@ -1,6 +1,6 @@
 use Rattle.std.proofs.Common.{sym, ap, ◌∙◌}
 use Rattle.cwr_fields.specs.Format.Bytes.{is_spaces}
-use Rattle.cwr_levels.proofs.RuleTests.{blank_excerpt_type}
+use Rattle.cwr_levels.proofs.lemmas.RuleTests.{blank_excerpt_type}
 use Rattle.cwr_levels.proofs.judging.has_no_excerpt_type.Goals as goal
 
 pub returns-in-Some : goal.returns-in-Some

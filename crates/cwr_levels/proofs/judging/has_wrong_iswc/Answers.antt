@@ -3,8 +3,8 @@ use Rattle.std.specs.Prelude.{not, ◌&&◌}
 use Rattle.cwr_fields.specs.Format.Bytes.{is_spaces}
 use Rattle.cwr_fields.specs.Format.Iswc.{is_iswc}
 use Rattle.cwr_fields.specs.declared.kinds.Kind.TheVariants as kinds
-use Rattle.cwr_levels.proofs.RuleFields.{iswc_of_nwr, iswc_of_rev, iswc_of_ewt, iswc_of_ver, iswc_of_com}
-use Rattle.cwr_levels.proofs.RuleTests.{wrong_iswc}
+use Rattle.cwr_levels.proofs.lemmas.RuleFields.{iswc_of_nwr, iswc_of_rev, iswc_of_ewt, iswc_of_ver, iswc_of_com}
+use Rattle.cwr_levels.proofs.lemmas.RuleTests.{wrong_iswc}
 use Rattle.cwr_levels.proofs.judging.has_wrong_iswc.Goals as goal
 
 pub returns-in-Nwr : goal.returns-in-Nwr

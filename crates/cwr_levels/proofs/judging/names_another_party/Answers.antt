@@ -1,7 +1,7 @@
 use Rattle.std.proofs.Common.{ℕ, List, sym, ap, ◌∙◌}
 use Rattle.std.specs.Prelude.{not, option_map}
 use Rattle.cwr_levels.specs.Steps.Walks.{is_number}
-use Rattle.cwr_levels.proofs.RuleTests.{other_publisher, other_writer}
+use Rattle.cwr_levels.proofs.lemmas.RuleTests.{other_publisher, other_writer}
 use Rattle.cwr_levels.proofs.judging.names_another_party.Goals as goal
 
 pub returns-in-Spt : goal.returns-in-Spt

@@ -1,6 +1,6 @@
 use Rattle.std.proofs.Common.{sym, ap, ◌∙◌}
 use Rattle.std.specs.Prelude.{not}
-use Rattle.cwr_levels.proofs.RuleTests.{unknown_publisher}
+use Rattle.cwr_levels.proofs.lemmas.RuleTests.{unknown_publisher}
 use Rattle.cwr_levels.proofs.judging.names_no_publisher.Goals as goal
 
 pub returns-then-is_of : goal.returns-then-is_of

@@ -1,6 +1,6 @@
 use Rattle.std.proofs.Common.{sym, ◌∙◌, arith}
 use Rattle.cwr_levels.specs.Steps.Walks.{is_publisher}
-use Rattle.cwr_levels.proofs.OneMore.{any_there, none_more, none_at_end, none_there_is_end}
+use Rattle.cwr_levels.proofs.lemmas.OneMore.{any_there, none_more, none_at_end, none_there_is_end}
 use Rattle.cwr_levels.proofs.publishers.has_publisher.Goals as goal
 
 pub returns-then-is_publisher : goal.returns-then-is_publisher

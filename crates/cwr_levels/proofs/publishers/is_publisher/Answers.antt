@@ -1,6 +1,6 @@
 use Rattle.std.proofs.Common.{sym, ap, ◌∙◌}
 use Rattle.std.specs.Str.{bytes_eq}
-use Rattle.cwr_levels.proofs.RuleTests.{publisher_of_number}
+use Rattle.cwr_levels.proofs.lemmas.RuleTests.{publisher_of_number}
 use Rattle.cwr_levels.proofs.publishers.is_publisher.Goals as goal
 
 pub returns-in-Spu : goal.returns-in-Spu

@@ -1,7 +1,7 @@
 use Rattle.std.proofs.Common.{◌+◌, take, sym, subst, ◌∙◌, arith}
 use Rattle.cwr_levels.specs.Steps.Walks.{HasNumbersOf}
-use Rattle.cwr_levels.proofs.OneMore.{none_there_is_end}
-use Rattle.cwr_levels.proofs.PublisherNumbers.{one_more_publisher, one_more_other, all_numbers}
+use Rattle.cwr_levels.proofs.lemmas.OneMore.{none_there_is_end}
+use Rattle.cwr_levels.proofs.lemmas.PublisherNumbers.{one_more_publisher, one_more_other, all_numbers}
 use Rattle.cwr_levels.proofs.publishers.numbers_among.Goals as goal
 use Rattle.cwr_levels.proofs.publishers.numbers_among.Goals.{then-is_of+in_ok-insert, else-is_of, else-loop-i-test}
 use Rattle.cwr_levels.proofs.publishers.numbers_among.Goals.{then-loop-i-test+in_default}

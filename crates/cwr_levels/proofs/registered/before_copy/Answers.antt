@@ -1,6 +1,6 @@
 use Rattle.std.proofs.Common.{sym, ◌∙◌, arith}
 use Rattle.cwr_levels.specs.Format.Findings.{stands_before_copy}
-use Rattle.cwr_levels.proofs.CopyStarts.{front_more, front_ends, front_whole}
+use Rattle.cwr_levels.proofs.lemmas.CopyStarts.{front_more, front_ends, front_whole}
 use Rattle.cwr_levels.proofs.registered.before_copy.Goals as goal
 
 pub returns-then-not-stands_before_copy-clause-value :

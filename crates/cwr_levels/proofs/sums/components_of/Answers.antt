@@ -1,6 +1,6 @@
 use Rattle.std.proofs.Common.{sym, ap, ◌∙◌}
 use Rattle.std.specs.Prelude.{not}
-use Rattle.cwr_levels.proofs.HeaderTests.{count_is_short, counts_others_filled, counts_others_blank}
+use Rattle.cwr_levels.proofs.lemmas.HeaderTests.{count_is_short, counts_others_filled, counts_others_blank}
 use Rattle.cwr_levels.proofs.sums.components_of.Goals as goal
 
 pub returns-then-is_spaces : goal.returns-then-is_spaces

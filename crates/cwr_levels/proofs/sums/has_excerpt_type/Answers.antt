@@ -1,6 +1,6 @@
 use Rattle.std.proofs.Common.{ap, ◌∙◌}
 use Rattle.cwr_fields.specs.Format.Bytes.{is_spaces}
-use Rattle.cwr_levels.proofs.SummedRecords.{excerpt_there}
+use Rattle.cwr_levels.proofs.lemmas.SummedRecords.{excerpt_there}
 use Rattle.cwr_levels.proofs.sums.has_excerpt_type.Goals as goal
 
 pub returns : goal.returns

@@ -1,8 +1,8 @@
 use Rattle.std.proofs.Common.{sym, ap, refl, ◌∙◌, inl, inr}
 use Rattle.cwr_fields.specs.declared.kinds.Kind.TheVariants as kinds
 use Rattle.cwr_levels.specs.Format.Findings.{names_author}
-use Rattle.cwr_levels.proofs.RuleFields.{designation_of_swr, designation_of_owr}
-use Rattle.cwr_levels.proofs.RuleTests.{author_of_kind}
+use Rattle.cwr_levels.proofs.lemmas.RuleFields.{designation_of_swr, designation_of_owr}
+use Rattle.cwr_levels.proofs.lemmas.RuleTests.{author_of_kind}
 use Rattle.cwr_levels.proofs.totals.is_author.Goals as goal
 
 pub returns-in-Swr : goal.returns-in-Swr

@@ -1,6 +1,6 @@
 use Rattle.std.proofs.Common.{sym, ap, ◌∙◌, ◌++◌}
 use Rattle.cwr_levels.specs.Steps.Walks.{rules_on}
-use Rattle.cwr_levels.proofs.FoundByRule.{found_by_end, some_found, on_err}
+use Rattle.cwr_levels.proofs.lemmas.FoundByRule.{found_by_end, some_found, on_err}
 use Rattle.cwr_levels.proofs.walk.add_findings_at.Goals as goal
 
 pub returns-in_err-push-clause-err : goal.returns-in_err-push-clause-err

@@ -1,5 +1,5 @@
 use Rattle.std.proofs.Common.{◌≡◌, ◌++◌, take}
-use Rattle.cwr_levels.proofs.FoundByRule.{found_by}
+use Rattle.cwr_levels.proofs.lemmas.FoundByRule.{found_by}
 use Rattle.cwr_levels.proofs.walk.add_findings_at.Given as goal
 
 abbrev pub invariant-loop-rule : goal.invariant-loop-rule

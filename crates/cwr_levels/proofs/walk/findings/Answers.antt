@@ -4,9 +4,9 @@ use Rattle.cwr_lines.specs.Format.Records.{RecordValue}
 use Rattle.cwr_levels.specs.declared.rules.Finding.{Finding}
 use Rattle.cwr_levels.specs.Format.Findings.{findings, findings_at}
 use Rattle.cwr_levels.specs.Steps.Walks.{IsBefore}
-use Rattle.cwr_levels.proofs.OneMore.{take_more}
-use Rattle.cwr_levels.proofs.FoundByRule.{on_err}
-use Rattle.cwr_levels.proofs.FoundByRecord.{found_more, found_whole, some_whole}
+use Rattle.cwr_levels.proofs.lemmas.OneMore.{take_more}
+use Rattle.cwr_levels.proofs.lemmas.FoundByRule.{on_err}
+use Rattle.cwr_levels.proofs.lemmas.FoundByRecord.{found_more, found_whole, some_whole}
 use Rattle.cwr_levels.proofs.walk.findings.Goals as goal
 
 pub returns-in_err-add_findings_at-clause-err : goal.returns-in_err-add_findings_at-clause-err

@@ -1,6 +1,6 @@
 use Rattle.std.proofs.Common.{◌≡◌, take}
 use Rattle.cwr_levels.specs.Steps.Walks.{IsBefore}
-use Rattle.cwr_levels.proofs.FoundByRecord.{found_before}
+use Rattle.cwr_levels.proofs.lemmas.FoundByRecord.{found_before}
 use Rattle.cwr_levels.proofs.walk.findings.Given as goal
 
 abbrev pub invariant-loop-sequence : goal.invariant-loop-sequence

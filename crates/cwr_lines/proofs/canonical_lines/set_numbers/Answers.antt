@@ -5,8 +5,8 @@ use Rattle.cwr_fields.specs.declared.kinds.Kind.{Kind}
 use Rattle.cwr_fields.specs.declared.kinds.Kind.TheVariants.{Grt, Trl}
 use Rattle.cwr_fields.specs.Format.Layouts.{line_width}
 use Rattle.cwr_lines.specs.Steps.Numbered.{numbered_part}
-use Rattle.cwr_lines.proofs.NumberedLines.{set_at_ends, set_in_group_head, set_inside}
-use Rattle.cwr_lines.proofs.NumbersOfKinds.{line_width_least}
+use Rattle.cwr_lines.proofs.lemmas.NumberedLines.{set_at_ends, set_in_group_head, set_inside}
+use Rattle.cwr_lines.proofs.lemmas.NumbersOfKinds.{line_width_least}
 use Rattle.cwr_lines.proofs.canonical_lines.set_numbers.Goals as goal
 
 pub returns-in-Grh : goal.returns-in-Grh

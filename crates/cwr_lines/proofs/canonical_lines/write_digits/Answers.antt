@@ -1,7 +1,7 @@
 use Rattle.std.proofs.Common.{◌-◌, ◌+◌, ◌%◌, arith}
 use Rattle.std.proofs.lemmas.List.{length-set}
-use Rattle.cwr_fields.proofs.DigitsWritten.{digit_written, all_written}
-use Rattle.cwr_lines.proofs.DigitsInZeros.{zeros_before, zeros_written}
+use Rattle.cwr_fields.proofs.lemmas.DigitsWritten.{digit_written, all_written}
+use Rattle.cwr_lines.proofs.lemmas.DigitsInZeros.{zeros_before, zeros_written}
 use Rattle.cwr_lines.proofs.canonical_lines.write_digits.Goals as goal
 
 pub loop-at-preserved : goal.loop-at-preserved

@@ -2,7 +2,7 @@ use Rattle.std.proofs.Common.{◌+◌, arith, below_more, refl}
 use Rattle.std.proofs.lemmas.Bool.{false≢true}
 use Rattle.cwr_lines.specs.Format.Carried.{FitsAt}
 use Rattle.cwr_lines.specs.Steps.Carried.{record_in}
-use Rattle.cwr_lines.proofs.FitCells.{all_fit, fits_before, record_has_no_fault}
+use Rattle.cwr_lines.proofs.lemmas.FitCells.{all_fit, fits_before, record_has_no_fault}
 use Rattle.cwr_lines.proofs.drafts.judge.Goals as goal
 
 pub loop-before-init : goal.loop-before-init

@@ -1,9 +1,9 @@
 use Rattle.std.proofs.Common.{sym}
 use Rattle.cwr_lines.specs.Steps.Carried.{record_in}
 use Rattle.cwr_fields.specs.Steps.Views.{field_view}
-use Rattle.cwr_lines.proofs.CarriedCells.{carried_within}
-use Rattle.cwr_lines.proofs.CellParts.{plain_part}
-use Rattle.cwr_lines.proofs.FitCells.{wide_cell, fits_found, fault_found, fits_none}
+use Rattle.cwr_lines.proofs.lemmas.CarriedCells.{carried_within}
+use Rattle.cwr_lines.proofs.lemmas.CellParts.{plain_part}
+use Rattle.cwr_lines.proofs.lemmas.FitCells.{wide_cell, fits_found, fault_found, fits_none}
 use Rattle.cwr_lines.proofs.drafts.judge_cell.Goals as goal
 
 pub part-requires : goal.part-requires

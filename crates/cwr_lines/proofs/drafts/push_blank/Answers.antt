@@ -1,4 +1,4 @@
-use Rattle.cwr_lines.proofs.BlankCells.{word_pushed}
+use Rattle.cwr_lines.proofs.lemmas.BlankCells.{word_pushed}
 use Rattle.cwr_lines.proofs.drafts.push_blank.Goals as goal
 
 pub returns-in-Constant : goal.returns-in-Constant

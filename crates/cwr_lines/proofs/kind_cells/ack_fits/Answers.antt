@@ -1,6 +1,6 @@
 use Rattle.std.proofs.lemmas.Bool.{and_parts}
 use Rattle.cwr_fields.specs.declared.kinds.Kind.TheVariants.{Ack}
-use Rattle.cwr_lines.proofs.JudgedCells.{carries}
+use Rattle.cwr_lines.proofs.lemmas.JudgedCells.{carries}
 use Rattle.cwr_lines.proofs.kind_cells.ack_fits.Goals as goal
 
 pub returns : goal.returns

@@ -1,6 +1,6 @@
 use Rattle.std.proofs.Common.{◌<◌, length, arith}
-use Rattle.cwr_lines.proofs.BlankCells.{is_field_at}
-use Rattle.cwr_lines.proofs.CellsAtStarts.{derived_fits, carried_fits, carried_part_within, carried_part_wide, length-fields, plain_within}
+use Rattle.cwr_lines.proofs.lemmas.BlankCells.{is_field_at}
+use Rattle.cwr_lines.proofs.lemmas.CellsAtStarts.{derived_fits, carried_fits, carried_part_within, carried_part_wide, length-fields, plain_within}
 use Rattle.cwr_lines.proofs.kind_cells.fits_at.Goals as goal
 
 pub returns-then-place : goal.returns-then-place

@@ -1,5 +1,5 @@
 use Rattle.cwr_fields.specs.declared.kinds.Kind.TheVariants.{Net}
-use Rattle.cwr_lines.proofs.JudgedCells.{carries}
+use Rattle.cwr_lines.proofs.lemmas.JudgedCells.{carries}
 use Rattle.cwr_lines.proofs.kind_cells.net_fits.Goals as goal
 
 pub returns : goal.returns

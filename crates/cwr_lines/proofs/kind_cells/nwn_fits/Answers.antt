@@ -1,5 +1,5 @@
 use Rattle.cwr_fields.specs.declared.kinds.Kind.TheVariants.{Nwn}
-use Rattle.cwr_lines.proofs.JudgedCells.{carries}
+use Rattle.cwr_lines.proofs.lemmas.JudgedCells.{carries}
 use Rattle.cwr_lines.proofs.kind_cells.nwn_fits.Goals as goal
 
 pub returns : goal.returns

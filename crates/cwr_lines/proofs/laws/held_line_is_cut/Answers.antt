@@ -1,4 +1,4 @@
-use Rattle.cwr_lines.proofs.HeldLaws.{held_line_is_cut}
+use Rattle.cwr_lines.proofs.lemmas.HeldLaws.{held_line_is_cut}
 use Rattle.cwr_lines.proofs.laws.held_line_is_cut.Goals as goal
 
 pub returns : goal.returns

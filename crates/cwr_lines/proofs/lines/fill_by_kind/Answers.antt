@@ -1,5 +1,5 @@
 use Rattle.cwr_fields.specs.Format.Layouts.{line_width}
-use Rattle.cwr_lines.proofs.FilledTexts.{filled-filled, line_width_least}
+use Rattle.cwr_lines.proofs.lemmas.FilledTexts.{filled-filled, line_width_least}
 use Rattle.cwr_lines.proofs.lines.fill_by_kind.Goals as goal
 
 pub returns-clause-filled : goal.returns-clause-filled

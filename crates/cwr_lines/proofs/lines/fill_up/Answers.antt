@@ -1,5 +1,5 @@
 use Rattle.std.proofs.Common.{◌≤◌, ◌-◌, ◌≡◌, length, arith}
-use Rattle.cwr_lines.proofs.FilledTexts.{filled_already, filled_by_extending}
+use Rattle.cwr_lines.proofs.lemmas.FilledTexts.{filled_already, filled_by_extending}
 use Rattle.cwr_lines.proofs.lines.fill_up.Goals as goal
 
 pub returns-then-width-len : goal.returns-then-width-len

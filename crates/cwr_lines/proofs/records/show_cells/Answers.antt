@@ -1,6 +1,6 @@
 use Rattle.std.proofs.Common.{◌+◌, sym}
 use Rattle.cwr_fields.specs.Steps.Views.{field_view}
-use Rattle.cwr_lines.proofs.CarriedCells.{carried_within}
+use Rattle.cwr_lines.proofs.lemmas.CarriedCells.{carried_within}
 use Rattle.cwr_lines.proofs.records.show_cells.Goals as goal
 
 pub part-requires : goal.part-requires

@@ -1,7 +1,7 @@
 use Rattle.std.proofs.Common.{◌∙◌, ap, refl, sym, arith}
 use Rattle.cwr_lines.specs.Steps.Numbered.{numbered_as}
-use Rattle.cwr_lines.proofs.NumbersOfKinds.{line_width_least}
-use Rattle.cwr_lines.proofs.RenumberedLines.{set_in_front}
+use Rattle.cwr_lines.proofs.lemmas.NumbersOfKinds.{line_width_least}
+use Rattle.cwr_lines.proofs.lemmas.RenumberedLines.{set_in_front}
 use Rattle.cwr_lines.proofs.renumbered_lines.set_all.Goals as goal
 
 pub returns-in-Some : goal.returns-in-Some

@@ -4,8 +4,8 @@ use Rattle.cwr_tools.specs.Format.Reports.{has_findings, transaction_lines}
 use Rattle.cwr_values.specs.declared.items.Item.TheVariants.{Transaction}
 use Rattle.cwr_advise.specs.Format.AdviceLines.{advised_transaction, has_advice}
 use Rattle.cwr_lint.specs.Steps.Runs.{asking_of}
-use Rattle.cwr_lint.proofs.AdviceTold.{some_numbered, told_with, told_without}
-use Rattle.cwr_lint.proofs.TextsPut.{findings_put}
+use Rattle.cwr_lint.proofs.lemmas.AdviceTold.{some_numbered, told_with, told_without}
+use Rattle.cwr_lint.proofs.lemmas.TextsPut.{findings_put}
 use Rattle.cwr_lint.proofs.findings.put_told.Goals as goal
 
 pub put_advised-requires-clause-few : goal.put_advised-requires-clause-few

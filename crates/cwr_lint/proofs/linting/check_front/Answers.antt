@@ -3,7 +3,7 @@ use Rattle.std.specs.Prelude.{IfOk}
 use Rattle.cwr_tools.specs.Steps.Reports.{Reports, StandsAfter}
 use Rattle.cwr_advise.specs.Format.AdviceLines.{said_in}
 use Rattle.cwr_lint.specs.Format.Wanted.{lines_before_fault, said_when}
-use Rattle.cwr_lint.proofs.Tells.{something_said_when}
+use Rattle.cwr_lint.proofs.lemmas.Tells.{something_said_when}
 use Rattle.cwr_lint.proofs.linting.check_front.Goals as goal
 
 pub returns-in-true-clause-said : goal.returns-in-true-clause-said

@@ -5,8 +5,8 @@ use Rattle.cwr_tools.specs.declared.verdicts.Verdict.TheVariants.{Refused}
 use Rattle.cwr_tools.specs.Format.Verdicts.{JudgesText}
 use Rattle.cwr_lint.specs.Format.Wanted.{wanting}
 use Rattle.cwr_lint.specs.Steps.Runs.{asking_of}
-use Rattle.cwr_lint.proofs.Tells.{IsUnrefused, accepted_after, accepted_at, faults_at, hears, known_ok, lints_at, read_last}
-use Rattle.cwr_lint.proofs.Tells.{refused_at, unrefused_at}
+use Rattle.cwr_lint.proofs.lemmas.Tells.{IsUnrefused, accepted_after, accepted_at, faults_at, hears, known_ok, lints_at, read_last}
+use Rattle.cwr_lint.proofs.lemmas.Tells.{refused_at, unrefused_at}
 use Rattle.cwr_lint.proofs.linting.lint.Goals as goal
 
 pub returns-in-Err-clause-lints : goal.returns-in-Err-clause-lints

@@ -4,7 +4,7 @@ use Rattle.cwr_lint_lines.specs.declared.states.LintState.{LintState}
 use Rattle.cwr_tools.specs.Format.Reports.{CountsWriterFault}
 use Rattle.cwr_lint_lines.specs.Steps.Fronts.{state_at}
 use Rattle.cwr_lint.specs.Steps.Runs.{asking_of, TellsRun}
-use Rattle.cwr_lint.proofs.TextsTold.{ends_answer, ends_reader, ends_told, ends_words, ends_writer}
+use Rattle.cwr_lint.proofs.lemmas.TextsTold.{ends_answer, ends_reader, ends_told, ends_words, ends_writer}
 use Rattle.cwr_lint.proofs.linting.tell_faults.Goals as goal
 
 pub run-told-requires-clause-unfailed : goal.run-told-requires-clause-unfailed

@@ -2,7 +2,7 @@ use Rattle.std.proofs.Common.{◌++◌, refl}
 use Rattle.cwr_levels.specs.Format.ReportLines.{faults_line}
 use Rattle.cwr_lint.specs.Format.Told.{truncated_unless}
 use Rattle.cwr_lint.specs.Steps.Runs.{IsEndText}
-use Rattle.cwr_lint.proofs.TextsPut.{if_ok, put_both}
+use Rattle.cwr_lint.proofs.lemmas.TextsPut.{if_ok, put_both}
 use Rattle.cwr_lint.proofs.puts.put_end.Goals as goal
 
 pub returns-in-Ok : goal.returns-in-Ok

@@ -1,4 +1,4 @@
-use Rattle.cwr_lint.proofs.RawLines.{extended}
+use Rattle.cwr_lint.proofs.lemmas.RawLines.{extended}
 use Rattle.cwr_lint.proofs.raw_lines.extend.Goals as goal
 
 pub returns : goal.returns

@@ -1,4 +1,4 @@
-use Rattle.cwr_lines.proofs.LineFeedFound.{first_line_feed}
+use Rattle.cwr_lines.proofs.lemmas.LineFeedFound.{first_line_feed}
 use Rattle.cwr_lint.proofs.raw_lines.line_feed.Goals as goal
 
 pub returns : goal.returns

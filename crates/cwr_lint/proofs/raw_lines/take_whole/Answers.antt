@@ -1,6 +1,6 @@
 use Rattle.std.proofs.Common.{subst}
 use Rattle.cwr_lines.specs.Steps.Held.{HeldLine, Takes}
-use Rattle.cwr_causes.proofs.LastLines.{taken_whole}
+use Rattle.cwr_causes.proofs.lemmas.LastLines.{taken_whole}
 use Rattle.cwr_lint.proofs.raw_lines.take_whole.Goals as goal
 
 pub returns : goal.returns

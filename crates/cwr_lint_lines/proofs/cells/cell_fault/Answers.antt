@@ -1,7 +1,7 @@
 use Rattle.std.proofs.Common.{Some, None, sym, ap, ◌∙◌, option_map}
 use Rattle.cwr_fields.specs.Steps.Views.{field_view}
-use Rattle.cwr_judge.proofs.NumberCells.{wide_as_type}
-use Rattle.cwr_lint_lines.proofs.FaultsOfCells.{found_in, no_field}
+use Rattle.cwr_judge.proofs.lemmas.NumberCells.{wide_as_type}
+use Rattle.cwr_lint_lines.proofs.lemmas.FaultsOfCells.{found_in, no_field}
 use Rattle.cwr_lint_lines.proofs.cells.cell_fault.Goals as goal
 
 pub returns-in_default-field : goal.returns-in_default-field

@@ -3,7 +3,7 @@ use Rattle.cwr_fields.specs.declared.codes.Role.{Role}
 use Rattle.cwr_fields.specs.declared.kinds.Kind.TheVariants.{Ipa as IpaKind}
 use Rattle.cwr_shape.specs.declared.symbols.Symbol.TheVariants.{Ipa}
 use Rattle.cwr_shape.specs.Format.Candidates.{role_in}
-use Rattle.cwr_judge.proofs.FirstFaults.{no_role}
+use Rattle.cwr_judge.proofs.lemmas.FirstFaults.{no_role}
 use Rattle.cwr_lint_lines.proofs.cells.role_spelled.Goals as goal
 
 none_of : (o : Option Role) → None ≡ option_map Ipa o → None ≡ o

@@ -3,7 +3,7 @@ use Rattle.cwr_fields.specs.declared.codes.TransactionType.{TransactionType}
 use Rattle.cwr_fields.specs.declared.kinds.Kind.TheVariants.{Grh as GrhKind}
 use Rattle.cwr_shape.specs.declared.symbols.Symbol.TheVariants.{Grh}
 use Rattle.cwr_shape.specs.Format.Candidates.{type_in}
-use Rattle.cwr_judge.proofs.FirstFaults.{no_type}
+use Rattle.cwr_judge.proofs.lemmas.FirstFaults.{no_type}
 use Rattle.cwr_lint_lines.proofs.cells.type_spelled.Goals as goal
 
 none_of : (o : Option TransactionType) → None ≡ option_map Grh o → None ≡ o

@@ -2,7 +2,7 @@ use Rattle.std.proofs.Common.{◌≡◌, length, Some, refl, sym, ◌∙◌, ari
 use Rattle.std.specs.Prelude.{slice_get}
 use Rattle.std.proofs.lemmas.Option.{slice_get_read}
 use Rattle.cwr_notes.specs.Format.FindingNotes.{explained_finding}
-use Rattle.cwr_notes.proofs.FindingsPut.{line_more, lines_refused}
+use Rattle.cwr_notes.proofs.lemmas.FindingsPut.{line_more, lines_refused}
 use Rattle.cwr_notes.proofs.finding_notes.put_all_explained.Goals as goal
 
 pub returns-in_err-put_explained-clause-puts : goal.returns-in_err-put_explained-clause-puts

@@ -1,5 +1,5 @@
 use Rattle.std.proofs.Common.{◌∙◌}
-use Rattle.cwr_notes.proofs.RecordsPut.{puts_set}
+use Rattle.cwr_notes.proofs.lemmas.RecordsPut.{puts_set}
 use Rattle.cwr_notes.proofs.finding_notes.put_head.Goals as goal
 
 pub returns-clause-puts : goal.returns-clause-puts

@@ -1,6 +1,6 @@
 use Rattle.std.proofs.Common.{◌∙◌}
-use Rattle.cwr_notes.proofs.RecordsPut.{puts_set}
-use Rattle.cwr_notes.proofs.NotesPut.{noted_none, noted_some, puts_nothing}
+use Rattle.cwr_notes.proofs.lemmas.RecordsPut.{puts_set}
+use Rattle.cwr_notes.proofs.lemmas.NotesPut.{noted_none, noted_some, puts_nothing}
 use Rattle.cwr_notes.proofs.finding_notes.put_noted.Goals as goal
 
 pub returns-clause-puts : goal.returns-clause-puts

@@ -1,7 +1,7 @@
-use Rattle.cwr_encode.proofs.Numbered.{puts_as}
-use Rattle.cwr_encode.proofs.PutRows.{found_within}
+use Rattle.cwr_encode.proofs.lemmas.Numbered.{puts_as}
+use Rattle.cwr_encode.proofs.lemmas.PutRows.{found_within}
 use Rattle.cwr_notes.specs.Format.FindingNotes.{finding_notes, notes_on}
-use Rattle.cwr_notes.proofs.NotesPut.{notes_none, notes_some, puts_nothing}
+use Rattle.cwr_notes.proofs.lemmas.NotesPut.{notes_none, notes_some, puts_nothing}
 use Rattle.cwr_notes.proofs.finding_notes.put_notes.Goals as goal
 
 pub returns-in_default-clause-puts : goal.returns-in_default-clause-puts

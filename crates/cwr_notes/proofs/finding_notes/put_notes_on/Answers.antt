@@ -1,7 +1,7 @@
 use Rattle.std.proofs.Common.{ℕ, ◌+◌, length, ap, take, ◌∙◌}
 use Rattle.std.specs.List.{flat_map}
 use Rattle.cwr_notes.specs.Format.FindingNotes.{head_lines, most_others, noted_at, others, tail_lines}
-use Rattle.cwr_notes.proofs.NotesPut.{three_broken, three_cut, three_put}
+use Rattle.cwr_notes.proofs.lemmas.NotesPut.{three_broken, three_cut, three_put}
 use Rattle.cwr_notes.proofs.finding_notes.put_notes_on.Goals as goal
 
 pub returns-in_err-put_head-clause-puts : goal.returns-in_err-put_head-clause-puts

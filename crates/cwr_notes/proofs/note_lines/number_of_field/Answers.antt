@@ -2,7 +2,7 @@ use Rattle.std.proofs.Common.{◌≡◌, ℕ, ◌+◌, ◌≤◌, ◌<◌, lengt
 use Rattle.std.specs.Prelude.{option_map}
 use Rattle.cwr_fields.specs.Format.Layouts.{field_with_start, layout}
 use Rattle.cwr_fields.specs.Steps.Views.{field_view}
-use Rattle.cwr_notes.proofs.FieldNames.{no_name, none_missing, other_name, own_name}
+use Rattle.cwr_notes.proofs.lemmas.FieldNames.{no_name, none_missing, other_name, own_name}
 use Rattle.cwr_notes.proofs.note_lines.number_of_field.Goals as goal
 
 pub returns-in_default : goal.returns-in_default

@@ -5,8 +5,8 @@ use Rattle.cwr_fields.specs.Format.Layouts.{field_with_start}
 use Rattle.cwr_lines.specs.Format.Carried.{record_cell}
 use Rattle.cwr_fields.specs.Steps.Views.{field_view}
 use Rattle.cwr_notes.specs.Format.FindingNotes.{noted_line, number_of_field}
-use Rattle.cwr_notes.proofs.CellsOfFields.{short_line}
-use Rattle.cwr_notes.proofs.FieldNames.{named_line-none, named_line-some, named_line-uncarried}
+use Rattle.cwr_notes.proofs.lemmas.CellsOfFields.{short_line}
+use Rattle.cwr_notes.proofs.lemmas.FieldNames.{named_line-none, named_line-some, named_line-uncarried}
 use Rattle.cwr_notes.proofs.note_lines.push_named.Goals as goal
 
 pub returns-in_default-clause-value : goal.returns-in_default-clause-value

@@ -2,7 +2,7 @@ use Rattle.std.proofs.Common.{refl}
 use Rattle.std.specs.Prelude.{codes, decimal, ◌∷◌, []}
 use Rattle.cwr_fields.specs.Format.Kinds.{letters}
 use Rattle.cwr_notes.specs.Format.FindingNotes.{value_words}
-use Rattle.cwr_notes.proofs.TextsAdded.{first_added, then_added}
+use Rattle.cwr_notes.proofs.lemmas.TextsAdded.{first_added, then_added}
 use Rattle.cwr_notes.proofs.note_lines.push_note.Goals as goal
 
 pub returns-clause-value : goal.returns-clause-value

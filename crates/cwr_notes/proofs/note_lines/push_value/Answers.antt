@@ -1,5 +1,5 @@
 use Rattle.std.proofs.Common.{length, ap, arith}
-use Rattle.cwr_notes.proofs.CellsOfFields.{length-trimmed-le}
+use Rattle.cwr_notes.proofs.lemmas.CellsOfFields.{length-trimmed-le}
 use Rattle.cwr_notes.proofs.note_lines.push_value.Goals as goal
 
 pub push-requires-else-is_spaces : goal.push-requires-else-is_spaces

@@ -1,6 +1,6 @@
 use Rattle.std.proofs.Common.{ℕ, List, [], ◌∷◌, ◌++◌, sym, subst, ◌∙◌, true≢false, arith}
 use Rattle.cwr_notes.specs.Steps.OtherRecords.{AreListed}
-use Rattle.cwr_notes.proofs.OthersListed.{both_true, end_of_block, not_both, one_over, one_party}
+use Rattle.cwr_notes.proofs.lemmas.OthersListed.{both_true, end_of_block, not_both, one_over, one_party}
 use Rattle.cwr_notes.proofs.other_records.parties_of.Goals as goal
 use Rattle.cwr_notes.proofs.other_records.parties_of.Goals.{else-among_parties-via-then-among_parties+else-is_of-2}
 use Rattle.cwr_notes.proofs.other_records.parties_of.Goals.{else-among_parties-via-else-among_parties}

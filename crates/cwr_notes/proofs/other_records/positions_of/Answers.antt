@@ -1,7 +1,7 @@
 use Rattle.std.proofs.Common.{ℕ, Bool, cond, List, [], ◌∷◌, ◌++◌, take, sym, subst, ap, ◌∙◌, arith}
 use Rattle.cwr_notes.specs.Format.FindingNotes.{positions}
 use Rattle.cwr_notes.specs.Steps.OtherRecords.{AreListed, is_other}
-use Rattle.cwr_notes.proofs.OthersListed.{places_taken}
+use Rattle.cwr_notes.proofs.lemmas.OthersListed.{places_taken}
 use Rattle.cwr_notes.proofs.other_records.positions_of.Goals as goal
 
 pub loop-at-preserved : goal.loop-at-preserved

@@ -1,6 +1,6 @@
 use Rattle.std.proofs.Common.{ℕ, ◌+◌, sym, ap₂, ◌∙◌, arith}
 use Rattle.cwr_notes.specs.Format.FindingNotes.{right_of}
-use Rattle.cwr_notes.proofs.OwnedShares.{owned_more}
+use Rattle.cwr_notes.proofs.lemmas.OwnedShares.{owned_more}
 use Rattle.cwr_notes.proofs.other_records.total_of.Goals as goal
 
 pub loop-at-preserved : goal.loop-at-preserved

@@ -1,5 +1,5 @@
 use Rattle.std.proofs.Common.{length, ap, arith}
-use Rattle.cwr_notes.proofs.CellsOfFields.{length-trimmed-le}
+use Rattle.cwr_notes.proofs.lemmas.CellsOfFields.{length-trimmed-le}
 use Rattle.cwr_notes.proofs.record_lines.push_cell.Goals as goal
 
 pub push-requires-5 : goal.push-requires-5

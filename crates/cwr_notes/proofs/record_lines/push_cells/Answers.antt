@@ -2,8 +2,8 @@ use Rattle.std.proofs.Common.{◌≡◌, ℕ, ◌+◌, ◌≤◌, ◌<◌, ◌++
 use Rattle.cwr_fields.specs.declared.kinds.Kind.{Kind}
 use Rattle.cwr_fields.specs.Format.Layouts.{layout}
 use Rattle.cwr_notes.specs.Steps.FieldLines.{field_line}
-use Rattle.cwr_fields.proofs.AllKinds.{few_fields}
-use Rattle.cwr_notes.proofs.CellsOfFields.{lines_before, lines_more, lines_whole}
+use Rattle.cwr_fields.proofs.lemmas.AllKinds.{few_fields}
+use Rattle.cwr_notes.proofs.lemmas.CellsOfFields.{lines_before, lines_more, lines_whole}
 use Rattle.cwr_notes.proofs.record_lines.push_cells.Goals as goal
 
 pub push_field-requires : goal.push_field-requires

@@ -1,5 +1,5 @@
 use Rattle.std.proofs.Common.{◌≡◌, ◌+◌, ◌*◌, ◌≤◌, ◌++◌, length}
-use Rattle.cwr_notes.proofs.CellsOfFields.{lines_before}
+use Rattle.cwr_notes.proofs.lemmas.CellsOfFields.{lines_before}
 use Rattle.cwr_notes.proofs.record_lines.push_cells.Given as goal
 
 abbrev pub invariant-loop-before : goal.invariant-loop-before

@@ -3,7 +3,7 @@ use Rattle.std.specs.Prelude.{option_map}
 use Rattle.cwr_fields.specs.declared.kinds.Kind.{Kind}
 use Rattle.cwr_fields.specs.Format.Layouts.{field_with_start}
 use Rattle.cwr_fields.specs.Steps.Views.{field_view}
-use Rattle.cwr_notes.proofs.CellsOfFields.{field_line-none, field_line-some, short_line}
+use Rattle.cwr_notes.proofs.lemmas.CellsOfFields.{field_line-none, field_line-some, short_line}
 use Rattle.cwr_notes.proofs.record_lines.push_field.Goals as goal
 
 pub returns-in_default-field-clause-value : goal.returns-in_default-field-clause-value

@@ -1,13 +1,13 @@
 use Rattle.std.proofs.Common.{rules, refl, sym, ap, subst, ◌∙◌, arith}
 use Rattle.std.specs.Prelude.{Result, Ok, Err}
 use Rattle.cwr_decode.specs.Steps.Runs.{HasReadAll}
-use Rattle.cwr_decode.proofs.ItemsReadSoFar.{none_read, nothing_read_yet}
+use Rattle.cwr_decode.proofs.lemmas.ItemsReadSoFar.{none_read, nothing_read_yet}
 use Rattle.cwr_tools.specs.declared.verdicts.ToolFault.{ToolFault}
 use Rattle.cwr_tools.specs.Steps.Verdicts.{StopsAfter}
 use Rattle.cwr_parts.specs.Steps.Joined.{AddsInput}
-use Rattle.cwr_tools.proofs.ReportsOn.{same_fault, stops_after}
-use Rattle.cwr_parts.proofs.OneInputJoined.{few_handed_out, input_joined, item_added, item_refused, may_add, next_handed_out}
-use Rattle.cwr_parts.proofs.OneInputJoined.{none_yet, reading_stopped}
+use Rattle.cwr_tools.proofs.lemmas.ReportsOn.{same_fault, stops_after}
+use Rattle.cwr_parts.proofs.lemmas.OneInputJoined.{few_handed_out, input_joined, item_added, item_refused, may_add, next_handed_out}
+use Rattle.cwr_parts.proofs.lemmas.OneInputJoined.{none_yet, reading_stopped}
 use Rattle.cwr_parts.proofs.joining.add_input.Goals as goal
 
 pub items-init : goal.items-init

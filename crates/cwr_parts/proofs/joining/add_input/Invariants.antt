@@ -1,5 +1,5 @@
 use Rattle.std.proofs.Common.{◌≡◌, ◌-◌}
-use Rattle.cwr_parts.proofs.OneInputJoined.{IsJoining}
+use Rattle.cwr_parts.proofs.lemmas.OneInputJoined.{IsJoining}
 use Rattle.cwr_parts.proofs.joining.add_input.Given as goal
 
 abbrev pub invariant-items : goal.invariant-items

@@ -1,5 +1,5 @@
 use Rattle.std.proofs.Common.{ap, get_or}
-use Rattle.cwr_parts.proofs.InputsJoined.{between_inputs, none_joined, one_joined, stopped_in_hand}
+use Rattle.cwr_parts.proofs.lemmas.InputsJoined.{between_inputs, none_joined, one_joined, stopped_in_hand}
 use Rattle.cwr_parts.proofs.joining.add_inputs.Goals as goal
 
 pub inputs-init : goal.inputs-init

@@ -1,5 +1,5 @@
 use Rattle.std.proofs.Common.{◌-◌, length}
-use Rattle.cwr_parts.proofs.InputsJoined.{AreJoinedSoFar}
+use Rattle.cwr_parts.proofs.lemmas.InputsJoined.{AreJoinedSoFar}
 use Rattle.cwr_parts.proofs.joining.add_inputs.Given as goal
 
 abbrev pub invariant-inputs : goal.invariant-inputs

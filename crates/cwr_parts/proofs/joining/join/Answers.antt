@@ -1,7 +1,7 @@
 use Rattle.std.specs.Prelude.{Err}
 use Rattle.cwr_parts.specs.Steps.Joined.{joined_writer}
-use Rattle.cwr_parts.proofs.AcceptedJoins.{joins_accepted}
-use Rattle.cwr_parts.proofs.JoinsWhole.{joins_end, ready_to_end}
+use Rattle.cwr_parts.proofs.lemmas.AcceptedJoins.{joins_accepted}
+use Rattle.cwr_parts.proofs.lemmas.JoinsWhole.{joins_end, ready_to_end}
 use Rattle.cwr_parts.proofs.joining.join.Goals as goal
 
 pub finish-requires-clause-all : goal.finish-requires-clause-all

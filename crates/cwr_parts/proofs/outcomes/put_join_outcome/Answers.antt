@@ -1,7 +1,7 @@
 use Rattle.std.proofs.Common.{rules, ◌≡◌, true, subst, sym}
 use Rattle.cwr_devices.specs.Steps.Sinks.{Puts}
 use Rattle.cwr_parts.specs.Format.Outcomes.{is_of_input, join_outcome}
-use Rattle.cwr_parts.proofs.OutcomesPut.{mark_refused}
+use Rattle.cwr_parts.proofs.lemmas.OutcomesPut.{mark_refused}
 use Rattle.cwr_parts.proofs.outcomes.put_join_outcome.Goals as goal
 
 pub returns-in_err-input_mark-in-Err-clause-puts : goal.returns-in_err-input_mark-in-Err-clause-puts

@@ -7,8 +7,8 @@ use Rattle.cwr_encode.specs.Steps.Encoders.{encoder_limits}
 use Rattle.cwr_encode.specs.Format.Finishing.{JudgesEnd}
 use Rattle.cwr_encode.specs.Steps.Finishing.{FinishesWriting}
 use Rattle.cwr_parts.specs.Steps.SplitOutputs.{told_by}
-use Rattle.cwr_parts.proofs.WritersCounted.{given_back, known_so}
-use Rattle.cwr_parts.proofs.OutputHandedOver.{handed_over, right_last}
+use Rattle.cwr_parts.proofs.lemmas.WritersCounted.{given_back, known_so}
+use Rattle.cwr_parts.proofs.lemmas.OutputHandedOver.{handed_over, right_last}
 use Rattle.cwr_parts.proofs.split_output.hand_over.Goals as goal
 
 pub fault_of-requires : goal.fault_of-requires

@@ -1,6 +1,6 @@
 use Rattle.cwr_judge.specs.Format.Items.{item_records}
-use Rattle.cwr_parts.proofs.PutItems.{item_failed, item_put, right_item}
-use Rattle.cwr_parts.proofs.WritersCounted.{bytes_failed, bytes_put}
+use Rattle.cwr_parts.proofs.lemmas.PutItems.{item_failed, item_put, right_item}
+use Rattle.cwr_parts.proofs.lemmas.WritersCounted.{bytes_failed, bytes_put}
 use Rattle.cwr_parts.proofs.split_output.put.Goals as goal
 
 pub fault_of-requires : goal.fault_of-requires

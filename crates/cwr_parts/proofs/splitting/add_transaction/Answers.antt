@@ -1,8 +1,8 @@
 use Rattle.std.proofs.Common.{ℕ, ◌+◌, sym, ap, ◌∙◌}
 use Rattle.cwr_parts.specs.Steps.SplitOutputs.{told_by}
-use Rattle.cwr_parts.proofs.TransactionsAdded.{filled, may_finish, may_write, went_on}
+use Rattle.cwr_parts.proofs.lemmas.TransactionsAdded.{filled, may_finish, may_write, went_on}
 use Rattle.std.specs.Prelude.{Err, Ok}
-use Rattle.cwr_parts.proofs.WritersCounted.{open_failed, open_then}
+use Rattle.cwr_parts.proofs.lemmas.WritersCounted.{open_failed, open_then}
 use Rattle.cwr_parts.proofs.splitting.add_transaction.Goals as goal
 
 pub put-requires-clause-may : goal.put-requires-clause-may

@@ -1,8 +1,8 @@
 use Rattle.std.proofs.Common.{sym}
 use Rattle.std.specs.Prelude.{Err, Ok}
 use Rattle.cwr_parts.specs.Steps.SplitOutputs.{told_by}
-use Rattle.cwr_parts.proofs.OutputSteps.{finished, may_hand_over}
-use Rattle.cwr_parts.proofs.WritersCounted.{known_is, open_failed, open_handed_over}
+use Rattle.cwr_parts.proofs.lemmas.OutputSteps.{finished, may_hand_over}
+use Rattle.cwr_parts.proofs.lemmas.WritersCounted.{known_is, open_failed, open_handed_over}
 use Rattle.cwr_parts.proofs.splitting.finish_output.Goals as goal
 
 pub hand_over-requires-clause-may : goal.hand_over-requires-clause-may

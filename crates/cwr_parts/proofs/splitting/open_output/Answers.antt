@@ -1,6 +1,6 @@
 use Rattle.cwr_parts.specs.Steps.SplitOutputs.{told_by}
-use Rattle.cwr_parts.proofs.OutputSteps.{already_open, newly_open, none_there, one_there}
-use Rattle.cwr_parts.proofs.WritersCounted.{began_open}
+use Rattle.cwr_parts.proofs.lemmas.OutputSteps.{already_open, newly_open, none_there, one_there}
+use Rattle.cwr_parts.proofs.lemmas.WritersCounted.{began_open}
 use Rattle.cwr_parts.proofs.splitting.open_output.Goals as goal
 
 pub returns-then-is_some-clause-opens : goal.returns-then-is_some-clause-opens

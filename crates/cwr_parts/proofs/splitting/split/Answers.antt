@@ -3,9 +3,9 @@ use Rattle.std.specs.Prelude.{Ok, Err}
 use Rattle.cwr_parts.specs.declared.splitting.Splitting.{Splitting}
 use Rattle.cwr_parts.specs.Steps.SplitSteps.{open_outputs}
 use Rattle.cwr_parts.specs.Steps.Splitting.{Splits}
-use Rattle.cwr_parts.proofs.AcceptedSplits.{splits_accepted, splits_judged}
+use Rattle.cwr_parts.proofs.lemmas.AcceptedSplits.{splits_accepted, splits_judged}
 use Rattle.cwr_parts.specs.Steps.SplitWriters.{BeganOpen}
-use Rattle.cwr_parts.proofs.WritersCounted.{known_is, known_so, known_stopped, told_at_end}
+use Rattle.cwr_parts.proofs.lemmas.WritersCounted.{known_is, known_so, known_stopped, told_at_end}
 use Rattle.cwr_parts.proofs.splitting.split.Goals as goal
 
 pub returns-in-Ok-clause-accepted : goal.returns-in-Ok-clause-accepted

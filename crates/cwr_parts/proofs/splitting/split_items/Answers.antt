@@ -1,17 +1,17 @@
 use Rattle.std.proofs.Common.{rules, refl, sym, ap, subst, ◌∙◌, arith}
 use Rattle.std.specs.Prelude.{Result, Ok, Err}
 use Rattle.cwr_decode.specs.Steps.Runs.{HasReadAll}
-use Rattle.cwr_decode.proofs.ItemsReadSoFar.{none_read, nothing_read_yet}
+use Rattle.cwr_decode.proofs.lemmas.ItemsReadSoFar.{none_read, nothing_read_yet}
 use Rattle.cwr_tools.specs.declared.verdicts.ToolFault.{ToolFault}
 use Rattle.cwr_parts.specs.Steps.SplitItems.{SplitsItems}
 use Rattle.cwr_parts.specs.Steps.SplitOutputs.{told_by}
 use Rattle.cwr_parts.specs.Steps.Splitting.{Splits}
 use Rattle.cwr_tools.specs.Steps.Verdicts.{StopsAfter}
-use Rattle.cwr_tools.proofs.ReportsOn.{same_fault, stops_after}
-use Rattle.cwr_parts.proofs.SplittingOn.{few_handed_out, item_taken, leaves_item, may_take, next_item, none_split}
-use Rattle.cwr_parts.proofs.SplitsEnded.{all_split, no_output_left, output_stopped, reading_stopped}
+use Rattle.cwr_tools.proofs.lemmas.ReportsOn.{same_fault, stops_after}
+use Rattle.cwr_parts.proofs.lemmas.SplittingOn.{few_handed_out, item_taken, leaves_item, may_take, next_item, none_split}
+use Rattle.cwr_parts.proofs.lemmas.SplitsEnded.{all_split, no_output_left, output_stopped, reading_stopped}
 use Rattle.cwr_parts.specs.Steps.SplitWriters.{TellsOpen}
-use Rattle.cwr_parts.proofs.WritersCounted.{known_still, ok_tells, open_failed, reading_tells}
+use Rattle.cwr_parts.proofs.lemmas.WritersCounted.{known_still, ok_tells, open_failed, reading_tells}
 use Rattle.cwr_parts.proofs.splitting.split_items.Goals as goal
 
 pub items-init : goal.items-init

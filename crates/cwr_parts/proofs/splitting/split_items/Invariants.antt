@@ -2,7 +2,7 @@ use Rattle.std.proofs.Common.{◌≡◌, ◌-◌, ℕ, List, Some}
 use Rattle.cwr_parts.specs.Steps.SplitOutputs.{told_by}
 use Rattle.cwr_parts.specs.Steps.SplitSteps.{KeepsLent}
 use Rattle.cwr_parts.specs.Steps.SplitWriters.{BeganOpen}
-use Rattle.cwr_parts.proofs.SplittingOn.{IsSplitting}
+use Rattle.cwr_parts.proofs.lemmas.SplittingOn.{IsSplitting}
 use Rattle.cwr_parts.proofs.splitting.split_items.Given as goal
 
 abbrev pub invariant-items : goal.invariant-items

@@ -1,6 +1,6 @@
 use Rattle.cwr_parts.specs.Steps.SplitOutputs.{told_by}
-use Rattle.cwr_parts.proofs.ItemsTaken.{may_add_item, may_end_item, may_finish_item, takes_end, takes_foot, takes_head}
-use Rattle.cwr_parts.proofs.ItemsTaken.{takes_opening, takes_transaction}
+use Rattle.cwr_parts.proofs.lemmas.ItemsTaken.{may_add_item, may_end_item, may_finish_item, takes_end, takes_foot, takes_head}
+use Rattle.cwr_parts.proofs.lemmas.ItemsTaken.{takes_opening, takes_transaction}
 use Rattle.cwr_parts.proofs.splitting.take_item.Goals as goal
 
 pub add_transaction-requires-clause-may : goal.add_transaction-requires-clause-may

@@ -5,7 +5,7 @@ use Rattle.cwr_fields.specs.declared.codes.TransactionType.TheVariants.{Acknowle
 use Rattle.cwr_fields.specs.declared.kinds.Kind.TheVariants as kinds
 use Rattle.cwr_shape.specs.declared.symbols.Symbol.TheVariants.{Grh}
 use Rattle.cwr_shape.specs.Format.Candidates.{type_in}
-use Rattle.cwr_judge.proofs.FirstFaults.{no_type}
+use Rattle.cwr_judge.proofs.lemmas.FirstFaults.{no_type}
 use Rattle.cwr_renumber.proofs.lines.type_named.Goals as goal
 
 none_named : (o : Option TransactionType) → None ≡ option_map Grh o → o ≡ None

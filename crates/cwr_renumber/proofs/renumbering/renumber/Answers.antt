@@ -1,6 +1,6 @@
 use Rattle.std.proofs.Common.{ap, ◌∙◌}
 use Rattle.cwr_renumber.specs.Steps.Sources.{inner_of, left_of}
-use Rattle.cwr_renumber.proofs.OneJoined.{accepted_one, renumbers_one, writer_one}
+use Rattle.cwr_renumber.proofs.lemmas.OneJoined.{accepted_one, renumbers_one, writer_one}
 use Rattle.cwr_renumber.proofs.renumbering.renumber.Goals as goal
 
 pub returns-clause-renumbers : goal.returns-clause-renumbers

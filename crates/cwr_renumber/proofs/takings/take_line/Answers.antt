@@ -1,7 +1,7 @@
 use Rattle.std.proofs.Common.{rules, sym}
 use Rattle.cwr_devices.specs.declared.devices.DeviceFault.{DeviceFault}
-use Rattle.cwr_decode.proofs.FromReader.{consumes_taken}
-use Rattle.cwr_renumber.proofs.LinesTaken.{taken_known}
+use Rattle.cwr_decode.proofs.lemmas.FromReader.{consumes_taken}
+use Rattle.cwr_renumber.proofs.lemmas.LinesTaken.{taken_known}
 use Rattle.cwr_renumber.proofs.takings.take_line.Goals as goal
 
 pub returns-in_default : goal.returns-in_default

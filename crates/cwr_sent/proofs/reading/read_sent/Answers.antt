@@ -3,14 +3,14 @@ use Rattle.std.proofs.lemmas.List.{length-append}
 use Rattle.cwr_values.specs.Format.Values.{TransmissionValue}
 use Rattle.cwr_decode.specs.declared.readings.ReadFault.TheVariants as faults
 use Rattle.cwr_decode.specs.Steps.Runs.{HasReadAll, StopsReading}
-use Rattle.cwr_decode.proofs.ItemsMakeOneTransmission.{items_once}
-use Rattle.cwr_decode.proofs.ItemsReadSoFar.{all_items, all_taken, fault_read, fewer_left, memory_stops, none_read}
-use Rattle.cwr_decode.proofs.ItemsReadSoFar.{nothing_read_yet, of_fault, some_read}
+use Rattle.cwr_decode.proofs.lemmas.ItemsMakeOneTransmission.{items_once}
+use Rattle.cwr_decode.proofs.lemmas.ItemsReadSoFar.{all_items, all_taken, fault_read, fewer_left, memory_stops, none_read}
+use Rattle.cwr_decode.proofs.lemmas.ItemsReadSoFar.{nothing_read_yet, of_fault, some_read}
 use Rattle.cwr_decode.specs.Format.Runs.{TakesFront}
 use Rattle.cwr_sent.specs.Format.SentFacts.{facts_in}
 use Rattle.cwr_sent.specs.Format.SentRows.{fresh_rows, rows}
 use Rattle.cwr_sent.specs.Steps.SentTables.{Filled, filled_after, filled_in, filled_with}
-use Rattle.cwr_sent.proofs.FilledTables.{filled_more, filled_whole, rows_fresh}
+use Rattle.cwr_sent.proofs.lemmas.FilledTables.{filled_more, filled_whole, rows_fresh}
 use Rattle.cwr_sent.proofs.reading.read_sent.Goals as goal
 
 pub items-init : goal.items-init

@@ -1,6 +1,6 @@
 use Rattle.std.proofs.Common.{List, ◌++◌, sym, ap, ◌∙◌}
 use Rattle.cwr_shape.specs.declared.symbols.Symbol.{Symbol}
-use Rattle.cwr_shape.proofs.PrefixFree.{prefix_free}
+use Rattle.cwr_shape.proofs.lemmas.PrefixFree.{prefix_free}
 use Rattle.cwr_shape.proofs.laws.no_transmission_continues.Goals as goal
 
 pub returns : goal.returns

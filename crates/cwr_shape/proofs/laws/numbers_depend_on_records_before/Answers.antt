@@ -2,7 +2,7 @@ use Rattle.std.proofs.Common.{sym, ap, ◌∙◌}
 use Rattle.cwr_fields.specs.declared.kinds.Kind.{Kind}
 use Rattle.cwr_shape.specs.Format.NextSymbols.{open_type, counts_of}
 use Rattle.cwr_shape.specs.Format.ExpectedNumbers.{expected_numbers}
-use Rattle.cwr_shape.proofs.NumbersAreCounted.{numbers_counted}
+use Rattle.cwr_shape.proofs.lemmas.NumbersAreCounted.{numbers_counted}
 use Rattle.cwr_shape.proofs.laws.numbers_depend_on_records_before.Goals as goal
 
 pub returns : goal.returns

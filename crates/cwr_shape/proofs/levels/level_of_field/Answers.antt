@@ -1,5 +1,5 @@
 use Rattle.std.proofs.Common.{refl}
-use Rattle.cwr_fields.proofs.FieldStarts.{field_at-start}
+use Rattle.cwr_fields.proofs.lemmas.FieldStarts.{field_at-start}
 use Rattle.cwr_shape.proofs.levels.level_of_field.Goals as goal
 
 pub returns-in-Some : goal.returns-in-Some

@@ -1,5 +1,5 @@
 use Rattle.std.proofs.Common.{◌++◌, List, ℕ, sym, ap, ◌∙◌}
-use Rattle.cwr_tables.proofs.CellTexts.{cell_plain}
+use Rattle.cwr_tables.proofs.lemmas.CellTexts.{cell_plain}
 use Rattle.cwr_tables.proofs.cells.push_cell.Goals as goal
 
 pub returns-else-needs_quotes-clause-value : goal.returns-else-needs_quotes-clause-value

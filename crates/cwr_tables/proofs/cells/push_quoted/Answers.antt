@@ -2,7 +2,7 @@ use Rattle.std.proofs.Common.{◌++◌, List, ℕ, sym, ap, ◌∙◌, append_as
 use Rattle.std.specs.Prelude.{codes}
 use Rattle.std.specs.List.{flat_map}
 use Rattle.cwr_tables.specs.Format.Tables.{doubled}
-use Rattle.cwr_tables.proofs.CellTexts.{cell_quoted}
+use Rattle.cwr_tables.proofs.lemmas.CellTexts.{cell_quoted}
 use Rattle.cwr_tables.proofs.cells.push_quoted.Goals as goal
 
 pub returns-clause-value : goal.returns-clause-value

@@ -1,4 +1,4 @@
-use Rattle.cwr_tables.proofs.ReadBack.{rows_read_back}
+use Rattle.cwr_tables.proofs.lemmas.ReadBack.{rows_read_back}
 use Rattle.cwr_tables.proofs.laws.rows_read_back.Goals as goal
 
 pub returns : goal.returns

@@ -1,7 +1,7 @@
 use Rattle.std.proofs.Common.{sym, ◌∙◌}
-use Rattle.cwr_encode.proofs.Numbered.{puts_as}
-use Rattle.cwr_tables.proofs.KindsOfRows.{row_of_it, row_of_other}
-use Rattle.cwr_tables.proofs.NothingPut.{puts_nothing}
+use Rattle.cwr_encode.proofs.lemmas.Numbered.{puts_as}
+use Rattle.cwr_tables.proofs.lemmas.KindsOfRows.{row_of_it, row_of_other}
+use Rattle.cwr_tables.proofs.lemmas.NothingPut.{puts_nothing}
 use Rattle.cwr_tables.proofs.record_tables.put_row.Goals as goal
 
 pub returns-then-not-is_of-clause-puts : goal.returns-then-not-is_of-clause-puts

@@ -1,5 +1,5 @@
 use Rattle.cwr_tables.proofs.record_tables.put_text.Goals as goal
-use Rattle.cwr_encode.proofs.Numbered.{puts_as}
+use Rattle.cwr_encode.proofs.lemmas.Numbered.{puts_as}
 
 pub returns-clause-puts : goal.returns-clause-puts
 returns-clause-puts g c =

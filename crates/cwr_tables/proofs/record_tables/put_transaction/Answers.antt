@@ -2,8 +2,8 @@ use Rattle.std.proofs.Common.{ℕ, List, ◌∙◌, arith}
 use Rattle.cwr_lines.specs.Format.Records.{RecordValue}
 use Rattle.cwr_tables.specs.declared.places.RowNumbers.TheVariants.{InTransaction}
 use Rattle.cwr_tables.specs.Format.RecordTables.{row_of_kind}
-use Rattle.cwr_encode.proofs.PutRows.{found_within}
-use Rattle.cwr_encode.proofs.Numbered.{step_more, steps_refused, steps_whole}
+use Rattle.cwr_encode.proofs.lemmas.PutRows.{found_within}
+use Rattle.cwr_encode.proofs.lemmas.Numbered.{step_more, steps_refused, steps_whole}
 use Rattle.cwr_tables.proofs.record_tables.put_transaction.Goals as goal
 
 pub returns-in_err-put_row-clause-puts : goal.returns-in_err-put_row-clause-puts

@@ -1,7 +1,7 @@
 use Rattle.std.proofs.Common.{ℕ, List, ◌++◌, ◌<◌, get_or, length, sym, ap₂, ◌∙◌, ltb-true, arith}
 use Rattle.std.proofs.lemmas.Bool.{and_parts}
 use Rattle.std.proofs.lemmas.List.{take_more}
-use Rattle.cwr_tables.proofs.Characters.{character_low, characters_more, characters_none}
+use Rattle.cwr_tables.proofs.lemmas.Characters.{character_low, characters_more, characters_none}
 use Rattle.cwr_tables.proofs.rows.is_ascii.Goals as goal
 
 pub loop-b-init : goal.loop-b-init

@@ -1,7 +1,7 @@
 use Rattle.std.proofs.Common.{ℕ, List, ◌++◌, ◌<◌, get_or, length, take, sym, ap, ◌∙◌, append-nil, append_assoc, arith}
 use Rattle.cwr_json.specs.declared.encodings.Encoding.TheVariants.{Latin1}
 use Rattle.cwr_json.specs.Format.Encodings.{character, byte_by_byte}
-use Rattle.cwr_tables.proofs.Characters.{characters_more, characters_none}
+use Rattle.cwr_tables.proofs.lemmas.Characters.{characters_more, characters_none}
 use Rattle.cwr_tables.proofs.rows.push_characters.Goals as goal
 
 pub loop-b-init : goal.loop-b-init

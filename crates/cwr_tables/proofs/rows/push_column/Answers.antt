@@ -4,8 +4,8 @@ use Rattle.cwr_fields.specs.Format.Layouts.{field_with_start}
 use Rattle.cwr_fields.specs.Steps.Views.{field_view}
 use Rattle.cwr_json.specs.Format.Forms.{key_of}
 use Rattle.cwr_tables.specs.Steps.RowTexts.{next_cell}
-use Rattle.cwr_tables.proofs.ColumnsOfFields.{column-derived, column-named, column-none}
-use Rattle.cwr_tables.proofs.ShortNames.{short_name}
+use Rattle.cwr_tables.proofs.lemmas.ColumnsOfFields.{column-derived, column-named, column-none}
+use Rattle.cwr_tables.proofs.lemmas.ShortNames.{short_name}
 use Rattle.cwr_tables.proofs.rows.push_column.Goals as goal
 
 pub returns-in_default-clause-value : goal.returns-in_default-clause-value

@@ -1,8 +1,8 @@
 use Rattle.std.proofs.Common.{ℕ, ◌+◌, ◌≤◌, ◌<◌, ◌++◌, List, length, ap, sym, ◌∙◌, append_assoc, arith}
 use Rattle.cwr_fields.specs.Format.Layouts.{layout}
-use Rattle.cwr_fields.proofs.AllKinds.{few_fields}
+use Rattle.cwr_fields.proofs.lemmas.AllKinds.{few_fields}
 use Rattle.cwr_tables.specs.Steps.RowTexts.{column_of}
-use Rattle.cwr_tables.proofs.CellsOfRows.{columns_before, columns_more, columns_whole}
+use Rattle.cwr_tables.proofs.lemmas.CellsOfRows.{columns_before, columns_more, columns_whole}
 use Rattle.cwr_tables.proofs.rows.push_columns.Goals as goal
 
 pub push_column-requires : goal.push_column-requires

@@ -1,5 +1,5 @@
 use Rattle.std.proofs.Common.{◌≡◌, ◌+◌, ◌*◌, ◌≤◌, ◌++◌, length}
-use Rattle.cwr_tables.proofs.CellsOfRows.{columns_before}
+use Rattle.cwr_tables.proofs.lemmas.CellsOfRows.{columns_before}
 use Rattle.cwr_tables.proofs.rows.push_columns.Given as goal
 
 abbrev pub invariant-loop-before : goal.invariant-loop-before

@@ -1,4 +1,4 @@
-use Rattle.cwr_tables.proofs.ShortNames.{short_cell}
+use Rattle.cwr_tables.proofs.lemmas.ShortNames.{short_cell}
 use Rattle.cwr_tables.proofs.rows.push_field.Goals as goal
 
 pub push_shown-requires-clause-short : goal.push_shown-requires-clause-short

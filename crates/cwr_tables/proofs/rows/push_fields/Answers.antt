@@ -1,9 +1,9 @@
 use Rattle.std.proofs.Common.{◌≡◌, ℕ, ◌+◌, ◌≤◌, ◌<◌, ◌++◌, List, length, ap, sym, ◌∙◌, append_assoc, arith}
 use Rattle.cwr_fields.specs.declared.kinds.Kind.{Kind}
 use Rattle.cwr_fields.specs.Format.Layouts.{layout}
-use Rattle.cwr_fields.proofs.AllKinds.{few_fields}
+use Rattle.cwr_fields.proofs.lemmas.AllKinds.{few_fields}
 use Rattle.cwr_tables.specs.Steps.RowTexts.{field_cell}
-use Rattle.cwr_tables.proofs.CellsOfRows.{cells_before, cells_more, cells_whole}
+use Rattle.cwr_tables.proofs.lemmas.CellsOfRows.{cells_before, cells_more, cells_whole}
 use Rattle.cwr_tables.proofs.rows.push_fields.Goals as goal
 
 pub push_field-requires : goal.push_field-requires

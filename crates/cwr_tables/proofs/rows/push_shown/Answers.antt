@@ -1,5 +1,5 @@
 use Rattle.std.proofs.Common.{length, ap, arith}
-use Rattle.cwr_json.proofs.FieldsShown.{length-trimmed-le}
+use Rattle.cwr_json.proofs.lemmas.FieldsShown.{length-trimmed-le}
 use Rattle.cwr_tables.proofs.rows.push_shown.Goals as goal
 
 pub push_next-requires : goal.push_next-requires

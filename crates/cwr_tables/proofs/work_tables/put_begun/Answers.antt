@@ -2,7 +2,7 @@ use Rattle.std.proofs.Common.{◌++◌}
 use Rattle.std.specs.Prelude.{codes}
 use Rattle.cwr_tables.specs.Format.WorkTables.{names}
 use Rattle.cwr_tables.specs.Steps.WorkTexts.{edge, within}
-use Rattle.cwr_encode.proofs.Numbered.{puts_both, puts_cut}
+use Rattle.cwr_encode.proofs.lemmas.Numbered.{puts_both, puts_cut}
 use Rattle.cwr_tables.proofs.work_tables.put_begun.Goals as goal
 
 pub returns-in_err-put_opening-clause-puts : goal.returns-in_err-put_opening-clause-puts

@@ -1,4 +1,4 @@
-use Rattle.cwr_encode.proofs.Numbered.{puts_as}
+use Rattle.cwr_encode.proofs.lemmas.Numbered.{puts_as}
 use Rattle.cwr_tables.proofs.work_tables.put_closing.Goals as goal
 
 pub returns-clause-puts : goal.returns-clause-puts

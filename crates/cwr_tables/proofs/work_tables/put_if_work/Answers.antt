@@ -1,6 +1,6 @@
 use Rattle.std.proofs.Common.{sym, ◌∙◌}
-use Rattle.cwr_tables.proofs.NothingPut.{puts_nothing}
-use Rattle.cwr_tables.proofs.TextsOfWorks.{no_records, no_row}
+use Rattle.cwr_tables.proofs.lemmas.NothingPut.{puts_nothing}
+use Rattle.cwr_tables.proofs.lemmas.TextsOfWorks.{no_records, no_row}
 use Rattle.cwr_tables.proofs.work_tables.put_if_work.Goals as goal
 
 pub returns-in_default-clause-puts : goal.returns-in_default-clause-puts

@@ -1,8 +1,8 @@
 use Rattle.std.proofs.Common.{[], ◌++◌, Bool, cond, sym, ap, ◌∙◌}
-use Rattle.cwr_encode.proofs.Numbered.{puts_as}
+use Rattle.cwr_encode.proofs.lemmas.Numbered.{puts_as}
 use Rattle.cwr_tables.specs.Format.WorkTables.{name_of_owner}
 use Rattle.cwr_tables.specs.Steps.WorkTexts.{between, within}
-use Rattle.cwr_tables.proofs.NothingPut.{puts_nothing}
+use Rattle.cwr_tables.proofs.lemmas.NothingPut.{puts_nothing}
 use Rattle.cwr_tables.proofs.work_tables.put_name.Goals as goal
 
 pub returns-then-not-is_on-clause-puts : goal.returns-then-not-is_on-clause-puts

@@ -1,13 +1,13 @@
 use Rattle.std.proofs.Common.{◌≡◌, ℕ, ◌+◌, ◌++◌, List, Bool, take, refl, sym, ap, subst, ◌∙◌, append-nil, arith}
 use Rattle.std.specs.Prelude.{◌||◌}
 use Rattle.cwr_devices.specs.Steps.Sinks.{HasWritten}
-use Rattle.cwr_encode.proofs.PutRows.{found_within, none_within}
+use Rattle.cwr_encode.proofs.lemmas.PutRows.{found_within, none_within}
 use Rattle.std.proofs.lemmas.List.{take_all}
 use Rattle.cwr_lines.specs.Format.Records.{RecordValue}
 use Rattle.cwr_tables.specs.Format.WorkTables.{is_on, names}
 use Rattle.cwr_tables.specs.Steps.WorkTexts.{owner_text, within}
-use Rattle.cwr_tables.proofs.NamesJoined.{has_owners_more, names_longer, names_more, names_none}
-use Rattle.cwr_tables.proofs.PutInTurn.{turn_put, turn_refused}
+use Rattle.cwr_tables.proofs.lemmas.NamesJoined.{has_owners_more, names_longer, names_more, names_none}
+use Rattle.cwr_tables.proofs.lemmas.PutInTurn.{turn_put, turn_refused}
 use Rattle.cwr_tables.proofs.work_tables.put_names.Goals as goal
 
 pub loop-shown-init : goal.loop-shown-init

@@ -3,8 +3,8 @@ use Rattle.std.specs.Prelude.{codes}
 use Rattle.cwr_tables.specs.Format.WorkTables.{names}
 use Rattle.cwr_tables.specs.Steps.RowTexts.{next_cell}
 use Rattle.cwr_tables.specs.Steps.WorkTexts.{edge, within}
-use Rattle.cwr_tables.proofs.TextsOfWorks.{names_cell}
-use Rattle.cwr_encode.proofs.Numbered.{puts_as, puts_both, puts_cut}
+use Rattle.cwr_tables.proofs.lemmas.TextsOfWorks.{names_cell}
+use Rattle.cwr_encode.proofs.lemmas.Numbered.{puts_as, puts_both, puts_cut}
 use Rattle.cwr_tables.proofs.work_tables.put_owners.Goals as goal
 
 pub returns-in_err-put_begun-clause-puts : goal.returns-in_err-put_begun-clause-puts

@@ -1,5 +1,5 @@
 use Rattle.std.proofs.Common.{ap₂, ◌∙◌}
-use Rattle.cwr_encode.proofs.Numbered.{puts_as}
+use Rattle.cwr_encode.proofs.lemmas.Numbered.{puts_as}
 use Rattle.cwr_tables.specs.declared.works.Sums.{Sums}
 use Rattle.cwr_tables.specs.Steps.WorkTexts.{tail_text}
 use Rattle.cwr_tables.proofs.work_tables.put_tail.Goals as goal

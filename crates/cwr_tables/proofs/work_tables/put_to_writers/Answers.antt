@@ -2,7 +2,7 @@ use Rattle.cwr_tables.specs.Format.WorkTables.{names}
 use Rattle.cwr_tables.specs.declared.works.Side.TheVariants.{Writers}
 use Rattle.cwr_tables.specs.Steps.RowTexts.{next_cell}
 use Rattle.cwr_tables.specs.Steps.WorkTexts.{front_text}
-use Rattle.cwr_encode.proofs.Numbered.{puts_both, puts_cut}
+use Rattle.cwr_encode.proofs.lemmas.Numbered.{puts_both, puts_cut}
 use Rattle.cwr_tables.proofs.work_tables.put_to_writers.Goals as goal
 
 pub returns-in_err-put_front-clause-puts : goal.returns-in_err-put_front-clause-puts

@@ -3,8 +3,8 @@ use Rattle.cwr_tables.specs.Format.WorkTables.{names, sums}
 use Rattle.cwr_tables.specs.declared.works.Side.TheVariants.{Publishers, Writers}
 use Rattle.cwr_tables.specs.Steps.RowTexts.{next_cell}
 use Rattle.cwr_tables.specs.Steps.WorkTexts.{front_text, tail_text}
-use Rattle.cwr_tables.proofs.TextsOfWorks.{row_is}
-use Rattle.cwr_encode.proofs.Numbered.{puts_as, puts_both, puts_cut}
+use Rattle.cwr_tables.proofs.lemmas.TextsOfWorks.{row_is}
+use Rattle.cwr_encode.proofs.lemmas.Numbered.{puts_as, puts_both, puts_cut}
 use Rattle.cwr_tables.proofs.work_tables.put_work.Goals as goal
 
 pub returns-in_err-put_to_publishers-clause-puts : goal.returns-in_err-put_to_publishers-clause-puts

@@ -3,9 +3,9 @@ use Rattle.std.specs.List.{sum_by}
 use Rattle.std.proofs.lemmas.List.{take_all}
 use Rattle.cwr_lines.specs.Format.Records.{RecordValue}
 use Rattle.cwr_levels.specs.Format.Findings.{share_of}
-use Rattle.cwr_encode.proofs.PutRows.{found_within, none_within}
+use Rattle.cwr_encode.proofs.lemmas.PutRows.{found_within, none_within}
 use Rattle.cwr_tables.specs.Format.WorkTables.{is_on, owners}
-use Rattle.cwr_tables.proofs.Owners.{same_sums, sum_more}
+use Rattle.cwr_tables.proofs.lemmas.Owners.{same_sums, sum_more}
 use Rattle.cwr_tables.proofs.works.add_up.Goals as goal
 
 pub loop-shown-preserved : goal.loop-shown-preserved

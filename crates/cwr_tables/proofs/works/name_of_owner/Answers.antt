@@ -5,8 +5,8 @@ use Rattle.cwr_json.specs.Format.Encodings.{byte_by_byte}
 use Rattle.cwr_tables.specs.declared.works.Side.{Side}
 use Rattle.cwr_tables.specs.declared.works.Side.TheVariants.{Publishers}
 use Rattle.cwr_tables.specs.Format.WorkTables.{is_on, name_of_owner}
-use Rattle.cwr_tables.proofs.NamedOwners.{cell_is, trimmed_long}
-use Rattle.cwr_tables.proofs.WorkFields.{publisher_name}
+use Rattle.cwr_tables.proofs.lemmas.NamedOwners.{cell_is, trimmed_long}
+use Rattle.cwr_tables.proofs.lemmas.WorkFields.{publisher_name}
 use Rattle.cwr_tables.proofs.works.name_of_owner.Goals as goal
 
 pub writer_name-requires : goal.writer_name-requires

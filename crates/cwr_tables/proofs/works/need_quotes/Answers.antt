@@ -2,9 +2,9 @@ use Rattle.std.proofs.Common.{Bool, List, sym, ap, ◌∙◌, arith}
 use Rattle.std.specs.Prelude.{◌||◌}
 use Rattle.std.proofs.lemmas.List.{take_all}
 use Rattle.cwr_lines.specs.Format.Records.{RecordValue}
-use Rattle.cwr_encode.proofs.PutRows.{found_within, none_within}
+use Rattle.cwr_encode.proofs.lemmas.PutRows.{found_within, none_within}
 use Rattle.cwr_tables.specs.Steps.WorkTexts.{name_needs_quotes, quotes}
-use Rattle.cwr_tables.proofs.Owners.{quotes_more}
+use Rattle.cwr_tables.proofs.lemmas.Owners.{quotes_more}
 use Rattle.cwr_tables.proofs.works.need_quotes.Goals as goal
 
 pub loop-shown-preserved : goal.loop-shown-preserved

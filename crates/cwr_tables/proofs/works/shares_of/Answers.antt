@@ -1,7 +1,7 @@
 use Rattle.std.proofs.Common.{sym, ap, ◌∙◌}
 use Rattle.cwr_tables.specs.declared.works.Side.{Side}
 use Rattle.cwr_tables.specs.Format.WorkTables.{is_on}
-use Rattle.cwr_tables.proofs.WorkFields.{shares_of_publisher, shares_of_writer}
+use Rattle.cwr_tables.proofs.lemmas.WorkFields.{shares_of_publisher, shares_of_writer}
 use Rattle.cwr_tables.proofs.works.shares_of.Goals as goal
 
 pub shares_from-requires-clause-there : goal.shares_from-requires-clause-there

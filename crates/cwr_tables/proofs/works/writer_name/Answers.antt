@@ -5,9 +5,9 @@ use Rattle.cwr_lines.specs.Format.Records.{cell_named}
 use Rattle.cwr_json.specs.declared.encodings.Encoding.TheVariants.{Latin1}
 use Rattle.cwr_json.specs.Format.Encodings.{byte_by_byte}
 use Rattle.cwr_tables.specs.Format.RecordTables.{shown_cell}
-use Rattle.cwr_tables.proofs.Characters.{characters_space}
-use Rattle.cwr_tables.proofs.NamedOwners.{cell_is, trimmed_long}
-use Rattle.cwr_tables.proofs.WorkFields.{first_name, last_name}
+use Rattle.cwr_tables.proofs.lemmas.Characters.{characters_space}
+use Rattle.cwr_tables.proofs.lemmas.NamedOwners.{cell_is, trimmed_long}
+use Rattle.cwr_tables.proofs.lemmas.WorkFields.{first_name, last_name}
 use Rattle.cwr_tables.proofs.works.writer_name.Goals as goal
 
 pub characters-text-requires : goal.characters-text-requires

@@ -1,8 +1,8 @@
 use Rattle.std.proofs.Common.{ap₂, sym}
 use Rattle.cwr_tools.specs.Format.Reports.{lines_up_to_fault}
 use Rattle.cwr_tools.specs.Steps.Reports.{lines_told}
-use Rattle.cwr_tools.proofs.FindingsWatched.{worst_none}
-use Rattle.cwr_tools.proofs.RightReports.{judged_text}
+use Rattle.cwr_tools.proofs.lemmas.FindingsWatched.{worst_none}
+use Rattle.cwr_tools.proofs.lemmas.RightReports.{judged_text}
 use Rattle.cwr_tools.proofs.checking.check_up_to_fault.Goals as goal
 
 pub write_report-writer-requires : goal.write_report-writer-requires

@@ -1,9 +1,9 @@
 use Rattle.std.proofs.Common.{ap₂, sym}
 use Rattle.cwr_tools.specs.Format.Reports.{lines_of_findings}
 use Rattle.cwr_tools.specs.Steps.Reports.{lines_told}
-use Rattle.cwr_tools.proofs.FindingsWatched.{worst_none}
-use Rattle.cwr_tools.proofs.RightReports.{accepted_reports, canonical_reports, judged_text}
-use Rattle.cwr_tools.proofs.WatchedRuns.{sees_accepted}
+use Rattle.cwr_tools.proofs.lemmas.FindingsWatched.{worst_none}
+use Rattle.cwr_tools.proofs.lemmas.RightReports.{accepted_reports, canonical_reports, judged_text}
+use Rattle.cwr_tools.proofs.lemmas.WatchedRuns.{sees_accepted}
 use Rattle.cwr_tools.proofs.checking.check_watched.Goals as goal
 
 pub write_report-writer-requires : goal.write_report-writer-requires

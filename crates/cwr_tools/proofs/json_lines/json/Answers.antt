@@ -1,6 +1,6 @@
 use Rattle.std.proofs.Common.{refl}
 use Rattle.cwr_tools.specs.Format.Reports.{lines_of_data}
-use Rattle.cwr_tools.proofs.RightReports.{accepted_reports, canonical_reports, judged_text}
+use Rattle.cwr_tools.proofs.lemmas.RightReports.{accepted_reports, canonical_reports, judged_text}
 use Rattle.cwr_tools.proofs.json_lines.json.Goals as goal
 
 pub write_report-writer-requires : goal.write_report-writer-requires

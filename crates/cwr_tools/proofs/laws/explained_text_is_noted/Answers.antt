@@ -1,4 +1,4 @@
-use Rattle.cwr_tools.proofs.NotedTexts.{explained_noted}
+use Rattle.cwr_tools.proofs.lemmas.NotedTexts.{explained_noted}
 use Rattle.cwr_tools.proofs.laws.explained_text_is_noted.Goals as goal
 
 pub returns : goal.returns

@@ -1,7 +1,7 @@
 use Rattle.std.proofs.Common.{ap}
 use Rattle.cwr_decode.specs.Steps.Machines.{again}
-use Rattle.cwr_decode.proofs.AnsweredAtOnce.{if_some}
-use Rattle.cwr_tools.proofs.ToldReports.{passing_for, told_alone}
+use Rattle.cwr_decode.proofs.lemmas.AnsweredAtOnce.{if_some}
+use Rattle.cwr_tools.proofs.lemmas.ToldReports.{passing_for, told_alone}
 use Rattle.cwr_tools.proofs.reading_on.read_on.Goals as goal
 
 pub returns-then-not-passes-clause-told : goal.returns-then-not-passes-clause-told

@@ -3,20 +3,20 @@ use Rattle.std.specs.Prelude.{Result, Ok, Err, IfOk, IfSome, IsSomeAnd}
 use Rattle.cwr_decode.specs.Steps.LastReads.{counts_of_records, stage_of_records}
 use Rattle.cwr_decode.specs.Steps.Machines.{Standing}
 use Rattle.cwr_decode.specs.Steps.Runs.{HasReadAll}
-use Rattle.cwr_decode.proofs.ItemsReadSoFar.{none_read, nothing_read_yet}
+use Rattle.cwr_decode.proofs.lemmas.ItemsReadSoFar.{none_read, nothing_read_yet}
 use Rattle.cwr_tools.specs.declared.verdicts.Verdict.{Verdict}
 use Rattle.cwr_tools.specs.declared.verdicts.ToolFault.{ToolFault}
 use Rattle.cwr_tools.specs.declared.totals.Totals.{Totals}
 use Rattle.cwr_tools.specs.Format.Reports.{CountsReaderFault}
 use Rattle.cwr_tools.specs.Steps.Reports.{PutsReport, StandsAfter}
 use Rattle.cwr_tools.specs.Steps.Verdicts.{IsReadLast, IsRightVerdict, StopsAfter}
-use Rattle.cwr_tools.proofs.CountedTotals.{counts_none, next_room, total_grows}
-use Rattle.cwr_tools.proofs.LastReported.{HoldsRead, err_last, fault_answered, good_answered, holds_more, holds_none}
-use Rattle.cwr_tools.proofs.ReportsOn.{IsReporting, fault_reported, first_fault, first_put, good_reported, item_fault}
-use Rattle.cwr_tools.proofs.ReportsOn.{no_reader_fault, nothing, reads_item, reports_item, room_in, same_fault, stops_after}
-use Rattle.cwr_tools.proofs.ReportsOn.{stops_decoder}
-use Rattle.cwr_tools.proofs.ToldReports.{passes_over, told_grows, told_reporting}
-use Rattle.cwr_tools.proofs.WatchedRuns.{fault_right, fault_tells, good_right, stands_before}
+use Rattle.cwr_tools.proofs.lemmas.CountedTotals.{counts_none, next_room, total_grows}
+use Rattle.cwr_tools.proofs.lemmas.LastReported.{HoldsRead, err_last, fault_answered, good_answered, holds_more, holds_none}
+use Rattle.cwr_tools.proofs.lemmas.ReportsOn.{IsReporting, fault_reported, first_fault, first_put, good_reported, item_fault}
+use Rattle.cwr_tools.proofs.lemmas.ReportsOn.{no_reader_fault, nothing, reads_item, reports_item, room_in, same_fault, stops_after}
+use Rattle.cwr_tools.proofs.lemmas.ReportsOn.{stops_decoder}
+use Rattle.cwr_tools.proofs.lemmas.ToldReports.{passes_over, told_grows, told_reporting}
+use Rattle.cwr_tools.proofs.lemmas.WatchedRuns.{fault_right, fault_tells, good_right, stands_before}
 use Rattle.cwr_tools.proofs.reporting.put_items.Goals as goal
 
 pub returns-in_err-put_first-clause-puts : goal.returns-in_err-put_first-clause-puts

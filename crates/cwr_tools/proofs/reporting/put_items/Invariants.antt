@@ -1,7 +1,7 @@
 use Rattle.std.proofs.Common.{◌≡◌, ◌+◌, ◌-◌, [], true}
 use Rattle.cwr_tools.specs.Format.Reports.{ItemLines}
-use Rattle.cwr_tools.proofs.LastReported.{HoldsRead}
-use Rattle.cwr_tools.proofs.ReportsOn.{IsReporting}
+use Rattle.cwr_tools.proofs.lemmas.LastReported.{HoldsRead}
+use Rattle.cwr_tools.proofs.lemmas.ReportsOn.{IsReporting}
 use Rattle.cwr_tools.proofs.reporting.put_items.Given as goal
 
 abbrev pub invariant-items : goal.invariant-items

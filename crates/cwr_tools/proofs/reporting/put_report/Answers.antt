@@ -1,4 +1,4 @@
-use Rattle.cwr_tools.proofs.ReportsWhole.{verdict_cut, verdict_put}
+use Rattle.cwr_tools.proofs.lemmas.ReportsWhole.{verdict_cut, verdict_put}
 use Rattle.cwr_tools.proofs.reporting.put_report.Goals as goal
 
 pub put_verdict-requires : goal.put_verdict-requires

@@ -1,4 +1,4 @@
-use Rattle.cwr_tools.proofs.ReportsWhole.{reports_failed, reports_flushed, reports_stuck}
+use Rattle.cwr_tools.proofs.lemmas.ReportsWhole.{reports_failed, reports_flushed, reports_stuck}
 use Rattle.cwr_tools.proofs.reporting.write_report.Goals as goal
 
 pub returns-in-Err-clause-reported : goal.returns-in-Err-clause-reported

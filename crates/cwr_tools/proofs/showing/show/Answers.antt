@@ -1,6 +1,6 @@
 use Rattle.std.proofs.Common.{refl}
 use Rattle.cwr_tools.specs.Format.Reports.{lines_of_records}
-use Rattle.cwr_tools.proofs.RightReports.{accepted_reports, canonical_reports, judged_text}
+use Rattle.cwr_tools.proofs.lemmas.RightReports.{accepted_reports, canonical_reports, judged_text}
 use Rattle.cwr_tools.proofs.showing.show.Goals as goal
 
 pub write_report-writer-requires : goal.write_report-writer-requires

@@ -1,5 +1,5 @@
 use Rattle.std.proofs.Common.{◌∙◌}
-use Rattle.cwr_notes.proofs.RecordsPut.{puts_set, trailer_lines}
+use Rattle.cwr_notes.proofs.lemmas.RecordsPut.{puts_set, trailer_lines}
 use Rattle.cwr_tools.proofs.shown_records.put_trailer.Goals as goal
 
 pub returns-clause-puts : goal.returns-clause-puts

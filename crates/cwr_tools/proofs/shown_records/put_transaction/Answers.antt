@@ -1,7 +1,7 @@
 use Rattle.std.proofs.Common.{◌∙◌, refl, arith}
 use Rattle.cwr_notes.specs.Format.RecordTexts.{record_lines}
-use Rattle.cwr_encode.proofs.PutRows.{found_within}
-use Rattle.cwr_encode.proofs.Numbered.{step_more, steps_refused, steps_whole}
+use Rattle.cwr_encode.proofs.lemmas.PutRows.{found_within}
+use Rattle.cwr_encode.proofs.lemmas.Numbered.{step_more, steps_refused, steps_whole}
 use Rattle.cwr_tools.proofs.shown_records.put_transaction.Goals as goal
 
 pub returns-in_err-put_record-clause-puts : goal.returns-in_err-put_record-clause-puts

@@ -1,5 +1,5 @@
 use Rattle.cwr_transform.specs.declared.endings.Look.TheVariants as looks
-use Rattle.cwr_transform.proofs.SplitsEnd.{cut_failed, cut_judged}
+use Rattle.cwr_transform.proofs.lemmas.SplitsEnd.{cut_failed, cut_judged}
 use Rattle.cwr_transform.proofs.splits.cut_source.Goals as goal
 
 pub returns-in-Ok : goal.returns-in-Ok

@@ -1,8 +1,8 @@
 use Rattle.std.proofs.Common.{List, ℕ, Option}
 use Rattle.cwr_transform.specs.Format.Endings.{EndsAsSplit}
 use Rattle.cwr_files.specs.Steps.Inputs.{remaining_of}
-use Rattle.cwr_transform.proofs.StatusesOnTexts.{from_source}
-use Rattle.cwr_transform.proofs.SplitsEnd.{split_ends}
+use Rattle.cwr_transform.proofs.lemmas.StatusesOnTexts.{from_source}
+use Rattle.cwr_transform.proofs.lemmas.SplitsEnd.{split_ends}
 use Rattle.cwr_transform.proofs.splits.split_file.Goals as goal
 
 pub returns : goal.returns

@@ -1,4 +1,4 @@
-use Rattle.cwr_values.proofs.Spelling.{canonical_spells}
+use Rattle.cwr_values.proofs.lemmas.Spelling.{canonical_spells}
 use Rattle.cwr_values.proofs.laws.canonical_text_spells.Goals as goal
 
 pub returns : goal.returns

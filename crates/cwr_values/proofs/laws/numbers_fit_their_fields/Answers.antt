@@ -1,5 +1,5 @@
 use Rattle.std.proofs.Common.{arith}
-use Rattle.cwr_values.proofs.NumbersFit.{numbers_fit}
+use Rattle.cwr_values.proofs.lemmas.NumbersFit.{numbers_fit}
 use Rattle.cwr_values.proofs.laws.numbers_fit_their_fields.Goals as goal
 
 pub returns : goal.returns

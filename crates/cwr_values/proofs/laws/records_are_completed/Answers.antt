@@ -1,4 +1,4 @@
-use Rattle.cwr_values.proofs.Witnesses.{completed}
+use Rattle.cwr_values.proofs.lemmas.Witnesses.{completed}
 use Rattle.cwr_values.proofs.laws.records_are_completed.Goals as goal
 
 pub returns : goal.returns

@@ -1,5 +1,5 @@
-use Rattle.cwr_values.proofs.OneTransmissionOfRecords.{built}
-use Rattle.cwr_values.proofs.OneSpelling.{one_value}
+use Rattle.cwr_values.proofs.lemmas.OneTransmissionOfRecords.{built}
+use Rattle.cwr_values.proofs.lemmas.OneSpelling.{one_value}
 use Rattle.cwr_values.proofs.laws.whole_records_are_a_transmission.Goals as goal
 
 pub returns : goal.returns

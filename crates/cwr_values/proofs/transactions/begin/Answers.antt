@@ -1,6 +1,6 @@
 use Rattle.std.proofs.Common.{refl, sym, true≢false}
 use Rattle.cwr_fields.specs.declared.codes.TransactionType.TheVariants.{NewWork, RevisedWork, Acknowledgement}
-use Rattle.cwr_values.proofs.Beginnings.{begins_none}
+use Rattle.cwr_values.proofs.lemmas.Beginnings.{begins_none}
 use Rattle.cwr_values.proofs.transactions.begin.Goals as goal
 
 pub returns-in-Some-first-clause-some : goal.returns-in-Some-first-clause-some

@@ -2,8 +2,8 @@ use Rattle.std.proofs.Common.{[], ◌∷◌, Some, ap, inr, refl, ◌∙◌}
 use Rattle.cwr_fields.specs.declared.kinds.Kind.{Kind}
 use Rattle.cwr_lines.specs.Format.Records.{RecordValue}
 use Rattle.cwr_write.specs.declared.refusals.Why.TheVariants as whys
-use Rattle.cwr_write.proofs.ItemsRead.{data_first}
-use Rattle.cwr_write.proofs.ItemReasons.{own_among, placed_among}
+use Rattle.cwr_write.proofs.lemmas.ItemsRead.{data_first}
+use Rattle.cwr_write.proofs.lemmas.ItemReasons.{own_among, placed_among}
 use Rattle.cwr_write.proofs.items.beside.Goals as goal
 
 pub returns-in-Ok-clause-reason : goal.returns-in-Ok-clause-reason

@@ -1,5 +1,5 @@
 use Rattle.std.proofs.Common.{◌<◌, length, sym, arith, ◌∙◌}
-use Rattle.cwr_write.proofs.ItemsRead.{none_said}
+use Rattle.cwr_write.proofs.lemmas.ItemsRead.{none_said}
 use Rattle.cwr_write.proofs.items.first_said.Goals as goal
 
 pub loop-at-preserved : goal.loop-at-preserved

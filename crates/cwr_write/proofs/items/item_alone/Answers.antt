@@ -3,9 +3,9 @@ use Rattle.json.specs.Value.{items_view}
 use Rattle.cwr_values.specs.declared.items.Item.{Item}
 use Rattle.cwr_judge.specs.Format.Items.{item_records}
 use Rattle.cwr_json.specs.Format.Forms.{AreRecordsData}
-use Rattle.cwr_write.proofs.ItemsRead.{alone_trailer, data_all, data_first, data_of_trailer}
+use Rattle.cwr_write.proofs.lemmas.ItemsRead.{alone_trailer, data_all, data_first, data_of_trailer}
 use Rattle.cwr_write.specs.Format.AloneKinds.{IsAlone}
-use Rattle.cwr_write.proofs.NoItemData.{none_alone}
+use Rattle.cwr_write.proofs.lemmas.NoItemData.{none_alone}
 use Rattle.cwr_write.proofs.items.item_alone.Goals as goal
 use Rattle.cwr_write.proofs.items.item_alone.Goals.{in-Hdr, in-Grh, in-Grt, in_default}
 

@@ -3,8 +3,8 @@ use Rattle.json.proofs.Trees.{view-Object}
 use Rattle.json.specs.Json.{Json}
 use Rattle.json.specs.Value.{value_view}
 use Rattle.cwr_write.specs.Format.Faults.{IsItemReason}
-use Rattle.cwr_write.proofs.ItemReasons.{line_err, listed_reason, unlisted_reason}
-use Rattle.cwr_write.proofs.ToldMembers.{member_in}
+use Rattle.cwr_write.proofs.lemmas.ItemReasons.{line_err, listed_reason, unlisted_reason}
+use Rattle.cwr_write.proofs.lemmas.ToldMembers.{member_in}
 use Rattle.cwr_write.proofs.items.item_in.Goals as goal
 
 pub returns-in_default-values_in-clause-reason : goal.returns-in_default-values_in-clause-reason

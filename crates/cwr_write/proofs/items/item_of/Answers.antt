@@ -1,6 +1,6 @@
 use Rattle.std.proofs.Common.{[], arith, inr}
-use Rattle.cwr_write.proofs.ItemReasons.{none_data, own_among}
-use Rattle.cwr_write.proofs.NoItemData.{none_at, none_empty}
+use Rattle.cwr_write.proofs.lemmas.ItemReasons.{none_data, own_among}
+use Rattle.cwr_write.proofs.lemmas.NoItemData.{none_at, none_empty}
 use Rattle.cwr_write.proofs.items.item_of.Goals as goal
 
 pub returns-in_default-clause-none : goal.returns-in_default-clause-none

@@ -2,11 +2,11 @@ use Rattle.std.proofs.Common.{sym, ap, subst, arith, length}
 use Rattle.json.specs.Value.{members_view}
 use Rattle.cwr_write.specs.Format.Faults.{IsListReason, TellsKey}
 use Rattle.cwr_write.specs.declared.refusals.Why.TheVariants as whys
-use Rattle.cwr_write.proofs.ItemReasons.{missing_reason, of_records, repeated_list, unknown_first, unknown_second}
+use Rattle.cwr_write.proofs.lemmas.ItemReasons.{missing_reason, of_records, repeated_list, unknown_first, unknown_second}
 use Rattle.cwr_json.specs.Format.Forms.{records_key, told}
-use Rattle.cwr_write.proofs.ItemsRead.{key_other, key_same, only_is}
-use Rattle.cwr_write.proofs.NoItemData.{another_there, none_there, other_key}
-use Rattle.cwr_write.proofs.ToldMembers.{member_in}
+use Rattle.cwr_write.proofs.lemmas.ItemsRead.{key_other, key_same, only_is}
+use Rattle.cwr_write.proofs.lemmas.NoItemData.{another_there, none_there, other_key}
+use Rattle.cwr_write.proofs.lemmas.ToldMembers.{member_in}
 use Rattle.cwr_write.proofs.items.list_in.Goals as goal
 
 pub returns-in-None-clause-ok : goal.returns-in-None-clause-ok

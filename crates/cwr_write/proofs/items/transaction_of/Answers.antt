@@ -9,9 +9,9 @@ use Rattle.std.proofs.lemmas.List.{length-append}
 use Rattle.cwr_shape.specs.Format.Shapes.{BeginsShape}
 use Rattle.cwr_values.specs.declared.transactions.PushFault.{PushFault}
 use Rattle.cwr_values.specs.Format.Values.{symbol_of}
-use Rattle.cwr_write.proofs.ItemsRead.{data_all, data_first, data_more}
-use Rattle.cwr_write.proofs.NoItemData.{first_record, none_at, none_begins, none_continues}
-use Rattle.cwr_write.proofs.ItemReasons.{begun_goes_on, none_data, on_line, own_among, placed_among}
+use Rattle.cwr_write.proofs.lemmas.ItemsRead.{data_all, data_first, data_more}
+use Rattle.cwr_write.proofs.lemmas.NoItemData.{first_record, none_at, none_begins, none_continues}
+use Rattle.cwr_write.proofs.lemmas.ItemReasons.{begun_goes_on, none_data, on_line, own_among, placed_among}
 use Rattle.cwr_write.specs.declared.refusals.Why.TheVariants as whys
 use Rattle.cwr_write.proofs.items.transaction_of.Goals as goal
 

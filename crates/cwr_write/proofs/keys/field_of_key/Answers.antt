@@ -1,4 +1,4 @@
-use Rattle.cwr_write.proofs.KeysOfNames.{none_named}
+use Rattle.cwr_write.proofs.lemmas.KeysOfNames.{none_named}
 use Rattle.cwr_write.proofs.keys.field_of_key.Goals as goal
 
 pub returns : goal.returns

@@ -1,7 +1,7 @@
 use Rattle.std.proofs.Common.{List, ℕ, ◌∙◌, ap}
 use Rattle.std.specs.Str.{bytes_eq}
 use Rattle.cwr_json.specs.Format.Forms.{key_of}
-use Rattle.cwr_write.proofs.KeysOfNames.{has_named, has_none}
+use Rattle.cwr_write.proofs.lemmas.KeysOfNames.{has_named, has_none}
 use Rattle.cwr_write.proofs.keys.has_key.Goals as goal
 
 pub returns-in-Some : goal.returns-in-Some

@@ -1,4 +1,4 @@
-use Rattle.cwr_write.proofs.KeysOfNames.{key_differs, key_equals}
+use Rattle.cwr_write.proofs.lemmas.KeysOfNames.{key_differs, key_equals}
 use Rattle.cwr_write.proofs.keys.is_key_of.Goals as goal
 
 pub returns-then-key-i : goal.returns-then-key-i

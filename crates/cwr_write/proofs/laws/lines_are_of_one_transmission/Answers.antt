@@ -1,4 +1,4 @@
-use Rattle.cwr_write.proofs.OwnLines.{one_transmission}
+use Rattle.cwr_write.proofs.lemmas.OwnLines.{one_transmission}
 use Rattle.cwr_write.proofs.laws.lines_are_of_one_transmission.Goals as goal
 
 pub returns : goal.returns

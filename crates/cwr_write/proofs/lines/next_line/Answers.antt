@@ -1,7 +1,7 @@
 use Rattle.std.proofs.Common.{Bool, Some, ap, subst, ◌∙◌}
 use Rattle.cwr_write.specs.Steps.Lines.{TakesPart}
-use Rattle.cwr_write.proofs.LinesTaken.{exceeds_more, line_ended, so_far_more}
-use Rattle.cwr_write.proofs.FaultsPassed.{passed_on}
+use Rattle.cwr_write.proofs.lemmas.LinesTaken.{exceeds_more, line_ended, so_far_more}
+use Rattle.cwr_write.proofs.lemmas.FaultsPassed.{passed_on}
 use Rattle.cwr_write.proofs.lines.next_line.Goals as goal
 
 pub returns-in-Some-true-clause-taken : goal.returns-in-Some-true-clause-taken

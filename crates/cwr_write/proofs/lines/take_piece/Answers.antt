@@ -1,7 +1,7 @@
 use Rattle.std.proofs.Common.{[], drop, take, sym, append-nil}
 use Rattle.std.proofs.lemmas.List.{take-append-drop}
-use Rattle.cwr_write.proofs.FaultsPassed.{passed_on}
-use Rattle.cwr_write.proofs.LinesTaken.{exceeded}
+use Rattle.cwr_write.proofs.lemmas.FaultsPassed.{passed_on}
+use Rattle.cwr_write.proofs.lemmas.LinesTaken.{exceeded}
 use Rattle.cwr_write.proofs.lines.take_piece.Goals as goal
 
 pub returns-in_err-add-in-Some-clause-long : goal.returns-in_err-add-in-Some-clause-long

@@ -1,6 +1,6 @@
 use Rattle.std.proofs.Common.{[], ◌∷◌, ◌++◌, drop, length-drop, refl, ◌∙◌, arith}
-use Rattle.cwr_write.proofs.CharactersRead.{bytes_more, characters_more, characters_none, front_all, front_of, more_within}
-use Rattle.cwr_write.proofs.CharactersRead.{no_first}
+use Rattle.cwr_write.proofs.lemmas.CharactersRead.{bytes_more, characters_more, characters_none, front_all, front_of, more_within}
+use Rattle.cwr_write.proofs.lemmas.CharactersRead.{no_first}
 use Rattle.cwr_write.proofs.records.are_bytes.Goals as goal
 
 pub loop-i-init : goal.loop-i-init

@@ -1,4 +1,4 @@
-use Rattle.cwr_write.proofs.CharactersRead.{stand_ascii}
+use Rattle.cwr_write.proofs.lemmas.CharactersRead.{stand_ascii}
 use Rattle.cwr_write.proofs.records.are_own_bytes.Goals as goal
 
 pub returns-then-is_ascii-clause-yes : goal.returns-then-is_ascii-clause-yes

@@ -1,5 +1,5 @@
 use Rattle.std.proofs.Common.{drop, length-drop, ◌∙◌, arith}
-use Rattle.cwr_write.proofs.CharactersRead.{characters_more, characters_none, front_all, front_of, no_first, no_room, more_within}
+use Rattle.cwr_write.proofs.lemmas.CharactersRead.{characters_more, characters_none, front_all, front_of, no_first, no_room, more_within}
 use Rattle.cwr_write.proofs.records.bytes_of.Goals as goal
 
 pub loop-i-init : goal.loop-i-init

@@ -7,12 +7,12 @@ use Rattle.cwr_write.specs.Steps.Filling.{IsFilled, with_last}
 use Rattle.cwr_lines.specs.Format.Records.{RecordValue}
 use Rattle.cwr_json.specs.Format.Forms.{IsDataOf}
 use Rattle.cwr_write.specs.Steps.Filling.{NoneFrom}
-use Rattle.cwr_write.proofs.FaultsPassed.{passed_on}
-use Rattle.cwr_write.proofs.NoRecordData.{none_whole, told_parts}
+use Rattle.cwr_write.proofs.lemmas.FaultsPassed.{passed_on}
+use Rattle.cwr_write.proofs.lemmas.NoRecordData.{none_whole, told_parts}
 use Rattle.cwr_write.specs.Format.Faults.{IsMemberReason}
 use Rattle.cwr_write.specs.Steps.Filling.{joined}
 use Rattle.std.proofs.Common.{drop}
-use Rattle.cwr_write.proofs.ToldMembers.{member_in, told_all, told_more, told_none}
+use Rattle.cwr_write.proofs.lemmas.ToldMembers.{member_in, told_all, told_more, told_none}
 use Rattle.cwr_write.proofs.records.filled.Goals as goal
 
 pub loop-member-init : goal.loop-member-init

@@ -1,4 +1,4 @@
-use Rattle.cwr_write.proofs.KeysOfNames.{computed_derived, computed_none, never_there}
+use Rattle.cwr_write.proofs.lemmas.KeysOfNames.{computed_derived, computed_none, never_there}
 use Rattle.cwr_write.proofs.records.is_computed.Goals as goal
 
 pub returns-in-Some-clause-none : goal.returns-in-Some-clause-none

@@ -2,7 +2,7 @@ use Rattle.std.proofs.Common.{length, sym, ap, arith, ◌∙◌}
 use Rattle.json.specs.Json.{string}
 use Rattle.cwr_fields.specs.Format.Kinds.{letters}
 use Rattle.cwr_json.specs.Format.Forms.{kind_key}
-use Rattle.cwr_write.proofs.ToldMembers.{kind_found, kind_passed, kind_reason, kind_unnamed, member_in, none_has, none_left}
+use Rattle.cwr_write.proofs.lemmas.ToldMembers.{kind_found, kind_passed, kind_reason, kind_unnamed, member_in, none_has, none_left}
 use Rattle.cwr_write.specs.Format.Faults.{IsKindReason}
 use Rattle.cwr_write.proofs.records.kind_in.Goals as goal
 

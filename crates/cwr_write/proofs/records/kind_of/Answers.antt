@@ -2,8 +2,8 @@ use Rattle.std.proofs.Common.{sym, ap, ◌∙◌}
 use Rattle.json.specs.Json.{string}
 use Rattle.json.specs.Value.{value_view}
 use Rattle.cwr_fields.specs.Format.Kinds.{kind_of}
-use Rattle.cwr_lines.proofs.GoodLinesAreRows.{letters-of}
-use Rattle.cwr_write.proofs.CharactersRead.{string_of}
+use Rattle.cwr_lines.proofs.lemmas.GoodLinesAreRows.{letters-of}
+use Rattle.cwr_write.proofs.lemmas.CharactersRead.{string_of}
 use Rattle.cwr_write.proofs.records.kind_of.Goals as goal
 
 pub returns-in-Some-of-clause-ok : goal.returns-in-Some-of-clause-ok

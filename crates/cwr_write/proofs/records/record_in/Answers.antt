@@ -1,10 +1,10 @@
 use Rattle.cwr_json.specs.Format.Forms.{told}
 use Rattle.json.specs.Value.{members_view}
-use Rattle.cwr_write.proofs.FilledDrafts.{data_done, data_undone, kind_named}
+use Rattle.cwr_write.proofs.lemmas.FilledDrafts.{data_done, data_undone, kind_named}
 use Rattle.cwr_lines.specs.Format.Records.{RecordValue}
 use Rattle.cwr_json.specs.Format.Forms.{IsDataOf}
-use Rattle.cwr_write.proofs.FaultsPassed.{passed_on}
-use Rattle.cwr_write.proofs.RecordReasons.{draft_reason}
+use Rattle.cwr_write.proofs.lemmas.FaultsPassed.{passed_on}
+use Rattle.cwr_write.proofs.lemmas.RecordReasons.{draft_reason}
 use Rattle.cwr_write.proofs.records.record_in.Goals as goal
 
 pub returns-clause-ok : goal.returns-clause-ok

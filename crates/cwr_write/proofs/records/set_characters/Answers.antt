@@ -1,8 +1,8 @@
 use Rattle.std.proofs.Common.{arith}
 use Rattle.std.proofs.lemmas.Result.{IfErr-weaker}
 use Rattle.cwr_json.specs.Format.Encodings.{StandFor}
-use Rattle.cwr_write.proofs.CharactersRead.{slice_bytes}
-use Rattle.cwr_write.proofs.RecordReasons.{bytes_reason, set_ok, unset_err}
+use Rattle.cwr_write.proofs.lemmas.CharactersRead.{slice_bytes}
+use Rattle.cwr_write.proofs.lemmas.RecordReasons.{bytes_reason, set_ok, unset_err}
 use Rattle.cwr_write.proofs.records.set_characters.Goals as goal
 
 pub returns-then-are_own_bytes-clause-ok : goal.returns-then-are_own_bytes-clause-ok

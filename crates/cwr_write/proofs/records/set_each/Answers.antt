@@ -1,11 +1,11 @@
 use Rattle.std.proofs.Common.{◌≡◌, length, sym, subst}
 use Rattle.std.proofs.lemmas.Result.{IfErr-weaker}
 use Rattle.cwr_json.specs.Format.Encodings.{StandFor}
-use Rattle.cwr_json.proofs.Encoded.{one_text}
+use Rattle.cwr_json.proofs.lemmas.Encoded.{one_text}
 use Rattle.cwr_write.specs.Format.Faults.{AreBytes}
-use Rattle.cwr_write.proofs.ByteCells.{fits_bytes, narrow}
-use Rattle.cwr_write.proofs.CharactersRead.{each_stands, stand_each}
-use Rattle.cwr_write.proofs.RecordReasons.{bytes_reason, unset_err, wider}
+use Rattle.cwr_write.proofs.lemmas.ByteCells.{fits_bytes, narrow}
+use Rattle.cwr_write.proofs.lemmas.CharactersRead.{each_stands, stand_each}
+use Rattle.cwr_write.proofs.lemmas.RecordReasons.{bytes_reason, unset_err, wider}
 use Rattle.cwr_write.proofs.records.set_each.Goals as goal
 
 pub returns-then-not-are_bytes-clause-err : goal.returns-then-not-are_bytes-clause-err

@@ -5,7 +5,7 @@ use Rattle.json.specs.Value.{value_view}
 use Rattle.cwr_fields.specs.declared.kinds.Kind.{Kind}
 use Rattle.cwr_fields.specs.Format.Layouts.{field_at}
 use Rattle.cwr_write.specs.Format.Faults.{IsValueReason}
-use Rattle.cwr_write.proofs.CharactersRead.{string_of}
+use Rattle.cwr_write.proofs.lemmas.CharactersRead.{string_of}
 use Rattle.cwr_write.proofs.records.set_value.Goals as goal
 
 pub returns-in-Some-clause-reason : goal.returns-in-Some-clause-reason

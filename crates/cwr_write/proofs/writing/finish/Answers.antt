@@ -7,7 +7,7 @@ use Rattle.cwr_encode.specs.Format.Finishing.{JudgesEnd}
 use Rattle.cwr_encode.specs.Steps.Encoders.{encoder_limits}
 use Rattle.cwr_encode.specs.Steps.Finishing.{FinishesWriting}
 use Rattle.std.proofs.Common.{ℕ}
-use Rattle.cwr_write.proofs.TakenLines.{finish_counts, finish_ended, finish_unread}
+use Rattle.cwr_write.proofs.lemmas.TakenLines.{finish_counts, finish_ended, finish_unread}
 use Rattle.cwr_write.proofs.writing.finish.Goals as goal
 
 pub returns-in-Err-clause-ended : goal.returns-in-Err-clause-ended

@@ -1,6 +1,6 @@
 use Rattle.std.proofs.Common.{refl}
-use Rattle.cwr_write.proofs.TakenItems.{next_given, next_after_end, next_trailer, open_at_foot}
-use Rattle.cwr_write.proofs.TakenLines.{adds_nothing}
+use Rattle.cwr_write.proofs.lemmas.TakenItems.{next_given, next_after_end, next_trailer, open_at_foot}
+use Rattle.cwr_write.proofs.lemmas.TakenLines.{adds_nothing}
 use Rattle.cwr_write.proofs.writing.take_item.Goals as goal
 
 pub returns-in_default-End-clause-judged : goal.returns-in_default-End-clause-judged

@@ -1,4 +1,4 @@
-use Rattle.cwr_write.proofs.TakenLines.{none_made, taken_result}
+use Rattle.cwr_write.proofs.lemmas.TakenLines.{none_made, taken_result}
 use Rattle.cwr_write.proofs.writing.take_line.Goals as goal
 
 pub returns-in-Ok-item_in-clause-takes : goal.returns-in-Ok-item_in-clause-takes

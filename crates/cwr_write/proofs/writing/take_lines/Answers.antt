@@ -7,10 +7,10 @@ use Rattle.cwr_encode.specs.Steps.Encoders.{RepresentsMore, encoder_limits}
 use Rattle.cwr_write.specs.Format.Faults.{IsReason}
 use Rattle.cwr_write.specs.Format.Imports.{SaysItem, is_blank_line}
 use Rattle.cwr_write.specs.Steps.Lines.{TakesLineOf}
-use Rattle.cwr_write.proofs.LinesTaken.{said_all, said_blank, said_item, said_none, stops_line, stops_long}
-use Rattle.cwr_write.proofs.RunsEnded.{RunEnds, run_full, run_over, run_stopped, run_unread}
-use Rattle.cwr_write.proofs.TakenLines.{ReasonOf, ends_lines, ends_read, given_one_more, reads_stopped, reads_unread}
-use Rattle.cwr_write.proofs.TakenLines.{represents_both, represents_none, stands_none, stops_at, stops_unread}
+use Rattle.cwr_write.proofs.lemmas.LinesTaken.{said_all, said_blank, said_item, said_none, stops_line, stops_long}
+use Rattle.cwr_write.proofs.lemmas.RunsEnded.{RunEnds, run_full, run_over, run_stopped, run_unread}
+use Rattle.cwr_write.proofs.lemmas.TakenLines.{ReasonOf, ends_lines, ends_read, given_one_more, reads_stopped, reads_unread}
+use Rattle.cwr_write.proofs.lemmas.TakenLines.{represents_both, represents_none, stands_none, stops_at, stops_unread}
 use Rattle.cwr_write.specs.Steps.Taking.{given_in, given_records}
 use Rattle.cwr_write.proofs.writing.take_lines.Goals as goal
 

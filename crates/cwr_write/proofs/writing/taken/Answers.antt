@@ -1,5 +1,5 @@
 use Rattle.std.proofs.Common.{refl}
-use Rattle.cwr_write.proofs.TakenLines.{goes_on, stands_with, taken_fault}
+use Rattle.cwr_write.proofs.lemmas.TakenLines.{goes_on, stands_with, taken_fault}
 use Rattle.cwr_write.proofs.writing.taken.Goals as goal
 
 pub returns-in-Err-clause-takes : goal.returns-in-Err-clause-takes

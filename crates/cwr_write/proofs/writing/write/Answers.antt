@@ -2,9 +2,9 @@ use Rattle.std.proofs.Common.{◌∙◌, List, ℕ, Option, subst}
 use Rattle.std.specs.Prelude.{Ok, Err}
 use Rattle.cwr_shape.specs.Format.Ranges.{LimitValues}
 use Rattle.cwr_write.specs.Steps.Taking.{given_in}
-use Rattle.cwr_write.proofs.RunsEnded.{RunEnds, takes_all, whole_fault, whole_finished}
-use Rattle.cwr_write.proofs.TakenItems.{trailer_left}
-use Rattle.cwr_write.proofs.TakenLines.{reads_none, written_whole}
+use Rattle.cwr_write.proofs.lemmas.RunsEnded.{RunEnds, takes_all, whole_fault, whole_finished}
+use Rattle.cwr_write.proofs.lemmas.TakenItems.{trailer_left}
+use Rattle.cwr_write.proofs.lemmas.TakenLines.{reads_none, written_whole}
 use Rattle.cwr_write.proofs.writing.write.Goals as goal
 
 pub returns-in-Ok-clause-written : goal.returns-in-Ok-clause-written

@@ -6,7 +6,7 @@ use Rattle.cwr_values.specs.declared.items.Item.{Item}
 use Rattle.cwr_values.specs.declared.items.Item.TheVariants.{Transaction}
 use Rattle.cwr_acks.specs.declared.counts.Answers.{Answers}
 use Rattle.cwr_acks.specs.Steps.AckSteps.{one_more_if}
-use Rattle.cwr_acks.proofs.Statuses.{counted_at, counted_to, counted_whole, counted_with, counted_without}
+use Rattle.cwr_acks.proofs.lemmas.Statuses.{counted_at, counted_to, counted_whole, counted_with, counted_without}
 use Rattle.cwr_acks.proofs.counts.Answers.count_transaction.Goals as goal
 use Rattle.cwr_acks.proofs.counts.Answers.count_transaction.Goals.{then-is_answer, else-is_answer, then-has_status}
 use Rattle.cwr_acks.proofs.counts.Answers.count_transaction.Goals.{else-has_status}

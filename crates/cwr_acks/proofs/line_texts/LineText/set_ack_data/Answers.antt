@@ -2,8 +2,8 @@ use Rattle.std.proofs.Common.{◌≡◌, List, ℕ, ◌++◌, refl, ap, ap₂, �
 use Rattle.std.specs.Prelude.{codes}
 use Rattle.cwr_lines.specs.Format.Records.{cell_named}
 use Rattle.cwr_acks.specs.Steps.DataTexts.{cell_at, cell_member_if, level_member, notes_members, original_members, status_members}
-use Rattle.cwr_acks.proofs.AckFields.{recipient, submitter, title}
-use Rattle.cwr_acks.proofs.NamedParts.{cell_is}
+use Rattle.cwr_acks.proofs.lemmas.AckFields.{recipient, submitter, title}
+use Rattle.cwr_acks.proofs.lemmas.NamedParts.{cell_is}
 use Rattle.cwr_acks.proofs.line_texts.LineText.set_ack_data.Goals as goal
 
 pub returns : goal.returns

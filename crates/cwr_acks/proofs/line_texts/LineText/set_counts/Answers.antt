@@ -4,7 +4,7 @@ use Rattle.std.specs.Prelude.{codes, decimal}
 use Rattle.std.proofs.lemmas.Option.{slice_get-get_or}
 use Rattle.cwr_fields.specs.Format.MessageCodes.{status_code, transaction_statuses}
 use Rattle.cwr_acks.specs.Format.AckTexts.{status_part}
-use Rattle.cwr_acks.proofs.Statuses.{parts_more, parts_to, parts_whole}
+use Rattle.cwr_acks.proofs.lemmas.Statuses.{parts_more, parts_to, parts_whole}
 use Rattle.cwr_acks.proofs.line_texts.LineText.set_counts.Goals as goal
 
 pub loop-i-init : goal.loop-i-init

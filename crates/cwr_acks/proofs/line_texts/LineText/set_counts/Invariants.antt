@@ -1,6 +1,6 @@
 use Rattle.std.proofs.Common.{◌≡◌, ◌+◌, ◌*◌, ◌≤◌, ◌++◌, length}
 use Rattle.std.specs.Prelude.{codes, decimal}
-use Rattle.cwr_acks.proofs.Statuses.{parts_to}
+use Rattle.cwr_acks.proofs.lemmas.Statuses.{parts_to}
 use Rattle.cwr_acks.proofs.line_texts.LineText.set_counts.Given as goal
 
 abbrev pub invariant-loop-i : goal.invariant-loop-i

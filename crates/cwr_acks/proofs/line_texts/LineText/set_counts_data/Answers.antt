@@ -4,7 +4,7 @@ use Rattle.std.specs.Prelude.{codes, decimal, nat_lt}
 use Rattle.std.proofs.lemmas.Option.{slice_get-get_or}
 use Rattle.cwr_fields.specs.Format.MessageCodes.{status_code, transaction_statuses}
 use Rattle.cwr_acks.specs.Steps.DataTexts.{count_member}
-use Rattle.cwr_acks.proofs.Statuses.{counts_more, counts_to, counts_whole}
+use Rattle.cwr_acks.proofs.lemmas.Statuses.{counts_more, counts_to, counts_whole}
 use Rattle.cwr_acks.proofs.line_texts.LineText.set_counts_data.Goals as goal
 
 pub loop-i-init : goal.loop-i-init

@@ -1,6 +1,6 @@
 use Rattle.std.proofs.Common.{◌≡◌, ◌+◌, ◌*◌, ◌≤◌, ◌++◌, length}
 use Rattle.std.specs.Prelude.{codes, decimal}
-use Rattle.cwr_acks.proofs.Statuses.{counts_to}
+use Rattle.cwr_acks.proofs.lemmas.Statuses.{counts_to}
 use Rattle.cwr_acks.proofs.line_texts.LineText.set_counts_data.Given as goal
 
 abbrev pub invariant-loop-i : goal.invariant-loop-i

@@ -2,8 +2,8 @@ use Rattle.std.proofs.Common.{◌≡◌, ℕ, List, ◌++◌, length, ap, ap₂,
 use Rattle.std.specs.Prelude.{codes}
 use Rattle.cwr_lines.specs.Format.Records.{cell_named}
 use Rattle.cwr_acks.specs.Format.AckTexts.{cell_part, original_text}
-use Rattle.cwr_acks.proofs.AckFields.{submitter, title}
-use Rattle.cwr_acks.proofs.NamedParts.{cell_is, cell_long}
+use Rattle.cwr_acks.proofs.lemmas.AckFields.{submitter, title}
+use Rattle.cwr_acks.proofs.lemmas.NamedParts.{cell_is, cell_long}
 use Rattle.cwr_acks.proofs.line_texts.LineText.set_marked.Goals as goal
 
 pub push_cell_part-requires : goal.push_cell_part-requires

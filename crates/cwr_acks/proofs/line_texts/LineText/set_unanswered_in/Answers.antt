@@ -1,7 +1,7 @@
 use Rattle.std.proofs.Common.{sym, ap, ◌∙◌}
 use Rattle.cwr_acks.specs.declared.forms.Form.{Form}
 use Rattle.cwr_acks.specs.Format.AckLines.{unanswered_in}
-use Rattle.cwr_acks.proofs.PrintedAcks.{unanswered_shown}
+use Rattle.cwr_acks.proofs.lemmas.PrintedAcks.{unanswered_shown}
 use Rattle.cwr_acks.proofs.line_texts.LineText.set_unanswered_in.Goals as goal
 
 pub returns-in-Json : goal.returns-in-Json

@@ -1,8 +1,8 @@
 use Rattle.std.proofs.Common.{[], false, sym}
 use Rattle.std.specs.Prelude.{Ok}
 use Rattle.cwr_acks.specs.Format.AckLines.{lines_of_acks}
-use Rattle.cwr_acks.proofs.LinesOfItems.{lines_none}
-use Rattle.cwr_tools.proofs.ReportSteps.{first_lines, nothing_put}
+use Rattle.cwr_acks.proofs.lemmas.LinesOfItems.{lines_none}
+use Rattle.cwr_tools.proofs.lemmas.ReportSteps.{first_lines, nothing_put}
 use Rattle.cwr_acks.proofs.running.AnswerLinesReport.put_first.Goals as goal
 
 pub returns-clause-puts : goal.returns-clause-puts

@@ -3,11 +3,11 @@ use Rattle.std.specs.Prelude.{Option, Result, Err, Ok, option_map}
 use Rattle.cwr_acks.specs.declared.counts.Answers.{Answers}
 use Rattle.cwr_acks.specs.Format.AckLines.{lines_of_acks}
 use Rattle.cwr_acks.specs.Steps.AckSteps.{IsAnswers, IsMatched, Table, lines_at, marked_with, rows_if}
-use Rattle.cwr_acks.proofs.LinesOfItems.{answers_more, answers_room, lines_more, matched_more}
+use Rattle.cwr_acks.proofs.lemmas.LinesOfItems.{answers_more, answers_room, lines_more, matched_more}
 use Rattle.cwr_tools.specs.declared.verdicts.ToolFault.{ToolFault}
 use Rattle.cwr_tools.specs.Steps.Reports.{PutsNext}
-use Rattle.cwr_tools.proofs.ReportsOn.{same_fault}
-use Rattle.cwr_tools.proofs.ReportSteps.{next_lines}
+use Rattle.cwr_tools.proofs.lemmas.ReportsOn.{same_fault}
+use Rattle.cwr_tools.proofs.lemmas.ReportSteps.{next_lines}
 use Rattle.cwr_acks.proofs.running.AnswerLinesReport.put_item.Goals as goal
 
 pub put_item-requires-clause-ten : goal.put_item-requires-clause-ten

@@ -1,5 +1,5 @@
 use Rattle.cwr_acks.specs.Format.AckLines.{lines_of_acks}
-use Rattle.cwr_tools.proofs.ReportSteps.{last_lines, no_verdict}
+use Rattle.cwr_tools.proofs.lemmas.ReportSteps.{last_lines, no_verdict}
 use Rattle.cwr_acks.proofs.running.AnswerLinesReport.put_verdict.Goals as goal
 
 pub returns : goal.returns

@@ -2,8 +2,8 @@ use Rattle.std.proofs.lemmas.Bool.{and_left, or_parts}
 use Rattle.cwr_fields.specs.declared.kinds.Kind.TheVariants as kinds
 use Rattle.cwr_levels.specs.Format.Findings.{is_a, is_owner}
 use Rattle.cwr_advice.specs.Format.Rules.{is_owning_publisher, is_territory, is_writer, owns_shares}
-use Rattle.cwr_advice.proofs.CountedFacts.{any_more}
-use Rattle.cwr_advice.proofs.OtherRecords.{any_same, count_same, no_publisher, no_writer, sum_same}
+use Rattle.cwr_advice.proofs.lemmas.CountedFacts.{any_more}
+use Rattle.cwr_advice.proofs.lemmas.OtherRecords.{any_same, count_same, no_publisher, no_writer, sum_same}
 use Rattle.cwr_advice.proofs.facts.Facts.with_other.Goals as goal
 
 pub returns : goal.returns

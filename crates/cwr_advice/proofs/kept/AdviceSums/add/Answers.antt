@@ -1,4 +1,4 @@
-use Rattle.cwr_advice.proofs.CleanWorks.{answer_more, work_more}
+use Rattle.cwr_advice.proofs.lemmas.CleanWorks.{answer_more, work_more}
 use Rattle.cwr_advice.proofs.kept.AdviceSums.add.Goals as goal
 
 pub returns-then-self : goal.returns-then-self

@@ -6,8 +6,8 @@ use Rattle.cwr_lines.specs.Format.Records.{cell_named}
 use Rattle.cwr_levels.specs.Format.Findings.{is_a, is_blank}
 use Rattle.cwr_advice.specs.Format.Rules.{is_publisher, is_territory, names_agent, owns_shares}
 use Rattle.cwr_advice.specs.Steps.Kept.{is_owning_writer}
-use Rattle.cwr_advice.proofs.CalmRecords.{begun_still, calm_more, controlled_writes, no_agent, owner_writes, since_other}
-use Rattle.cwr_advice.proofs.OtherRecords.{collected_same, no_publisher, no_writer}
+use Rattle.cwr_advice.proofs.lemmas.CalmRecords.{begun_still, calm_more, controlled_writes, no_agent, owner_writes, since_other}
+use Rattle.cwr_advice.proofs.lemmas.OtherRecords.{collected_same, no_publisher, no_writer}
 use Rattle.cwr_advice.proofs.kept.AdviceSums.add_other.Goals as goal
 
 pub returns-clause-kept : goal.returns-clause-kept

@@ -3,8 +3,8 @@ use Rattle.std.specs.Prelude.{◌&&◌}
 use Rattle.cwr_fields.specs.declared.kinds.Kind.TheVariants as kinds
 use Rattle.cwr_levels.specs.Format.Findings.{is_a}
 use Rattle.cwr_advice.specs.Steps.Kept.{is_owning_writer}
-use Rattle.cwr_advice.proofs.CalmRecords.{calm_more, controlled_writes, owner_writes}
-use Rattle.cwr_advice.proofs.OwnedShares.{owns_something}
+use Rattle.cwr_advice.proofs.lemmas.CalmRecords.{calm_more, controlled_writes, owner_writes}
+use Rattle.cwr_advice.proofs.lemmas.OwnedShares.{owns_something}
 use Rattle.cwr_advice.proofs.kept.AdviceSums.add_to_work.Goals as goal
 
 pub add_other-requires-clause-unbroken : goal.add_other-requires-clause-unbroken

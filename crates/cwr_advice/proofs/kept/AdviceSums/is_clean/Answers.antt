@@ -1,4 +1,4 @@
-use Rattle.cwr_advice.proofs.CleanWorks.{none_on_answer, none_on_work}
+use Rattle.cwr_advice.proofs.lemmas.CleanWorks.{none_on_answer, none_on_work}
 use Rattle.cwr_advice.proofs.kept.AdviceSums.is_clean.Goals as goal
 
 pub returns-then-self : goal.returns-then-self

@@ -1,7 +1,7 @@
 use Rattle.std.proofs.Common.{sym, ap, ◌∙◌}
 use Rattle.std.specs.Prelude.{◌&&◌}
 use Rattle.std.proofs.lemmas.Bool.{not-true}
-use Rattle.cwr_advice.proofs.CleanWorks.{none_on_clean}
+use Rattle.cwr_advice.proofs.lemmas.CleanWorks.{none_on_clean}
 use Rattle.cwr_advice.proofs.kept.AdviceSums.is_work_clean.Goals as goal
 
 pub returns : goal.returns

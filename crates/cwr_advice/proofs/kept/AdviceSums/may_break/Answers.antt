@@ -1,7 +1,7 @@
 use Rattle.std.proofs.Common.{List, sym, ap, subst, ◌∙◌}
 use Rattle.cwr_lines.specs.Format.Records.{RecordValue}
 use Rattle.cwr_advice.specs.Steps.Kept.{AreSinceParty, stands_again}
-use Rattle.cwr_advice.proofs.CalmRecords.{front_taken}
+use Rattle.cwr_advice.proofs.lemmas.CalmRecords.{front_taken}
 use Rattle.cwr_advice.proofs.kept.AdviceSums.may_break.Goals as goal
 
 pub returns : goal.returns

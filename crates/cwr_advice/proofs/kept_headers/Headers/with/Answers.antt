@@ -1,5 +1,5 @@
 use Rattle.cwr_advice.specs.Format.Rules.{has_composite_type, has_no_composite_type, is_version}
-use Rattle.cwr_advice.proofs.CountedFacts.{any_more}
+use Rattle.cwr_advice.proofs.lemmas.CountedFacts.{any_more}
 use Rattle.cwr_advice.proofs.kept_headers.Headers.with.Goals as goal
 
 pub returns : goal.returns

@@ -1,5 +1,5 @@
 use Rattle.std.proofs.Common.{sym, ◌∙◌}
-use Rattle.cwr_advice.proofs.OwingWriters.{owing_other, owing_writer}
+use Rattle.cwr_advice.proofs.lemmas.OwingWriters.{owing_other, owing_writer}
 use Rattle.cwr_advice.proofs.owing.Owing.with.Goals as goal
 
 pub returns-then-writes : goal.returns-then-writes

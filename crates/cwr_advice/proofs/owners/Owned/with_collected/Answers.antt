@@ -1,5 +1,5 @@
 use Rattle.cwr_advice.specs.Format.Rules.{collects_in}
-use Rattle.cwr_advice.proofs.CountedFacts.{kept_sum_more}
+use Rattle.cwr_advice.proofs.lemmas.CountedFacts.{kept_sum_more}
 use Rattle.cwr_advice.proofs.owners.Owned.with_collected.Goals as goal
 
 pub returns : goal.returns

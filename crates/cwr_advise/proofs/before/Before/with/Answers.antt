@@ -2,7 +2,7 @@ use Rattle.std.proofs.Common.{[], ◌∷◌, ◌++◌, sym, ap, ◌∙◌}
 use Rattle.cwr_values.specs.declared.items.Item.{Item}
 use Rattle.cwr_advice.specs.Format.Said.{said_by}
 use Rattle.cwr_advise.specs.Format.AdviceLines.{said_in}
-use Rattle.cwr_advise.proofs.SaidBefore.{said_now}
+use Rattle.cwr_advise.proofs.lemmas.SaidBefore.{said_now}
 use Rattle.cwr_advise.proofs.before.Before.with.Goals as goal
 
 pub returns-in-Opened : goal.returns-in-Opened

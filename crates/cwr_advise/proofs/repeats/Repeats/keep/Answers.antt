@@ -4,7 +4,7 @@ use Rattle.std.specs.BTreeMap.{get}
 use Rattle.std.specs.Cmp.Lexicographic.{slice_cmp}
 use Rattle.cwr_advise.specs.declared.repeats.Repeats.{Repeats}
 use Rattle.cwr_advise.specs.Steps.KeptWorks.{AreKeptOf}
-use Rattle.cwr_advise.proofs.WorksKept.{copied_some, kept_more, known_more, known_still, none_there, ok_given}
+use Rattle.cwr_advise.proofs.lemmas.WorksKept.{copied_some, kept_more, known_more, known_still, none_there, ok_given}
 use Rattle.cwr_advise.proofs.repeats.Repeats.keep.Goals as goal
 use Rattle.cwr_advise.proofs.repeats.Repeats.keep.Goals.{then-is_none+else-is_err, else-is_none}
 

@@ -3,7 +3,7 @@ use Rattle.std.specs.Prelude.{OnOk}
 use Rattle.cwr_advise.specs.declared.repeats.Place.{Place}
 use Rattle.cwr_advise.specs.Format.RepeatedWorks.{works_in}
 use Rattle.cwr_advise.specs.Steps.KeptWorks.{AreKeptOf}
-use Rattle.cwr_advise.proofs.WorksKept.{number_is_wide, works_with, works_without}
+use Rattle.cwr_advise.proofs.lemmas.WorksKept.{number_is_wide, works_with, works_without}
 use Rattle.cwr_advise.proofs.repeats.Repeats.take_item.Goals as goal
 
 pub number_in-number-requires : goal.number_in-number-requires

@@ -4,9 +4,9 @@ use Rattle.cwr_values.specs.declared.items.Item.TheVariants.{Transaction}
 use Rattle.cwr_tools.specs.Format.Reports.{ItemLines}
 use Rattle.cwr_advise.specs.Format.AdviceLines.{advised_lines, said_in}
 use Rattle.cwr_advise.specs.Format.RepeatedWorks.{works_in}
-use Rattle.cwr_advise.proofs.LinesOfAdvice.{advised_passed}
-use Rattle.cwr_advise.proofs.SaidBefore.{said_still}
-use Rattle.cwr_advise.proofs.WorksKept.{kept_nothing}
+use Rattle.cwr_advise.proofs.lemmas.LinesOfAdvice.{advised_passed}
+use Rattle.cwr_advise.proofs.lemmas.SaidBefore.{said_still}
+use Rattle.cwr_advise.proofs.lemmas.WorksKept.{kept_nothing}
 use Rattle.cwr_advise.proofs.running.AdviceLinesReport.passes.Goals as goal
 
 pub returns : goal.returns

@@ -1,8 +1,8 @@
 use Rattle.std.proofs.Common.{false, sym}
 use Rattle.std.specs.Prelude.{Ok}
 use Rattle.cwr_advise.specs.Format.AdviceLines.{lines_advised}
-use Rattle.cwr_advise.proofs.LinesOfAdvice.{advised_none}
-use Rattle.cwr_tools.proofs.ReportSteps.{first_lines, nothing_put}
+use Rattle.cwr_advise.proofs.lemmas.LinesOfAdvice.{advised_none}
+use Rattle.cwr_tools.proofs.lemmas.ReportSteps.{first_lines, nothing_put}
 use Rattle.cwr_advise.proofs.running.AdviceLinesReport.put_first.Goals as goal
 
 pub returns-clause-puts : goal.returns-clause-puts

@@ -4,14 +4,14 @@ use Rattle.std.proofs.lemmas.Bool.{or_left, or_right}
 use Rattle.cwr_tools.specs.declared.verdicts.ToolFault.{ToolFault}
 use Rattle.cwr_tools.specs.declared.verdicts.ToolFault.TheVariants.{Memory}
 use Rattle.cwr_tools.specs.Steps.Reports.{PutsLines, PutsNext}
-use Rattle.cwr_tools.proofs.ReportsOn.{same_fault}
-use Rattle.cwr_tools.proofs.ReportSteps.{next_lines}
+use Rattle.cwr_tools.proofs.lemmas.ReportsOn.{same_fault}
+use Rattle.cwr_tools.proofs.lemmas.ReportSteps.{next_lines}
 use Rattle.cwr_advise.specs.Format.AdviceLines.{advised_item, has_advised, lines_advised, takes_memory}
 use Rattle.cwr_advise.specs.Format.RepeatedWorks.{keeps_number}
 use Rattle.cwr_advise.specs.Steps.AdvisedItems.{advised_at}
 use Rattle.cwr_advise.specs.Steps.KeptWorks.{repeated_at}
-use Rattle.cwr_advise.proofs.AdvicePut.{more_memory}
-use Rattle.cwr_advise.proofs.LinesOfAdvice.{advised_more, advised_next}
+use Rattle.cwr_advise.proofs.lemmas.AdvicePut.{more_memory}
+use Rattle.cwr_advise.proofs.lemmas.LinesOfAdvice.{advised_more, advised_next}
 use Rattle.cwr_advise.proofs.running.AdviceLinesReport.put_item.Goals as goal
 
 pub returns-in_default-clause-puts : goal.returns-in_default-clause-puts

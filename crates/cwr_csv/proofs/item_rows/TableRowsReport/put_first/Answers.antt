@@ -1,7 +1,7 @@
 use Rattle.cwr_csv.specs.Format.TableLines.{lines_of_table}
 use Rattle.cwr_csv.specs.Steps.ItemRows.{table_heading}
-use Rattle.cwr_csv.proofs.RowsOfItems.{table_none}
-use Rattle.cwr_tools.proofs.ReportSteps.{first_lines}
+use Rattle.cwr_csv.proofs.lemmas.RowsOfItems.{table_none}
+use Rattle.cwr_tools.proofs.lemmas.ReportSteps.{first_lines}
 use Rattle.cwr_csv.proofs.item_rows.TableRowsReport.put_first.Goals as goal
 
 pub returns-clause-puts : goal.returns-clause-puts

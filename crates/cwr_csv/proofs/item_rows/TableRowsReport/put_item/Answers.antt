@@ -1,7 +1,7 @@
 use Rattle.cwr_csv.specs.Format.TableLines.{lines_of_table}
 use Rattle.cwr_csv.specs.Steps.ItemRows.{rows_at}
-use Rattle.cwr_csv.proofs.RowsOfItems.{table_more}
-use Rattle.cwr_tools.proofs.ReportSteps.{next_lines}
+use Rattle.cwr_csv.proofs.lemmas.RowsOfItems.{table_more}
+use Rattle.cwr_tools.proofs.lemmas.ReportSteps.{next_lines}
 use Rattle.cwr_csv.proofs.item_rows.TableRowsReport.put_item.Goals as goal
 
 pub returns-clause-puts : goal.returns-clause-puts

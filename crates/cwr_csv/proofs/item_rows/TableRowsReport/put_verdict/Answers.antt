@@ -1,5 +1,5 @@
 use Rattle.cwr_csv.specs.Format.TableLines.{lines_of_table}
-use Rattle.cwr_tools.proofs.ReportSteps.{last_lines, no_verdict}
+use Rattle.cwr_tools.proofs.lemmas.ReportSteps.{last_lines, no_verdict}
 use Rattle.cwr_csv.proofs.item_rows.TableRowsReport.put_verdict.Goals as goal
 
 pub returns : goal.returns

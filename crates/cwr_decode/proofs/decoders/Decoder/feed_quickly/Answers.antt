@@ -4,7 +4,7 @@ use Rattle.cwr_values.specs.declared.items.Item.TheVariants as items
 use Rattle.cwr_decode.specs.declared.outcomes.Outcome.TheVariants as outcomes
 use Rattle.cwr_decode.specs.Steps.Calls.{Feeds}
 use Rattle.cwr_decode.specs.Steps.Machines.{Standing}
-use Rattle.cwr_decode.proofs.AfterPiece.{found_feeds, found_sound}
+use Rattle.cwr_decode.proofs.lemmas.AfterPiece.{found_feeds, found_sound}
 use Rattle.cwr_decode.proofs.decoders.Decoder.feed_quickly.Goals as goal
 
 pub invariant_of-self : goal.invariant_of-self

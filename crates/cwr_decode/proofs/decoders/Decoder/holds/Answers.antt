@@ -1,6 +1,6 @@
 use Rattle.std.proofs.Common.{ap, arith}
 use Rattle.cwr_decode.specs.Steps.Machines.{Standing}
-use Rattle.cwr_decode.proofs.HeldBounds.{held_bounded}
+use Rattle.cwr_decode.proofs.lemmas.HeldBounds.{held_bounded}
 use Rattle.cwr_decode.proofs.decoders.Decoder.holds.Goals as goal
 
 pub returns-clause-bounded : goal.returns-clause-bounded

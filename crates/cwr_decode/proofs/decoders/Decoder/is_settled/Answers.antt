@@ -1,9 +1,9 @@
 use Rattle.std.proofs.Common.{subst, sym, ◌∙◌}
 use Rattle.cwr_decode.specs.Steps.Machines.{Standing}
 use Rattle.cwr_decode.specs.Steps.Readings.{FeedsOn}
-use Rattle.cwr_decode.proofs.AfterPiece.{either_sound}
-use Rattle.cwr_decode.proofs.FromReader.{feeds_settled}
-use Rattle.cwr_decode.proofs.HeldOpen.{waiting_fits}
+use Rattle.cwr_decode.proofs.lemmas.AfterPiece.{either_sound}
+use Rattle.cwr_decode.proofs.lemmas.FromReader.{feeds_settled}
+use Rattle.cwr_decode.proofs.lemmas.HeldOpen.{waiting_fits}
 use Rattle.cwr_decode.proofs.decoders.Decoder.is_settled.Goals as goal
 
 pub is_settled-requires-clause-fits : goal.is_settled-requires-clause-fits

@@ -1,6 +1,6 @@
 use Rattle.std.proofs.Common.{[], refl, sym, subst}
 use Rattle.cwr_decode.specs.Steps.Machines.{Standing, IsReady}
-use Rattle.cwr_decode.proofs.NothingRead.{nothing_read}
+use Rattle.cwr_decode.proofs.lemmas.NothingRead.{nothing_read}
 use Rattle.cwr_decode.proofs.decoders.Decoder.new.Goals as goal
 
 pub invariant_of-result : goal.invariant_of-result

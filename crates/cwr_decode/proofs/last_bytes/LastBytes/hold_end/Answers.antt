@@ -1,6 +1,6 @@
 use Rattle.std.proofs.Common.{◌≡◌, ◌-◌, length, take, drop, ap, ◌∙◌, arith}
 use Rattle.std.proofs.lemmas.List.{length-drop}
-use Rattle.cwr_decode.proofs.LastHeld.{end_slice, filled_by, holds_end, length_end}
+use Rattle.cwr_decode.proofs.lemmas.LastHeld.{end_slice, filled_by, holds_end, length_end}
 use Rattle.cwr_decode.proofs.last_bytes.LastBytes.hold_end.Goals as goal
 
 pub returns : goal.returns

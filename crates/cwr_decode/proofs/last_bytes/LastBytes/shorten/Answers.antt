@@ -1,5 +1,5 @@
 use Rattle.std.proofs.Common.{◌≡◌, ℕ, ◌-◌, List, length, drop, refl, ap, ◌∙◌, arith}
-use Rattle.cwr_decode.proofs.LastHeld.{filled_by, holds_less, length_end}
+use Rattle.cwr_decode.proofs.lemmas.LastHeld.{filled_by, holds_less, length_end}
 use Rattle.cwr_decode.proofs.last_bytes.LastBytes.shorten.Goals as goal
 
 pub returns-clause-held : goal.returns-clause-held

@@ -3,7 +3,7 @@ use Rattle.cwr_lines.specs.declared.lines.LineEnd.TheVariants.{Open}
 use Rattle.cwr_decode.specs.declared.machine.State.{State}
 use Rattle.cwr_decode.specs.Steps.Machines.{IsReady, Standing}
 use Rattle.cwr_decode.specs.Steps.Passing.{BeginsHeld}
-use Rattle.cwr_decode.proofs.PassedOver.{held_header}
+use Rattle.cwr_decode.proofs.lemmas.PassedOver.{held_header}
 use Rattle.cwr_decode.proofs.machine.Machine.begins_held.Goals as goal
 
 pub returns-in-Some-record : goal.returns-in-Some-record

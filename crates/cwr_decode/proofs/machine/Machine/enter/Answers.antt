@@ -3,7 +3,7 @@ use Rattle.std.specs.Prelude.{◌≡◌}
 use Rattle.cwr_lines.specs.Format.Records.{RecordValue}
 use Rattle.cwr_lines.specs.Steps.Held.{held_record}
 use Rattle.cwr_decode.specs.Steps.Machines.{EntersHeld, Standing}
-use Rattle.cwr_decode.proofs.LineSteps.{adds_enters}
+use Rattle.cwr_decode.proofs.lemmas.LineSteps.{adds_enters}
 use Rattle.cwr_decode.proofs.machine.Machine.enter.Goals as goal
 
 pub returns : goal.returns

@@ -1,9 +1,9 @@
 use Rattle.std.proofs.Common.{ℕ, None, Some, ap, subst, sym, ◌∙◌}
 use Rattle.cwr_decode.specs.Steps.Machines.{FitsWaiting, Standing, Settles}
 use Rattle.cwr_decode.specs.Steps.Calls.{Feeds}
-use Rattle.cwr_decode.proofs.AnsweredAtOnce.{settled_feeds}
-use Rattle.cwr_decode.proofs.AfterPiece.{finished_feeds, fed_whole, settled_reading, settled_sound}
-use Rattle.cwr_decode.proofs.HeldOpen.{waiting_fits}
+use Rattle.cwr_decode.proofs.lemmas.AnsweredAtOnce.{settled_feeds}
+use Rattle.cwr_decode.proofs.lemmas.AfterPiece.{finished_feeds, fed_whole, settled_reading, settled_sound}
+use Rattle.cwr_decode.proofs.lemmas.HeldOpen.{waiting_fits}
 use Rattle.cwr_decode.proofs.machine.Machine.feed.Goals as goal
 
 pub is_settled-requires-clause-fits : goal.is_settled-requires-clause-fits

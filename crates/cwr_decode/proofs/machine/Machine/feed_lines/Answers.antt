@@ -6,10 +6,10 @@ use Rattle.cwr_decode.specs.Steps.Calls.{Advances, Fed}
 use Rattle.cwr_decode.specs.Steps.Machines.{Standing, Judges, emptied}
 use Rattle.cwr_decode.specs.declared.outcomes.Outcome.TheVariants as outcomes
 use Rattle.cwr_values.specs.declared.items.Item.TheVariants as items
-use Rattle.cwr_decode.proofs.AfterBytes.{advanced_line, advanced_open}
-use Rattle.cwr_decode.proofs.AfterPiece.{fed_start, fed_on, fed_more, fed_through, rest_smaller}
-use Rattle.cwr_decode.proofs.FrontSteps.{held_some, of_whole}
-use Rattle.cwr_decode.proofs.HeldOpen.{fed_holds}
+use Rattle.cwr_decode.proofs.lemmas.AfterBytes.{advanced_line, advanced_open}
+use Rattle.cwr_decode.proofs.lemmas.AfterPiece.{fed_start, fed_on, fed_more, fed_through, rest_smaller}
+use Rattle.cwr_decode.proofs.lemmas.FrontSteps.{held_some, of_whole}
+use Rattle.cwr_decode.proofs.lemmas.HeldOpen.{fed_holds}
 use Rattle.cwr_decode.proofs.machine.Machine.feed_lines.Goals as goal
 
 pub loop-whole-init : goal.loop-whole-init

@@ -4,9 +4,9 @@ use Rattle.cwr_decode.specs.declared.machine.Found.TheVariants as founds
 use Rattle.cwr_decode.specs.declared.outcomes.Outcome.TheVariants as outcomes
 use Rattle.cwr_values.specs.declared.items.Item.TheVariants as items
 use Rattle.cwr_decode.specs.Steps.Machines.{JudgesFront, emptied}
-use Rattle.cwr_decode.proofs.AfterBytes.{advanced_front}
-use Rattle.cwr_decode.proofs.AfterPiece.{fed_start, fed_same, fed_more, fed_through, rest_smaller}
-use Rattle.cwr_decode.proofs.FrontSteps.{found_as, held_some, of_whole}
+use Rattle.cwr_decode.proofs.lemmas.AfterBytes.{advanced_front}
+use Rattle.cwr_decode.proofs.lemmas.AfterPiece.{fed_start, fed_same, fed_more, fed_through, rest_smaller}
+use Rattle.cwr_decode.proofs.lemmas.FrontSteps.{found_as, held_some, of_whole}
 use Rattle.cwr_decode.proofs.machine.Machine.feed_quickly.Goals as goal
 
 pub loop-used-init : goal.loop-used-init

@@ -1,7 +1,7 @@
 use Rattle.std.proofs.Common.{◌∙◌, ap}
 use Rattle.cwr_decode.specs.Steps.Machines.{Standing}
-use Rattle.cwr_decode.proofs.AfterFinish.{ends_finish, settles_finish, cut_finish}
-use Rattle.cwr_decode.proofs.HeldOpen.{ended_fits}
+use Rattle.cwr_decode.proofs.lemmas.AfterFinish.{ends_finish, settles_finish, cut_finish}
+use Rattle.cwr_decode.proofs.lemmas.HeldOpen.{ended_fits}
 use Rattle.cwr_decode.proofs.machine.Machine.finish.Goals as goal
 
 pub settle-requires-clause-fits : goal.settle-requires-clause-fits

@@ -1,5 +1,5 @@
 use Rattle.std.proofs.Common.{sym, ◌∙◌}
-use Rattle.cwr_decode.proofs.PassedOver.{kept_front}
+use Rattle.cwr_decode.proofs.lemmas.PassedOver.{kept_front}
 use Rattle.cwr_decode.proofs.machine.Machine.keep_as.Goals as goal
 
 pub returns-clause-keeps : goal.returns-clause-keeps

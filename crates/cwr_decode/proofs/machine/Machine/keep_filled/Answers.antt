@@ -1,7 +1,7 @@
 use Rattle.std.proofs.Common.{◌≡◌, sym, ap, subst, ◌∙◌}
 use Rattle.cwr_lines.specs.declared.lines.LineEnd.TheVariants.{Line}
 use Rattle.cwr_lines.specs.Steps.Held.{HeldLine, IsHeld, Takes, empty_line}
-use Rattle.cwr_decode.proofs.PassedOver.{kept_front}
+use Rattle.cwr_decode.proofs.lemmas.PassedOver.{kept_front}
 use Rattle.cwr_decode.proofs.machine.Machine.keep_filled.Goals as goal
 
 pub returns-clause-keeps : goal.returns-clause-keeps

@@ -1,5 +1,5 @@
-use Rattle.cwr_decode.proofs.AfterInputEnd.{ends_with, ends_without}
-use Rattle.cwr_decode.proofs.HeldOpen.{closed_holds}
+use Rattle.cwr_decode.proofs.lemmas.AfterInputEnd.{ends_with, ends_without}
+use Rattle.cwr_decode.proofs.lemmas.HeldOpen.{closed_holds}
 use Rattle.cwr_decode.proofs.machine.Machine.last_line.Goals as goal
 
 pub take_line-requires-clause-holds : goal.take_line-requires-clause-holds

@@ -4,8 +4,8 @@ use Rattle.cwr_decode.specs.declared.machine.Found.{Found}
 use Rattle.cwr_decode.specs.declared.machine.Found.TheVariants.{Added, Ends}
 use Rattle.cwr_decode.specs.Steps.Machines.{Standing}
 use Rattle.cwr_decode.specs.Steps.Passing.{BeginsWaiting, IsPassing, KeepsFront, Passes, waiting}
-use Rattle.cwr_decode.proofs.PassedOver.{begins, begins_next, ends_smaller, few_more, one_more, one_more_smaller, passed_more}
-use Rattle.cwr_decode.proofs.PassedOver.{passes_none}
+use Rattle.cwr_decode.proofs.lemmas.PassedOver.{begins, begins_next, ends_smaller, few_more, one_more, one_more_smaller, passed_more}
+use Rattle.cwr_decode.proofs.lemmas.PassedOver.{passes_none}
 use Rattle.cwr_decode.proofs.machine.Machine.pass.Goals as goal
 
 pub returns-then-not-begins_held : goal.returns-then-not-begins_held

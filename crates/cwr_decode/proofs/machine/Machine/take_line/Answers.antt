@@ -4,8 +4,8 @@ use Rattle.cwr_decode.specs.declared.outcomes.Outcome.TheVariants as outcomes
 use Rattle.cwr_decode.specs.declared.machine.State.TheVariants as states
 use Rattle.cwr_values.specs.declared.items.Item.TheVariants as items
 use Rattle.cwr_decode.specs.Steps.Machines.{Standing, HoldsOpen, Judges}
-use Rattle.cwr_decode.proofs.HeldOpen.{entry_fits}
-use Rattle.cwr_decode.proofs.LineSteps.{refused_judged, waits_now, enters_now}
+use Rattle.cwr_decode.proofs.lemmas.HeldOpen.{entry_fits}
+use Rattle.cwr_decode.proofs.lemmas.LineSteps.{refused_judged, waits_now, enters_now}
 use Rattle.cwr_decode.proofs.machine.Machine.take_line.Goals as goal
 
 pub returns-in-Err : goal.returns-in-Err

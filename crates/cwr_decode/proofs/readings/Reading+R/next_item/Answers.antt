@@ -1,7 +1,7 @@
 use Rattle.std.proofs.Common.{None, ap, refl, arith}
 use Rattle.cwr_decode.specs.Steps.Machines.{again}
-use Rattle.cwr_decode.proofs.LastHeld.{reads_both}
-use Rattle.cwr_decode.proofs.FromReader.{reads_after, wants_more}
+use Rattle.cwr_decode.proofs.lemmas.LastHeld.{reads_both}
+use Rattle.cwr_decode.proofs.lemmas.FromReader.{reads_after, wants_more}
 use Rattle.cwr_decode.proofs.readings.Reading+R.next_item.Goals as goal
 
 pub pull_quickly-requires-clause-reading : goal.pull_quickly-requires-clause-reading

@@ -4,9 +4,9 @@ use Rattle.cwr_decode.specs.declared.outcomes.Outcome.{Outcome}
 use Rattle.cwr_decode.specs.declared.readings.ReadFault.TheVariants.{Reader}
 use Rattle.cwr_decode.specs.Steps.Machines.{again}
 use Rattle.cwr_decode.specs.Steps.Readings.{answer_of}
-use Rattle.cwr_decode.proofs.AnsweredAtOnce.{if_some}
-use Rattle.cwr_decode.proofs.LastHeld.{reads_both}
-use Rattle.cwr_decode.proofs.PassedOver.{passes_nothing}
+use Rattle.cwr_decode.proofs.lemmas.AnsweredAtOnce.{if_some}
+use Rattle.cwr_decode.proofs.lemmas.LastHeld.{reads_both}
+use Rattle.cwr_decode.proofs.lemmas.PassedOver.{passes_nothing}
 use Rattle.cwr_decode.proofs.readings.Reading+R.next_item_passing.Goals as goal
 
 pub returns-in-Some-clause-last : goal.returns-in-Some-clause-last

@@ -1,5 +1,5 @@
 use Rattle.std.proofs.Common.{arith}
-use Rattle.cwr_devices.proofs.BytesReadAhead.{consumed}
+use Rattle.cwr_devices.proofs.lemmas.BytesReadAhead.{consumed}
 use Rattle.cwr_devices.proofs.counted.CountedSource.consume.Goals as goal
 
 pub returns-clause-bytes : goal.returns-clause-bytes

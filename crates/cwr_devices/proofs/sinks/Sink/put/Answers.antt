@@ -1,5 +1,5 @@
 use Rattle.std.proofs.Common.{true≢false}
-use Rattle.cwr_devices.proofs.Puts.{grown_whole, written_all, written_more}
+use Rattle.cwr_devices.proofs.lemmas.Puts.{grown_whole, written_all, written_more}
 use Rattle.cwr_devices.proofs.sinks.Sink.put.Goals as goal
 
 pub returns-in-Ok-clause-written : goal.returns-in-Ok-clause-written

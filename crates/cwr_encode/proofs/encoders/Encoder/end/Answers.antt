@@ -4,14 +4,14 @@ use Rattle.cwr_fields.specs.declared.kinds.Kind.TheVariants.{Trl}
 use Rattle.cwr_shape.specs.declared.symbols.Symbol.{Symbol}
 use Rattle.cwr_shape.specs.declared.symbols.Symbol.TheVariants.{Plain}
 use Rattle.cwr_shape.specs.Steps.Tallies as tallies
-use Rattle.cwr_shape.proofs.WhatMayCome.{comes_any}
+use Rattle.cwr_shape.proofs.lemmas.WhatMayCome.{comes_any}
 use Rattle.cwr_values.specs.Format.Values.{symbol_of}
 use Rattle.cwr_values.specs.Format.Rows.{trailer}
 use Rattle.cwr_encode.specs.declared.encoders.EncodeFault.{EncodeFault}
 use Rattle.cwr_encode.specs.Format.Finishing.{JudgesEnd, IsBeforeTrailer}
-use Rattle.cwr_encode.proofs.Adding.{adds_one, judged_taken, admitted, refused}
-use Rattle.cwr_encode.proofs.Comes.{trailer_last}
-use Rattle.cwr_encode.proofs.Ends.{end_numbers, end_judged}
+use Rattle.cwr_encode.proofs.lemmas.Adding.{adds_one, judged_taken, admitted, refused}
+use Rattle.cwr_encode.proofs.lemmas.Comes.{trailer_last}
+use Rattle.cwr_encode.proofs.lemmas.Ends.{end_numbers, end_judged}
 use Rattle.cwr_encode.proofs.encoders.Encoder.end.Goals as goal
 
 pub put-requires : goal.put-requires

@@ -4,11 +4,11 @@ use Rattle.cwr_shape.specs.declared.symbols.Symbol.{Symbol}
 use Rattle.cwr_shape.specs.declared.symbols.Symbol.TheVariants.{Plain}
 use Rattle.cwr_shape.specs.Format.Outlines.{IsWithin, Continues}
 use Rattle.cwr_shape.specs.Steps.Tallies as tallies
-use Rattle.cwr_shape.proofs.WhatMayCome.{comes_any}
+use Rattle.cwr_shape.proofs.lemmas.WhatMayCome.{comes_any}
 use Rattle.cwr_values.specs.Format.Values.{symbol_of}
-use Rattle.cwr_encode.proofs.Adding.{adds_one, judged_taken, admitted, refused, right_kind, plain_symbol}
-use Rattle.cwr_encode.proofs.Comes.{foot_inside}
-use Rattle.cwr_encode.proofs.Groups.{foot_numbers, foot_incomplete, in_group}
+use Rattle.cwr_encode.proofs.lemmas.Adding.{adds_one, judged_taken, admitted, refused, right_kind, plain_symbol}
+use Rattle.cwr_encode.proofs.lemmas.Comes.{foot_inside}
+use Rattle.cwr_encode.proofs.lemmas.Groups.{foot_numbers, foot_incomplete, in_group}
 use Rattle.cwr_encode.proofs.encoders.Encoder.end_group.Goals as goal
 
 pub put-requires : goal.put-requires

@@ -2,7 +2,7 @@ use Rattle.std.proofs.Common.{map, sym, subst}
 use Rattle.std.specs.Prelude.{Err}
 use Rattle.cwr_values.specs.Format.Values.{symbol_of}
 use Rattle.cwr_encode.specs.Steps.Finishing.{FinishesWriting}
-use Rattle.cwr_encode.proofs.Ends.{finishes_flushed, finishes_refused, end_rejudged}
+use Rattle.cwr_encode.proofs.lemmas.Ends.{finishes_flushed, finishes_refused, end_rejudged}
 use Rattle.cwr_encode.proofs.encoders.Encoder.finish.Goals as goal
 
 pub returns-in-Ok-clause-judged : goal.returns-in-Ok-clause-judged

@@ -5,12 +5,12 @@ use Rattle.cwr_shape.specs.declared.symbols.Symbol.{Symbol}
 use Rattle.cwr_shape.specs.Format.Outlines.{IsWithin, Continues}
 use Rattle.cwr_shape.specs.Format.Numbers.{symbol_kind}
 use Rattle.cwr_shape.specs.Steps.Tallies as tallies
-use Rattle.cwr_shape.proofs.WhatMayCome.{comes_any}
+use Rattle.cwr_shape.proofs.lemmas.WhatMayCome.{comes_any}
 use Rattle.cwr_values.specs.Format.Values.{symbol_of}
 use Rattle.cwr_encode.specs.declared.encoders.EncodeFault.{EncodeFault}
 use Rattle.cwr_encode.specs.Format.Encoders.{JudgesGroup, reached_by}
-use Rattle.cwr_encode.proofs.Adding.{adds_one, judged_taken, right_kind}
-use Rattle.cwr_encode.proofs.Groups.{head_barred, head_numbers, head_symbol, may_begin}
+use Rattle.cwr_encode.proofs.lemmas.Adding.{adds_one, judged_taken, right_kind}
+use Rattle.cwr_encode.proofs.lemmas.Groups.{head_barred, head_numbers, head_symbol, may_begin}
 use Rattle.cwr_encode.proofs.encoders.Encoder.group.Goals as goal
 
 pub put-requires : goal.put-requires

@@ -1,6 +1,6 @@
 use Rattle.std.proofs.Common.{List, ℕ, sym, subst}
 use Rattle.cwr_devices.specs.Steps.Sinks.{HasWritten}
-use Rattle.cwr_encode.proofs.Adding.{part_none}
+use Rattle.cwr_encode.proofs.lemmas.Adding.{part_none}
 use Rattle.cwr_encode.proofs.encoders.Encoder.new.Goals as goal
 
 pub returns-clause-represents : goal.returns-clause-represents

@@ -1,6 +1,6 @@
 use Rattle.std.proofs.Common.{◌∙◌, ap}
 use Rattle.std.specs.Prelude.{unwrap_or}
-use Rattle.cwr_encode.proofs.Groups.{number_next}
+use Rattle.cwr_encode.proofs.lemmas.Groups.{number_next}
 use Rattle.cwr_encode.proofs.encoders.Encoder.number.Goals as goal
 
 pub returns : goal.returns

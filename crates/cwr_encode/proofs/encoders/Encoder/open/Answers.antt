@@ -6,8 +6,8 @@ use Rattle.cwr_shape.specs.Format.Outlines.{IsWithin, Continues}
 use Rattle.cwr_shape.specs.Steps.Tallies as tallies
 use Rattle.cwr_values.specs.Format.Values.{symbol_of}
 use Rattle.cwr_values.specs.Format.Begins.{numbers_after}
-use Rattle.cwr_encode.proofs.Comes.{opening_comes, opening_first}
-use Rattle.cwr_encode.proofs.Adding.{adds_one, judged_taken, admitted, refused, wrong_kind, right_kind, plain_symbol}
+use Rattle.cwr_encode.proofs.lemmas.Comes.{opening_comes, opening_first}
+use Rattle.cwr_encode.proofs.lemmas.Adding.{adds_one, judged_taken, admitted, refused, wrong_kind, right_kind, plain_symbol}
 use Rattle.cwr_encode.proofs.encoders.Encoder.open.Goals as goal
 
 pub returns-then-is_err-clause-judged : goal.returns-then-is_err-clause-judged

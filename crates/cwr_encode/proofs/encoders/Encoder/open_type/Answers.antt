@@ -1,6 +1,6 @@
 use Rattle.std.proofs.Common.{sym, subst, ◌∙◌}
 use Rattle.cwr_shape.specs.Steps.Left.{StandsAt}
-use Rattle.cwr_encode.proofs.OpenTypes.{ready_head, ready_later, unready_later, none_open}
+use Rattle.cwr_encode.proofs.lemmas.OpenTypes.{ready_head, ready_later, unready_later, none_open}
 use Rattle.cwr_encode.proofs.encoders.Encoder.open_type.Goals as goal
 
 pub returns-in-InGroup : goal.returns-in-InGroup

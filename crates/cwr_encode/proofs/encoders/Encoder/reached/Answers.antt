@@ -1,6 +1,6 @@
 use Rattle.std.proofs.Common.{◌∙◌, ap}
 use Rattle.cwr_encode.specs.Steps.Encoders.{reached_at}
-use Rattle.cwr_encode.proofs.Comes.{reached_stands}
+use Rattle.cwr_encode.proofs.lemmas.Comes.{reached_stands}
 use Rattle.cwr_encode.proofs.encoders.Encoder.reached.Goals as goal
 
 pub returns : goal.returns

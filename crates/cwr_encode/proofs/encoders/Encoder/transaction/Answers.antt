@@ -2,9 +2,9 @@ use Rattle.std.proofs.Common.{List, ◌++◌, map, sym, ap, subst, ◌∙◌}
 use Rattle.cwr_shape.specs.declared.symbols.Symbol.{Symbol}
 use Rattle.cwr_shape.specs.Steps.Tallies as tallies
 use Rattle.cwr_values.specs.Format.Values.{symbol_of}
-use Rattle.cwr_encode.proofs.Adding.{adds_by, judged_taken}
-use Rattle.cwr_encode.proofs.Transactions.{whole_of, wrong_type, limit_judged, comes_within, few_records, transaction_added}
-use Rattle.cwr_encode.proofs.Transactions.{header_there}
+use Rattle.cwr_encode.proofs.lemmas.Adding.{adds_by, judged_taken}
+use Rattle.cwr_encode.proofs.lemmas.Transactions.{whole_of, wrong_type, limit_judged, comes_within, few_records, transaction_added}
+use Rattle.cwr_encode.proofs.lemmas.Transactions.{header_there}
 use Rattle.cwr_encode.specs.Steps.Encoders.{passed_with}
 use Rattle.cwr_encode.specs.Steps.Texts.{text_from}
 use Rattle.cwr_encode.proofs.encoders.Encoder.transaction.Goals as goal

@@ -1,6 +1,6 @@
 use Rattle.std.proofs.Common.{◌≡◌, length, IsSome, sym, subst, ◌∙◌}
 use Rattle.cwr_fields.specs.Format.Members.{member_with}
-use Rattle.cwr_fields.proofs.Members.{member_listed, found_where_code, cell_of_found}
+use Rattle.cwr_fields.proofs.lemmas.Members.{member_listed, found_where_code, cell_of_found}
 use Rattle.cwr_fields.proofs.coded.AnyCell.read.Goals as goal
 
 pub returns-clause-some : goal.returns-clause-some

@@ -1,5 +1,5 @@
 use Rattle.std.proofs.Common.{sym, ap, ◌∙◌}
-use Rattle.cwr_fields.proofs.Members.{code_at}
+use Rattle.cwr_fields.proofs.lemmas.Members.{code_at}
 use Rattle.cwr_fields.proofs.coded.Coded.code.Goals as goal
 
 pub returns : goal.returns

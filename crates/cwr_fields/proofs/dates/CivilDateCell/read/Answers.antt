@@ -1,7 +1,7 @@
 use Rattle.std.proofs.Common.{arith}
 use Rattle.std.proofs.lemmas.Grind.{common_steps}
-use Rattle.cwr_fields.proofs.Spellings.{day_spelled}
-use Rattle.cwr_fields.proofs.DigitsWritten.{three_back}
+use Rattle.cwr_fields.proofs.lemmas.Spellings.{day_spelled}
+use Rattle.cwr_fields.proofs.lemmas.DigitsWritten.{three_back}
 use Rattle.cwr_fields.proofs.dates.CivilDateCell.read.Goals as goal
 
 pub returns-in_err-year-clause-some : goal.returns-in_err-year-clause-some

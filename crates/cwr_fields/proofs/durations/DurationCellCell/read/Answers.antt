@@ -1,9 +1,9 @@
 use Rattle.std.proofs.Common.{◌≡◌, false, sym, ◌∙◌, inl, refl, arith}
 use Rattle.std.proofs.lemmas.Grind.{common_steps}
 use Rattle.cwr_fields.specs.Format.Bytes.{is_spaces}
-use Rattle.cwr_fields.proofs.Blanks.{blank}
-use Rattle.cwr_fields.proofs.Spellings.{time_spelled}
-use Rattle.cwr_fields.proofs.DigitsWritten.{duration_or, three_back}
+use Rattle.cwr_fields.proofs.lemmas.Blanks.{blank}
+use Rattle.cwr_fields.proofs.lemmas.Spellings.{time_spelled}
+use Rattle.cwr_fields.proofs.lemmas.DigitsWritten.{duration_or, three_back}
 use Rattle.cwr_fields.proofs.durations.DurationCellCell.read.Goals as goal
 
 pub returns-then-is_spaces-clause-some : goal.returns-then-is_spaces-clause-some

@@ -1,5 +1,5 @@
 use Rattle.std.proofs.Common.{rules, ◌≡◌, refl, length, arith}
-use Rattle.cwr_fields.proofs.DigitsWritten.{one_byte}
+use Rattle.cwr_fields.proofs.lemmas.DigitsWritten.{one_byte}
 use Rattle.cwr_fields.proofs.flags.FlagCell.read.Goals as goal
 
 pub returns-in-U-clause-some : goal.returns-in-U-clause-some

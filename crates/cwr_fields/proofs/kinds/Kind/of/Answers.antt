@@ -2,7 +2,7 @@ use Rattle.std.proofs.Common.{◌≡◌, List, ℕ, [], ◌∷◌, sym, ap, ◌�
 use Rattle.std.specs.Prelude.{slice_index}
 use Rattle.std.proofs.lemmas.Slice.Eq.{bytes_eq-Decides}
 use Rattle.cwr_fields.specs.Format.Kinds.{kind_of, letters}
-use Rattle.cwr_fields.proofs.AllKinds.{kind_of-letters, kind_of-other, kind_of-other_length, three_letters}
+use Rattle.cwr_fields.proofs.lemmas.AllKinds.{kind_of-letters, kind_of-other, kind_of-other_length, three_letters}
 use Rattle.cwr_fields.proofs.kinds.Kind.of.Goals as goal
 
 pub returns-in_default-2 : goal.returns-in_default-2

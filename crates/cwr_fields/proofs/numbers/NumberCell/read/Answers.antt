@@ -1,7 +1,7 @@
 use Rattle.std.proofs.Common.{arith}
 use Rattle.std.proofs.lemmas.Grind.{common_steps}
-use Rattle.cwr_fields.proofs.Spellings.{number_spelled}
-use Rattle.cwr_fields.proofs.DigitsWritten.{number_back}
+use Rattle.cwr_fields.proofs.lemmas.Spellings.{number_spelled}
+use Rattle.cwr_fields.proofs.lemmas.DigitsWritten.{number_back}
 use Rattle.cwr_fields.proofs.numbers.NumberCell.read.Goals as goal
 
 pub returns-in_err-number_in-clause-some : goal.returns-in_err-number_in-clause-some

@@ -2,8 +2,8 @@ use Rattle.std.proofs.Common.{◌≡◌, false, sym, ap, ◌∙◌, inl, refl, a
 use Rattle.std.proofs.lemmas.Grind.{common_steps}
 use Rattle.cwr_fields.specs.Format.Bytes.{is_spaces}
 use Rattle.cwr_fields.specs.Format.ShareLaws.{share_text}
-use Rattle.cwr_fields.proofs.Blanks.{blank}
-use Rattle.cwr_fields.proofs.DigitsWritten.{share_or, number_back}
+use Rattle.cwr_fields.proofs.lemmas.Blanks.{blank}
+use Rattle.cwr_fields.proofs.lemmas.DigitsWritten.{share_or, number_back}
 use Rattle.cwr_fields.proofs.numbers.ShareCell.read.Goals as goal
 
 pub returns-then-is_spaces-clause-some : goal.returns-then-is_spaces-clause-some

@@ -1,9 +1,9 @@
 use Rattle.std.proofs.Common.{◌≡◌, sym, ◌∙◌, arith}
 use Rattle.cwr_fields.specs.Format.Members.{member_with}
 use Rattle.cwr_fields.specs.Format.SenderCodes.{sender_text, senders}
-use Rattle.cwr_fields.proofs.Members.{member_listed}
-use Rattle.cwr_fields.proofs.Spellings.{number_spelled}
-use Rattle.cwr_fields.proofs.Senders.{digits_sender}
+use Rattle.cwr_fields.proofs.lemmas.Members.{member_listed}
+use Rattle.cwr_fields.proofs.lemmas.Spellings.{number_spelled}
+use Rattle.cwr_fields.proofs.lemmas.Senders.{digits_sender}
 use Rattle.cwr_fields.proofs.sender_types.SenderTypeCell.read.Goals as goal
 
 pub returns-in-None-clause-some : goal.returns-in-None-clause-some

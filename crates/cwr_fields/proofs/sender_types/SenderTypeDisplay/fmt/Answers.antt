@@ -1,5 +1,5 @@
 use Rattle.std.proofs.Output.{has_written_of_eq}
-use Rattle.cwr_fields.proofs.Senders.{sender_shown}
+use Rattle.cwr_fields.proofs.lemmas.Senders.{sender_shown}
 use Rattle.cwr_fields.proofs.sender_types.SenderTypeDisplay.fmt.Goals as goal
 
 pub returns-in-Digits-clause-writes : goal.returns-in-Digits-clause-writes

@@ -1,7 +1,7 @@
 use Rattle.std.proofs.Common.{arith}
 use Rattle.std.proofs.lemmas.Grind.{common_steps}
-use Rattle.cwr_fields.proofs.Spellings.{time_spelled}
-use Rattle.cwr_fields.proofs.DigitsWritten.{three_back}
+use Rattle.cwr_fields.proofs.lemmas.Spellings.{time_spelled}
+use Rattle.cwr_fields.proofs.lemmas.DigitsWritten.{three_back}
 use Rattle.cwr_fields.proofs.times.TimeOfDayCell.read.Goals as goal
 
 pub returns-in_err-hour-clause-some : goal.returns-in_err-hour-clause-some

@@ -1,7 +1,7 @@
 use Rattle.std.proofs.Common.{◌≡◌, Some, ap, sym, ◌∙◌, refl}
 use Rattle.cwr_fields.specs.declared.kinds.Kind.TheVariants as kinds
-use Rattle.cwr_levels.proofs.NamedCells.{named_cell}
-use Rattle.cwr_levels.proofs.LeftBehind.{number_more, number_same, territory_more, party_more, territory_same}
+use Rattle.cwr_levels.proofs.lemmas.NamedCells.{named_cell}
+use Rattle.cwr_levels.proofs.lemmas.LeftBehind.{number_more, number_same, territory_more, party_more, territory_same}
 use Rattle.cwr_levels.proofs.before.Before.with.Goals as goal
 
 pub returns-in-Spu : goal.returns-in-Spu

@@ -1,4 +1,4 @@
-use Rattle.cwr_levels.proofs.SameText.{puts_same}
+use Rattle.cwr_levels.proofs.lemmas.SameText.{puts_same}
 use Rattle.cwr_levels.proofs.report_lines.Line.put.Goals as goal
 
 pub returns-clause-puts : goal.returns-clause-puts

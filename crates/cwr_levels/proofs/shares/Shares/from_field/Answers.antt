@@ -1,4 +1,4 @@
-use Rattle.cwr_levels.proofs.AddedShares.{share_is_short, one_share}
+use Rattle.cwr_levels.proofs.lemmas.AddedShares.{share_is_short, one_share}
 use Rattle.cwr_levels.proofs.shares.Shares.from_field.Goals as goal
 
 pub number_of-requires : goal.number_of-requires

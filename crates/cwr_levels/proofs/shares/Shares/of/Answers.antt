@@ -2,8 +2,8 @@ use Rattle.std.proofs.Common.{◌≡◌, sym, subst, ◌∙◌, inl, inr}
 use Rattle.cwr_fields.specs.declared.kinds.Kind.{Kind}
 use Rattle.cwr_fields.specs.declared.kinds.Kind.TheVariants as kinds
 use Rattle.cwr_levels.specs.Format.Fields.{HasSharesFrom}
-use Rattle.cwr_levels.proofs.AddedShares.{only_party}
-use Rattle.cwr_levels.proofs.RuleFields.{shares_of_spu, shares_of_opu, shares_of_swr, shares_of_owr, shares_of_ipa}
+use Rattle.cwr_levels.proofs.lemmas.AddedShares.{only_party}
+use Rattle.cwr_levels.proofs.lemmas.RuleFields.{shares_of_spu, shares_of_opu, shares_of_swr, shares_of_owr, shares_of_ipa}
 use Rattle.cwr_levels.proofs.shares.Shares.of.Goals as goal
 
 pub from_field-requires-clause-there : goal.from_field-requires-clause-there

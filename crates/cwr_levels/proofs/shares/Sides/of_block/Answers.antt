@@ -1,8 +1,8 @@
 use Rattle.std.proofs.Common.{List, [], ◌∷◌, ◌++◌, sym, subst, ◌∙◌, true≢false}
 use Rattle.cwr_lines.specs.Format.Records.{RecordValue}
 use Rattle.cwr_levels.specs.Steps.Walks.{SidesAddUpTo}
-use Rattle.cwr_levels.proofs.OneMore.{none_there_is_end}
-use Rattle.cwr_levels.proofs.BlockParties.{all_seen, one_more_seen, end_seen, one_passed}
+use Rattle.cwr_levels.proofs.lemmas.OneMore.{none_there_is_end}
+use Rattle.cwr_levels.proofs.lemmas.BlockParties.{all_seen, one_more_seen, end_seen, one_passed}
 use Rattle.cwr_levels.proofs.shares.Sides.of_block.Goals as goal
 use Rattle.cwr_levels.proofs.shares.Sides.of_block.Goals.{else-among_parties-via-then-among_parties+else-is_of-2}
 use Rattle.cwr_levels.proofs.shares.Sides.of_block.Goals.{else-among_parties-via-else-among_parties}

@@ -2,7 +2,7 @@ use Rattle.std.proofs.Common.{◌≡◌, List, ◌++◌, drop}
 use Rattle.cwr_lines.specs.Format.Records.{RecordValue}
 use Rattle.cwr_levels.specs.Format.Findings.{parties_after}
 use Rattle.cwr_levels.specs.Steps.Walks.{SidesAddUpTo}
-use Rattle.cwr_levels.proofs.BlockParties.{parties_left}
+use Rattle.cwr_levels.proofs.lemmas.BlockParties.{parties_left}
 use Rattle.cwr_levels.proofs.shares.Sides.of_block.Given as goal
 
 abbrev pub invariant-loop-i : goal.invariant-loop-i

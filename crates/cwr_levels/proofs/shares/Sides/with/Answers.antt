@@ -2,7 +2,7 @@ use Rattle.std.proofs.Common.{ap, ◌∙◌}
 use Rattle.std.specs.Str.{bytes_eq}
 use Rattle.cwr_fields.specs.declared.codes.Role.TheVariants.{Assignor, Acquirer}
 use Rattle.cwr_levels.specs.Format.Findings.{of_role}
-use Rattle.cwr_levels.proofs.AddedShares.{role_more}
+use Rattle.cwr_levels.proofs.lemmas.AddedShares.{role_more}
 use Rattle.cwr_levels.proofs.shares.Sides.with.Goals as goal
 
 pub returns : goal.returns

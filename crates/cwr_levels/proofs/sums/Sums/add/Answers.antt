@@ -1,5 +1,5 @@
 use Rattle.std.proofs.Common.{sym, ◌∙◌}
-use Rattle.cwr_levels.proofs.SummedRecords.{begins_copy, stands_before, stands_within}
+use Rattle.cwr_levels.proofs.lemmas.SummedRecords.{begins_copy, stands_before, stands_within}
 use Rattle.cwr_levels.proofs.sums.Sums.add.Goals as goal
 
 pub returns-then-self : goal.returns-then-self

@@ -2,7 +2,7 @@ use Rattle.std.proofs.Common.{sym, ap, subst}
 use Rattle.cwr_levels.specs.declared.sums.Sums.{Sums}
 use Rattle.cwr_levels.specs.declared.totals.TransactionTotals.{TransactionTotals}
 use Rattle.cwr_levels.specs.Steps.Walks.{AreTotals}
-use Rattle.cwr_levels.proofs.SummedRecords.{sums_more}
+use Rattle.cwr_levels.proofs.lemmas.SummedRecords.{sums_more}
 use Rattle.cwr_levels.proofs.sums.Sums.add_to_work.Goals as goal
 
 pub returns : goal.returns

@@ -1,5 +1,5 @@
 use Rattle.std.proofs.Common.{refl, sym, ◌∙◌}
-use Rattle.cwr_levels.proofs.SummedRecords.{begins_before, begins_work}
+use Rattle.cwr_levels.proofs.lemmas.SummedRecords.{begins_before, begins_work}
 use Rattle.cwr_levels.proofs.sums.Sums.begin.Goals as goal
 
 pub returns-then-is_of : goal.returns-then-is_of

@@ -1,5 +1,5 @@
 use Rattle.std.proofs.Common.{[], ◌∷◌, refl, sym, ◌∙◌}
-use Rattle.cwr_levels.proofs.SummedRecords.{begun_sums}
+use Rattle.cwr_levels.proofs.lemmas.SummedRecords.{begun_sums}
 use Rattle.cwr_levels.proofs.sums.Sums.begin_work.Goals as goal
 
 pub returns : goal.returns

@@ -1,4 +1,4 @@
-use Rattle.cwr_levels.proofs.SummedRecords.{none_within, none_without_copy}
+use Rattle.cwr_levels.proofs.lemmas.SummedRecords.{none_within, none_without_copy}
 use Rattle.cwr_levels.proofs.sums.Sums.is_clean.Goals as goal
 
 pub returns-then-not-self : goal.returns-then-not-self

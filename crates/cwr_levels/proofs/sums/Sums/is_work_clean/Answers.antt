@@ -1,4 +1,4 @@
-use Rattle.cwr_levels.proofs.SummedRecords.{summed_in_order}
+use Rattle.cwr_levels.proofs.lemmas.SummedRecords.{summed_in_order}
 use Rattle.cwr_levels.proofs.sums.Sums.is_work_clean.Goals as goal
 
 pub returns-then-totals : goal.returns-then-totals

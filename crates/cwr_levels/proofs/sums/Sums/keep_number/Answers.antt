@@ -1,9 +1,9 @@
 use Rattle.std.proofs.Common.{◌≡◌, Some, refl, sym, ap, ◌∙◌}
 use Rattle.cwr_fields.specs.declared.kinds.Kind.TheVariants as kinds
-use Rattle.cwr_levels.proofs.NamedCells.{named_cell}
-use Rattle.cwr_levels.proofs.LeftBehind.{number_more, number_same, territory_same}
-use Rattle.cwr_levels.proofs.RuleFields.{number_of_spu}
-use Rattle.cwr_levels.proofs.SummedRecords.{numbers_more, numbers_still, on_ok}
+use Rattle.cwr_levels.proofs.lemmas.NamedCells.{named_cell}
+use Rattle.cwr_levels.proofs.lemmas.LeftBehind.{number_more, number_same, territory_same}
+use Rattle.cwr_levels.proofs.lemmas.RuleFields.{number_of_spu}
+use Rattle.cwr_levels.proofs.lemmas.SummedRecords.{numbers_more, numbers_still, on_ok}
 use Rattle.cwr_levels.proofs.sums.Sums.keep_number.Goals as goal
 
 pub returns-in-Some : goal.returns-in-Some

@@ -1,7 +1,7 @@
 use Rattle.std.proofs.Common.{List, [], ◌∷◌, ◌++◌, length, sym, subst, ◌∙◌}
 use Rattle.cwr_lines.specs.Format.Records.{RecordValue}
 use Rattle.cwr_levels.specs.Steps.Walks.{IsBefore}
-use Rattle.cwr_levels.proofs.SummedRecords.{front_taken, work_more}
+use Rattle.cwr_levels.proofs.lemmas.SummedRecords.{front_taken, work_more}
 use Rattle.cwr_levels.proofs.sums.Sums.may_break.Goals as goal
 
 pub returns : goal.returns

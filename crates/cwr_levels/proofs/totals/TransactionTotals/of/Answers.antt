@@ -1,7 +1,7 @@
 use Rattle.std.proofs.Common.{List, take, sym, subst, ◌∙◌}
 use Rattle.cwr_lines.specs.Format.Records.{RecordValue}
 use Rattle.cwr_levels.specs.Steps.Walks.{AreTotals}
-use Rattle.cwr_levels.proofs.OneMore.{take_more, length_taken}
+use Rattle.cwr_levels.proofs.lemmas.OneMore.{take_more, length_taken}
 use Rattle.cwr_levels.proofs.totals.TransactionTotals.of.Goals as goal
 
 pub loop-sequence-preserved : goal.loop-sequence-preserved

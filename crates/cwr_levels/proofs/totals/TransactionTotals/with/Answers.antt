@@ -1,5 +1,5 @@
 use Rattle.std.proofs.Common.{◌∙◌}
-use Rattle.cwr_levels.proofs.CountedRecords.{counts_nothing}
+use Rattle.cwr_levels.proofs.lemmas.CountedRecords.{counts_nothing}
 use Rattle.cwr_levels.proofs.totals.TransactionTotals.with.Goals as goal
 
 pub returns-in_default : goal.returns-in_default

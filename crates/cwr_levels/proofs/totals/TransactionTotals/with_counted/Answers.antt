@@ -1,8 +1,8 @@
 use Rattle.std.proofs.Common.{Bool, cond, ℕ, sym, ap, ◌∙◌}
 use Rattle.std.specs.Prelude.{filter}
 use Rattle.cwr_levels.specs.Format.Findings.{is_owner}
-use Rattle.cwr_levels.proofs.AddedShares.{owners_more}
-use Rattle.cwr_levels.proofs.CountedRecords.{author_more, byte_is, components_more, publishers_same, publishers_more}
+use Rattle.cwr_levels.proofs.lemmas.AddedShares.{owners_more}
+use Rattle.cwr_levels.proofs.lemmas.CountedRecords.{author_more, byte_is, components_more, publishers_same, publishers_more}
 use Rattle.cwr_levels.proofs.totals.TransactionTotals.with_counted.Goals as goal
 
 abbrev one_if : Bool → ℕ

@@ -2,7 +2,7 @@ use Rattle.std.proofs.Common.{◌∙◌, ◌++◌, List, ℕ, ap, ap₂, length,
 use Rattle.cwr_fields.specs.declared.kinds.Kind.{Kind}
 use Rattle.cwr_fields.specs.Format.Kinds.{letters}
 use Rattle.cwr_lines.specs.Steps.Numbered.{numbered_part}
-use Rattle.cwr_lines.proofs.NumberedLines.{copied, line_set}
+use Rattle.cwr_lines.proofs.lemmas.NumberedLines.{copied, line_set}
 use Rattle.cwr_lines.proofs.canonical_lines.CanonicalLine.set.Goals as goal
 
 pub returns : goal.returns

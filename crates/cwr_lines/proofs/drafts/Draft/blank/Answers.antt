@@ -1,8 +1,8 @@
 use Rattle.std.proofs.Common.{◌≡◌, ◌∙◌, ap}
 use Rattle.cwr_fields.specs.Format.Layouts.{layout}
 use Rattle.cwr_lines.specs.Steps.Carried.{record_in}
-use Rattle.cwr_lines.proofs.BlankCells.{blank_text, is_field_at, blank_begins, field_in_line, width_is_type, blank_more}
-use Rattle.cwr_lines.proofs.BlankCells.{blank_whole, record_in-blank}
+use Rattle.cwr_lines.proofs.lemmas.BlankCells.{blank_text, is_field_at, blank_begins, field_in_line, width_is_type, blank_more}
+use Rattle.cwr_lines.proofs.lemmas.BlankCells.{blank_whole, record_in-blank}
 use Rattle.cwr_lines.proofs.drafts.Draft.blank.Goals as goal
 
 pub push_blank-requires-clause-begins : goal.push_blank-requires-clause-begins

@@ -3,8 +3,8 @@ use Rattle.std.specs.Prelude.{IsTrue}
 use Rattle.cwr_fields.specs.Format.Bytes.{filled}
 use Rattle.cwr_fields.specs.Format.Cells.{HasFault}
 use Rattle.cwr_fields.specs.Steps.Views.{field_view}
-use Rattle.cwr_lines.proofs.CarriedCells.{cells_whole, whole_of}
-use Rattle.cwr_lines.proofs.SetCells.{no_field_to_set, of_field, of_carried, field_most, filled_cell_wide, part_within, is_set}
+use Rattle.cwr_lines.proofs.lemmas.CarriedCells.{cells_whole, whole_of}
+use Rattle.cwr_lines.proofs.lemmas.SetCells.{no_field_to_set, of_field, of_carried, field_most, filled_cell_wide, part_within, is_set}
 use Rattle.cwr_lines.proofs.drafts.Draft.set.Goals as goal
 
 pub returns-in_default-clause-fault : goal.returns-in_default-clause-fault

@@ -1,5 +1,5 @@
 use Rattle.std.proofs.Common.{sym, arith}
-use Rattle.cwr_lines.proofs.FrontLines.{Begins, front_closed, front_held_of}
+use Rattle.cwr_lines.proofs.lemmas.FrontLines.{Begins, front_closed, front_held_of}
 use Rattle.cwr_lines.proofs.lines.CutLine.at_front.Goals as goal
 
 pub invariant_of-line : goal.invariant_of-line

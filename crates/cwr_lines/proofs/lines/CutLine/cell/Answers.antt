@@ -2,7 +2,7 @@ use Rattle.std.proofs.Common.{◌≡◌, ◌∙◌, Some, None, option_map, sym,
 use Rattle.cwr_lines.specs.Steps.Held.{IsFilled}
 use Rattle.cwr_fields.specs.Format.Layouts.{field_with_start}
 use Rattle.cwr_fields.specs.Steps.Views.{field_view}
-use Rattle.cwr_lines.proofs.CellParts.{filled_now, held_part_within, held_cell_found, no_held_cell_found}
+use Rattle.cwr_lines.proofs.lemmas.CellParts.{filled_now, held_part_within, held_cell_found, no_held_cell_found}
 use Rattle.cwr_lines.proofs.lines.CutLine.cell.Goals as goal
 
 pub returns-in_err-place : goal.returns-in_err-place

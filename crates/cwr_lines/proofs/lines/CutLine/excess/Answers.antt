@@ -2,8 +2,8 @@ use Rattle.std.proofs.Common.{◌≡◌, ℕ, drop, not, Some, ap, ◌∙◌}
 use Rattle.std.proofs.lemmas.List.{take_rest}
 use Rattle.cwr_fields.specs.Format.Bytes.{is_spaces}
 use Rattle.cwr_lines.specs.Steps.Held.{HeldLine, IsFilled}
-use Rattle.cwr_lines.proofs.CellParts.{filled_now}
-use Rattle.cwr_lines.proofs.HeldExcess.{excess_found}
+use Rattle.cwr_lines.proofs.lemmas.CellParts.{filled_now}
+use Rattle.cwr_lines.proofs.lemmas.HeldExcess.{excess_found}
 use Rattle.cwr_lines.proofs.lines.CutLine.excess.Goals as goal
 
 pub returns : goal.returns

@@ -1,6 +1,6 @@
 use Rattle.cwr_lines.specs.Steps.Held.{HeldLine, line_kept}
-use Rattle.cwr_lines.proofs.CellParts.{filled_of}
-use Rattle.cwr_lines.proofs.RenumberedLines.{text_short}
+use Rattle.cwr_lines.proofs.lemmas.CellParts.{filled_of}
+use Rattle.cwr_lines.proofs.lemmas.RenumberedLines.{text_short}
 use Rattle.cwr_lines.proofs.lines.CutLine.filled.Goals as goal
 
 pub returns-clause-short : goal.returns-clause-short

@@ -3,8 +3,8 @@ use Rattle.std.proofs.lemmas.List.{length-take-le}
 use Rattle.cwr_lines.specs.Steps.Held.{IsFilled}
 use Rattle.cwr_lines.specs.Format.Records.{RecordValue, IsRecord}
 use Rattle.cwr_lines.specs.Steps.Carried.{record_in}
-use Rattle.cwr_lines.proofs.CellParts.{filled_now}
-use Rattle.cwr_lines.proofs.HeldRecords.{known_fits, record_held, filled_wide}
+use Rattle.cwr_lines.proofs.lemmas.CellParts.{filled_now}
+use Rattle.cwr_lines.proofs.lemmas.HeldRecords.{known_fits, record_held, filled_wide}
 use Rattle.cwr_lines.proofs.lines.CutLine.known_record.Goals as goal
 
 pub slice_bounds-of_line-end : goal.slice_bounds-of_line-end

@@ -3,8 +3,8 @@ use Rattle.std.specs.Prelude.{◌≡◌, ◌↔◌, Some, IsSome, IfSome}
 use Rattle.cwr_lines.specs.Steps.Held.{IsFilled}
 use Rattle.cwr_lines.specs.Format.Records.{IsRecord}
 use Rattle.cwr_lines.specs.Steps.Carried.{record_in}
-use Rattle.cwr_lines.proofs.CellParts.{filled_now, plain_take}
-use Rattle.cwr_lines.proofs.HeldRecords.{record_found, record_value}
+use Rattle.cwr_lines.proofs.lemmas.CellParts.{filled_now, plain_take}
+use Rattle.cwr_lines.proofs.lemmas.HeldRecords.{record_found, record_value}
 use Rattle.cwr_lines.proofs.lines.CutLine.record.Goals as goal
 
 pub returns-clause-some : goal.returns-clause-some

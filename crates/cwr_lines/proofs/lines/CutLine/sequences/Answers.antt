@@ -1,7 +1,7 @@
 use Rattle.std.proofs.Common.{Some, sym, ◌∙◌}
 use Rattle.cwr_lines.specs.Steps.Held.{IsFilled}
-use Rattle.cwr_lines.proofs.CellParts.{filled_now}
-use Rattle.cwr_lines.proofs.SequenceCells.{transaction_cell, record_cell}
+use Rattle.cwr_lines.proofs.lemmas.CellParts.{filled_now}
+use Rattle.cwr_lines.proofs.lemmas.SequenceCells.{transaction_cell, record_cell}
 use Rattle.cwr_lines.proofs.lines.CutLine.sequences.Goals as goal
 
 pub returns-clause-transaction : goal.returns-clause-transaction

@@ -1,4 +1,4 @@
-use Rattle.cwr_lines.proofs.PlainLines.{ended_plain}
+use Rattle.cwr_lines.proofs.lemmas.PlainLines.{ended_plain}
 use Rattle.cwr_lines.proofs.lines.LineBuf.cut_looked_through.Goals as goal
 
 pub invariant_of-result : goal.invariant_of-result

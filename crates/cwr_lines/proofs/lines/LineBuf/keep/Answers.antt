@@ -1,6 +1,6 @@
 use Rattle.std.proofs.Common.{◌≡◌, ℕ, List, sym, ap, subst, ◌∙◌}
 use Rattle.cwr_lines.specs.Steps.Held.{IsKept, line_kept}
-use Rattle.cwr_lines.proofs.KeptLengths.{kept_short, extended_whole}
+use Rattle.cwr_lines.proofs.lemmas.KeptLengths.{kept_short, extended_whole}
 use Rattle.cwr_lines.proofs.lines.LineBuf.keep.Goals as goal
 
 pub invariant_of-self : goal.invariant_of-self

@@ -1,4 +1,4 @@
-use Rattle.cwr_lines.proofs.KeptRecords.{in_order}
+use Rattle.cwr_lines.proofs.lemmas.KeptRecords.{in_order}
 use Rattle.cwr_lines.proofs.record_lists.RecordList.len.Goals as goal
 
 pub returns-clause-fits : goal.returns-clause-fits

@@ -4,7 +4,7 @@ use Rattle.cwr_fields.specs.declared.kinds.Kind.{Kind}
 use Rattle.cwr_lines.specs.declared.record_lists.LineStart.{LineStart}
 use Rattle.cwr_fields.specs.Format.Layouts.{line_width}
 use Rattle.cwr_lines.specs.Steps.Carried.{record_in}
-use Rattle.cwr_lines.proofs.KeptRecords.{asks_for_line, asks_for_place, keeps_more, shows_more}
+use Rattle.cwr_lines.proofs.lemmas.KeptRecords.{asks_for_line, asks_for_place, keeps_more, shows_more}
 use Rattle.cwr_lines.proofs.record_lists.RecordList.push.Goals as goal
 
 whatever_fails : {A E : Type 0} (r : Result A E) (P : Type 0) → P → OnErr r P

@@ -1,4 +1,4 @@
-use Rattle.cwr_lines.proofs.KeptRecords.{in_order, none_there}
+use Rattle.cwr_lines.proofs.lemmas.KeptRecords.{in_order, none_there}
 use Rattle.cwr_lines.proofs.record_lists.RecordList.record.Goals as goal
 
 pub returns-in-Some-clause-fits : goal.returns-in-Some-clause-fits

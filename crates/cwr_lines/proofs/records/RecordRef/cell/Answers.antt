@@ -1,6 +1,6 @@
 use Rattle.std.proofs.Common.{sym}
 use Rattle.cwr_fields.specs.Steps.Views.{field_view}
-use Rattle.cwr_lines.proofs.CarriedCells.{carried_within, cell_found, no_cell_found}
+use Rattle.cwr_lines.proofs.lemmas.CarriedCells.{carried_within, cell_found, no_cell_found}
 use Rattle.cwr_lines.proofs.records.RecordRef.cell.Goals as goal
 
 pub returns-in_err-place-clause-value : goal.returns-in_err-place-clause-value

@@ -2,8 +2,8 @@ use Rattle.std.proofs.Common.{◌≡◌, ◌∙◌, ◌++◌, ℕ, List, ap, ap�
 use Rattle.cwr_fields.specs.declared.kinds.Kind.{Kind}
 use Rattle.std.specs.Prelude.{Option}
 use Rattle.cwr_lines.specs.Steps.Numbered.{line_end, numbered_as}
-use Rattle.cwr_lines.proofs.NumberedLines.{copied}
-use Rattle.cwr_lines.proofs.RenumberedLines.{end_set, room_left}
+use Rattle.cwr_lines.proofs.lemmas.NumberedLines.{copied}
+use Rattle.cwr_lines.proofs.lemmas.RenumberedLines.{end_set, room_left}
 use Rattle.cwr_lines.proofs.renumbered_lines.RenumberedLine.set.Goals as goal
 
 pub returns : goal.returns

@@ -1,6 +1,6 @@
 use Rattle.std.proofs.Common.{[]}
 use Rattle.cwr_lint.specs.Steps.Runs.{asking_of, TellsRun, TellsToEnd}
-use Rattle.cwr_lint.proofs.TextsTold.{read_failed, read_first}
+use Rattle.cwr_lint.proofs.lemmas.TextsTold.{read_failed, read_first}
 use Rattle.cwr_lint.proofs.linting.LintRun.run.Goals as goal
 
 pub returns-in-Ok : goal.returns-in-Ok

@@ -7,7 +7,7 @@ use Rattle.cwr_lint_lines.specs.Steps.Cells.{held_cut}
 use Rattle.cwr_lint.specs.Steps.Runs.{asking_of, TakesLine, TellsOfLine, more_faults}
 use Rattle.cwr_lint.specs.Steps.Walks.{AfterJudged, ended_by, state_by}
 use Rattle.cwr_lint_lines.specs.declared.states.LintState.{LintState}
-use Rattle.cwr_lint.proofs.Telling.{line_taken, with_err, with_none, with_other}
+use Rattle.cwr_lint.proofs.lemmas.Telling.{line_taken, with_err, with_none, with_other}
 use Rattle.cwr_lint.proofs.linting.LintRun.take.Goals as goal
 
 pub returns-in-Err : goal.returns-in-Err

@@ -4,7 +4,7 @@ use Rattle.cwr_lint.specs.Format.FaultsOfLines.{IsFaultText}
 use Rattle.cwr_lint_lines.specs.Steps.Cells.{held_cut}
 use Rattle.cwr_lint.specs.Steps.LinesRead.{held_raw}
 use Rattle.cwr_lint.specs.Steps.Runs.{asking_of, TakesFirst, TakesLine}
-use Rattle.cwr_lint.proofs.Telling.{first_taken, with_after, with_err}
+use Rattle.cwr_lint.proofs.lemmas.Telling.{first_taken, with_after, with_err}
 use Rattle.cwr_lint.proofs.linting.LintRun.take_first.Goals as goal
 
 pub returns-in-Ok : goal.returns-in-Ok

@@ -2,8 +2,8 @@ use Rattle.std.proofs.Common.{[], sym, subst, ◌∙◌}
 use Rattle.cwr_lint_lines.specs.Steps.Cells.{held_cut}
 use Rattle.cwr_lint.specs.Steps.LinesRead.{ReadsLineIf, held_raw}
 use Rattle.cwr_lint.specs.Steps.Runs.{asking_of, TakesNextIf, TakesRead}
-use Rattle.cwr_lint.proofs.Running.{next_taken}
-use Rattle.cwr_lint.proofs.TextsTold.{read_failed, reads_then}
+use Rattle.cwr_lint.proofs.lemmas.Running.{next_taken}
+use Rattle.cwr_lint.proofs.lemmas.TextsTold.{read_failed, reads_then}
 use Rattle.cwr_lint.proofs.linting.LintRun.take_next.Goals as goal
 
 pub returns-in-Ok-true : goal.returns-in-Ok-true

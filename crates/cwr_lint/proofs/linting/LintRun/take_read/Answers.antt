@@ -4,7 +4,7 @@ use Rattle.cwr_lines.specs.Steps.Held.{HeldLine}
 use Rattle.cwr_lint_lines.specs.Steps.Cells.{held_cut}
 use Rattle.cwr_lint.specs.Steps.LinesRead.{held_raw}
 use Rattle.cwr_lint.specs.Steps.Runs.{asking_of, TakesLine, TakesRead}
-use Rattle.cwr_lint.proofs.Telling.{with_err, with_other}
+use Rattle.cwr_lint.proofs.lemmas.Telling.{with_err, with_other}
 use Rattle.cwr_lint.proofs.linting.LintRun.take_read.Goals as goal
 
 pub returns-in-Ok : goal.returns-in-Ok

@@ -1,8 +1,8 @@
 use Rattle.std.proofs.Common.{[], ◌++◌, Bool, subst, arith}
 use Rattle.std.specs.Prelude.{Err, Ok}
 use Rattle.cwr_lint.specs.Steps.Runs.{asking_of, TakesNextIf}
-use Rattle.cwr_lint.proofs.Running.{run_ends, run_many, run_more, run_none}
-use Rattle.cwr_lint.proofs.TextsTold.{nothing, one_then, other_err, other_ok}
+use Rattle.cwr_lint.proofs.lemmas.Running.{run_ends, run_many, run_more, run_none}
+use Rattle.cwr_lint.proofs.lemmas.TextsTold.{nothing, one_then, other_err, other_ok}
 use Rattle.cwr_lint.proofs.linting.LintRun.take_rest.Goals as goal
 
 pub loop-init : goal.loop-init

@@ -2,7 +2,7 @@ use Rattle.std.proofs.Common.{ℕ, List}
 use Rattle.std.specs.Prelude.{Ok}
 use Rattle.cwr_lint.specs.Steps.Runs.{asking_of}
 use Rattle.cwr_lint.specs.Steps.Puts.{ReadsAndPuts}
-use Rattle.cwr_lint.proofs.Running.{RunSoFar}
+use Rattle.cwr_lint.proofs.lemmas.Running.{RunSoFar}
 use Rattle.cwr_lint.proofs.linting.LintRun.take_rest.Given as goal
 
 abbrev pub invariant-loop : goal.invariant-loop

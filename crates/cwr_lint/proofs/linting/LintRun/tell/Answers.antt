@@ -5,7 +5,7 @@ use Rattle.cwr_lines.specs.Steps.Held.{held_kind}
 use Rattle.cwr_lint_lines.specs.Format.FaultsAtFields.{fields_end}
 use Rattle.cwr_lint_lines.specs.Steps.JudgedLines.{IsFaultFrom, judged_at, scope_by}
 use Rattle.cwr_lint.specs.Steps.Runs.{asking_of, TellsSoMany}
-use Rattle.cwr_lint.proofs.Telling.{ToldSoFar, at_end, told_all, told_cut, told_more, told_none, told_same}
+use Rattle.cwr_lint.proofs.lemmas.Telling.{ToldSoFar, at_end, told_all, told_cut, told_more, told_none, told_same}
 use Rattle.cwr_lint.proofs.linting.LintRun.tell.Goals as goal
 
 pub loop-field-init : goal.loop-field-init

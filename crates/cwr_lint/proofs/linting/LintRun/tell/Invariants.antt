@@ -1,6 +1,6 @@
 use Rattle.cwr_lint.specs.Steps.Runs.{asking_of}
 use Rattle.cwr_lint_lines.specs.Steps.JudgedLines.{judged_at, scope_by}
-use Rattle.cwr_lint.proofs.Telling.{ToldSoFar}
+use Rattle.cwr_lint.proofs.lemmas.Telling.{ToldSoFar}
 use Rattle.cwr_lint.proofs.linting.LintRun.tell.Given as goal
 
 abbrev pub invariant-loop-field : goal.invariant-loop-field

@@ -5,7 +5,7 @@ use Rattle.cwr_lint.specs.Format.FaultsOfLines.{ended_lines}
 use Rattle.cwr_lint.specs.Steps.Walks.{ended_by}
 use Rattle.cwr_lint_lines.specs.Steps.JudgedLines.{judged_at, scope_by}
 use Rattle.cwr_lint.specs.Steps.Runs.{asking_of, TellsOfLine, TellsSoMany}
-use Rattle.cwr_lint.proofs.Telling.{findings_then, with_after, with_err}
+use Rattle.cwr_lint.proofs.lemmas.Telling.{findings_then, with_after, with_err}
 use Rattle.cwr_lint.proofs.linting.LintRun.tell_all.Goals as goal
 
 pub tell-requires-clause-unfailed : goal.tell-requires-clause-unfailed

@@ -2,8 +2,8 @@ use Rattle.std.specs.Prelude.{Err, Ok}
 use Rattle.cwr_lint_lines.specs.Steps.Cells.{held_cut}
 use Rattle.cwr_lint.specs.Steps.LinesRead.{held_raw}
 use Rattle.cwr_lint.specs.Steps.Runs.{asking_of, TakesAll, TakesFirst, TakesFrom}
-use Rattle.cwr_lint.proofs.Running.{from_taken}
-use Rattle.cwr_lint.proofs.TextsTold.{reads_after, reads_err, reads_put}
+use Rattle.cwr_lint.proofs.lemmas.Running.{from_taken}
+use Rattle.cwr_lint.proofs.lemmas.TextsTold.{reads_after, reads_err, reads_put}
 use Rattle.cwr_lint.proofs.linting.LintRun.tell_from.Goals as goal
 
 pub take_rest-requires : goal.take_rest-requires

@@ -1,6 +1,6 @@
 use Rattle.cwr_lint.specs.Steps.Runs.{asking_of, IsEndText, TakesFrom, TellsToEnd}
-use Rattle.cwr_lint.proofs.Running.{told_to_end}
-use Rattle.cwr_lint.proofs.TextsTold.{reads_after, reads_err, reads_put}
+use Rattle.cwr_lint.proofs.lemmas.Running.{told_to_end}
+use Rattle.cwr_lint.proofs.lemmas.TextsTold.{reads_after, reads_err, reads_put}
 use Rattle.cwr_lint.proofs.linting.LintRun.tell_to_end.Goals as goal
 
 pub put_end-requires : goal.put_end-requires

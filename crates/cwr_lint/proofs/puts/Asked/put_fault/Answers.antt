@@ -1,5 +1,5 @@
 use Rattle.cwr_lint.specs.Steps.Runs.{asking_of}
-use Rattle.cwr_lint.proofs.TextsPut.{fault_put}
+use Rattle.cwr_lint.proofs.lemmas.TextsPut.{fault_put}
 use Rattle.cwr_lint.proofs.puts.Asked.put_fault.Goals as goal
 
 pub returns-in-Ok : goal.returns-in-Ok

@@ -1,5 +1,5 @@
 use Rattle.std.proofs.Common.{◌-◌, arith}
-use Rattle.cwr_lint.proofs.RawLines.{holds_more}
+use Rattle.cwr_lint.proofs.lemmas.RawLines.{holds_more}
 use Rattle.cwr_lint.proofs.raw_lines.RawLine.add.Goals as goal
 
 pub returns-clause-held : goal.returns-clause-held

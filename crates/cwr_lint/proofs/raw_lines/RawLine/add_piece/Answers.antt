@@ -1,4 +1,4 @@
-use Rattle.cwr_lint.proofs.RawLines.{piece_ended}
+use Rattle.cwr_lint.proofs.lemmas.RawLines.{piece_ended}
 use Rattle.cwr_lint.proofs.raw_lines.RawLine.add_piece.Goals as goal
 
 pub returns-in-Some-clause-added : goal.returns-in-Some-clause-added

@@ -1,4 +1,4 @@
-use Rattle.cwr_lint.proofs.RawLines.{full_length, raw_held}
+use Rattle.cwr_lint.proofs.lemmas.RawLines.{full_length, raw_held}
 use Rattle.std.proofs.Common.{List, ℕ, length, ap, sym, subst, ◌∙◌}
 use Rattle.std.specs.Prelude.{IsFalse}
 use Rattle.std.specs.List.{list_any}

@@ -1,5 +1,5 @@
 use Rattle.std.proofs.Common.{◌∙◌, sym}
-use Rattle.cwr_lint.proofs.LastRead.{last_ended, last_open, some_line}
+use Rattle.cwr_lint.proofs.lemmas.LastRead.{last_ended, last_open, some_line}
 use Rattle.cwr_lint.proofs.raw_lines.RawLine.of_last.Goals as goal
 
 pub returns-then-line-clause-read : goal.returns-then-line-clause-read

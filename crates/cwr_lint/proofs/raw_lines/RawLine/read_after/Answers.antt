@@ -1,4 +1,4 @@
-use Rattle.cwr_lint.proofs.RawLines.{reads_ended, reads_open}
+use Rattle.cwr_lint.proofs.lemmas.RawLines.{reads_ended, reads_open}
 use Rattle.cwr_lint.proofs.raw_lines.RawLine.read_after.Goals as goal
 
 pub returns-then-self-clause-read : goal.returns-then-self-clause-read

@@ -1,6 +1,6 @@
 use Rattle.std.specs.Prelude.{take}
-use Rattle.cwr_decode.proofs.FromReader.{consumes_taken}
-use Rattle.cwr_lint.proofs.RawLines.{piece_read}
+use Rattle.cwr_decode.proofs.lemmas.FromReader.{consumes_taken}
+use Rattle.cwr_lint.proofs.lemmas.RawLines.{piece_read}
 use Rattle.cwr_lint.proofs.raw_lines.RawLine.take_piece.Goals as goal
 
 pub returns-clause-read : goal.returns-clause-read

@@ -1,8 +1,8 @@
 use Rattle.std.proofs.Common.{refl, ap, subst, ◌∙◌, arith}
 use Rattle.cwr_devices.specs.Format.Failures.{one_more_failure}
-use Rattle.cwr_causes.proofs.TakenPieces.{takes_both}
+use Rattle.cwr_causes.proofs.lemmas.TakenPieces.{takes_both}
 use Rattle.cwr_lint.specs.Steps.LinesRead.{ReadsPiece}
-use Rattle.cwr_lint.proofs.RawLines.{open_first, open_last, open_many, open_more, open_taken}
+use Rattle.cwr_lint.proofs.lemmas.RawLines.{open_first, open_last, open_many, open_more, open_taken}
 use Rattle.cwr_lint.proofs.raw_lines.RawLine.take_rest.Goals as goal
 
 pub loop-init : goal.loop-init

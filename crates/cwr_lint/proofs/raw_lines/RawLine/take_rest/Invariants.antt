@@ -1,5 +1,5 @@
 use Rattle.std.proofs.Common.{◌≡◌}
-use Rattle.cwr_lint.proofs.RawLines.{ReadsOpen}
+use Rattle.cwr_lint.proofs.lemmas.RawLines.{ReadsOpen}
 use Rattle.cwr_lint.proofs.raw_lines.RawLine.take_rest.Given as goal
 
 abbrev pub invariant-loop : goal.invariant-loop

@@ -1,5 +1,5 @@
 use Rattle.std.proofs.Common.{arith}
-use Rattle.cwr_lint_lines.proofs.JudgedLines.{told_cell}
+use Rattle.cwr_lint_lines.proofs.lemmas.JudgedLines.{told_cell}
 use Rattle.cwr_lint_lines.proofs.judging.Known.reason.Goals as goal
 
 pub returns : goal.returns

@@ -7,7 +7,7 @@ use Rattle.cwr_tools.specs.declared.totals.Totals.{Totals}
 use Rattle.cwr_tools.specs.declared.verdicts.JoinFault.{JoinFault}
 use Rattle.cwr_tools.specs.declared.verdicts.JoinReport.{JoinReport}
 use Rattle.cwr_parts.specs.Steps.Joined.{IsAnswerOf}
-use Rattle.cwr_parts.proofs.JoinsEnded.{ends_join, few_before_end, no_mistake_at_end}
+use Rattle.cwr_parts.proofs.lemmas.JoinsEnded.{ends_join, few_before_end, no_mistake_at_end}
 use Rattle.cwr_parts.proofs.joined.Joined.finish.Goals as goal
 
 pub answer_of-requires-clause-few : goal.answer_of-requires-clause-few

@@ -1,5 +1,5 @@
 use Rattle.std.proofs.Common.{refl}
-use Rattle.cwr_parts.proofs.JoiningOn.{put_fault, put_on, put_right, room_for}
+use Rattle.cwr_parts.proofs.lemmas.JoiningOn.{put_fault, put_on, put_right, room_for}
 use Rattle.cwr_parts.proofs.joined.Joined.put.Goals as goal
 
 pub count-requires-clause-groups : goal.count-requires-clause-groups

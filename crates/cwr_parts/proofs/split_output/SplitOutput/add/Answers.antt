@@ -2,8 +2,8 @@ use Rattle.std.proofs.Common.{List, [], ◌∷◌, sym, subst}
 use Rattle.cwr_values.specs.declared.items.Item.{Item}
 use Rattle.cwr_parts.specs.Steps.SplitOutputs.{MayPut, PutsOn, head_of, opening_of}
 use Rattle.std.specs.Prelude.{Ok}
-use Rattle.cwr_parts.proofs.WritersCounted.{bytes_then}
-use Rattle.cwr_parts.proofs.OutputAdded.{all_added, may_add, may_begin, may_enter, same_head}
+use Rattle.cwr_parts.proofs.lemmas.WritersCounted.{bytes_then}
+use Rattle.cwr_parts.proofs.lemmas.OutputAdded.{all_added, may_add, may_begin, may_enter, same_head}
 use Rattle.cwr_parts.proofs.split_output.SplitOutput.add.Goals as goal
 
 pub begin-requires-clause-may : goal.begin-requires-clause-may

@@ -1,7 +1,7 @@
 use Rattle.std.proofs.Common.{List, subst, arith}
 use Rattle.cwr_values.specs.declared.items.Item.{Item}
 use Rattle.cwr_parts.specs.Steps.SplitOutputs.{MayPut}
-use Rattle.cwr_parts.proofs.OutputAdded.{opening_first}
+use Rattle.cwr_parts.proofs.lemmas.OutputAdded.{opening_first}
 use Rattle.cwr_parts.proofs.split_output.SplitOutput.begin.Goals as goal
 
 pub put-requires-clause-may : goal.put-requires-clause-may

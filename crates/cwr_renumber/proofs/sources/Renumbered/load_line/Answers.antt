@@ -6,7 +6,7 @@ use Rattle.cwr_lines.specs.Steps.Held.{HeldLine}
 use Rattle.cwr_renumber.specs.Steps.Renumbered.{line_by, numbering_after}
 use Rattle.cwr_renumber.specs.Steps.Sources.{left_of}
 use Rattle.cwr_renumber.specs.Steps.Takings.{EndsAs}
-use Rattle.cwr_renumber.proofs.LinesLoaded.{end_left, left_by, line_left, some_line}
+use Rattle.cwr_renumber.proofs.lemmas.LinesLoaded.{end_left, left_by, line_left, some_line}
 use Rattle.cwr_renumber.proofs.sources.Renumbered.load_line.Goals as goal
 
 pub returns-in-Open-clause-end : goal.returns-in-Open-clause-end

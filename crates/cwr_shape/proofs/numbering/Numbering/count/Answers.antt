@@ -1,6 +1,6 @@
 use Rattle.std.proofs.Common.{arith, subst, sym}
 use Rattle.cwr_shape.specs.Steps.Numberings.{KeepsNumbering}
-use Rattle.cwr_shape.proofs.NumberingsKept.{kept_with}
+use Rattle.cwr_shape.proofs.lemmas.NumberingsKept.{kept_with}
 use Rattle.cwr_shape.proofs.numbering.Numbering.count.Goals as goal
 
 pub invariant_of-self-in_default : goal.invariant_of-self-in_default

@@ -1,4 +1,4 @@
-use Rattle.cwr_shape.proofs.StageStands.{next_exact, next_stands}
+use Rattle.cwr_shape.proofs.lemmas.StageStands.{next_exact, next_stands}
 use Rattle.cwr_shape.proofs.stages.Stage.next.Goals as goal
 
 pub returns-clause-some : goal.returns-clause-some

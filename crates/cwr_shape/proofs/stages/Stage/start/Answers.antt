@@ -1,4 +1,4 @@
-use Rattle.cwr_shape.proofs.StageStands.{stands_start}
+use Rattle.cwr_shape.proofs.lemmas.StageStands.{stands_start}
 use Rattle.cwr_shape.proofs.stages.Stage.start.Goals as goal
 
 pub returns : goal.returns

@@ -1,4 +1,4 @@
-use Rattle.cwr_shape.proofs.StepPatterns.{first_goes, first_stands}
+use Rattle.cwr_shape.proofs.lemmas.StepPatterns.{first_goes, first_stands}
 use Rattle.cwr_shape.proofs.stages.TransactionStep.first.Goals as goal
 
 pub returns-clause-some : goal.returns-clause-some

@@ -1,4 +1,4 @@
-use Rattle.cwr_shape.proofs.StepPatterns.{ends_exact}
+use Rattle.cwr_shape.proofs.lemmas.StepPatterns.{ends_exact}
 use Rattle.cwr_shape.proofs.stages.TransactionStep.is_whole.Goals as goal
 
 pub returns-clause-whole : goal.returns-clause-whole

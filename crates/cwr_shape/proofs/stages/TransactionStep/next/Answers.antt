@@ -1,4 +1,4 @@
-use Rattle.cwr_shape.proofs.StepPatterns.{on_exact, on_stands}
+use Rattle.cwr_shape.proofs.lemmas.StepPatterns.{on_exact, on_stands}
 use Rattle.cwr_shape.proofs.stages.TransactionStep.next.Goals as goal
 
 pub returns-clause-some : goal.returns-clause-some

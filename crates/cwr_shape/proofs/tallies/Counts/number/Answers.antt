@@ -1,6 +1,6 @@
 use Rattle.std.proofs.Common.{sym, ap, ◌∙◌}
 use Rattle.cwr_shape.specs.Steps.Counting.{number_inside}
-use Rattle.cwr_shape.proofs.InnerNumbers.{inside_number}
+use Rattle.cwr_shape.proofs.lemmas.InnerNumbers.{inside_number}
 use Rattle.cwr_shape.proofs.tallies.Counts.number.Goals as goal
 
 pub returns-in_default : goal.returns-in_default

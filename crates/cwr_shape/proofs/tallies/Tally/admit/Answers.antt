@@ -4,8 +4,8 @@ use Rattle.cwr_shape.specs.declared.symbols.Symbol.{Symbol}
 use Rattle.cwr_shape.specs.Format.NextSymbols.{MayCome}
 use Rattle.cwr_shape.specs.Steps.Tallies.{TallyValue, IsTallyOf, IsAdmitted}
 use Rattle.cwr_shape.specs.Steps.Counting.{counts_with}
-use Rattle.cwr_shape.proofs.FirstBars.{next_of, may_come}
-use Rattle.cwr_shape.proofs.TallyWithOneMore.{keeps_tally, room_with, stands_more}
+use Rattle.cwr_shape.proofs.lemmas.FirstBars.{next_of, may_come}
+use Rattle.cwr_shape.proofs.lemmas.TallyWithOneMore.{keeps_tally, room_with, stands_more}
 use Rattle.cwr_shape.proofs.tallies.Tally.admit.Goals as goal
 
 pub passed_limit_at-requires : goal.passed_limit_at-requires

@@ -5,8 +5,8 @@ use Rattle.cwr_shape.specs.declared.tallies.Bar.TheVariants.{Limit}
 use Rattle.cwr_shape.specs.Format.NextSymbols.{Answers}
 use Rattle.cwr_shape.specs.Steps.Tallies.{TallyValue, IsTallyOf, IsAdmitted}
 use Rattle.cwr_shape.specs.Steps.Counting.{counts_with}
-use Rattle.cwr_shape.proofs.FirstBars.{next_of, may_come, is_barred}
-use Rattle.cwr_shape.proofs.TallyWithOneMore.{room_with}
+use Rattle.cwr_shape.proofs.lemmas.FirstBars.{next_of, may_come, is_barred}
+use Rattle.cwr_shape.proofs.lemmas.TallyWithOneMore.{room_with}
 use Rattle.cwr_shape.proofs.tallies.Tally.admits.Goals as goal
 
 pub passed_limit_at-requires : goal.passed_limit_at-requires

@@ -8,7 +8,7 @@ use Rattle.cwr_shape.specs.Format.Candidates.{candidates}
 use Rattle.cwr_shape.specs.Steps.Counting.{wanted_role}
 use Rattle.cwr_shape.specs.Format.NextSymbols.{Answers, AnswersAmong}
 use Rattle.cwr_shape.specs.Steps.Tallies.{TallyValue}
-use Rattle.cwr_shape.proofs.FirstBarsOfKinds.{answers_best, best_one, best_party, best_group, one_symbol, parties}
+use Rattle.cwr_shape.proofs.lemmas.FirstBarsOfKinds.{answers_best, best_one, best_party, best_group, one_symbol, parties}
 use Rattle.cwr_shape.proofs.tallies.Tally.admits_kind.Goals as goal
 
 pub returns-in_default : goal.returns-in_default

@@ -4,7 +4,7 @@ use Rattle.cwr_shape.specs.declared.symbols.Symbol.{Symbol}
 use Rattle.cwr_shape.specs.Format.Numbers.{number_in, IsNumberAt}
 use Rattle.cwr_shape.specs.Steps.Tallies.{TallyValue, IsTallyOf}
 use Rattle.cwr_shape.specs.Format.ExpectedNumbers.{expected_numbers}
-use Rattle.cwr_shape.proofs.TallySteps.{expects_numbers}
+use Rattle.cwr_shape.proofs.lemmas.TallySteps.{expects_numbers}
 use Rattle.cwr_shape.proofs.tallies.Tally.expects.Goals as goal
 
 pub returns-in_err-number : goal.returns-in_err-number

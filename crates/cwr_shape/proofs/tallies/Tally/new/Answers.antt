@@ -1,5 +1,5 @@
 use Rattle.std.proofs.Common.{refl}
-use Rattle.cwr_shape.proofs.TallyWithOneMore.{keeps_new, stands_new}
+use Rattle.cwr_shape.proofs.lemmas.TallyWithOneMore.{keeps_new, stands_new}
 use Rattle.cwr_shape.proofs.tallies.Tally.new.Goals as goal
 
 pub invariant_of-result : goal.invariant_of-result

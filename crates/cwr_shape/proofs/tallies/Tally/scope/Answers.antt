@@ -2,7 +2,7 @@ use Rattle.std.proofs.Common.{List, subst, ◌≡◌, ◌∙◌}
 use Rattle.cwr_shape.specs.declared.symbols.Symbol.{Symbol}
 use Rattle.cwr_shape.specs.Format.NextSymbols.{scope_after}
 use Rattle.cwr_shape.specs.Steps.Tallies.{TallyValue, IsTallyOf}
-use Rattle.cwr_shape.proofs.ScopesNamed.{scope_stands}
+use Rattle.cwr_shape.proofs.lemmas.ScopesNamed.{scope_stands}
 use Rattle.cwr_shape.proofs.tallies.Tally.scope.Goals as goal
 
 pub returns : goal.returns

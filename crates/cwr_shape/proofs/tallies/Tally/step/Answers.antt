@@ -4,7 +4,7 @@ use Rattle.cwr_fields.specs.declared.codes.TransactionType.{TransactionType}
 use Rattle.cwr_shape.specs.declared.symbols.Symbol.{Symbol}
 use Rattle.cwr_shape.specs.Steps.Tallies.{TallyValue, IsTallyOf, IsAdmitted}
 use Rattle.cwr_shape.specs.Steps.Counting.{counts_with}
-use Rattle.cwr_shape.proofs.TallyWithOneMore.{keeps_tally, stands_more, admitted_goes}
+use Rattle.cwr_shape.proofs.lemmas.TallyWithOneMore.{keeps_tally, stands_more, admitted_goes}
 use Rattle.cwr_shape.proofs.tallies.Tally.step.Goals as goal
 
 pub invariant_of-self : goal.invariant_of-self

@@ -5,8 +5,8 @@ use Rattle.cwr_lines.specs.Format.Records.{cell_named}
 use Rattle.cwr_tables.specs.Format.Tables.{cell_text}
 use Rattle.cwr_tables.specs.Format.RecordTables.{shown_cell}
 use Rattle.cwr_tables.specs.Steps.RowTexts.{next_cell}
-use Rattle.cwr_tables.proofs.NamedOwners.{cell_is, cell_long}
-use Rattle.cwr_tables.proofs.WorkFields.{iswc, title, work_number}
+use Rattle.cwr_tables.proofs.lemmas.NamedOwners.{cell_is, cell_long}
+use Rattle.cwr_tables.proofs.lemmas.WorkFields.{iswc, title, work_number}
 use Rattle.cwr_tables.proofs.rows.RowText.set_front.Goals as goal
 
 pub push_shown-requires-clause-short : goal.push_shown-requires-clause-short

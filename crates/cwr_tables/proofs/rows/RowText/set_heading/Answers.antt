@@ -1,7 +1,7 @@
 use Rattle.std.proofs.Common.{◌++◌, List, ℕ, ap, ◌∙◌}
 use Rattle.std.specs.Prelude.{codes}
 use Rattle.cwr_tables.specs.Steps.RowTexts.{named_columns, numbers_heading}
-use Rattle.cwr_tables.proofs.TextsOfRows.{heading_is}
+use Rattle.cwr_tables.proofs.lemmas.TextsOfRows.{heading_is}
 use Rattle.cwr_tables.proofs.rows.RowText.set_heading.Goals as goal
 
 pub returns : goal.returns

@@ -1,7 +1,7 @@
 use Rattle.std.proofs.Common.{◌++◌, List, ℕ, ap, ◌∙◌}
 use Rattle.std.specs.Prelude.{codes}
 use Rattle.cwr_tables.specs.Steps.RowTexts.{numbers_text, shown_cells}
-use Rattle.cwr_tables.proofs.TextsOfRows.{row_is}
+use Rattle.cwr_tables.proofs.lemmas.TextsOfRows.{row_is}
 use Rattle.cwr_tables.proofs.rows.RowText.set_row.Goals as goal
 
 pub returns : goal.returns

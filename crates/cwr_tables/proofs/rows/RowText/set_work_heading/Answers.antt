@@ -1,6 +1,6 @@
 use Rattle.std.proofs.Common.{◌++◌, List, ℕ, ap, ◌∙◌}
 use Rattle.std.specs.Prelude.{codes}
-use Rattle.cwr_tables.proofs.TextsOfWorks.{heading_is}
+use Rattle.cwr_tables.proofs.lemmas.TextsOfWorks.{heading_is}
 use Rattle.cwr_tables.proofs.rows.RowText.set_work_heading.Goals as goal
 
 pub returns : goal.returns

@@ -1,8 +1,8 @@
 use Rattle.std.proofs.Common.{◌≡◌, ◌++◌, ◌∷◌, [], sym, subst}
 use Rattle.cwr_values.specs.declared.items.Item.TheVariants.{Transaction}
 use Rattle.cwr_tools.specs.Format.Reports.{ItemLines}
-use Rattle.cwr_tools.proofs.FindingsWatched.{worst_passed}
-use Rattle.cwr_tools.proofs.LinesOfItems.{told_passed}
+use Rattle.cwr_tools.proofs.lemmas.FindingsWatched.{worst_passed}
+use Rattle.cwr_tools.proofs.lemmas.LinesOfItems.{told_passed}
 use Rattle.cwr_tools.proofs.finding_lines.FindingLinesReport.passes.Goals as goal
 
 pub returns : goal.returns

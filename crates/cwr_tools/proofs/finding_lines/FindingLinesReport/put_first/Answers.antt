@@ -1,8 +1,8 @@
 use Rattle.std.proofs.Common.{false, sym}
 use Rattle.std.specs.Prelude.{Ok}
 use Rattle.cwr_tools.specs.Steps.Reports.{lines_told}
-use Rattle.cwr_tools.proofs.LinesOfItems.{told_none}
-use Rattle.cwr_tools.proofs.ReportSteps.{first_lines, nothing_put}
+use Rattle.cwr_tools.proofs.lemmas.LinesOfItems.{told_none}
+use Rattle.cwr_tools.proofs.lemmas.ReportSteps.{first_lines, nothing_put}
 use Rattle.cwr_tools.proofs.finding_lines.FindingLinesReport.put_first.Goals as goal
 
 pub returns-clause-puts : goal.returns-clause-puts

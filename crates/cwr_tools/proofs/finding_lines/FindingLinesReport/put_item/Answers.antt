@@ -2,8 +2,8 @@ use Rattle.std.proofs.Common.{Bool, [], rules, subst, ◌+◌}
 use Rattle.std.specs.Prelude.{Ok}
 use Rattle.cwr_tools.specs.Format.Reports.{transaction_lines}
 use Rattle.cwr_tools.specs.Steps.Reports.{PutsLines, lines_told}
-use Rattle.cwr_tools.proofs.LinesOfItems.{no_transaction, told_memory, told_other, told_transaction}
-use Rattle.cwr_tools.proofs.ReportSteps.{next_lines, nothing_put}
+use Rattle.cwr_tools.proofs.lemmas.LinesOfItems.{no_transaction, told_memory, told_other, told_transaction}
+use Rattle.cwr_tools.proofs.lemmas.ReportSteps.{next_lines, nothing_put}
 use Rattle.cwr_tools.proofs.finding_lines.FindingLinesReport.put_item.Goals as goal
 
 pub returns-in-Transaction-clause-puts : goal.returns-in-Transaction-clause-puts

@@ -1,8 +1,8 @@
 use Rattle.std.proofs.Common.{false, sym}
 use Rattle.std.specs.Prelude.{Ok}
 use Rattle.cwr_tools.specs.Format.Reports.{lines_of_data}
-use Rattle.cwr_tools.proofs.LinesOfItems.{data_none}
-use Rattle.cwr_tools.proofs.ReportSteps.{first_lines, nothing_put}
+use Rattle.cwr_tools.proofs.lemmas.LinesOfItems.{data_none}
+use Rattle.cwr_tools.proofs.lemmas.ReportSteps.{first_lines, nothing_put}
 use Rattle.cwr_tools.proofs.json_lines.DataLinesReport.put_first.Goals as goal
 
 pub returns-clause-puts : goal.returns-clause-puts

@@ -2,8 +2,8 @@ use Rattle.std.proofs.Common.{false}
 use Rattle.std.specs.Prelude.{Ok, Err}
 use Rattle.cwr_json.specs.Format.Forms.{item_line}
 use Rattle.cwr_tools.specs.Format.Reports.{lines_of_data}
-use Rattle.cwr_tools.proofs.LinesOfItems.{noted_more}
-use Rattle.cwr_tools.proofs.ReportSteps.{lines_cut, lines_put, next_lines}
+use Rattle.cwr_tools.proofs.lemmas.LinesOfItems.{noted_more}
+use Rattle.cwr_tools.proofs.lemmas.ReportSteps.{lines_cut, lines_put, next_lines}
 use Rattle.cwr_tools.proofs.json_lines.DataLinesReport.put_item.Goals as goal
 
 pub returns-in-Ok-clause-puts : goal.returns-in-Ok-clause-puts

@@ -1,5 +1,5 @@
 use Rattle.cwr_tools.specs.Format.Reports.{lines_of_data}
-use Rattle.cwr_tools.proofs.ReportSteps.{last_lines, no_verdict}
+use Rattle.cwr_tools.proofs.lemmas.ReportSteps.{last_lines, no_verdict}
 use Rattle.cwr_tools.proofs.json_lines.DataLinesReport.put_verdict.Goals as goal
 
 pub returns : goal.returns

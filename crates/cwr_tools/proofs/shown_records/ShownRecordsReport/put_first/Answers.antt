@@ -1,8 +1,8 @@
 use Rattle.std.proofs.Common.{false, sym}
 use Rattle.std.specs.Prelude.{Ok}
 use Rattle.cwr_tools.specs.Format.Reports.{lines_of_records}
-use Rattle.cwr_tools.proofs.LinesOfItems.{records_none}
-use Rattle.cwr_tools.proofs.ReportSteps.{first_lines, nothing_put}
+use Rattle.cwr_tools.proofs.lemmas.LinesOfItems.{records_none}
+use Rattle.cwr_tools.proofs.lemmas.ReportSteps.{first_lines, nothing_put}
 use Rattle.cwr_tools.proofs.shown_records.ShownRecordsReport.put_first.Goals as goal
 
 pub returns-clause-puts : goal.returns-clause-puts

@@ -3,8 +3,8 @@ use Rattle.std.specs.Prelude.{Ok, Err}
 use Rattle.cwr_judge.specs.Format.Items.{item_records}
 use Rattle.cwr_tools.specs.Format.Reports.{lines_of_records}
 use Rattle.cwr_notes.specs.Format.RecordTexts.{numbered_records}
-use Rattle.cwr_tools.proofs.LinesOfItems.{records_from}
-use Rattle.cwr_tools.proofs.ReportSteps.{lines_cut, lines_put, next_lines}
+use Rattle.cwr_tools.proofs.lemmas.LinesOfItems.{records_from}
+use Rattle.cwr_tools.proofs.lemmas.ReportSteps.{lines_cut, lines_put, next_lines}
 use Rattle.cwr_tools.proofs.shown_records.ShownRecordsReport.put_item.Goals as goal
 
 pub returns-in-Ok-clause-puts : goal.returns-in-Ok-clause-puts

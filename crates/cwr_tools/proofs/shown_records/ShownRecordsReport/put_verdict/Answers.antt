@@ -1,5 +1,5 @@
 use Rattle.cwr_tools.specs.Format.Reports.{lines_of_records}
-use Rattle.cwr_tools.proofs.ReportSteps.{last_lines}
+use Rattle.cwr_tools.proofs.lemmas.ReportSteps.{last_lines}
 use Rattle.cwr_tools.proofs.shown_records.ShownRecordsReport.put_verdict.Goals as goal
 
 pub returns : goal.returns

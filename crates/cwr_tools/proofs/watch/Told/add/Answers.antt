@@ -3,7 +3,7 @@ use Rattle.std.specs.Prelude.{slice_get}
 use Rattle.std.proofs.lemmas.Option.{slice_get_read}
 use Rattle.cwr_tools.specs.Format.Watching.{has_from}
 use Rattle.cwr_tools.specs.Steps.Watching.{is_reached, is_reached_by}
-use Rattle.cwr_tools.proofs.FindingsWatched.{from_more, or_assoc}
+use Rattle.cwr_tools.proofs.lemmas.FindingsWatched.{from_more, or_assoc}
 use Rattle.cwr_tools.proofs.watch.Told.add.Goals as goal
 
 pub loop-finding-preserved : goal.loop-finding-preserved

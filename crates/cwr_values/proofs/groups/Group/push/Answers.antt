@@ -3,7 +3,7 @@ use Rattle.cwr_fields.specs.declared.codes.TransactionType.{TransactionType}
 use Rattle.cwr_lines.specs.Format.Records.{RecordValue}
 use Rattle.cwr_values.specs.Format.Values.{GroupValue, type_of}
 use Rattle.cwr_values.specs.Format.Begun.{HasHeaderOf}
-use Rattle.cwr_values.proofs.Grouping.{of_type, takes_more}
+use Rattle.cwr_values.proofs.lemmas.Grouping.{of_type, takes_more}
 use Rattle.cwr_values.proofs.groups.Group.push.Goals as goal
 
 pub make_room-requires-clause-power : goal.make_room-requires-clause-power

@@ -1,7 +1,7 @@
 use Rattle.std.proofs.Common.{◌∙◌, ap, arith, length}
 use Rattle.std.proofs.lemmas.List.Sums.{sum_by_more}
 use Rattle.cwr_values.specs.Format.Values.{GroupValue}
-use Rattle.cwr_values.proofs.Grouping.{group_counted}
+use Rattle.cwr_values.proofs.lemmas.Grouping.{group_counted}
 use Rattle.cwr_values.proofs.groups.Group.records.Goals as goal
 
 pub loop-transaction-preserved : goal.loop-transaction-preserved

@@ -1,4 +1,4 @@
-use Rattle.cwr_values.proofs.Beginnings.{complete_exact, keeps_begun}
+use Rattle.cwr_values.proofs.lemmas.Beginnings.{complete_exact, keeps_begun}
 use Rattle.cwr_values.proofs.transactions.Transaction.complete.Goals as goal
 
 pub returns-clause-whole : goal.returns-clause-whole

@@ -1,4 +1,4 @@
-use Rattle.cwr_values.proofs.Beginnings.{keeps_begun}
+use Rattle.cwr_values.proofs.lemmas.Beginnings.{keeps_begun}
 use Rattle.cwr_values.proofs.transactions.Transaction.kind.Goals as goal
 
 pub returns-clause-begun : goal.returns-clause-begun

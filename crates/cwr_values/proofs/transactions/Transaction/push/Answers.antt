@@ -4,7 +4,7 @@ use Rattle.cwr_lines.specs.Format.Growth.{AsksMemory}
 use Rattle.cwr_lines.specs.Format.Records.{RecordValue}
 use Rattle.cwr_values.specs.declared.transactions.PushFault.TheVariants.{Memory}
 use Rattle.cwr_values.specs.Format.Values.{symbol_of}
-use Rattle.cwr_values.proofs.Beginnings.{more_exact, none_is_some, keeps_more, ok_is_refused, memory_is_misplaced}
+use Rattle.cwr_values.proofs.lemmas.Beginnings.{more_exact, none_is_some, keeps_more, ok_is_refused, memory_is_misplaced}
 use Rattle.cwr_values.proofs.transactions.Transaction.push.Goals as goal
 
 pub returns-in_default-clause-misplaced : goal.returns-in_default-clause-misplaced

@@ -1,6 +1,6 @@
 use Rattle.std.proofs.Common.{None, Some, sym, ◌∙◌}
 use Rattle.cwr_values.specs.Format.Fits.{first_too_long}
-use Rattle.cwr_values.proofs.FitsIsWithin.{turn}
+use Rattle.cwr_values.proofs.lemmas.FitsIsWithin.{turn}
 use Rattle.cwr_values.proofs.transmissions.Transmission.first_too_long.Goals as goal
 
 pub returns-in-Some : goal.returns-in-Some

@@ -1,4 +1,4 @@
-use Rattle.cwr_values.proofs.FitsIsWithin.{reported, none_reported, whole}
+use Rattle.cwr_values.proofs.lemmas.FitsIsWithin.{reported, none_reported, whole}
 use Rattle.cwr_values.proofs.transmissions.Transmission.fits.Goals as goal
 
 pub returns-in-Some-clause-within : goal.returns-in-Some-clause-within

@@ -1,7 +1,7 @@
 use Rattle.std.proofs.Common.{◌∙◌, ap, arith}
 use Rattle.std.proofs.lemmas.List.Sums.{sum_by_more}
 use Rattle.cwr_values.specs.Format.Values.{TransmissionValue}
-use Rattle.cwr_values.proofs.Grouping.{count_records, transmission_counted}
+use Rattle.cwr_values.proofs.lemmas.Grouping.{count_records, transmission_counted}
 use Rattle.cwr_values.proofs.transmissions.Transmission.records.Goals as goal
 
 pub loop-group-preserved : goal.loop-group-preserved

@@ -1,5 +1,5 @@
 use Rattle.std.proofs.Common.{refl}
-use Rattle.cwr_write.proofs.FilledDrafts.{filled_none}
+use Rattle.cwr_write.proofs.lemmas.FilledDrafts.{filled_none}
 use Rattle.cwr_write.proofs.records.Filling.new.Goals as goal
 
 pub returns-clause-filled : goal.returns-clause-filled

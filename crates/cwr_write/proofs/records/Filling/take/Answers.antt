@@ -3,9 +3,9 @@ use Rattle.json.specs.Value.{value_view}
 use Rattle.std.proofs.Math.ListN.{set}
 use Rattle.std.proofs.Common.{true}
 use Rattle.cwr_write.specs.Steps.Filling.{IsFilled, names_field, with_last}
-use Rattle.cwr_write.proofs.FilledDrafts.{filled_set, filled_type}
-use Rattle.cwr_write.proofs.RecordReasons.{repeated_reason, unknown_reason, value_reason}
-use Rattle.cwr_write.proofs.NoRecordData.{repeated_key, unfit_value, unknown_key}
+use Rattle.cwr_write.proofs.lemmas.FilledDrafts.{filled_set, filled_type}
+use Rattle.cwr_write.proofs.lemmas.RecordReasons.{repeated_reason, unknown_reason, value_reason}
+use Rattle.cwr_write.proofs.lemmas.NoRecordData.{repeated_key, unfit_value, unknown_key}
 use Rattle.cwr_write.proofs.records.Filling.take.Goals as goal
 
 pub returns-then-j-eq1-clause-ok : goal.returns-then-j-eq1-clause-ok

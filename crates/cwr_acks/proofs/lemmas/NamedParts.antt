@@ -1,0 +1,109 @@
+-- The cells of records, and their lengths.
+use Prim.Native.String.{String}
+use Rattle.std.proofs.Common.{◌≡◌, ℕ, ◌+◌, ◌≤◌, Bool, true, false, cond, List, [], ◌∷◌, ◌++◌, length, take, Option, Some, None}
+use Rattle.std.proofs.Common.{refl, sym, ap, subst, ◌∙◌, arith, append_assoc}
+use Rattle.std.specs.Prelude.{option_map, unwrap_or, slice_get, ◌||◌}
+use Rattle.std.specs.Option.{option_and_then}
+use Rattle.std.specs.List.{flat_map, list_any}
+use Rattle.std.proofs.lemmas.List.Folds.{list_any-append}
+use Rattle.cwr_fields.specs.Format.Bytes.{trimmed}
+use Rattle.cwr_lines.specs.Format.Records.{RecordValue, IsRecord, cell_named}
+use Rattle.cwr_lines.specs.Format.Carried.{carried_before, record_cell}
+use Rattle.cwr_fields.specs.Format.Layouts.{FieldLayout, field_at, field_with_start}
+use Rattle.cwr_fields.proofs.lemmas.FieldStarts.{field_at-start}
+use Rattle.cwr_encode.proofs.lemmas.Numbered.{numbered}
+use Rattle.cwr_levels.specs.Format.Fields.{IsField}
+use Rattle.cwr_levels.proofs.lemmas.NamedCells.{cell_width, named_cell}
+use Rattle.cwr_levels.proofs.lemmas.OneMore.{take_more}
+use Rattle.cwr_json.specs.Steps.FormTexts.{NoLow}
+use Rattle.cwr_json.proofs.lemmas.FieldsShown.{length-trimmed-le, short_line}
+use Rattle.cwr_json.proofs.lemmas.MembersOfFields.{high_cell}
+
+-- the cell of a field is that of its name
+pub cell_is : (name : String) (r : RecordValue) (j wide : ℕ) (cell : List ℕ) → cell ≡ unwrap_or (record_cell r j) []
+    → IsField name r.kind j wide → IsRecord r
+    → cell ≡ cell_named name r
+cell_is name r j wide cell e field fits = e ∙ named_cell name r.kind j wide r field refl fits
+
+pub cell_long : (name : String) (r : RecordValue) (j wide : ℕ) (cell : List ℕ) → cell ≡ unwrap_or (record_cell r j) []
+    → IsField name r.kind j wide
+    → IsRecord r → length cell ≡ wide
+cell_long name r j wide cell e field fits = ap length e ∙ cell_width name r.kind j wide r field refl fits
+
+-- without trailing spaces it is no longer
+pub trimmed_long : (name : String) (r : RecordValue) (j wide : ℕ) (cell shown : List ℕ) → cell ≡ unwrap_or (record_cell r j) []
+    → IsField name r.kind j wide
+    → IsRecord r → shown ≡ trimmed cell → length shown ≤ wide
+trimmed_long name r j wide cell shown e field fits same =
+    omega (arith, cell_long name r j wide cell e field fits, length-trimmed-le cell, ap length same)
+
+-- ---- any cell
+
+-- a record's cell has no low byte, and is short
+record SmallCell (cell : List ℕ) : Type 0 where
+  pub high : NoLow cell
+  pub short : length cell ≤ 720
+
+small_cell : (r : RecordValue) (j : ℕ) → IsRecord r → (o : Option (List ℕ)) → o ≡ record_cell r j
+    → (place : Option (ℕ × FieldLayout))
+    → place ≡ field_with_start r.kind j → SmallCell (unwrap_or o [])
+small_cell r j fits None e place h = record { high = refl; short = omega arith }
+small_cell r j fits (Some cell) e (Some p) h =
+    record { high = high_cell r j p cell fits e h; short = omega (arith, short_line r j p cell fits e h) }
+small_cell r j fits (Some cell) e None h =
+    let none : field_at r.kind j ≡ None =
+    sym (field_at-start r.kind j) ∙ ap (option_map (λ (q : ℕ × FieldLayout). q.1)) (sym h) in
+    let gone : record_cell r j ≡ None
+    = ap (λ (o : Option FieldLayout). option_and_then (λ (_ : FieldLayout). slice_get r.cells (carried_before r.kind j))
+    (option_and_then (λ (f : FieldLayout). cond f.derived None (Some f)) o)) none in
+    let wrong : Some cell ≡ None = e ∙ gone in
+    absurd (cc wrong)
+
+pub cell_high : (r : RecordValue) (j : ℕ) (cell : List ℕ) → cell ≡ unwrap_or (record_cell r j) [] → IsRecord r → NoLow cell
+cell_high r j cell e fits = subst NoLow (sym e) (small_cell r j fits (record_cell r j) refl (field_with_start r.kind j) refl).high
+
+pub cell_short : (r : RecordValue) (j : ℕ) (cell : List ℕ) → cell ≡ unwrap_or (record_cell r j) [] → IsRecord r
+    → length cell ≤ 720
+cell_short r j cell e fits =
+    subst (λ (l : List ℕ). length l ≤ 720) (sym e)
+    (small_cell r j fits (record_cell r j) refl (field_with_start r.kind j) refl).short
+
+-- ---- parts, one after another
+
+pub four_parts : (text a b c d : List ℕ) → (((text ++ a) ++ b) ++ c) ++ d ≡ text ++ (((a ++ b) ++ c) ++ d)
+four_parts text a b c d = simp append_assoc
+
+pub five_parts : (text a b c d e : List ℕ) → ((((text ++ a) ++ b) ++ c) ++ d) ++ e ≡ text ++ ((((a ++ b) ++ c) ++ d) ++ e)
+five_parts text a b c d e = simp append_assoc
+
+pub three_parts : (text a b c : List ℕ) → ((text ++ a) ++ b) ++ c ≡ text ++ ((a ++ b) ++ c)
+three_parts text a b c = simp append_assoc
+
+pub six_parts : (text a b c d e f : List ℕ)
+    → (((((text ++ a) ++ b) ++ c) ++ d) ++ e) ++ f ≡ text ++ (((((a ++ b) ++ c) ++ d) ++ e) ++ f)
+six_parts text a b c d e f = simp append_assoc
+
+-- ---- one record more
+
+pub or_false : (a : Bool) → (a || false) ≡ a
+or_false true = refl
+or_false false = refl
+
+pub or_true : (a : Bool) → (a || true) ≡ true
+or_true true = refl
+or_true false = refl
+
+pub any_more : {X : Type 0} (p : X → Bool) (xs : List X) (i : ℕ) (x : X) → Some x ≡ slice_get xs i
+    → list_any p (take (i + 1) xs) ≡ (list_any p (take i xs) || p x)
+any_more p xs i x e =
+    ap (list_any p) (take_more xs i x (sym e)) ∙ list_any-append p (take i xs) (x ∷ [])
+    ∙ ap (λ (b : Bool). list_any p (take i xs) || b) (or_false (p x))
+
+pub any_first : {X : Type 0} (p : X → Bool) (xs : List X) (x : X) → Some x ≡ slice_get xs 0 → p x ≡ list_any p (take 1 xs)
+any_first p [] x e = absurd (cc e)
+any_first p (y ∷ xs) x e = let same : y ≡ x = cc e in ap p (sym same) ∙ sym (or_false (p y))
+
+-- texts that don't depend on their numbers
+pub numbered_alike : {X : Type 0} (f : X → List ℕ) (n : ℕ) (xs : List X) → numbered (λ k x. f x) n xs ≡ flat_map f xs
+numbered_alike f n [] = refl
+numbered_alike f n (x ∷ xs) = ap (λ (l : List ℕ). f x ++ l) (numbered_alike f (n + 1) xs)

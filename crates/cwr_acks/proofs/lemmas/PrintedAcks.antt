@@ -1,0 +1,217 @@
+-- The lines of JSON are their data, printed.
+use Rattle.std.proofs.Common.{◌≡◌, ℕ, Bool, true, false, cond, List, [], ◌∷◌, ◌++◌, drop, Option, Some, None, refl, sym, ap, ◌∙◌}
+use Rattle.std.proofs.Common.{append_assoc}
+use Rattle.std.specs.Prelude.{◌||◌, codes, count_by, decimal, map, zip}
+use Rattle.json.specs.Token.{Token}
+use Rattle.json.specs.Json.{array, item, number, object, string}
+use Rattle.json.specs.Tree.{items_tokens, json_tokens}
+use Rattle.json.specs.Print.{escape, escape_byte, print_from, quoted}
+use Rattle.cwr_fields.specs.declared.message_codes.TransactionStatus.{TransactionStatus}
+use Rattle.cwr_fields.specs.declared.message_codes.TransactionStatus.TheVariants as status
+use Rattle.cwr_fields.specs.Format.Bytes.{trimmed}
+use Rattle.cwr_fields.specs.Format.MessageCodes.{status_code, transaction_statuses}
+use Rattle.cwr_fields.specs.declared.kinds.Kind.{Kind}
+use Rattle.cwr_fields.specs.declared.kinds.Kind.TheVariants.{Hdr}
+use Rattle.cwr_fields.specs.Format.Kinds.{letters}
+use Rattle.cwr_lines.specs.Format.Records.{RecordValue, cell_named}
+use Rattle.cwr_values.specs.declared.items.Item.{Item}
+use Rattle.cwr_json.specs.declared.encodings.Encoding.TheVariants.{Latin1}
+use Rattle.cwr_json.specs.Format.Encodings.{characters}
+use Rattle.cwr_acks.specs.declared.forms.Form.TheVariants as forms
+use Rattle.cwr_acks.specs.declared.matching.Notes.{Notes}
+use Rattle.cwr_acks.specs.Format.Acknowledgements.{has_status, is_answer, is_message, status_in, worst_level}
+use Rattle.cwr_acks.specs.Format.AckTexts.{number_part, status_words, words_of}
+use Rattle.cwr_acks.specs.Format.AckData.{ack_data, counts_data, data_line, message_data, message_items, place_data}
+use Rattle.cwr_acks.specs.Format.AckData.{unanswered_data, with_counts}
+use Rattle.cwr_acks.specs.Format.SentAnswers.{group_of, sequence_of}
+use Rattle.cwr_acks.specs.Steps.AckSteps.{message_in}
+use Rattle.cwr_acks.specs.Steps.DataTexts.{ack_opening, cell_member, cell_member_if, comma_if, count_key, count_members}
+use Rattle.cwr_acks.specs.Steps.DataTexts.{counts_data_text, level_member, mark_part, message_part, shown_cell}
+use Rattle.cwr_acks.specs.Steps.DataTexts.{unanswered_data_text}
+use Rattle.cwr_acks.proofs.lemmas.NamedParts.{or_false, or_true}
+use Rattle.cwr_acks.proofs.lemmas.PrintedParts.{Begins, Follows, array_shown, begins_alone, begins_member, cell_follows, cell_follows_if}
+use Rattle.cwr_acks.proofs.lemmas.PrintedParts.{cell_shown, follows_last, follows_none, level_follows, line_shown, mark_follows}
+use Rattle.cwr_acks.proofs.lemmas.PrintedParts.{number_follows, number_follows_if, number_shown, object_listed, object_shown}
+use Rattle.cwr_acks.proofs.lemmas.PrintedParts.{string_shown, text_follows}
+
+-- ---- what stands for itself
+
+plain_words : (s : TransactionStatus) → escape (words_of s) ≡ words_of s
+unfolding escape_byte
+plain_words status.Conflict = refl
+plain_words this_status = refl
+
+plain_status : (o : Option TransactionStatus) → escape (status_words o) ≡ status_words o
+plain_status None = refl
+plain_status (Some s) = plain_words s
+
+plain_letters : (this_kind : Kind) → escape (letters this_kind) ≡ letters this_kind
+unfolding escape_byte
+plain_letters Hdr = refl
+plain_letters this_kind = refl
+
+key_later : (s : TransactionStatus) → 44 ∷ (quoted (status_code s) ++ 58 ∷ []) ≡ count_key true (status_code s)
+unfolding escape_byte
+key_later status.Conflict = refl
+key_later this_status = refl
+
+-- ---- messages
+
+regroup_message : (k o p a b c d e f rest : List ℕ)
+    → k ++ ((o ++ ((p ++ (a ++ (b ++ (c ++ (d ++ e))))) ++ f)) ++ rest)
+    ≡ (((((((k ++ (o ++ p)) ++ a) ++ b) ++ c) ++ d) ++ e) ++ f) ++ rest
+regroup_message k o p a b c d e f rest = simp append_assoc
+
+-- one, wherever a value may stand
+message_shown : (later : Bool) (m : RecordValue) (rest : List Token)
+    → print_from later (json_tokens (message_data m) ++ rest) ≡ message_part later m ++ print_from true rest
+unfolding escape_byte
+message_shown later m rest =
+    let first : List ℕ = cell_named "message level" m in
+    let last : List ℕ = cell_named "message text" m in
+    let parts =
+    begins_member (codes "level") (codes "\"level\":") (shown_cell first) (string (characters Latin1 (trimmed first))) _ _
+    refl (cell_shown first)
+    (cell_follows (codes "type") (codes ",\"type\":") (cell_named "message type" m) _ _ refl
+    (number_follows_if (codes "record") (codes ",\"record\":") (cell_named "original record sequence" m) _ _ refl
+    (cell_follows_if (codes "record_type") (codes ",\"record_type\":") (cell_named "message record type" m) _ _ refl
+    (cell_follows_if (codes "validation") (codes ",\"validation\":") (cell_named "validation number" m) _ _ refl
+    (follows_last (codes "text") (codes ",\"text\":") (shown_cell last) (string (characters Latin1 (trimmed last))) refl
+    (cell_shown last)))))) in
+    object_listed _ _ parts later rest
+    ∙ regroup_message (comma_if later) (123 ∷ []) (codes "\"level\":" ++ shown_cell first)
+    (cell_member (codes ",\"type\":") (cell_named "message type" m))
+    (number_part (codes ",\"record\":") (cell_named "original record sequence" m))
+    (cell_member_if (codes ",\"record_type\":") (cell_named "message record type" m))
+    (cell_member_if (codes ",\"validation\":") (cell_named "validation number" m)) (cell_member (codes ",\"text\":") last)
+    (125 ∷ []) (print_from true rest)
+
+-- those of records, each told whether one came before
+abbrev pub messages_from : Bool → List RecordValue → List ℕ
+messages_from later [] = []
+messages_from later (r ∷ rest) = message_in forms.Json later r ++ messages_from (later || is_message r) rest
+
+ending : (later : Bool) (rest : List Token) → print_from later (Token.end_array ∷ rest) ≡ 93 ∷ print_from true rest
+unfolding print_from
+ending true rest = refl
+ending false rest = refl
+
+one_listed : (later : Bool) (r : RecordValue) (t : List RecordValue) (rest : List Token) (b : Bool)
+    → print_from true (items_tokens (message_items t) ++ rest) ≡ messages_from true t ++ 93 ∷ print_from true rest
+    → print_from later (items_tokens (message_items t) ++ rest) ≡ messages_from later t ++ 93 ∷ print_from true rest
+    → print_from later (items_tokens (cond b (item (message_data r) (message_items t)) (message_items t)) ++ rest)
+    ≡ (cond b (message_part later r) [] ++ messages_from (later || b) t) ++ 93 ∷ print_from true rest
+one_listed later r t rest true after same =
+    ap (print_from later) (append_assoc (json_tokens (message_data r)) (items_tokens (message_items t)) rest)
+    ∙ message_shown later r (items_tokens (message_items t) ++ rest)
+    ∙ ap (λ (l : List ℕ). message_part later r ++ l) after
+    ∙ sym (append_assoc (message_part later r) (messages_from true t) (93 ∷ print_from true rest))
+    ∙ ap (λ (b : Bool). (message_part later r ++ messages_from b t) ++ 93 ∷ print_from true rest) (sym (or_true later))
+one_listed later r t rest false after same =
+    same ∙ ap (λ (b : Bool). messages_from b t ++ 93 ∷ print_from true rest) (sym (or_false later))
+
+items_listed : (later : Bool) (t : List RecordValue) (rest : List Token)
+    → print_from later (items_tokens (message_items t) ++ rest) ≡ messages_from later t ++ 93 ∷ print_from true rest
+items_listed later [] rest = ending later rest
+items_listed later (r ∷ t) rest = one_listed later r t rest (is_message r) (items_listed true t rest) (items_listed later t rest)
+
+-- ---- an acknowledgement
+
+regroup_ack : (o p w1 w q g1 g t1 t y l s r ti u re ag m1 m b c e : List ℕ)
+    → (o ++ ((p ++ ((w1 ++ (w ++ q))
+    ++ ((g1 ++ g) ++ ((t1 ++ t) ++ (y ++ (l ++ (s ++ (r ++ (ti ++ (u ++ (re ++ (ag ++ (m1 ++ (m ++ b)))))))))))))) ++ c)) ++ e
+    ≡ (((((((((((((o ++ p) ++ w1) ++ w) ++ q) ++ ((((g1 ++ g) ++ t1) ++ t) ++ y)) ++ l) ++ s) ++ r) ++ ti) ++ ((u ++ re) ++ ag))
+    ++ m1) ++ m) ++ (b ++ (c ++ e)))
+regroup_ack o p w1 w q g1 g t1 t y l s r ti u re ag m1 m b c e = simp append_assoc
+
+pub ack_shown : (notes : Notes) (a : RecordValue) (t : List RecordValue)
+    → (ack_opening notes a (worst_level t) ++ messages_from false t) ++ codes "]}\n" ≡ data_line (ack_data notes a t)
+unfolding escape_byte
+ack_shown notes a t =
+    let first : List ℕ = cell_named "transaction status" a in
+    let words : List ℕ = status_words (status_in a) in
+    let texts : List ℕ = messages_from false t in
+    let parts =
+    begins_member (codes "status") (codes "\"status\":") (shown_cell first) (string (characters Latin1 (trimmed first))) _ _
+    refl (cell_shown first)
+    (text_follows (codes "words") (codes ",\"words\":") words _ _ refl (plain_status (status_in a))
+    (number_follows (codes "group") (codes ",\"group\":") (group_of a) _ _ refl
+    (number_follows (codes "transaction") (codes ",\"transaction\":") (sequence_of a) _ _ refl
+    (cell_follows (codes "type") (codes ",\"type\":") (cell_named "original transaction type" a) _ _ refl
+    (level_follows (worst_level t) _ _
+    (cell_follows_if (codes "submitter") (codes ",\"submitter\":") (cell_named "submitter creation number" a) _ _ refl
+    (cell_follows_if (codes "recipient") (codes ",\"recipient\":") (cell_named "recipient creation number" a) _ _ refl
+    (cell_follows_if (codes "title") (codes ",\"title\":") (cell_named "creation title" a) _ _ refl
+    (mark_follows (codes "unsent") (codes ",\"unsent\":true") notes.unsent _ _ refl
+    (mark_follows (codes "retitled") (codes ",\"retitled\":true") notes.retitled _ _ refl
+    (mark_follows (codes "again") (codes ",\"again\":true") notes.again _ _ refl
+    (follows_last (codes "messages") (codes ",\"messages\":") (91 ∷ (texts ++ 93 ∷ [])) (array (message_items t)) refl
+    (array_shown (message_items t) texts (λ rest. items_listed false t rest)))))))))))))) in
+    sym (line_shown (ack_data notes a t) _ (object_shown _ _ parts)
+    ∙ regroup_ack (123 ∷ []) (codes "\"status\":" ++ shown_cell first) (codes ",\"words\":\"") words (34 ∷ [])
+    (codes ",\"group\":") (decimal (group_of a))
+    (codes ",\"transaction\":") (decimal (sequence_of a))
+    (cell_member (codes ",\"type\":") (cell_named "original transaction type" a)) (level_member (worst_level t))
+    (cell_member_if (codes ",\"submitter\":") (cell_named "submitter creation number" a))
+    (cell_member_if (codes ",\"recipient\":") (cell_named "recipient creation number" a))
+    (cell_member_if (codes ",\"title\":") (cell_named "creation title" a))
+    (mark_part (codes ",\"unsent\":true") notes.unsent) (mark_part (codes ",\"retitled\":true") notes.retitled)
+    (mark_part (codes ",\"again\":true") notes.again)
+    (codes ",\"messages\":[") texts (93 ∷ []) (125 ∷ []) (10 ∷ []))
+
+-- ---- the end
+
+regroup_unanswered : (o p g1 g t1 t y1 y q c e : List ℕ)
+    → (o ++ ((p ++ (o ++ (((g1 ++ g) ++ ((t1 ++ t) ++ (y1 ++ (y ++ q)))) ++ c))) ++ c)) ++ e
+    ≡ ((((((o ++ (p ++ (o ++ g1))) ++ g) ++ t1) ++ t) ++ y1) ++ y) ++ (q ++ (c ++ (c ++ e)))
+regroup_unanswered o p g1 g t1 t y1 y q c e = simp append_assoc
+
+pub unanswered_shown : (g t : ℕ) (this_kind : Kind)
+    → unanswered_data_text g t this_kind ≡ data_line (unanswered_data g t this_kind)
+unfolding escape_byte
+unanswered_shown g t this_kind =
+    let place =
+    object_shown _ _
+    (begins_member (codes "group") (codes "\"group\":") (decimal g) (number (decimal g)) _ _ refl (number_shown (decimal g))
+    (number_follows (codes "transaction") (codes ",\"transaction\":") t _ _ refl
+    (follows_last (codes "type") (codes ",\"type\":") (34 ∷ (letters this_kind ++ 34 ∷ [])) (string (letters this_kind)) refl
+    (string_shown (letters this_kind) (letters this_kind) (plain_letters this_kind))))) in
+    let whole = begins_alone (codes "unanswered") (codes "\"unanswered\":") _ (place_data g t this_kind) refl place in
+    sym (line_shown (unanswered_data g t this_kind) _ (object_shown _ _ whole)
+    ∙ regroup_unanswered (123 ∷ []) (codes "\"unanswered\":") (codes "\"group\":") (decimal g) (codes ",\"transaction\":")
+    (decimal t) (codes ",\"type\":\"")
+    (letters this_kind) (34 ∷ []) (125 ∷ []) (10 ∷ []))
+
+counts_follow : (f : TransactionStatus → ℕ) (ss : List TransactionStatus)
+    → Follows (with_counts f ss) (count_members true (zip ss (map f ss)))
+counts_follow f [] = follows_none
+counts_follow f (s ∷ ss) =
+    number_follows (status_code s) (count_key true (status_code s)) (f s) _ _ (key_later s) (counts_follow f ss)
+
+counts_begin : (f : TransactionStatus → ℕ)
+    → Begins (with_counts f transaction_statuses) (count_members false (zip transaction_statuses (map f transaction_statuses)))
+unfolding escape_byte
+counts_begin f =
+    begins_member (codes "CO") (count_key false (codes "CO")) (decimal (f status.Conflict)) (number (decimal (f status.Conflict)))
+    _ _ refl
+    (number_shown (decimal (f status.Conflict)))
+    (counts_follow f (drop 1 transaction_statuses))
+
+regroup_counts : (o p n s m c e : List ℕ)
+    → (o ++ (((p ++ n) ++ (s ++ (m ++ c))) ++ c)) ++ e ≡ ((((o ++ p) ++ n) ++ s) ++ m) ++ (c ++ (c ++ e))
+regroup_counts o p n s m c e = simp append_assoc
+
+pub counts_shown : (given : List Item)
+    → counts_data_text (count_by is_answer given) (map (λ s. count_by (has_status s) given) transaction_statuses)
+    ≡ data_line (counts_data given)
+unfolding escape_byte
+counts_shown given =
+    let f : TransactionStatus → ℕ = λ s. count_by (has_status s) given in
+    let all : List ℕ = decimal (count_by is_answer given) in
+    let each : List ℕ = count_members false (zip transaction_statuses (map f transaction_statuses)) in
+    let whole = begins_member (codes "acks") (codes "\"acks\":") all (number all) _ _ refl (number_shown all)
+    (follows_last (codes "statuses") (codes ",\"statuses\":") (123 ∷ (each ++ 125 ∷ []))
+    (object (with_counts f transaction_statuses)) refl
+    (object_shown _ _ (counts_begin f))) in
+    sym (line_shown (counts_data given) _ (object_shown _ _ whole)
+    ∙ regroup_counts (123 ∷ []) (codes "\"acks\":") all (codes ",\"statuses\":{") each (125 ∷ []) (10 ∷ []))

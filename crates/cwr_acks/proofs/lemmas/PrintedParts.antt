@@ -1,0 +1,185 @@
+-- The text of data, member by member, and of what holds them.
+use Rattle.std.proofs.Common.{◌≡◌, ℕ, Bool, true, false, cond, List, [], ◌∷◌, ◌++◌, Option, Some, None, refl, sym, ap, subst, ◌∙◌}
+use Rattle.std.proofs.Common.{append_assoc, append-nil}
+use Rattle.std.specs.Prelude.{codes, decimal}
+use Rattle.json.specs.Token.{Token}
+use Rattle.json.specs.Json.{Json, boolean, number, string, array, object, Items, Members, no_members, member}
+use Rattle.json.specs.Tree.{json_tokens, members_tokens, items_tokens}
+use Rattle.json.specs.Print.{escape, escape_byte, print_from, quoted}
+use Rattle.cwr_fields.specs.declared.message_codes.MessageLevel.{MessageLevel}
+use Rattle.cwr_fields.specs.declared.message_codes.MessageLevel.TheVariants as level
+use Rattle.cwr_fields.specs.Format.Bytes.{is_spaces, number_of, trimmed}
+use Rattle.cwr_fields.specs.Format.MessageCodes.{level_code}
+use Rattle.cwr_json.specs.declared.encodings.Encoding.TheVariants.{Latin1}
+use Rattle.cwr_json.specs.Format.Encodings.{characters}
+use Rattle.cwr_json.specs.Steps.FormTexts.{spelled_bytes}
+use Rattle.cwr_json.proofs.lemmas.Spelled.{spelled_each}
+use Rattle.cwr_acks.specs.Format.AckTexts.{number_part}
+use Rattle.cwr_acks.specs.Format.AckData.{data_line, with_cell, with_cell_if, with_level, with_mark, with_number, with_number_if}
+use Rattle.cwr_acks.specs.Format.AckData.{with_text}
+use Rattle.cwr_acks.specs.Steps.DataTexts.{cell_member, cell_member_if, comma_if, level_member, mark_part, shown_cell}
+
+-- a value has this text, whatever follows
+pub record IsShownAs (j : Json) (text : List ℕ) : Type 0 where
+  pub shown : (rest : List Token) → print_from false (json_tokens j ++ rest) ≡ text ++ print_from true rest
+
+-- members have this text up to the bracket that closes them, as the first of an object
+pub record Begins (ms : Members) (text : List ℕ) : Type 0 where
+  pub shown : (rest : List Token) → print_from false (members_tokens ms ++ rest) ≡ text ++ 125 ∷ print_from true rest
+
+-- and after others
+pub record Follows (ms : Members) (text : List ℕ) : Type 0 where
+  pub shown : (rest : List Token) → print_from true (members_tokens ms ++ rest) ≡ text ++ 125 ∷ print_from true rest
+
+-- ---- values
+
+pub string_shown : (s value : List ℕ) → escape s ≡ value → IsShownAs (string s) (34 ∷ (value ++ 34 ∷ []))
+unfolding print_from
+string_shown s value e = record { shown = λ rest. ap (λ (l : List ℕ). (34 ∷ (l ++ 34 ∷ [])) ++ print_from true rest) e }
+
+pub number_shown : (s : List ℕ) → IsShownAs (number s) s
+unfolding print_from
+number_shown s = record { shown = λ rest. refl }
+
+true_shown : IsShownAs (boolean true) (codes "true")
+unfolding print_from
+true_shown = record { shown = λ rest. refl }
+
+pub cell_shown : (cell : List ℕ) → IsShownAs (string (characters Latin1 (trimmed cell))) (shown_cell cell)
+cell_shown cell =
+    string_shown (characters Latin1 (trimmed cell)) (spelled_bytes Latin1 (trimmed cell))
+    (spelled_each Latin1 (trimmed cell) refl)
+
+pub array_shown : (js : Items) (text : List ℕ)
+    → ((rest : List Token) → print_from false (items_tokens js ++ rest) ≡ text ++ 93 ∷ print_from true rest)
+    → IsShownAs (array js) (91 ∷ (text ++ 93 ∷ []))
+unfolding print_from
+array_shown js text h =
+    record { shown = λ rest. ap (λ (l : List ℕ). 91 ∷ l) (h rest ∙ sym (append_assoc text (93 ∷ []) (print_from true rest))) }
+
+-- an object, after other values or as the first
+pub object_listed : (ms : Members) (text : List ℕ) → Begins ms text → (later : Bool) (rest : List Token)
+    → print_from later (json_tokens (object ms) ++ rest) ≡ comma_if later ++ ((123 ∷ (text ++ 125 ∷ [])) ++ print_from true rest)
+unfolding print_from
+object_listed ms text b false rest =
+    ap (λ (l : List ℕ). 123 ∷ l) (b.shown rest ∙ sym (append_assoc text (125 ∷ []) (print_from true rest)))
+object_listed ms text b true rest =
+    ap (λ (l : List ℕ). 44 ∷ 123 ∷ l) (b.shown rest ∙ sym (append_assoc text (125 ∷ []) (print_from true rest)))
+
+pub object_shown : (ms : Members) (text : List ℕ) → Begins ms text → IsShownAs (object ms) (123 ∷ (text ++ 125 ∷ []))
+object_shown ms text b = record { shown = λ rest. object_listed ms text b false rest }
+
+pub line_shown : (j : Json) (text : List ℕ) → IsShownAs j text → data_line j ≡ text ++ 10 ∷ []
+unfolding print_from
+line_shown j text h =
+    ap (λ (l : List ℕ). l ++ 10 ∷ []) (ap (print_from false) (sym (append-nil (json_tokens j))) ∙ h.shown [] ∙ append-nil text)
+
+-- ---- members
+
+pub follows_none : Follows no_members []
+unfolding print_from
+follows_none = record { shown = λ rest. refl }
+
+pub follows_member : (key name value : List ℕ) (j : Json) (more : Members) (text : List ℕ) → 44 ∷ (quoted key ++ 58 ∷ []) ≡ name
+    → IsShownAs j value
+    → Follows more text
+    → Follows (member key j more) ((name ++ value) ++ text)
+unfolding print_from
+follows_member key name value j more text e v m = record {
+  shown =
+      λ rest. ap (λ (ts : List Token). 44 ∷ ((quoted key ++ 58 ∷ []) ++ print_from false ts))
+      (append_assoc (json_tokens j) (members_tokens more) rest)
+      ∙ ap (λ (l : List ℕ). 44 ∷ ((quoted key ++ 58 ∷ []) ++ l))
+      (v.shown (members_tokens more ++ rest) ∙ ap (λ (l : List ℕ). value ++ l) (m.shown rest))
+      ∙ ap (λ (l : List ℕ). l ++ (value ++ (text ++ 125 ∷ print_from true rest))) e
+      ∙ sym (append_assoc (name ++ value) text (125 ∷ print_from true rest)
+      ∙ append_assoc name value (text ++ 125 ∷ print_from true rest));
+}
+
+pub begins_member : (key name value : List ℕ) (j : Json) (more : Members) (text : List ℕ) → quoted key ++ 58 ∷ [] ≡ name
+    → IsShownAs j value → Follows more text
+    → Begins (member key j more) ((name ++ value) ++ text)
+unfolding print_from
+begins_member key name value j more text e v m = record {
+  shown =
+      λ rest. ap (λ (ts : List Token). (quoted key ++ 58 ∷ []) ++ print_from false ts)
+      (append_assoc (json_tokens j) (members_tokens more) rest)
+      ∙ ap (λ (l : List ℕ). (quoted key ++ 58 ∷ []) ++ l)
+      (v.shown (members_tokens more ++ rest) ∙ ap (λ (l : List ℕ). value ++ l) (m.shown rest))
+      ∙ ap (λ (l : List ℕ). l ++ (value ++ (text ++ 125 ∷ print_from true rest))) e
+      ∙ sym (append_assoc (name ++ value) text (125 ∷ print_from true rest)
+      ∙ append_assoc name value (text ++ 125 ∷ print_from true rest));
+}
+
+-- the last of some, and one alone
+pub follows_last : (key name value : List ℕ) (j : Json) → 44 ∷ (quoted key ++ 58 ∷ []) ≡ name → IsShownAs j value
+    → Follows (member key j no_members) (name ++ value)
+follows_last key name value j e v =
+    subst (λ (l : List ℕ). Follows (member key j no_members) l) (append-nil (name ++ value))
+    (follows_member key name value j no_members [] e v follows_none)
+
+pub begins_alone : (key name value : List ℕ) (j : Json) → quoted key ++ 58 ∷ [] ≡ name → IsShownAs j value
+    → Begins (member key j no_members) (name ++ value)
+begins_alone key name value j e v =
+    subst (λ (l : List ℕ). Begins (member key j no_members) l) (append-nil (name ++ value))
+    (begins_member key name value j no_members [] e v follows_none)
+
+-- ---- members of each sort
+
+pub text_follows : (key name s : List ℕ) (more : Members) (text : List ℕ) → 44 ∷ (quoted key ++ 58 ∷ []) ≡ name → escape s ≡ s
+    → Follows more text
+    → Follows (with_text key s more) ((name ++ 34 ∷ (s ++ 34 ∷ [])) ++ text)
+text_follows key name s more text e plain m =
+    follows_member key name (34 ∷ (s ++ 34 ∷ [])) (string s) more text e (string_shown s s plain) m
+
+pub number_follows : (key name : List ℕ) (n : ℕ) (more : Members) (text : List ℕ) → 44 ∷ (quoted key ++ 58 ∷ []) ≡ name
+    → Follows more text
+    → Follows (with_number key n more) ((name ++ decimal n) ++ text)
+number_follows key name n more text e m =
+    follows_member key name (decimal n) (number (decimal n)) more text e (number_shown (decimal n)) m
+
+pub number_follows_if : (key name cell : List ℕ) (more : Members) (text : List ℕ) → 44 ∷ (quoted key ++ 58 ∷ []) ≡ name
+    → Follows more text
+    → Follows (with_number_if key cell more) (number_part name cell ++ text)
+number_follows_if key name cell more text e m = by (is_spaces cell)
+  where
+    by : (b : Bool)
+        → Follows (cond b more (with_number key (number_of cell) more)) (cond b [] (name ++ decimal (number_of cell)) ++ text)
+    by true = m
+    by false = number_follows key name (number_of cell) more text e m
+
+pub cell_follows : (key name cell : List ℕ) (more : Members) (text : List ℕ) → 44 ∷ (quoted key ++ 58 ∷ []) ≡ name
+    → Follows more text
+    → Follows (with_cell key cell more) (cell_member name cell ++ text)
+cell_follows key name cell more text e m =
+    follows_member key name (shown_cell cell) (string (characters Latin1 (trimmed cell))) more text e (cell_shown cell) m
+
+pub cell_follows_if : (key name cell : List ℕ) (more : Members) (text : List ℕ) → 44 ∷ (quoted key ++ 58 ∷ []) ≡ name
+    → Follows more text
+    → Follows (with_cell_if key cell more) (cell_member_if name cell ++ text)
+cell_follows_if key name cell more text e m = by (is_spaces cell)
+  where
+    by : (b : Bool) → Follows (cond b more (with_cell key cell more)) (cond b [] (cell_member name cell) ++ text)
+    by true = m
+    by false = cell_follows key name cell more text e m
+
+pub mark_follows : (key mark : List ℕ) (there : Bool) (more : Members) (text : List ℕ)
+    → (44 ∷ (quoted key ++ 58 ∷ [])) ++ codes "true" ≡ mark
+    → Follows more text
+    → Follows (with_mark key there more) (mark_part mark there ++ text)
+mark_follows key mark true more text e m =
+    subst (λ (l : List ℕ). Follows (member key (boolean true) more) (l ++ text)) e
+    (follows_member key (44 ∷ (quoted key ++ 58 ∷ [])) (codes "true") (boolean true) more text refl true_shown m)
+mark_follows key mark false more text e m = m
+
+plain_level : (l : MessageLevel) → escape (level_code l) ≡ level_code l
+unfolding escape_byte
+plain_level level.EntireFile = refl
+plain_level this_level = refl
+
+pub level_follows : (worst : Option MessageLevel) (more : Members) (text : List ℕ) → Follows more text
+    → Follows (with_level worst more) (level_member worst ++ text)
+unfolding escape_byte
+level_follows None more text m = m
+level_follows (Some l) more text m =
+    text_follows (codes "level") (codes ",\"level\":") (level_code l) more text refl (plain_level l) m

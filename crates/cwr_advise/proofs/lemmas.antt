@@ -1,0 +1,16 @@
+-- Texts that are added at the end of a text, one after another.
+pub mod TextsAdded
+-- What is put of advice, one text after another.
+pub mod TextsPut
+-- The line on a record's cell, as a look for its cell and its field finds it.
+pub mod CellLines
+-- What is put of advice, one text after another.
+pub mod AdvicePut
+-- What is written of items is what is written of all but the last, and then of the last.
+pub mod LinesOfAdvice
+-- What the items say of the transmission, with one item more.
+pub mod SaidBefore
+-- The works of a transmission, kept one after another.
+pub mod WorksKept
+-- A report of advice before its first item, and what it knows after its last.
+pub mod Begun

@@ -1,0 +1,32 @@
+-- A report of advice before its first item, and what it knows after its last.
+use Rattle.std.proofs.Common.{◌≡◌, ℕ, Bool, List, [], Option, sym, subst, ap, ap₂, ◌∙◌}
+use Rattle.std.specs.Prelude.{Result, Ok, Err, IfOk}
+use Rattle.cwr_shape.specs.declared.limits.Limits.{Limits}
+use Rattle.cwr_values.specs.declared.items.Item.{Item}
+use Rattle.cwr_tools.specs.declared.verdicts.ToolFault.{ToolFault}
+use Rattle.cwr_tools.specs.declared.verdicts.Verdict.{Verdict}
+use Rattle.cwr_tools.specs.Steps.Reports.{StandsAfter}
+use Rattle.cwr_advise.specs.declared.running.AdviceLines.{AdviceLines}
+use Rattle.cwr_advise.specs.Format.AdviceLines.{lines_advised}
+use Rattle.cwr_advise.specs.Format.RepeatedWorks.{works_in}
+use Rattle.cwr_advise.specs.Steps.AdvisedItems.{IsBefore}
+use Rattle.cwr_advise.specs.Steps.KeptWorks.{AreKeptOf}
+use Rattle.cwr_advise.proofs.lemmas.WorksKept.{works_none}
+
+-- it stands for these lines before the first item
+pub begun_lines : (lines : AdviceLines) (explained up_to_fault : Bool) (limit : ℕ) → lines.explained ≡ explained
+    → lines.up_to_fault ≡ up_to_fault → lines.repeats.limit ≡ limit → IsBefore lines.before [] → AreKeptOf lines.repeats []
+    → (lines_advised explained up_to_fault limit ≡ lines_advised lines.explained lines.up_to_fault lines.repeats.limit)
+    × IsBefore lines.before [] × AreKeptOf lines.repeats (works_in [])
+begun_lines lines explained up_to_fault limit e f l before works = (
+  sym (ap₂ (λ (a b : Bool). lines_advised a b lines.repeats.limit) e f ∙ ap (lines_advised explained up_to_fault) l),
+  before,
+  subst (AreKeptOf lines.repeats) (sym works_none) works,
+)
+
+-- what stands after the items, another thing does
+pub said_after : (result : Result Verdict ToolFault) (limits : Limits) (before after : Option (List ℕ)) (P Q : List Item → Type 0)
+    → ((given : List Item) → P given → Q given)
+    → IfOk result (StandsAfter P limits before after) → IfOk result (StandsAfter Q limits before after)
+said_after (Ok verdict) limits before after P Q f h = (h.0, h.1, f h.0 h.2)
+said_after (Err fault) limits before after P Q f h = tt

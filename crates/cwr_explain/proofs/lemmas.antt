@@ -1,0 +1,2 @@
+-- A check, and what is written and found after it.
+pub mod WordsAfter

@@ -1,0 +1,124 @@
+-- The members of a record's cells, field by field.
+use Rattle.std.proofs.Common.{◌≡◌, ℕ, zero, suc, ◌+◌, ◌-◌, ◌<◌, ◌≤◌, Bool, true, false, not, cond, List, [], ◌∷◌, ◌++◌, length}
+use Rattle.std.proofs.Common.{take, filter, Option, Some, None, refl, sym, ap, ap₂, subst, ◌∙◌, arith, append_assoc, append-nil}
+use Rattle.std.specs.Prelude.{option_map, slice_get}
+use Rattle.std.specs.Option.{option_and_then}
+use Rattle.std.proofs.lemmas.List.{take_all}
+use Rattle.std.proofs.lemmas.Option.{slice_get-get_or}
+use Rattle.cwr_fields.specs.declared.kinds.Kind.{Kind}
+use Rattle.cwr_fields.specs.Format.Layouts.{FieldLayout, layout, record_type, field_at, field_with_start}
+use Rattle.cwr_lines.specs.Format.Records.{RecordValue, IsRecord}
+use Rattle.cwr_lines.specs.Format.Carried.{carried_at, record_cell}
+use Rattle.cwr_fields.proofs.lemmas.FieldStarts.{field_at-start}
+use Rattle.cwr_lines.proofs.lemmas.CarriedCells.{carried_count, record_cell-at}
+use Rattle.cwr_json.specs.declared.encodings.Encoding.{Encoding}
+use Rattle.cwr_json.proofs.lemmas.FieldsShown.{carried_field}
+use Rattle.cwr_json.specs.Steps.FormTexts.{NoLow, field_member, member_of, member_text, members_beside, member_texts}
+use Rattle.cwr_json.proofs.lemmas.LowBytes.{NoLow-Allows}
+
+-- ---- the member of one field
+
+pub member_of-none : (enc : Encoding) (o : Option FieldLayout) → member_of enc o None ≡ []
+member_of-none enc None = refl
+member_of-none enc (Some f) = refl
+
+member_of-and : (enc : Encoding) (o : Option FieldLayout) (cell : Option (List ℕ))
+    → member_of enc o (option_and_then (λ _. cell) o) ≡ member_of enc o cell
+member_of-and enc None cell = refl
+member_of-and enc (Some f) cell = refl
+
+pub field_member-some : (enc : Encoding) (r : RecordValue) (j : ℕ) (p : ℕ × FieldLayout) (cell : List ℕ)
+    → Some cell ≡ record_cell r j → Some p ≡ field_with_start r.kind j → field_member enc r j ≡ member_text enc p.1 cell
+field_member-some enc r j p cell e place =
+    ap₂ (λ (o : Option FieldLayout) (found : Option (List ℕ)). member_of enc o found) (carried_field r j p cell e place) (sym e)
+
+pub field_member-no_cell : (enc : Encoding) (r : RecordValue) (j : ℕ) → None ≡ record_cell r j → field_member enc r j ≡ []
+field_member-no_cell enc r j e = ap (member_of enc (carried_at r.kind j)) (sym e) ∙ member_of-none enc (carried_at r.kind j)
+
+pub field_member-none : (enc : Encoding) (r : RecordValue) (j : ℕ) → None ≡ field_with_start r.kind j → field_member enc r j ≡ []
+field_member-none enc r j place =
+    let none : field_at r.kind j ≡ None =
+    sym (field_at-start r.kind j) ∙ ap (option_map (λ (q : ℕ × FieldLayout). q.1)) (sym place) in
+    ap (λ (o : Option FieldLayout). member_of enc (option_and_then (λ f. cond f.derived None (Some f)) o) (record_cell r j)) none
+
+-- its cell has no low byte
+pub high_cell : (r : RecordValue) (j : ℕ) (p : ℕ × FieldLayout) (cell : List ℕ) → IsRecord r → Some cell ≡ record_cell r j
+    → Some p ≡ field_with_start r.kind j → NoLow cell
+high_cell r zero p cell h e place = absurd (cc e)
+high_cell r (suc i) p cell h e place =
+    let at = record_cell-at r (suc i) p.1 h (carried_field r (suc i) p cell e place) in
+    let same : cell ≡ at.cell = cc (e, at.found) in
+    subst NoLow (sym same) (NoLow-Allows p.1.ty at.cell at.is_cell.1)
+
+-- ---- the members of the first fields
+
+abbrev carried : List FieldLayout → List FieldLayout
+carried fields = filter (λ f. not f.derived) fields
+
+-- the members of a record's cells in its first fields
+abbrev pub members_before : Encoding → RecordValue → ℕ → List ℕ
+members_before enc r i = members_beside enc (carried (take i (layout r.kind))) r.cells
+
+after_first : (enc : Encoding) (b : Bool) (g : FieldLayout) (fields more : List FieldLayout) (cells : List (List ℕ))
+    (line : Option (List ℕ) → List ℕ) → line None ≡ []
+    → ((rest : List (List ℕ))
+    → members_beside enc more rest ≡ members_beside enc fields rest ++ line (slice_get rest (length fields)))
+    → members_beside enc (cond (not b) (g ∷ more) more) cells ≡ members_beside enc (cond (not b) (g ∷ fields) fields) cells
+    ++ line (slice_get cells (length (cond (not b) (g ∷ fields) fields)))
+after_first enc true g fields more cells line none h = h cells
+after_first enc false g fields more [] line none h = sym none
+after_first enc false g fields more (c ∷ cells) line none h =
+    ap (λ (l : List ℕ). member_text enc g c ++ l) (h cells)
+    ∙ sym (append_assoc (member_text enc g c) (members_beside enc fields cells) (line (slice_get cells (length fields))))
+
+first_alone : (enc : Encoding) (b : Bool) (g : FieldLayout) (cells : List (List ℕ))
+    → members_beside enc (cond (not b) (g ∷ []) []) cells ≡ member_of enc (cond b None (Some g)) (slice_get cells 0)
+first_alone enc true g cells = refl
+first_alone enc false g [] = refl
+first_alone enc false g (c ∷ cells) = append-nil (member_text enc g c)
+
+member_more : (enc : Encoding) (fields : List FieldLayout) (i : ℕ) (f : FieldLayout) (cells : List (List ℕ))
+    → slice_get fields i ≡ Some f
+    → members_beside enc (carried (take (suc i) fields)) cells ≡ members_beside enc (carried (take i fields)) cells
+    ++ member_of enc (cond f.derived None (Some f)) (slice_get cells (carried_count (take i fields)))
+member_more enc [] i f cells e = absurd (cc e)
+member_more enc (g ∷ fields) zero f cells e =
+    let same : g ≡ f = cc e in
+    first_alone enc g.derived g cells
+    ∙ ap (λ (x : FieldLayout). member_of enc (cond x.derived None (Some x)) (slice_get cells 0)) same
+member_more enc (g ∷ fields) (suc i) f cells e =
+    after_first enc g.derived g (carried (take i fields)) (carried (take (suc i) fields)) cells
+    (member_of enc (cond f.derived None (Some f))) (member_of-none enc (cond f.derived None (Some f)))
+    (λ rest. member_more enc fields i f rest e)
+
+-- with one field more
+pub members_more : (enc : Encoding) (r : RecordValue) (i : ℕ) → i < length (layout r.kind)
+    → members_before enc r (i + 1) ≡ members_before enc r i ++ field_member enc r (i + 1)
+members_more enc r i h =
+    let number : suc i ≡ i + 1 = omega arith in
+    subst (λ (n : ℕ). members_before enc r n ≡ members_before enc r i ++ field_member enc r n) number (by (layout-at r.kind i h))
+  where
+    layout-at : (kind : Kind) (n : ℕ) → n < length (layout kind) → (f : FieldLayout) × (slice_get (layout kind) n ≡ Some f)
+    layout-at kind n within = (_, slice_get-get_or (layout kind) n record_type within)
+
+    by : (f : FieldLayout) × (slice_get (layout r.kind) i ≡ Some f)
+        → members_before enc r (suc i) ≡ members_before enc r i ++ field_member enc r (suc i)
+    by (f, e) =
+        let before : suc i - 1 ≡ i = omega arith in
+        let is_carried : cond f.derived None (Some f) ≡ carried_at r.kind (suc i) =
+        ap (option_and_then (λ (g : FieldLayout). cond g.derived None (Some g))) (sym e) in
+        let cell : Option (List ℕ) = slice_get r.cells (carried_count (take i (layout r.kind))) in
+        let line : member_of enc (cond f.derived None (Some f)) cell ≡ field_member enc r (suc i) =
+        ap (λ (o : Option FieldLayout). member_of enc o cell) is_carried
+        ∙ sym (member_of-and enc (carried_at r.kind (suc i)) cell)
+        ∙ ap (λ (n : ℕ). member_of enc (carried_at r.kind (suc i))
+        (option_and_then (λ _. slice_get r.cells (carried_count (take n (layout r.kind)))) (carried_at r.kind (suc i)))) (sym
+        before) in
+        member_more enc (layout r.kind) i f r.cells e ∙ ap (λ (l : List ℕ). members_before enc r i ++ l) line
+
+-- with all of them
+pub members_whole : (enc : Encoding) (r : RecordValue) (i : ℕ) → length (layout r.kind) ≤ i
+    → members_before enc r i ≡ member_texts enc r
+unfolding member_texts
+members_whole enc r i h =
+    ap (λ (fields : List FieldLayout). members_beside enc (carried fields) r.cells) (take_all i (layout r.kind) h)

@@ -1,0 +1,451 @@
+-- A whole lint: a check up to the first fault, and what follows it.
+use Rattle.std.proofs.Common.{◌≡◌, ℕ, ◌-◌, ◌≤◌, List, [], ◌∷◌, ◌++◌, length, Option, Some, None, refl, sym, ap, subst, ◌∙◌, arith}
+use Rattle.std.proofs.Common.{inl, inr, append_assoc, append-nil, ap₂, drop}
+use Rattle.std.specs.Prelude.{◌⊎◌, ◌^◌, Bool, true, false, Result, Ok, Err, IfOk, IfSome, IsSomeAnd, OnOk}
+use Rattle.std.specs.Io.KnownBytes.{Appends, Consumes, IsAtEnd}
+use Rattle.std.proofs.lemmas.List.{length-append}
+use Rattle.cwr_values.specs.Format.Begins.{rows_so_far}
+use Rattle.cwr_values.proofs.lemmas.RowAt.{length-rows_so_far}
+use Rattle.cwr_judge.proofs.lemmas.LineRecords.{as_many}
+use Rattle.cwr_decode.specs.declared.machine.State.{State}
+use Rattle.cwr_decode.specs.declared.readings.LastRead.{LastRead}
+use Rattle.cwr_decode.specs.declared.readings.ReadFault.TheVariants as read_faults
+use Rattle.cwr_decode.specs.Steps.Represents.{IsStopped, RepresentsIn, text_of}
+use Rattle.cwr_decode.specs.Steps.Runs.{StopsRun}
+use Rattle.cwr_decode.proofs.lemmas.ClosedTexts.{text_of-push}
+use Rattle.cwr_causes.proofs.lemmas.RefusedLines.{refused_last}
+use Rattle.cwr_tools.specs.Steps.Verdicts.{IsReadLast, IsRightVerdict, StopsAfter, StopsAt}
+use Rattle.cwr_advise.specs.Format.AdviceLines.{said_in}
+use Rattle.cwr_lint.specs.Format.FaultsOfLines.{Asking}
+use Rattle.cwr_lint.specs.Format.Wanted.{Wanted, asking_for, lines_before_fault, lines_linted, lines_up_to, lines_with, said_when}
+use Rattle.cwr_lint.specs.Steps.LinesRead.{HoldsRaw, IsAllRead, IsTextOf, spelled}
+use Rattle.cwr_lint.specs.Steps.Runs.{TellsRun}
+use Rattle.cwr_lint_lines.specs.Steps.Fronts.{state_at}
+use Rattle.cwr_lint.specs.Steps.Walks.{IsTold}
+use Rattle.cwr_shape.specs.declared.stages.Stage.{Stage}
+use Rattle.cwr_shape.specs.declared.tallies.Counts.{Counts}
+use Rattle.std.proofs.KnownBytes.{Appends-nil, Appends-trans, Consumes-nil, Consumes-trans}
+use Rattle.cwr_shape.specs.declared.limits.Limits.{Limits}
+use Rattle.cwr_judge.specs.declared.refusals.Refusal.{Refusal}
+use Rattle.cwr_causes.specs.Format.Trailing.{TakesMore}
+use Rattle.cwr_tools.specs.Format.Reports.{AddsWords, ItemLines, JudgesAccepted, text_on}
+use Rattle.cwr_tools.specs.Format.Verdicts.{IsAnswerAfter, IsAnswerTo, JudgesText}
+use Rattle.cwr_tools.specs.declared.verdicts.Verdict.{Verdict}
+use Rattle.cwr_tools.specs.declared.verdicts.Verdict.TheVariants.{Good, Refused, Truncated}
+use Rattle.cwr_tools.specs.declared.verdicts.ToolFault.{ToolFault}
+use Rattle.cwr_tools.specs.Format.Texts.{good_verdict}
+use Rattle.cwr_values.specs.declared.items.Item.{Item}
+use Rattle.cwr_values.specs.Format.Values.{TransmissionValue}
+use Rattle.cwr_judge.specs.Format.Ends.{IsAccepted}
+use Rattle.cwr_judge.specs.Format.Items.{value_items}
+use Rattle.cwr_judge.proofs.lemmas.Accepted.{accepted_once}
+use Rattle.cwr_tools.specs.Steps.Reports.{Reports, StandsAfter}
+use Rattle.cwr_advice.specs.declared.said.Said.{Said}
+use Rattle.cwr_lint.specs.Steps.Lints.{AreLinesRead, Lints, Tells, TellsFaults}
+
+-- nothing follows a verdict that is no refusal: what was written is what a check writes
+pub tells_good : {W : Type 0} (wanted : Wanted) (limits : Limits) (before after : Option (List ℕ))
+    (contents : W → Option (List ℕ)) (old new : W) (groups transactions records : ℕ)
+    → Reports (lines_up_to wanted) limits before after contents old new (Ok (Good groups transactions records))
+    → Tells wanted limits before after contents old new (Good groups transactions records)
+tells_good wanted limits before after contents old new groups transactions records h = good_with wanted.advised wanted.explained h
+  where
+    good_with : (a e : Bool)
+        → Reports (lines_before_fault a e) limits before after contents old new (Ok (Good groups transactions records))
+        → Reports (lines_with a e) limits before after contents old new (Ok (Good groups transactions records))
+    good_with false false h = h
+    good_with false true h = h
+    good_with true e h = h
+
+pub tells_truncated : {W : Type 0} (wanted : Wanted) (limits : Limits) (before after : Option (List ℕ))
+    (contents : W → Option (List ℕ)) (old new : W) (records : ℕ)
+    → Reports (lines_up_to wanted) limits before after contents old new (Ok (Truncated records))
+    → Tells wanted limits before after contents old new (Truncated records)
+tells_truncated wanted limits before after contents old new records h = truncated_with wanted.advised wanted.explained h
+  where
+    truncated_with : (a e : Bool) → Reports (lines_before_fault a e) limits before after contents old new (Ok (Truncated records))
+        → Reports (lines_with a e) limits before after contents old new (Ok (Truncated records))
+    truncated_with false false h = h
+    truncated_with false true h = h
+    truncated_with true e h = h
+
+-- all was read, by the bytes that are known
+at_end_kept : (left after : Option (List ℕ)) (bytes : List ℕ) → Consumes left after bytes → IsAtEnd left
+    → IfSome left (λ known. IsAtEnd after)
+at_end_kept None after bytes c e = tt
+at_end_kept (Some xs) None bytes c e = absurd c
+at_end_kept (Some xs) (Some ys) bytes c e = nil_end bytes ys (sym c ∙ e)
+  where
+    nil_end : (bytes ys : List ℕ) → bytes ++ ys ≡ [] → ys ≡ []
+    nil_end [] ys e = e
+    nil_end (b ∷ bytes) ys e = absurd (omega (arith, ap length e))
+
+all_read : (before left between after : Option (List ℕ)) (input first later : List ℕ) → Consumes before left input
+    → Consumes left between first → Consumes between after later → IsAllRead left between first ⊎ IsAllRead between after later
+    → IfSome before (λ known. IsAtEnd after ⊎ (2 ^ 64 - 1 ≤ length known))
+all_read None left between after input first later a b c r = tt
+all_read (Some known) None between after input first later a b c r = absurd a
+all_read (Some known) (Some xs) None after input first later a b c r = absurd b
+all_read (Some known) (Some xs) (Some ys) None input first later a b c r = absurd c
+all_read (Some known) (Some xs) (Some ys) (Some zs) input first later a b c (inl (inl e)) =
+    inl (at_end_kept (Some ys) (Some zs) later c e)
+all_read (Some known) (Some xs) (Some ys) (Some zs) input first later a b c (inl (inr n)) =
+    inr (omega (arith, n, ap length a, length-append input xs, ap length b, length-append first ys))
+all_read (Some known) (Some xs) (Some ys) (Some zs) input first later a b c (inr (inl e)) = inl e
+all_read (Some known) (Some xs) (Some ys) (Some zs) input first later a b c (inr (inr n)) =
+    inr (omega
+    (arith, n, ap length a, length-append input xs, ap length b, length-append first ys, ap length c, length-append later zs))
+
+-- of a refusal nothing is written
+refused_text : (advised explained : Bool) (given : List Item) (refusal : Refusal)
+    → text_on (lines_before_fault advised explained) given (Refused refusal) ≡ (lines_with advised explained).lines given
+refused_text false explained given refusal = append-nil ((lines_with false explained).lines given)
+refused_text true explained given refusal = append-nil ((lines_with true explained).lines given)
+
+-- what is asked for, by what was heard before the same stop
+pub record Hears (wanted : Wanted) (limits : Limits) (before left : Option (List ℕ)) (refusal : Refusal) (asking : Asking) : Type
+    0 where
+  pub heard : List Item
+  pub stopped : StopsAfter limits (read_faults.Refused refusal) before left heard
+  pub asks : asking ≡ asking_for wanted (said_in heard)
+
+-- the faults follow
+built : {W : Type 0} (wanted : Wanted) (limits : Limits) (before left after : Option (List ℕ)) (contents : W → Option (List ℕ))
+    (old between new : W) (refusal : Refusal) (asking : Asking) (last : LastRead) (text : List ℕ)
+    → Reports (lines_up_to wanted) limits before left contents old between (Ok (Refused refusal))
+    → (s : StopsAt limits (read_faults.Refused refusal) before left last)
+    → (x : Hears wanted limits before left refusal asking)
+    → (t : TellsRun asking (state_at last.stage last.counts (refusal.rec - 1)) refusal last.bytes left after text)
+    → Appends (contents between) (contents new) text
+    → (refused : List ℕ) → HoldsRaw refused t.raw → IfSome before (λ known. (bytes : List ℕ) × Consumes before after bytes
+    × AreLinesRead refusal s.0.decoder.tally t.tells.last bytes refused t.tells.lines)
+    → TellsFaults wanted limits before after contents old new refusal
+built wanted limits before left after contents old between new refusal asking last text h s x t written refused holds read =
+    record {
+      given = h.0;
+      left = left;
+      stopped = h.1;
+      more = t.read.bytes ++ t.tells.bytes;
+      taken = Consumes-trans left t.between after t.read.bytes t.tells.bytes t.read.taken t.tells.taken;
+      refused = refused;
+      lines = t.tells.lines;
+      over = t.tells.over;
+      text = text;
+      last = t.tells.last;
+      tally = s.0.decoder.tally;
+      heard = x.heard;
+      heard_before = x.stopped;
+      told =
+          subst (λ (a : Asking). IsTold a (state_at s.0.decoder.tally.stage s.0.decoder.tally.counts (refusal.rec - 1)) refusal
+          refused t.tells.lines t.tells.over text) x.asks
+          (subst (λ (c : Counts). IsTold asking (state_at s.0.decoder.tally.stage c (refusal.rec - 1)) refusal refused t.tells.lines
+          t.tells.over text) s.3
+          (subst (λ (g : Stage). IsTold asking (state_at g last.counts (refusal.rec - 1)) refusal refused t.tells.lines t.tells.over
+          text) s.1 (t.tells.told refused holds)));
+      written =
+          subst (λ (l : List ℕ). Appends (contents old) (contents new) (l ++ text))
+          (refused_text wanted.advised wanted.explained h.0 refusal)
+          (Appends-trans (contents old) (contents between) (contents new) (text_on (lines_up_to wanted) h.0 (Refused refusal)) text
+          h.2 written);
+      read = read;
+      cut =
+          λ e. all_read before left t.between after s.0.read.input t.read.bytes t.tells.bytes s.0.read.consumed t.read.taken
+          t.tells.taken (rest (t.tells.cut e));
+      ends = λ over. t.tells.ends over refused holds;
+      all =
+          λ e. all_read before left t.between after s.0.read.input t.read.bytes t.tells.bytes s.0.read.consumed t.read.taken
+          t.tells.taken (rest (t.tells.all e));
+    } where
+      rest : (t.raw.ended ≡ false) ⊎ IsAllRead t.between after t.tells.bytes
+          → IsAllRead left t.between t.read.bytes ⊎ IsAllRead t.between after t.tells.bytes
+      rest (inl e) = inl (t.read.all e)
+      rest (inr r) = inr r
+
+tells_faults : {W : Type 0} (wanted : Wanted) (limits : Limits) (before left after : Option (List ℕ))
+    (contents : W → Option (List ℕ)) (old between new : W) (refusal : Refusal) (asking : Asking) (last : LastRead) (text : List ℕ)
+    → Reports (lines_up_to wanted) limits before left contents old between (Ok (Refused refusal))
+    → StopsAt limits (read_faults.Refused refusal) before left last → Hears wanted limits before left refusal asking
+    → TellsRun asking (state_at last.stage last.counts (refusal.rec - 1)) refusal last.bytes left after text
+    → Appends (contents between) (contents new) text
+    → Tells wanted limits before after contents old new (Refused refusal)
+tells_faults wanted limits None left after contents old between new refusal asking last text h s x t written =
+    built wanted limits None left after contents old between new refusal asking last text h s x t written t.held.line t.held.holds
+    tt
+tells_faults wanted limits (Some known) left after contents old between new refusal asking last text h s x t written =
+    built wanted limits (Some known) left after contents old between new refusal asking last text h s x t written
+    (stopped.line.bytes ++ found.0) found.1 (
+      stop.read.input ++ (t.read.bytes ++ t.tells.bytes),
+      Consumes-trans (Some known) left after stop.read.input (t.read.bytes ++ t.tells.bytes) stop.read.consumed
+          (Consumes-trans left t.between after t.read.bytes t.tells.bytes t.read.taken t.tells.taken),
+      record {
+        front = stopped.lines;
+        records = stopped.records;
+        in_order = stopped.read.in_order;
+        rows = stopped.read.rows;
+        counted = stopped.read.counted;
+        no_lf = (found.1.no_lf, t.tells.no_lf);
+        number =
+            omega (
+              arith,
+              stopped.number,
+              as_many (rows_so_far stopped.records) stopped.lines stopped.read.rows,
+              length-rows_so_far stopped.records,
+            );
+        text =
+            subst (λ (l : List (List ℕ)). IsTextOf t.tells.last (stop.read.input ++ (t.read.bytes ++ t.tells.bytes)) l)
+            (append_assoc stopped.lines ((stopped.line.bytes ++ found.0) ∷ []) t.tells.lines)
+            (subst (λ (l : List ℕ). IsTextOf t.tells.last l
+            ((stopped.lines ++ (stopped.line.bytes ++ found.0) ∷ []) ++ t.tells.lines)) (append_assoc stop.read.input
+            t.read.bytes t.tells.bytes)
+            (t.tells.goes (stop.read.input ++ t.read.bytes) (stopped.lines ++ (stopped.line.bytes ++ found.0) ∷ [])
+            (first_text t.raw.ended found.2)));
+      },
+    )
+  where
+    stop : StopsRun limits (read_faults.Refused refusal) (Some known) left
+    stop = s.0
+
+    stopped : IsStopped s.0.decoder s.0.read.input s.0.given refusal
+    stopped = subst (λ (state : State). RepresentsIn state s.0.decoder s.0.read.input s.0.given) s.0.leaves s.0.read.stands.here
+
+    found : (rest : List ℕ) × HoldsRaw (stopped.line.bytes ++ rest) t.raw
+        × (s.0.read.input ++ t.read.bytes ≡ text_of stopped.lines ++ spelled t.raw.ended (stopped.line.bytes ++ rest))
+    found =
+        t.read.line s.0.read.input (text_of stopped.lines) stopped.line.bytes s.2
+        (refused_last s.0.decoder s.0.read.input s.0.given refusal stopped)
+
+    first_text : (b : Bool) → s.0.read.input ++ t.read.bytes ≡ text_of stopped.lines ++ spelled b (stopped.line.bytes ++ found.0)
+        → IsTextOf b (s.0.read.input ++ t.read.bytes) (stopped.lines ++ (stopped.line.bytes ++ found.0) ∷ [])
+    first_text true e = e ∙ sym (text_of-push stopped.lines (stopped.line.bytes ++ found.0))
+    first_text false e =
+        ap (λ (l : List ℕ). l ++ 10 ∷ []) e ∙ append_assoc (text_of stopped.lines) (stopped.line.bytes ++ found.0) (10 ∷ [])
+        ∙ sym (text_of-push stopped.lines (stopped.line.bytes ++ found.0))
+
+-- where the answer is a verdict
+pub tells_after : {W : Type 0} (wanted : Wanted) (limits : Limits) (before left after : Option (List ℕ))
+    (contents : W → Option (List ℕ)) (old between new : W) (refusal : Refusal) (asking : Asking) (last : LastRead)
+    (result : Result Verdict ToolFault)
+    → Reports (lines_up_to wanted) limits before left contents old between (Ok (Refused refusal))
+    → StopsAt limits (read_faults.Refused refusal) before left last → Hears wanted limits before left refusal asking
+    → IsAnswerTo (Refused refusal) result → OnOk result ((text : List ℕ)
+    × TellsRun asking (state_at last.stage last.counts (refusal.rec - 1)) refusal last.bytes left after text
+    × Appends (contents between) (contents new) text)
+    → IfOk result (Tells wanted limits before after contents old new)
+tells_after wanted limits before left after contents old between new refusal asking last (Ok verdict) h s x answered told =
+    subst (Tells wanted limits before after contents old new) (sym answered)
+    (tells_faults wanted limits before left after contents old between new refusal asking last told.0 h s x told.1 told.2)
+tells_after wanted limits before left after contents old between new refusal asking last (Err fault) h s x answered told = tt
+
+-- a check and words after it
+pub lints_after : {W : Type 0} (wanted : Wanted) (limits : Limits) (before left after : Option (List ℕ))
+    (contents : W → Option (List ℕ)) (old between new : W) (checked result : Result Verdict ToolFault)
+    → Reports (lines_up_to wanted) limits before left contents old between checked → AddsWords contents between new
+    → TakesMore left after → IsAnswerAfter checked result → Lints wanted limits before after contents old new result
+lints_after wanted limits before left after contents old between new checked result r w t a = record {
+  between = between;
+  left = left;
+  checked = checked;
+  reported = r;
+  words = w.0;
+  written = w.1;
+  more = t.0;
+  taken = t.1;
+  answered = a;
+}
+
+-- nothing follows
+answer_same : (checked : Result Verdict ToolFault) → IsAnswerAfter checked checked
+answer_same (Ok verdict) = refl
+answer_same (Err fault) = refl
+
+pub lints_alone : {W : Type 0} (wanted : Wanted) (limits : Limits) (before after : Option (List ℕ))
+    (contents : W → Option (List ℕ)) (old new : W) (checked result : Result Verdict ToolFault)
+    → Reports (lines_up_to wanted) limits before after contents old new checked → checked ≡ result
+    → Lints wanted limits before after contents old new result
+lints_alone wanted limits before after contents old new checked result h e = record {
+  between = new;
+  left = after;
+  checked = checked;
+  reported = h;
+  words = [];
+  written = Appends-nil (contents new);
+  more = [];
+  taken = Consumes-nil after;
+  answered = subst (IsAnswerAfter checked) e (answer_same checked);
+}
+
+-- ---- where the test that is passed on says the same
+
+pub lints_at : {W : Type 0} (flag wanted : Wanted) (limits : Limits) (before after : Option (List ℕ))
+    (contents : W → Option (List ℕ)) (old new : W) (checked result : Result Verdict ToolFault)
+    → flag ≡ wanted → Reports (lines_up_to flag) limits before after contents old new checked → checked ≡ result
+    → Lints wanted limits before after contents old new result
+lints_at flag wanted limits before after contents old new checked result same h e =
+    subst (λ (b : Wanted). Lints b limits before after contents old new result) same
+    (lints_alone flag limits before after contents old new checked result h e)
+
+-- the verdict is no refusal
+abbrev pub IsUnrefused : Verdict → Type 0
+IsUnrefused (Good groups transactions records) = Unit {0}
+IsUnrefused (Refused refusal) = ⊥
+IsUnrefused (Truncated records) = Unit {0}
+
+tells_unrefused : {W : Type 0} (wanted : Wanted) (limits : Limits) (before after : Option (List ℕ))
+    (contents : W → Option (List ℕ)) (old new : W) (verdict : Verdict)
+    → IsUnrefused verdict → Reports (lines_up_to wanted) limits before after contents old new (Ok verdict)
+    → Tells wanted limits before after contents old new verdict
+tells_unrefused wanted limits before after contents old new (Good groups transactions records) is h =
+    tells_good wanted limits before after contents old new groups transactions records h
+tells_unrefused wanted limits before after contents old new (Refused refusal) is h = absurd is
+tells_unrefused wanted limits before after contents old new (Truncated records) is h =
+    tells_truncated wanted limits before after contents old new records h
+
+pub unrefused_at : {W : Type 0} (flag wanted : Wanted) (limits : Limits) (before after : Option (List ℕ))
+    (contents : W → Option (List ℕ)) (old new : W) (checked : Result Verdict ToolFault) (verdict : Verdict)
+    → flag ≡ wanted → Reports (lines_up_to flag) limits before after contents old new checked → checked ≡ Ok verdict
+    → IsUnrefused verdict → Tells wanted limits before after contents old new verdict
+unrefused_at flag wanted limits before after contents old new checked verdict same h e is =
+    subst (λ (b : Wanted). Tells b limits before after contents old new verdict) same
+    (tells_unrefused flag limits before after contents old new verdict is
+    (subst (Reports (lines_up_to flag) limits before after contents old new) e h))
+
+pub refused_at : {W : Type 0} (flag wanted : Wanted) (limits : Limits) (before left after : Option (List ℕ))
+    (contents : W → Option (List ℕ)) (old between new : W) (refusal : Refusal) (asking : Asking) (last : LastRead)
+    (checked result : Result Verdict ToolFault)
+    → flag ≡ wanted → Reports (lines_up_to flag) limits before left contents old between checked
+    → StopsAt limits (read_faults.Refused refusal) before left last → Hears wanted limits before left refusal asking
+    → checked ≡ Ok (Refused refusal)
+    → IsAnswerTo (Refused refusal) result → OnOk result ((text : List ℕ)
+    × TellsRun asking (state_at last.stage last.counts (refusal.rec - 1)) refusal last.bytes left after text
+    × Appends (contents between) (contents new) text)
+    → IfOk result (Tells wanted limits before after contents old new)
+refused_at flag wanted limits before left after contents old between new refusal asking last checked result same h s x e answered
+    told =
+    tells_after wanted limits before left after contents old between new refusal asking last result
+    (subst (λ (b : Wanted). Reports (lines_up_to b) limits before left contents old between (Ok (Refused refusal))) same
+    (subst (Reports (lines_up_to flag) limits before left contents old between) e h)) s x answered told
+
+pub faults_at : {W : Type 0} (flag wanted : Wanted) (limits : Limits) (before left after : Option (List ℕ))
+    (contents : W → Option (List ℕ)) (old between new : W) (refusal : Refusal) (checked result : Result Verdict ToolFault)
+    → flag ≡ wanted → Reports (lines_up_to flag) limits before left contents old between checked → checked ≡ Ok (Refused refusal)
+    → AddsWords contents between new → TakesMore left after → IsAnswerTo (Refused refusal) result
+    → Lints wanted limits before after contents old new result
+faults_at flag wanted limits before left after contents old between new refusal checked result same h e words more answered =
+    subst (λ (b : Wanted). Lints b limits before after contents old new result) same
+    (lints_after flag limits before left after contents old between new checked result h words more
+    (subst (λ (r : Result Verdict ToolFault). IsAnswerAfter r result) (sym e) answered))
+
+-- the verdict on an accepted text, and what is written of it
+judges_accepted : {W : Type 0} (of : ItemLines) (limits : Limits) (before after : Option (List ℕ))
+    (contents : W → Option (List ℕ)) (old new : W) (verdict : Verdict)
+    → Reports of limits before after contents old new (Ok verdict)
+    → JudgesAccepted of limits before after contents old new verdict
+judges_accepted of limits None after contents old new verdict h = tt
+judges_accepted of limits (Some text) after contents old new verdict h = λ v n a. by verdict v n a h.1 h.2
+  where
+    by : (it : Verdict) (v : TransmissionValue) (n : ℕ) → IsAccepted limits text v n
+        → IsRightVerdict limits (Some text) it after h.0 → Appends (contents old) (contents new) (text_on of h.0 it)
+        → (it ≡ good_verdict v) × (after ≡ Some (drop n text))
+        × Appends (contents old) (contents new) (text_on of (value_items v) (good_verdict v))
+    by (Good groups transactions records) v n a t written =
+        let same = accepted_once limits text t.0 v (length t.1.input) n t.1.front.0 a in
+        let verdict_is : Good groups transactions records ≡ good_verdict v = t.3 ∙ ap good_verdict same.0 in
+        let items_are : h.0 ≡ value_items v = t.2 ∙ ap value_items same.0 in (
+          verdict_is,
+          t.1.front.1 ∙ ap (λ (k : ℕ). Some (drop k text)) same.1,
+          subst (Appends (contents old) (contents new))
+              (ap₂ (λ (items : List Item) (it : Verdict). text_on of items it) items_are verdict_is) written,
+        )
+    by (Refused refusal) v n a t written = absurd (t.0.right.ends.unaccepted v n a)
+    by (Truncated records) v n a t written = absurd (t.0.right.ends.unaccepted v n a)
+
+-- where a text is accepted
+pub accepted_at : {W : Type 0} (wanted : Wanted) (limits : Limits) (before after : Option (List ℕ))
+    (contents : W → Option (List ℕ)) (old new : W) (verdict : Verdict) (result : Result Verdict ToolFault) → result ≡ Ok verdict
+    → JudgesText limits before result → IfOk result (Tells wanted limits before after contents old new)
+    → IfOk result (JudgesAccepted (lines_linted wanted) limits before after contents old new)
+accepted_at wanted limits before after contents old new (Good groups transactions records) result e judged told =
+    subst (λ (r : Result Verdict ToolFault). IfOk r (JudgesAccepted (lines_linted wanted) limits before after contents old new))
+    (sym e)
+    (judges_accepted (lines_linted wanted) limits before after contents old new (Good groups transactions records)
+    (subst (λ (r : Result Verdict ToolFault). IfOk r (Tells wanted limits before after contents old new)) e told))
+accepted_at wanted limits before after contents old new (Truncated records) result e judged told =
+    subst (λ (r : Result Verdict ToolFault). IfOk r (JudgesAccepted (lines_linted wanted) limits before after contents old new))
+    (sym e)
+    (judges_accepted (lines_linted wanted) limits before after contents old new (Truncated records)
+    (subst (λ (r : Result Verdict ToolFault). IfOk r (Tells wanted limits before after contents old new)) e told))
+accepted_at wanted limits before after contents old new (Refused refusal) result e judged told =
+    subst (λ (r : Result Verdict ToolFault). IfOk r (JudgesAccepted (lines_linted wanted) limits before after contents old new))
+    (sym e) (none before (subst (JudgesText limits before) e judged))
+  where
+    none : (known : Option (List ℕ)) → JudgesText limits known (Ok (Refused refusal))
+        → JudgesAccepted (lines_linted wanted) limits known after contents old new (Refused refusal)
+    none None h = tt
+    none (Some text) h = λ v n a. absurd (h.unaccepted v n a)
+
+-- it isn't where it is refused, whatever is answered after that
+pub accepted_after : {W : Type 0} (wanted : Wanted) (limits : Limits) (before after : Option (List ℕ))
+    (contents : W → Option (List ℕ)) (old new : W) (refusal : Refusal) (checked result : Result Verdict ToolFault) → checked ≡ Ok
+    (Refused refusal) → JudgesText limits before checked → IsAnswerTo (Refused refusal) result
+    → IfOk result (JudgesAccepted (lines_linted wanted) limits before after contents old new)
+accepted_after wanted limits before after contents old new refusal checked (Ok verdict) e judged answered =
+    subst (JudgesAccepted (lines_linted wanted) limits before after contents old new) (sym answered)
+    (none before (subst (JudgesText limits before) e judged))
+  where
+    none : (known : Option (List ℕ)) → JudgesText limits known (Ok (Refused refusal))
+        → JudgesAccepted (lines_linted wanted) limits known after contents old new (Refused refusal)
+    none None h = tt
+    none (Some text) h = λ v n a. absurd (h.unaccepted v n a)
+accepted_after wanted limits before after contents old new refusal checked (Err fault) e judged answered = tt
+
+-- what was read last
+pub read_last : (limits : Limits) (before left : Option (List ℕ)) (checked : Result Verdict ToolFault) (refusal : Refusal)
+    (found : Option LastRead) (last : LastRead) → IfOk checked
+    (λ verdict. IsSomeAnd found (IsReadLast limits before left verdict)) → checked ≡ Ok (Refused refusal) → found ≡ Some last
+    → StopsAt limits (read_faults.Refused refusal) before left last
+read_last limits before left checked refusal found last h e f =
+    subst (λ (o : Option LastRead). IsSomeAnd o (IsReadLast limits before left (Refused refusal))) f (subst
+    (λ (r : Result Verdict ToolFault). IfOk r (λ verdict. IsSomeAnd found (IsReadLast limits before left verdict))) e h)
+
+pub known_ok : (checked : Result Verdict ToolFault) (v w : Verdict) → checked ≡ Ok v → v ≡ w → checked ≡ Ok w
+known_ok checked v w p q = subst (λ (x : Verdict). checked ≡ Ok x) q p
+
+-- ---- what the header says
+
+said_at : (verdict : Verdict) (refusal : Refusal) (wanted : Wanted) (limits : Limits) (before left : Option (List ℕ))
+    (asking : Asking) (said : Option Said) → verdict ≡ Refused refusal → asking ≡ record
+    { explained = wanted.explained; said = said }
+    → StandsAfter (λ given. said ≡ said_when wanted.advised (said_in given)) limits before left verdict
+    → Hears wanted limits before left refusal asking
+said_at verdict refusal wanted limits before left asking said e asks h =
+    let stands : StandsAfter (λ given. said ≡ said_when wanted.advised (said_in given)) limits before left (Refused refusal) =
+    subst (λ (v : Verdict). StandsAfter (λ given. said ≡ said_when wanted.advised (said_in given)) limits before left v) e
+    h in
+    record {
+      heard = stands.0;
+      stopped = stands.1;
+      asks = asks ∙ ap (λ (o : Option Said). record { explained = wanted.explained; said = o }) stands.2;
+    }
+
+pub hears : (checked : Result Verdict ToolFault) (refusal : Refusal) (wanted : Wanted) (limits : Limits)
+    (before left : Option (List ℕ)) (asking : Asking) (said : Option Said) → checked ≡ Ok (Refused refusal) → asking ≡ record
+    { explained = wanted.explained; said = said }
+    → IfOk checked (StandsAfter (λ given. said ≡ said_when wanted.advised (said_in given)) limits before left)
+    → Hears wanted limits before left refusal asking
+hears checked refusal wanted limits before left asking said e asks h =
+    said_at (Refused refusal) refusal wanted limits before left asking said refl asks (subst (λ (r : Result Verdict
+    ToolFault). IfOk r (StandsAfter (λ given. said ≡ said_when wanted.advised (said_in given)) limits before left)) e h)
+
+-- where no advice is wanted nothing is said
+pub nothing_said_when : (of : ItemLines) {W : Type 0} (checked : Result Verdict ToolFault) (limits : Limits)
+    (before left : Option (List ℕ)) (contents : W → Option (List ℕ)) (old new : W) → Reports of limits before left contents old
+    new checked
+    → IfOk checked (StandsAfter (λ (given : List Item). None ≡ said_when false (said_in given)) limits before left)
+nothing_said_when of (Ok verdict) limits before left contents old new h = (h.0, h.1, refl)
+nothing_said_when of (Err fault) limits before left contents old new h = tt
+
+pub something_said_when : (checked : Result Verdict ToolFault) (limits : Limits) (before left : Option (List ℕ)) (said : Said)
+    → IfOk checked (StandsAfter (λ (given : List Item). said ≡ said_in given) limits before left)
+    → IfOk checked (StandsAfter (λ (given : List Item). Some said ≡ said_when true (said_in given)) limits before left)
+something_said_when (Ok verdict) limits before left said h = (h.0, h.1, ap Some h.2)
+something_said_when (Err fault) limits before left said h = tt

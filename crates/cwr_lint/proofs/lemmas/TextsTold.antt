@@ -1,0 +1,287 @@
+-- Texts that are put one after another, while bytes are taken from a reader.
+use Rattle.std.proofs.Common.{◌≡◌, ℕ, false, List, [], ◌++◌, Option, refl, sym, ap, subst, ◌∙◌, append_assoc, append-nil}
+use Rattle.std.specs.Prelude.{Result, Ok, Err, IfOk, OnOk}
+use Rattle.std.specs.Io.KnownBytes.{Appends, Keeps}
+use Rattle.cwr_devices.specs.Format.Failures.{one_more_failure}
+use Rattle.cwr_devices.specs.declared.sinks.Sink.{Sink}
+use Rattle.cwr_devices.specs.Steps.Sinks.{HasWritten, has_failed, writer_of, written_of}
+use Rattle.cwr_encode.proofs.lemmas.Ends.{all_written, appends_kept}
+use Rattle.cwr_judge.specs.declared.refusals.Refusal.{Refusal}
+use Rattle.cwr_causes.specs.Format.Trailing.{TakesMore}
+use Rattle.cwr_tools.specs.Format.Reports.{AddsWords, CountsReaderFault, CountsWriterFault}
+use Rattle.cwr_tools.specs.Format.Verdicts.{IsAnswerTo}
+use Rattle.cwr_causes.proofs.lemmas.TakenPieces.{no_more, takes_both}
+use Rattle.cwr_tools.specs.declared.verdicts.Verdict.{Verdict}
+use Rattle.cwr_tools.specs.declared.verdicts.Verdict.TheVariants.{Refused}
+use Rattle.cwr_tools.specs.declared.verdicts.ToolFault.{ToolFault}
+use Rattle.cwr_tools.specs.declared.verdicts.ToolFault.TheVariants as faults
+use Rattle.cwr_lint.specs.Steps.Lints.{EndsRun}
+use Rattle.cwr_lint.specs.Steps.Puts.{CountsBoth, CountsPut, PutsAfter, PutsWith, ReadsAndPuts, ReadsAndPutsWith}
+
+-- what is put counts for both
+put_counts : {A : Type 0} (result : Result A ToolFault) (reader old new : ℕ) → CountsPut result old new
+    → CountsBoth result reader reader old new
+put_counts (Ok x) reader old new h = (refl, h)
+put_counts (Err (faults.Writer written)) reader old new h = (refl, h)
+put_counts (Err faults.Memory) reader old new h = (refl, h)
+put_counts (Err faults.Reader) reader old new h = absurd h
+put_counts (Err (faults.Refused refusal)) reader old new h = absurd h
+put_counts (Err (faults.Truncated records)) reader old new h = absurd h
+put_counts (Err faults.Output) reader old new h = absurd h
+put_counts (Err (faults.Limit limit)) reader old new h = absurd h
+
+-- two calls count one after the other
+both_counts : {A B : Type 0} (x : A) (result : Result B ToolFault) (a b c d e f : ℕ) → CountsBoth (Ok x) a b d e
+    → CountsBoth result b c e f → CountsBoth result a c d f
+both_counts x result a b c d e f p q =
+    subst (λ (n : ℕ). CountsBoth result n c d f) p.0 (subst (λ (n : ℕ). CountsBoth result b c n f) p.1 q)
+
+-- nothing is put, and nothing read
+pub nothing : {W A : Type 0} (left : Option (List ℕ)) (reader : ℕ) (contents : W → Option (List ℕ)) (failures : W → ℕ) (x : A)
+    (sink : Sink W) → has_failed sink ≡ false → ReadsAndPuts left left reader reader contents failures [] (Ok x) sink sink
+nothing left reader contents failures x sink unfailed = record {
+  taken = no_more left;
+  written = λ start before h. subst (λ (l : List ℕ). HasWritten contents start l sink) (sym (append-nil before)) h;
+  unfailed = unfailed;
+  counts = (refl, refl);
+}
+
+-- bytes are read alone
+pub read_alone : {W A : Type 0} (left after : Option (List ℕ)) (reader read : ℕ) (contents : W → Option (List ℕ))
+    (failures : W → ℕ) (x : A) (sink : Sink W) → has_failed sink ≡ false → TakesMore left after → read ≡ reader → ReadsAndPuts
+    left after reader read contents failures [] (Ok x) sink sink
+read_alone left after reader read contents failures x sink unfailed taken same = record {
+  taken = taken;
+  written = λ start before h. subst (λ (l : List ℕ). HasWritten contents start l sink) (sym (append-nil before)) h;
+  unfailed = unfailed;
+  counts = (same, refl);
+}
+
+-- the reader failed
+pub read_failed : {W A : Type 0} (left after : Option (List ℕ)) (reader read : ℕ) (contents : W → Option (List ℕ))
+    (failures : W → ℕ) (sink : Sink W) → TakesMore left after → read ≡ one_more_failure reader → ReadsAndPuts {A = A} left after
+    reader read contents failures [] (Err faults.Reader) sink sink
+read_failed left after reader read contents failures sink taken more = record {
+  taken = taken;
+  written = λ start before h. subst (λ (l : List ℕ). HasWritten contents start l sink) (sym (append-nil before)) h;
+  unfailed = tt;
+  counts = (more, refl);
+}
+
+-- a text is put alone
+pub put_alone : {W A : Type 0} (left : Option (List ℕ)) (reader : ℕ) (contents : W → Option (List ℕ)) (failures : W → ℕ)
+    (text : List ℕ) (result : Result A ToolFault) (old new : Sink W) → PutsAfter contents failures text result old new
+    → ReadsAndPuts left left reader reader contents failures text result old new
+put_alone left reader contents failures text result old new p =
+    record { taken = no_more left; written = p.written; unfailed = p.unfailed; counts = put_counts result reader _ _ p.counts }
+
+-- bytes are read, and then a text is put
+pub then_put : {W A : Type 0} (left after : Option (List ℕ)) (reader read : ℕ) (contents : W → Option (List ℕ)) (failures : W → ℕ)
+    (text : List ℕ) (result : Result A ToolFault) (old new : Sink W) → TakesMore left after → read ≡ reader → PutsAfter contents
+    failures text result old new
+    → ReadsAndPuts left after reader read contents failures text result old new
+then_put left after reader read contents failures text result old new taken same p = record {
+  taken = taken;
+  written = p.written;
+  unfailed = p.unfailed;
+  counts =
+      subst (λ (n : ℕ). CountsBoth result reader n (failures (writer_of old)) (failures (writer_of new))) (sym same)
+      (put_counts result reader _ _ p.counts);
+}
+
+-- one after the other
+pub one_then : {W A B : Type 0} (left mid_left after : Option (List ℕ)) (reader mid_read read : ℕ)
+    (contents : W → Option (List ℕ)) (failures : W → ℕ) (text more : List ℕ) (x : A) (result : Result B ToolFault)
+    (old mid new : Sink W)
+    → ReadsAndPuts left mid_left reader mid_read contents failures text (Ok x) old mid
+    → ReadsAndPuts mid_left after mid_read read contents failures more result mid new
+    → ReadsAndPuts left after reader read contents failures (text ++ more) result old new
+one_then left mid_left after reader mid_read read contents failures text more x result old mid new p q = record {
+  taken = takes_both left mid_left after p.taken q.taken;
+  written =
+      λ start before h. subst (λ (l : List ℕ). HasWritten contents start l new) (append_assoc before text more)
+      (q.written start (before ++ text) (p.written start before h));
+  unfailed = q.unfailed;
+  counts = both_counts x result reader mid_read read _ _ _ p.counts q.counts;
+}
+
+-- the same with another answer
+pub other_ok : {W A B : Type 0} (left after : Option (List ℕ)) (reader read : ℕ) (contents : W → Option (List ℕ))
+    (failures : W → ℕ) (text : List ℕ) (x : A) (y : B) (old new : Sink W) → ReadsAndPuts left after reader read contents failures
+    text (Ok x) old new → ReadsAndPuts left after reader read contents failures text (Ok y) old new
+other_ok left after reader read contents failures text x y old new p =
+    record { taken = p.taken; written = p.written; unfailed = p.unfailed; counts = p.counts }
+
+err_counts : (A B : Type 0) (fault : ToolFault) (a b c d : ℕ) → CountsBoth {A = A} (Err fault) a b c d
+    → CountsBoth {A = B} (Err fault) a b c d
+err_counts A B (faults.Writer written) a b c d h = h
+err_counts A B faults.Memory a b c d h = h
+err_counts A B faults.Reader a b c d h = h
+err_counts A B (faults.Refused refusal) a b c d h = absurd h
+err_counts A B (faults.Truncated records) a b c d h = absurd h
+err_counts A B faults.Output a b c d h = absurd h
+err_counts A B (faults.Limit limit) a b c d h = absurd h
+
+pub other_err : {W A B : Type 0} (left after : Option (List ℕ)) (reader read : ℕ) (contents : W → Option (List ℕ))
+    (failures : W → ℕ) (text : List ℕ) (fault : ToolFault) (old new : Sink W) → ReadsAndPuts {A = A} left after reader read
+    contents failures text (Err fault) old new → ReadsAndPuts {A = B} left after reader read contents failures text (Err fault)
+    old new
+other_err {A = A} {B = B} left after reader read contents failures text fault old new p =
+    record { taken = p.taken; written = p.written; unfailed = tt; counts = err_counts A B fault _ _ _ _ p.counts }
+
+-- ---- texts with an answer
+
+pub reads_put : {W A : Type 0} (P : A → List ℕ → Type 0) (left : Option (List ℕ)) (reader : ℕ) (contents : W → Option (List ℕ))
+    (failures : W → ℕ) (result : Result A ToolFault) (old new : Sink W) → PutsWith P contents failures result old new
+    → ReadsAndPutsWith P left left reader reader contents failures result old new
+reads_put P left reader contents failures result old new p =
+    (p.0, put_alone left reader contents failures p.0 result old new p.1, p.2)
+
+with_all : {A : Type 0} (P Q : A → List ℕ → Type 0) (result : Result A ToolFault) (text more : List ℕ)
+    → ((x : A) → P x text → Q x more) → IfOk result (λ x. P x text) → IfOk result (λ x. Q x more)
+with_all P Q (Ok x) text more f p = f x p
+with_all P Q (Err fault) text more f p = tt
+
+-- bytes are read, and then a text is put
+pub reads_then : {W A : Type 0} (P Q : A → List ℕ → Type 0) (left after : Option (List ℕ)) (reader read : ℕ)
+    (contents : W → Option (List ℕ)) (failures : W → ℕ) (result : Result A ToolFault) (old new : Sink W)
+    → ((x : A) (text : List ℕ) → P x text → Q x text)
+    → TakesMore left after → read ≡ reader → PutsWith P contents failures result old new
+    → ReadsAndPutsWith Q left after reader read contents failures result old new
+reads_then P Q left after reader read contents failures result old new f taken same p = (
+  p.0,
+  then_put left after reader read contents failures p.0 result old new taken same p.1,
+  with_all P Q result p.0 p.0 (λ x h. f x p.0 h) p.2,
+)
+
+-- one after the other
+pub reads_after : {W A B : Type 0} (P : A → List ℕ → Type 0) (Q R : B → List ℕ → Type 0) (left mid_left after : Option (List ℕ))
+    (reader mid_read read : ℕ) (contents : W → Option (List ℕ)) (failures : W → ℕ) (x : A) (result : Result B ToolFault)
+    (old mid new : Sink W)
+    → ((text more : List ℕ) (y : B) → P x text → Q y more → R y (text ++ more))
+    → ReadsAndPutsWith P left mid_left reader mid_read contents failures (Ok x) old mid
+    → ReadsAndPutsWith Q mid_left after mid_read read contents failures result mid new
+    → ReadsAndPutsWith R left after reader read contents failures result old new
+reads_after P Q R left mid_left after reader mid_read read contents failures x result old mid new f p q = (
+  p.0 ++ q.0,
+  one_then left mid_left after reader mid_read read contents failures p.0 q.0 x result old mid new p.1 q.1,
+  with_all Q R result q.0 (p.0 ++ q.0) (λ y h. f p.0 q.0 y p.2 h) q.2,
+)
+
+pub reads_err : {W A B : Type 0} (P : A → List ℕ → Type 0) (Q : B → List ℕ → Type 0) (left after : Option (List ℕ))
+    (reader read : ℕ) (contents : W → Option (List ℕ)) (failures : W → ℕ) (fault : ToolFault) (old new : Sink W)
+    → ReadsAndPutsWith P left after reader read contents failures (Err fault) old new
+    → ReadsAndPutsWith Q left after reader read contents failures (Err fault) old new
+reads_err {A = A} {B = B} P Q left after reader read contents failures fault old new p =
+    (p.0, other_err {A = A} {B = B} left after reader read contents failures p.0 fault old new p.1, tt)
+
+-- bytes are read first, and nothing is put
+pub read_first : {W A : Type 0} (P Q : A → List ℕ → Type 0) (left mid_left after : Option (List ℕ)) (reader mid_read read : ℕ)
+    (contents : W → Option (List ℕ)) (failures : W → ℕ) (result : Result A ToolFault) (old new : Sink W)
+    → ((x : A) (text : List ℕ) → P x text → Q x text) → has_failed old ≡ false
+    → TakesMore left mid_left → mid_read ≡ reader
+    → ReadsAndPutsWith P mid_left after mid_read read contents failures result old new
+    → ReadsAndPutsWith Q left after reader read contents failures result old new
+read_first P Q left mid_left after reader mid_read read contents failures result old new f unfailed taken same p = (
+  p.0,
+  one_then left mid_left after reader mid_read read contents failures [] p.0 (tt {0}) result old old new
+      (read_alone left mid_left reader mid_read contents failures (tt {0}) old unfailed taken same) p.1,
+  with_all P Q result p.0 p.0 (λ x h. f x p.0 h) p.2,
+)
+
+-- ---- the faults of a run, as those of a lint
+
+reader_counts : (A : Type 0) (fault : ToolFault) (a b c d : ℕ) → CountsBoth {A = A} (Err fault) a b c d
+    → CountsReaderFault (Err fault) a b
+reader_counts A (faults.Writer written) a b c d h = h.0
+reader_counts A faults.Memory a b c d h = h.0
+reader_counts A faults.Reader a b c d h = h.0
+reader_counts A (faults.Refused refusal) a b c d h = absurd h
+reader_counts A (faults.Truncated records) a b c d h = absurd h
+reader_counts A faults.Output a b c d h = absurd h
+reader_counts A (faults.Limit limit) a b c d h = absurd h
+
+writer_counts : (A : Type 0) (fault : ToolFault) (a b c d : ℕ) → CountsBoth {A = A} (Err fault) a b c d
+    → CountsWriterFault (Err fault) c d
+writer_counts A (faults.Writer written) a b c d h = h.1
+writer_counts A faults.Memory a b c d h = h.1
+writer_counts A faults.Reader a b c d h = h.1
+writer_counts A (faults.Refused refusal) a b c d h = absurd h
+writer_counts A (faults.Truncated records) a b c d h = absurd h
+writer_counts A faults.Output a b c d h = absurd h
+writer_counts A (faults.Limit limit) a b c d h = absurd h
+
+answers : (A : Type 0) (verdict : Verdict) (fault : ToolFault) (a b c d : ℕ) → CountsBoth {A = A} (Err fault) a b c d
+    → IsAnswerTo verdict (Err fault)
+answers A verdict (faults.Writer written) a b c d h = tt
+answers A verdict faults.Memory a b c d h = tt
+answers A verdict faults.Reader a b c d h = tt
+answers A verdict (faults.Refused refusal) a b c d h = absurd h
+answers A verdict (faults.Truncated records) a b c d h = absurd h
+answers A verdict faults.Output a b c d h = absurd h
+answers A verdict (faults.Limit limit) a b c d h = absurd h
+
+-- ---- how a run ends
+
+-- all that was told is written
+pub ends_told : {W : Type 0} (P : List ℕ → Type 0) (contents : W → Option (List ℕ)) (start : Option (List ℕ)) (new : W)
+    (refusal : Refusal) (text : List ℕ) (sink : Sink W) (told : Result (Unit {0}) ToolFault) (a b : ℕ)
+    (result : Result Verdict ToolFault)
+    → IfOk told (λ u. P text) → OnOk told (has_failed sink ≡ false) → Keeps (contents (writer_of sink)) (contents new)
+    → HasWritten contents start text sink → EndsRun refusal told a b result
+    → OnOk result ((it : List ℕ) × P it × Appends start (contents new) it)
+ends_told P contents start new refusal text sink (Ok u) a b (Ok verdict) is unfailed kept h e =
+    (text, is, (all_written contents start text text sink new (written_of sink) refl unfailed kept refl h).appended)
+ends_told P contents start new refusal text sink (Ok u) a b (Err fault) is unfailed kept h e = tt
+ends_told P contents start new refusal text sink (Err fault) a b result is unfailed kept h e =
+    subst (λ (r : Result Verdict ToolFault). OnOk r ((it : List ℕ) × P it × Appends start (contents new) it)) (sym e.0) tt
+
+-- some bytes are, however it ends
+pub ends_words : {W : Type 0} (contents : W → Option (List ℕ)) (writer new : W) (text : List ℕ) (sink : Sink W)
+    → Keeps (contents (writer_of sink)) (contents new) → HasWritten contents (contents writer) text sink
+    → AddsWords contents writer new
+ends_words contents writer new text sink kept h =
+    (h.bytes, appends_kept (contents writer) (contents (writer_of sink)) (contents new) h.bytes h.appended kept)
+
+pub ends_reader : (refusal : Refusal) (told : Result (Unit {0}) ToolFault) (result : Result Verdict ToolFault)
+    (reader read a b d : ℕ) → CountsBoth told reader read a b → EndsRun refusal told b d result → CountsReaderFault result reader
+    read
+ends_reader refusal (Ok u) (Ok verdict) reader read a b d h e = h.0
+ends_reader refusal (Ok u) (Err (faults.Writer written)) reader read a b d h e = h.0
+ends_reader refusal (Ok u) (Err faults.Reader) reader read a b d h e = absurd e
+ends_reader refusal (Ok u) (Err faults.Memory) reader read a b d h e = absurd e
+ends_reader refusal (Ok u) (Err (faults.Refused other)) reader read a b d h e = absurd e
+ends_reader refusal (Ok u) (Err (faults.Truncated records)) reader read a b d h e = absurd e
+ends_reader refusal (Ok u) (Err faults.Output) reader read a b d h e = absurd e
+ends_reader refusal (Ok u) (Err (faults.Limit limit)) reader read a b d h e = absurd e
+ends_reader refusal (Err fault) result reader read a b d h e =
+    subst (λ (r : Result Verdict ToolFault). CountsReaderFault r reader read) (sym e.0)
+    (reader_counts (Unit {0}) fault reader read a b h)
+
+pub ends_writer : (refusal : Refusal) (told : Result (Unit {0}) ToolFault) (result : Result Verdict ToolFault)
+    (reader read a b d : ℕ) → CountsBoth told reader read a b → EndsRun refusal told b d result → CountsWriterFault result a d
+ends_writer refusal (Ok u) (Ok verdict) reader read a b d h e = e.1 ∙ h.1
+ends_writer refusal (Ok u) (Err (faults.Writer written)) reader read a b d h e = e ∙ ap one_more_failure h.1
+ends_writer refusal (Ok u) (Err faults.Reader) reader read a b d h e = absurd e
+ends_writer refusal (Ok u) (Err faults.Memory) reader read a b d h e = absurd e
+ends_writer refusal (Ok u) (Err (faults.Refused other)) reader read a b d h e = absurd e
+ends_writer refusal (Ok u) (Err (faults.Truncated records)) reader read a b d h e = absurd e
+ends_writer refusal (Ok u) (Err faults.Output) reader read a b d h e = absurd e
+ends_writer refusal (Ok u) (Err (faults.Limit limit)) reader read a b d h e = absurd e
+ends_writer refusal (Err fault) result reader read a b d h e =
+    subst (λ (r : Result Verdict ToolFault). CountsWriterFault r a d) (sym e.0)
+    (subst (λ (n : ℕ). CountsWriterFault (Err fault) a n) (sym e.1) (writer_counts (Unit {0}) fault reader read a b h))
+
+pub ends_answer : (refusal : Refusal) (told : Result (Unit {0}) ToolFault) (result : Result Verdict ToolFault)
+    (reader read a b d : ℕ) → CountsBoth told reader read a b → EndsRun refusal told b d result → IsAnswerTo (Refused refusal)
+    result
+ends_answer refusal (Ok u) (Ok verdict) reader read a b d h e = e.0
+ends_answer refusal (Ok u) (Err (faults.Writer written)) reader read a b d h e = tt
+ends_answer refusal (Ok u) (Err faults.Reader) reader read a b d h e = absurd e
+ends_answer refusal (Ok u) (Err faults.Memory) reader read a b d h e = absurd e
+ends_answer refusal (Ok u) (Err (faults.Refused other)) reader read a b d h e = absurd e
+ends_answer refusal (Ok u) (Err (faults.Truncated records)) reader read a b d h e = absurd e
+ends_answer refusal (Ok u) (Err faults.Output) reader read a b d h e = absurd e
+ends_answer refusal (Ok u) (Err (faults.Limit limit)) reader read a b d h e = absurd e
+ends_answer refusal (Err fault) result reader read a b d h e =
+    subst (IsAnswerTo (Refused refusal)) (sym e.0) (answers (Unit {0}) (Refused refusal) fault reader read a b h)

@@ -1,0 +1,109 @@
+-- The names of the owners among the first records, with one record more.
+use Rattle.std.proofs.Common.{◌≡◌, ℕ, ◌+◌, Bool, true, false, cond, List, [], ◌∷◌, ◌++◌, take, drop, refl, sym, ap, ◌∙◌}
+use Rattle.std.proofs.Common.{append_assoc, append-nil}
+use Rattle.std.specs.Prelude.{Some, slice_get, codes, ◌||◌}
+use Rattle.std.specs.List.{flat_map, join_by, list_any}
+use Rattle.std.proofs.lemmas.Grind.{flat_map-append}
+use Rattle.std.proofs.lemmas.List.{take-append-drop}
+use Rattle.std.proofs.lemmas.List.Elements.{filter-append}
+use Rattle.std.proofs.lemmas.List.Folds.{list_any-append}
+use Rattle.cwr_lines.specs.Format.Records.{RecordValue}
+use Rattle.cwr_levels.proofs.lemmas.OneMore.{take_more}
+use Rattle.cwr_tables.specs.declared.works.Side.{Side}
+use Rattle.cwr_tables.specs.Format.Tables.{doubled}
+use Rattle.cwr_tables.specs.Format.WorkTables.{is_on, name_of_owner, names, owners}
+use Rattle.cwr_tables.specs.Steps.WorkTexts.{between, has_owners, owner_text, within}
+use Rattle.cwr_tables.proofs.lemmas.Owners.{owners_more}
+
+abbrev semicolon : List ℕ
+semicolon = codes "; "
+
+abbrev has_some : {X : Type 0} → List X → Bool
+has_some [] = false
+has_some (x ∷ xs) = true
+
+join_more : {X : Type 0} (f : X → List ℕ) (xs : List X) (x : X)
+    → join_by f semicolon (xs ++ x ∷ []) ≡ join_by f semicolon xs ++ (between (has_some xs) ++ f x)
+join_more f [] x = append-nil (f x)
+join_more f (y ∷ ys) x =
+    let g : _ → List ℕ = λ z. semicolon ++ f z in
+    ap (λ (l : List ℕ). f y ++ l) (flat_map-append g ys (x ∷ []) ∙ ap (λ (l : List ℕ). flat_map g ys ++ l) (append-nil (g x)))
+    ∙ sym (append_assoc (f y) (flat_map g ys) (g x))
+
+join_longer : {X : Type 0} (f : X → List ℕ) (xs ys : List X)
+    → (rest : List ℕ) × (join_by f semicolon (xs ++ ys) ≡ join_by f semicolon xs ++ rest)
+join_longer f [] ys = (join_by f semicolon ys, refl)
+join_longer f (x ∷ xs) ys =
+    let g : _ → List ℕ = λ z. semicolon ++ f z in (
+      flat_map g ys,
+      ap (λ (l : List ℕ). f x ++ l) (flat_map-append g xs ys) ∙ sym (append_assoc (f x) (flat_map g xs) (flat_map g ys)),
+    )
+
+pub within-append : (quoted : Bool) (a b : List ℕ) → within quoted (a ++ b) ≡ within quoted a ++ within quoted b
+within-append true a b = flat_map-append doubled a b
+within-append false a b = refl
+
+within_between : (quoted later : Bool) → within quoted (between later) ≡ between later
+within_between true true = refl
+within_between true false = refl
+within_between false true = refl
+within_between false false = refl
+
+some_if : {X : Type 0} (b : Bool) (x : X) (xs : List X) (c : Bool) → has_some xs ≡ c → has_some (cond b (x ∷ xs) xs) ≡ (b || c)
+some_if true x xs c h = refl
+some_if false x xs c h = h
+
+some_owners : (side : Side) (t : List RecordValue) → has_some (owners side t) ≡ has_owners side t
+some_owners side [] = refl
+some_owners side (r ∷ t) = some_if (is_on side r) r (owners side t) (has_owners side t) (some_owners side t)
+
+-- ---- with one record more
+
+text_more : (side : Side) (quoted : Bool) (r : RecordValue) (before : List RecordValue) (later b : Bool) → has_some before ≡ later
+    → within quoted (join_by (name_of_owner side) semicolon (before ++ cond b (r ∷ []) []))
+    ≡ within quoted (join_by (name_of_owner side) semicolon before)
+    ++ cond b (between later ++ within quoted (name_of_owner side r)) []
+text_more side quoted r before later true h =
+    ap (within quoted) (join_more (name_of_owner side) before r)
+    ∙ within-append quoted (join_by (name_of_owner side) semicolon before) (between (has_some before) ++ name_of_owner side r)
+    ∙ ap (λ (l : List ℕ). within quoted (join_by (name_of_owner side) semicolon before) ++ l)
+    (within-append quoted (between (has_some before)) (name_of_owner side r)
+    ∙ ap (λ (l : List ℕ). l ++ within quoted (name_of_owner side r)) (within_between quoted (has_some before) ∙ ap between h))
+text_more side quoted r before later false h =
+    ap (λ (l : List RecordValue). within quoted (join_by (name_of_owner side) semicolon l)) (append-nil before)
+    ∙ sym (append-nil (within quoted (join_by (name_of_owner side) semicolon before)))
+
+pub names_more : (side : Side) (quoted later : Bool) (t : List RecordValue) (i : ℕ) (r : RecordValue) → Some r ≡ slice_get t i
+    → later ≡ has_owners side (take i t)
+    → within quoted (names side (take (i + 1) t)) ≡ within quoted (names side (take i t)) ++ owner_text side quoted later r
+names_more side quoted later t i r e h =
+    ap (λ (l : List RecordValue). within quoted (join_by (name_of_owner side) semicolon l)) (owners_more side t i r e)
+    ∙ text_more side quoted r (owners side (take i t)) later (is_on side r) (some_owners side (take i t) ∙ sym h)
+
+or_false : (a : Bool) → (a || false) ≡ a
+or_false true = refl
+or_false false = refl
+
+pub has_owners_more : (side : Side) (t : List RecordValue) (i : ℕ) (r : RecordValue) → Some r ≡ slice_get t i
+    → has_owners side (take (i + 1) t) ≡ (has_owners side (take i t) || is_on side r)
+has_owners_more side t i r e =
+    ap (list_any (is_on side)) (take_more t i r (sym e)) ∙ list_any-append (is_on side) (take i t) (r ∷ [])
+    ∙ ap (λ (b : Bool). has_owners side (take i t) || b) (or_false (is_on side r))
+
+-- and with those of all records
+pub names_longer : (side : Side) (quoted : Bool) (t : List RecordValue) (n : ℕ)
+    → (rest : List ℕ) × (within quoted (names side t) ≡ within quoted (names side (take n t)) ++ rest)
+names_longer side quoted t n =
+    let split : owners side t ≡ owners side (take n t) ++ owners side (drop n t)
+    = ap (owners side) (sym (take-append-drop n t)) ∙ filter-append (is_on side) (take n t) (drop n t) in
+    let longer = join_longer (name_of_owner side) (owners side (take n t)) (owners side (drop n t)) in (
+      within quoted longer.0,
+      ap (λ (l : List RecordValue). within quoted (join_by (name_of_owner side) semicolon l)) split
+          ∙ ap (within quoted) longer.1
+          ∙ within-append quoted (names side (take n t)) longer.0,
+    )
+
+-- no records have no names
+pub names_none : (side : Side) (quoted : Bool) → within quoted (names side []) ≡ []
+names_none side true = refl
+names_none side false = refl

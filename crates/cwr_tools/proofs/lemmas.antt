@@ -1,0 +1,22 @@
+-- The numbers of the items that were handed out.
+pub mod CountedTotals
+-- The lines of items are those of all but the last, and then those of the last.
+pub mod LinesOfItems
+-- What a run has put so far continues with each item, up to the verdict or a fault.
+pub mod ReportsOn
+-- What a report puts, from what stands before the items to what stands for the verdict, where it writes the lines of `it`.
+pub mod ReportSteps
+-- What was read last, from item to item and at the end of a run.
+mod LastReported
+-- What a whole run has put, and what its writer then has.
+pub mod ReportsWhole
+-- What a report on a text says of a transmission that the text begins with.
+pub mod RightReports
+-- What is watched for comes among items as among each.
+mod FindingsWatched
+-- What stands at the end of a run, and what was watched for, came in the items before its verdict.
+pub mod WatchedRuns
+-- What is written of explained findings is what a check writes of them, with indented lines put in.
+pub mod NotedTexts
+-- A report after transactions of which nothing is told: it is as if these had been read and their lines put.
+pub mod ToldReports
