@@ -6,7 +6,7 @@ ghost use Rattle.cwr_fields.specs.Format.Layouts.{FieldLayout, field_with_start}
 ghost use Rattle.cwr_fields.specs.Steps.Views.{field_view};
 ghost use Rattle.cwr_c.specs.Format.FieldNumbers.{field_named, field_in_c, type_number};
 
-use cwr_fields::{CellType, Field, Kind, field};
+use cwr_fields::{CellType, Field, Kind, all_kinds, field};
 
 /// Where a field stands in the lines of its kind, and what its cells hold.
 #[repr(C)]
@@ -24,62 +24,11 @@ pub struct CwrField {
     pub derived: u32,
 }
 
-/// The kinds of this profile, in order.
-static KINDS: [Kind; 40] = [
-    Kind::Hdr,
-    Kind::Grh,
-    Kind::Grt,
-    Kind::Trl,
-    Kind::Agr,
-    Kind::Ter,
-    Kind::Ipa,
-    Kind::Nwr,
-    Kind::Rev,
-    Kind::Spu,
-    Kind::Opu,
-    Kind::Spt,
-    Kind::Swr,
-    Kind::Owr,
-    Kind::Swt,
-    Kind::Pwr,
-    Kind::Alt,
-    Kind::Ewt,
-    Kind::Ver,
-    Kind::Per,
-    Kind::Rec,
-    Kind::Orn,
-    Kind::Com,
-    Kind::Ack,
-    Kind::Msg,
-    Kind::Opt,
-    Kind::Owt,
-    Kind::Npn,
-    Kind::Npr,
-    Kind::Nwn,
-    Kind::Npa,
-    Kind::Net,
-    Kind::Now,
-    Kind::Nct,
-    Kind::Nvt,
-    Kind::Nat,
-    Kind::Ins,
-    Kind::Ind,
-    Kind::Ari,
-    Kind::Xrf,
-];
-
-/// The kind at a place of a list, from 0.
-fn kind_in(kinds: &[Kind], i: usize) -> Option<Kind>
-    ensures { result ≡ slice_get kinds.now i }
-{
-    kinds.get(i).copied()
-}
-
 /// Kind number `i`, from 0. `None` where there are no more.
 pub(crate) fn kind_at(i: usize) -> Option<Kind>
     ensures { result ≡ slice_get all_kinds i }
 {
-    kind_in(&KINDS, i)
+    all_kinds().get(i).copied()
 }
 
 /// Field `j`, from 1, of the kind that the letters name.

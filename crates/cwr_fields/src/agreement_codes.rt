@@ -6,7 +6,6 @@ ghost use Rattle.cwr_fields.specs.declared.tables.Table.TheVariants as tables;
 ghost use Rattle.cwr_fields.specs.Format.AgreementCodes.{agreement_code, agreement_types, prior_code, prior_statuses, post_term_code, post_term_statuses};
 ghost use Rattle.cwr_fields.specs.Format.AgreementCodes.{sales_code, sales_clauses, sign_code, signs};
 
-use crate::code_lists::{AGREEMENT_TYPE, POST_TERM, PRIOR, SALES, SIGN};
 use crate::coded::Coded;
 use crate::tables::Table;
 use std::fmt;
@@ -24,6 +23,14 @@ pub enum AgreementType {
     /// `PG`, subpublishing general: between publishers, on a whole catalogue.
     SubpublishingGeneral,
 }
+
+// Each member with its code.
+static AGREEMENT_TYPE: [(AgreementType, &str); 4] = [
+    (AgreementType::OriginalSpecific, "OS"),
+    (AgreementType::OriginalGeneral, "OG"),
+    (AgreementType::SubpublishingSpecific, "PS"),
+    (AgreementType::SubpublishingGeneral, "PG"),
+];
 
 impl Coded for AgreementType {
     const TABLE: Table = Table::AgreementType;
@@ -73,6 +80,13 @@ pub enum PriorRoyaltyStatus {
     All,
 }
 
+// Each member with its code.
+static PRIOR: [(PriorRoyaltyStatus, &str); 3] = [
+    (PriorRoyaltyStatus::None, "N"),
+    (PriorRoyaltyStatus::FromDate, "D"),
+    (PriorRoyaltyStatus::All, "A"),
+];
+
 impl Coded for PriorRoyaltyStatus {
     const TABLE: Table = Table::Prior;
 
@@ -121,6 +135,13 @@ pub enum PostTermCollectionStatus {
     UntilDate,
 }
 
+// Each member with its code.
+static POST_TERM: [(PostTermCollectionStatus, &str); 3] = [
+    (PostTermCollectionStatus::None, "N"),
+    (PostTermCollectionStatus::Open, "O"),
+    (PostTermCollectionStatus::UntilDate, "D"),
+];
+
 impl Coded for PostTermCollectionStatus {
     const TABLE: Table = Table::PostTerm;
 
@@ -167,6 +188,12 @@ pub enum SalesManufactureClause {
     Manufacture,
 }
 
+// Each member with its code.
+static SALES: [(SalesManufactureClause, &str); 2] = [
+    (SalesManufactureClause::Sales, "S"),
+    (SalesManufactureClause::Manufacture, "M"),
+];
+
 impl Coded for SalesManufactureClause {
     const TABLE: Table = Table::Sales;
 
@@ -212,6 +239,12 @@ pub enum InclusionExclusion {
     /// `E`, the territory is taken out of it.
     Excluded,
 }
+
+// Each member with its code.
+static SIGN: [(InclusionExclusion, &str); 2] = [
+    (InclusionExclusion::Included, "I"),
+    (InclusionExclusion::Excluded, "E"),
+];
 
 impl Coded for InclusionExclusion {
     const TABLE: Table = Table::Sign;

@@ -8,10 +8,10 @@ ghost use Rattle.cwr_fields.specs.Format.Codes.{code_width};
 
 use crate::byte_runs::{are_digits, has_control, is_spaces, number_in};
 use crate::cell_types::{CellFault, CellType};
-use crate::code_lists::is_code;
 use crate::dates::{CivilDate, DateCell};
 use crate::durations::DurationCell;
 use crate::flags::Flag;
+use crate::known_codes::is_code;
 use crate::tables::Table;
 use crate::times::TimeOfDay;
 use crate::typed_cells::is_cell;

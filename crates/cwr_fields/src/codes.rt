@@ -5,7 +5,6 @@ ghost use Rattle.std.proofs.Common.{rules};
 ghost use Rattle.cwr_fields.specs.declared.tables.Table.TheVariants as tables;
 ghost use Rattle.cwr_fields.specs.Format.Codes.{role_code, roles, type_code, transaction_types};
 
-use crate::code_lists::{ROLE, TRANSACTION_TYPE};
 use crate::coded::Coded;
 use crate::tables::Table;
 use std::fmt;
@@ -19,6 +18,9 @@ pub enum Role {
     /// `AC`, who takes them.
     Acquirer,
 }
+
+// Each member with its code.
+static ROLE: [(Role, &str); 2] = [(Role::Assignor, "AS"), (Role::Acquirer, "AC")];
 
 impl Coded for Role {
     const TABLE: Table = Table::Role;
@@ -68,6 +70,14 @@ pub enum TransactionType {
     /// `ACK`, the acknowledgement of a transaction.
     Acknowledgement,
 }
+
+// Each member with its code.
+static TRANSACTION_TYPE: [(TransactionType, &str); 4] = [
+    (TransactionType::Agreement, "AGR"),
+    (TransactionType::NewWork, "NWR"),
+    (TransactionType::RevisedWork, "REV"),
+    (TransactionType::Acknowledgement, "ACK"),
+];
 
 impl Coded for TransactionType {
     const TABLE: Table = Table::TransactionType;

@@ -5,7 +5,6 @@ ghost use Rattle.std.proofs.Common.{rules};
 ghost use Rattle.cwr_fields.specs.declared.tables.Table.TheVariants as tables;
 ghost use Rattle.cwr_fields.specs.Format.MessageCodes.{status_code, transaction_statuses, level_code, message_levels};
 
-use crate::code_lists::{MESSAGE, STATUS};
 use crate::coded::Coded;
 use crate::tables::Table;
 use std::fmt;
@@ -35,6 +34,20 @@ pub enum TransactionStatus {
     /// `RC`, claim rejected.
     ClaimRejected,
 }
+
+// Each member with its code.
+static STATUS: [(TransactionStatus, &str); 10] = [
+    (TransactionStatus::Conflict, "CO"),
+    (TransactionStatus::Duplicate, "DU"),
+    (TransactionStatus::TransactionAccepted, "RA"),
+    (TransactionStatus::RegistrationAccepted, "AS"),
+    (TransactionStatus::AcceptedWithChanges, "AC"),
+    (TransactionStatus::ReadyForPayment, "SR"),
+    (TransactionStatus::ChangedReadyForPayment, "CR"),
+    (TransactionStatus::Rejected, "RJ"),
+    (TransactionStatus::NoParticipation, "NP"),
+    (TransactionStatus::ClaimRejected, "RC"),
+];
 
 impl Coded for TransactionStatus {
     const TABLE: Table = Table::Status;
@@ -87,6 +100,15 @@ pub enum MessageLevel {
     /// `F`, a field.
     Field,
 }
+
+// Each member with its code.
+static MESSAGE: [(MessageLevel, &str); 5] = [
+    (MessageLevel::EntireFile, "E"),
+    (MessageLevel::Group, "G"),
+    (MessageLevel::Transaction, "T"),
+    (MessageLevel::Record, "R"),
+    (MessageLevel::Field, "F"),
+];
 
 impl Coded for MessageLevel {
     const TABLE: Table = Table::Message;

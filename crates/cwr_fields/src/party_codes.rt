@@ -5,7 +5,6 @@ ghost use Rattle.std.proofs.Common.{rules};
 ghost use Rattle.cwr_fields.specs.declared.tables.Table.TheVariants as tables;
 ghost use Rattle.cwr_fields.specs.Format.PartyCodes.{publisher_code, publisher_types, designation_code, designations};
 
-use crate::code_lists::{DESIGNATION, PUBLISHER};
 use crate::coded::Coded;
 use crate::tables::Table;
 use std::fmt;
@@ -28,6 +27,16 @@ pub enum PublisherType {
     /// `SE`, a sub-publisher.
     SubPublisher,
 }
+
+// Each member with its code.
+static PUBLISHER: [(PublisherType, &str); 6] = [
+    (PublisherType::OriginalPublisher, "E"),
+    (PublisherType::Acquirer, "AQ"),
+    (PublisherType::Administrator, "AM"),
+    (PublisherType::IncomeParticipant, "PA"),
+    (PublisherType::SubstitutedPublisher, "ES"),
+    (PublisherType::SubPublisher, "SE"),
+];
 
 impl Coded for PublisherType {
     const TABLE: Table = Table::Publisher;
@@ -88,6 +97,19 @@ pub enum WriterDesignation {
     /// `TR`, a translator: a modifier of the text in another language.
     Translator,
 }
+
+// Each member with its code.
+static DESIGNATION: [(WriterDesignation, &str); 9] = [
+    (WriterDesignation::Author, "A"),
+    (WriterDesignation::Adaptor, "AD"),
+    (WriterDesignation::Arranger, "AR"),
+    (WriterDesignation::Composer, "C"),
+    (WriterDesignation::ComposerAuthor, "CA"),
+    (WriterDesignation::IncomeParticipant, "PA"),
+    (WriterDesignation::SubAuthor, "SA"),
+    (WriterDesignation::SubArranger, "SR"),
+    (WriterDesignation::Translator, "TR"),
+];
 
 impl Coded for WriterDesignation {
     const TABLE: Table = Table::Designation;

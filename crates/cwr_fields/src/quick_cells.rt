@@ -8,7 +8,7 @@ ghost use Rattle.cwr_fields.specs.Format.Cells.{Allows, type_width};
 use crate::byte_runs::is_spaces;
 use crate::cell_types::CellType;
 use crate::cells::{fits, is_number, is_opt_code, is_opt_number};
-use crate::code_lists::is_code;
+use crate::known_codes::is_code;
 
 /// Whether the byte is a digit.
 #[inline(always)]

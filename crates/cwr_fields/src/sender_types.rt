@@ -1,10 +1,11 @@
 //! The types of senders.
 
-ghost use Rattle.std.specs.Prelude.{Some};
-ghost use Rattle.cwr_fields.specs.Format.SenderCodes.{sender_text};
+ghost use Rattle.std.specs.Prelude.{◌≡◌, Some, map};
+ghost use Rattle.cwr_fields.specs.Format.Members.{coded};
+ghost use Rattle.cwr_fields.specs.Format.SenderCodes.{sender_text, senders};
+ghost use Rattle.cwr_fields.specs.Steps.Members.{listed};
 
 use crate::cell_types::CellType;
-use crate::code_lists::senders;
 use crate::coded::{fill, member_of};
 use crate::numbers::Number;
 use crate::tables::Table;
@@ -26,6 +27,18 @@ pub enum SenderType {
     /// The first two digits of the sender's IPI name number, where that is longer than the nine digits of HDR's sender
     /// id.
     Digits(Number<2>),
+}
+
+/// The sender types that have a code, each with its code. No static holds a type with a ghost field.
+fn senders() -> [(SenderType, &'static str); 4]
+    ensures { map listed result ≡ map (coded sender_text) senders }
+{
+    [
+        (SenderType::Publisher, "PB"),
+        (SenderType::Society, "SO"),
+        (SenderType::AdministrativeAgency, "AA"),
+        (SenderType::Writer, "WR"),
+    ]
 }
 
 impl Cell for SenderType {

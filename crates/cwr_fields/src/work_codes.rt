@@ -7,7 +7,6 @@ ghost use Rattle.cwr_fields.specs.Format.WorkCodes.{category_code, categories, v
 ghost use Rattle.cwr_fields.specs.Format.WorkCodes.{excerpt_types, title_code, title_types, format_code, recording_formats, technique_code};
 ghost use Rattle.cwr_fields.specs.Format.WorkCodes.{recording_techniques};
 
-use crate::code_lists::{CATEGORY, COMPOSITE, EXCERPT, RECORDING, TECHNIQUE, TITLE, VERSION};
 use crate::coded::Coded;
 use crate::tables::Table;
 use std::fmt;
@@ -26,6 +25,14 @@ pub enum DistributionCategory {
     /// `UNC`, an unclassified distribution category.
     Unclassified,
 }
+
+// Each member with its code.
+static CATEGORY: [(DistributionCategory, &str); 4] = [
+    (DistributionCategory::Jazz, "JAZ"),
+    (DistributionCategory::Popular, "POP"),
+    (DistributionCategory::Serious, "SER"),
+    (DistributionCategory::Unclassified, "UNC"),
+];
 
 impl Coded for DistributionCategory {
     const TABLE: Table = Table::Category;
@@ -71,6 +78,12 @@ pub enum VersionType {
     /// `MOD`, a modified version of a musical work.
     Modified,
 }
+
+// Each member with its code.
+static VERSION: [(VersionType, &str); 2] = [
+    (VersionType::Original, "ORI"),
+    (VersionType::Modified, "MOD"),
+];
 
 impl Coded for VersionType {
     const TABLE: Table = Table::Version;
@@ -121,6 +134,14 @@ pub enum CompositeType {
     Unspecified,
 }
 
+// Each member with its code.
+static COMPOSITE: [(CompositeType, &str); 4] = [
+    (CompositeType::CompositeOfSamples, "COS"),
+    (CompositeType::Medley, "MED"),
+    (CompositeType::Potpourri, "POT"),
+    (CompositeType::Unspecified, "UCO"),
+];
+
 impl Coded for CompositeType {
     const TABLE: Table = Table::Composite;
 
@@ -165,6 +186,12 @@ pub enum ExcerptType {
     /// `UEX`, an unspecified excerpt.
     Unspecified,
 }
+
+// Each member with its code.
+static EXCERPT: [(ExcerptType, &str); 2] = [
+    (ExcerptType::Movement, "MOV"),
+    (ExcerptType::Unspecified, "UEX"),
+];
 
 impl Coded for ExcerptType {
     const TABLE: Table = Table::Excerpt;
@@ -229,6 +256,21 @@ pub enum TitleType {
     AlternativeNational,
 }
 
+// Each member with its code.
+static TITLE: [(TitleType, &str); 11] = [
+    (TitleType::Alternative, "AT"),
+    (TitleType::FirstLine, "TE"),
+    (TitleType::Formal, "FT"),
+    (TitleType::Incorrect, "IT"),
+    (TitleType::Original, "OT"),
+    (TitleType::OriginalTranslated, "TT"),
+    (TitleType::Part, "PT"),
+    (TitleType::Restricted, "RT"),
+    (TitleType::ExtraSearch, "ET"),
+    (TitleType::OriginalNational, "OL"),
+    (TitleType::AlternativeNational, "AL"),
+];
+
 impl Coded for TitleType {
     const TABLE: Table = Table::Title;
 
@@ -273,6 +315,12 @@ pub enum RecordingFormat {
     /// `V`, sound and pictures.
     Visual,
 }
+
+// Each member with its code.
+static RECORDING: [(RecordingFormat, &str); 2] = [
+    (RecordingFormat::Audio, "A"),
+    (RecordingFormat::Visual, "V"),
+];
 
 impl Coded for RecordingFormat {
     const TABLE: Table = Table::Recording;
@@ -320,6 +368,13 @@ pub enum RecordingTechnique {
     /// `U`, unknown.
     Unknown,
 }
+
+// Each member with its code.
+static TECHNIQUE: [(RecordingTechnique, &str); 3] = [
+    (RecordingTechnique::Analogue, "A"),
+    (RecordingTechnique::Digital, "D"),
+    (RecordingTechnique::Unknown, "U"),
+];
 
 impl Coded for RecordingTechnique {
     const TABLE: Table = Table::Technique;

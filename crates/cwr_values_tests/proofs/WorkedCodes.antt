@@ -1,4 +1,4 @@
--- Worked codes: the cells of each table as they are written out, and a text for each that is no code of it.
+-- Worked codes: the cells of each table are codes of it, and a text for each is none.
 use Rattle.std.proofs.Common.{◌≡◌, ℕ, zero, suc, ◌+◌, ◌%◌, ◌<◌, true, false, List, [], ◌∷◌, length, refl, sym, ap, ◌∙◌, arith}
 use Rattle.std.proofs.Common.{true≢false, inl, inr, lit<}
 use Rattle.std.specs.Prelude.{codes, map, slice_index, slice_index_or}
@@ -17,52 +17,7 @@ use Rattle.cwr_fields.proofs.lemmas.CellTests.{holds_test}
 
 -- the cells of each table
 abbrev cells_of : Table → List (List ℕ)
-cells_of tables.Sender = codes "PB" ∷ codes "SO" ∷ codes "AA" ∷ codes "WR" ∷ []
-cells_of tables.TransactionType = codes "AGR" ∷ codes "NWR" ∷ codes "REV" ∷ codes "ACK" ∷ []
-cells_of tables.AgreementType = codes "OS" ∷ codes "OG" ∷ codes "PS" ∷ codes "PG" ∷ []
-cells_of tables.Role = codes "AS" ∷ codes "AC" ∷ []
-cells_of tables.Prior = codes "N" ∷ codes "D" ∷ codes "A" ∷ []
-cells_of tables.PostTerm = codes "N" ∷ codes "O" ∷ codes "D" ∷ []
-cells_of tables.Sales = codes "S" ∷ codes "M" ∷ []
-cells_of tables.Sign = codes "I" ∷ codes "E" ∷ []
-cells_of tables.Category = codes "JAZ" ∷ codes "POP" ∷ codes "SER" ∷ codes "UNC" ∷ []
-cells_of tables.Version = codes "ORI" ∷ codes "MOD" ∷ []
-cells_of tables.Composite = codes "COS" ∷ codes "MED" ∷ codes "POT" ∷ codes "UCO" ∷ []
-cells_of tables.Excerpt = codes "MOV" ∷ codes "UEX" ∷ []
-cells_of tables.Publisher = codes "E " ∷ codes "AQ" ∷ codes "AM" ∷ codes "PA" ∷ codes "ES" ∷ codes "SE" ∷ []
-cells_of tables.Designation =
-    codes "A " ∷ codes "AD" ∷ codes "AR" ∷ codes "C " ∷ codes "CA" ∷ codes "PA" ∷ codes "SA" ∷ codes "SR" ∷ codes "TR" ∷ []
-cells_of tables.Title =
-    codes "AT" ∷ codes "TE" ∷ codes "FT" ∷ codes "IT" ∷ codes "OT" ∷ codes "TT" ∷ codes "PT" ∷ codes "RT" ∷ codes "ET"
-    ∷ codes "OL" ∷ codes "AL" ∷ []
-cells_of tables.Status =
-    codes "CO" ∷ codes "DU" ∷ codes "RA" ∷ codes "AS" ∷ codes "AC" ∷ codes "SR" ∷ codes "CR" ∷ codes "RJ" ∷ codes "NP"
-    ∷ codes "RC" ∷ []
-cells_of tables.Message = codes "E" ∷ codes "G" ∷ codes "T" ∷ codes "R" ∷ codes "F" ∷ []
-cells_of tables.Recording = codes "A" ∷ codes "V" ∷ []
-cells_of tables.Technique = codes "A" ∷ codes "D" ∷ codes "U" ∷ []
-
--- each table has these cells, and no other code
-codes_written : (table : Table) → map (filled (code_width table)) (codes_of table) ≡ cells_of table
-codes_written tables.Sender = refl
-codes_written tables.TransactionType = refl
-codes_written tables.AgreementType = refl
-codes_written tables.Role = refl
-codes_written tables.Prior = refl
-codes_written tables.PostTerm = refl
-codes_written tables.Sales = refl
-codes_written tables.Sign = refl
-codes_written tables.Category = refl
-codes_written tables.Version = refl
-codes_written tables.Composite = refl
-codes_written tables.Excerpt = refl
-codes_written tables.Publisher = refl
-codes_written tables.Designation = refl
-codes_written tables.Title = refl
-codes_written tables.Status = refl
-codes_written tables.Message = refl
-codes_written tables.Recording = refl
-codes_written tables.Technique = refl
+cells_of table = map (filled (code_width table)) (codes_of table)
 
 -- each of them fits
 cells_fit : (table : Table) → list_all (holds_test (Code table)) (cells_of table) ≡ true

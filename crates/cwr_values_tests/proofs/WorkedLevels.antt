@@ -1,6 +1,6 @@
 -- Worked levels: each entry of the table of levels.
-use Rattle.std.proofs.Common.{◌≡◌, ◌+◌, List, [], ◌∷◌, ◌++◌, length, map, replicate, refl, false}
-use Rattle.std.specs.Prelude.{Some, None}
+use Rattle.std.proofs.Common.{◌≡◌, ◌+◌, ◌*◌, Bool, true, false, List, [], ◌∷◌, ◌++◌, length, map, replicate, refl}
+use Rattle.std.specs.Prelude.{◌&&◌, Some, None, filter, not}
 use Rattle.std.specs.List.{flat_map}
 use Rattle.cwr_fields.specs.declared.cell_types.CellType.{CellType}
 use Rattle.cwr_fields.specs.declared.cell_types.CellType.TheVariants as types
@@ -10,7 +10,7 @@ use Rattle.cwr_fields.specs.declared.tables.Table.TheVariants as tables
 use Rattle.cwr_fields.specs.declared.cell_types.Word.TheVariants as words
 use Rattle.cwr_fields.specs.declared.kinds.Kind.{Kind}
 use Rattle.cwr_fields.specs.declared.kinds.Kind.TheVariants as kinds
-use Rattle.cwr_fields.specs.Format.Kinds.{all_kinds}
+use Rattle.cwr_fields.specs.Format.Kinds.{all_kinds, is_in_transaction}
 use Rattle.cwr_fields.specs.Format.Layouts.{layout}
 use Rattle.cwr_shape.specs.declared.reasons.Reason.{Reason}
 use Rattle.cwr_shape.specs.declared.reasons.Reason.TheVariants as reasons
@@ -30,43 +30,49 @@ cell_reasons =
     map reasons.Cell (Blank ∷ Control ∷ NotDigits ∷ NotADate ∷ NotATime ∷ OverShare ∷ NotACode ∷ NotConstant ∷ [])
     ++ reasons.Number 7 ∷ reasons.Excess ∷ []
 
--- the kinds inside transactions that begin none
+-- the kinds that begin transactions, and those inside that begin none
+abbrev header_kinds : List Kind
+header_kinds = kinds.Agr ∷ kinds.Nwr ∷ kinds.Rev ∷ kinds.Ack ∷ []
+
+abbrev is_header : Kind → Bool
+is_header kinds.Agr = true
+is_header kinds.Nwr = true
+is_header kinds.Rev = true
+is_header kinds.Ack = true
+is_header this_kind = false
+
 abbrev inner_kinds : List Kind
-inner_kinds =
-    kinds.Ter ∷ kinds.Ipa ∷ kinds.Spu ∷ kinds.Opu ∷ kinds.Spt ∷ kinds.Swr ∷ kinds.Owr ∷ kinds.Swt ∷ kinds.Pwr ∷ kinds.Alt
-    ∷ kinds.Ewt ∷ kinds.Ver ∷ kinds.Per ∷ kinds.Rec ∷ kinds.Orn ∷ kinds.Com ∷ kinds.Msg ∷ kinds.Opt ∷ kinds.Owt ∷ kinds.Npn
-    ∷ kinds.Npr ∷ kinds.Nwn ∷ kinds.Npa ∷ kinds.Net ∷ kinds.Now ∷ kinds.Nct ∷ kinds.Nvt ∷ kinds.Nat ∷ kinds.Ins ∷ kinds.Ind
-    ∷ kinds.Ari ∷ kinds.Xrf ∷ []
+inner_kinds = filter (λ kind. is_in_transaction kind && not (is_header kind)) all_kinds
 
 -- a record that may not come, by what is open
 unknown : map (level_of None 1 reasons.UnknownKind) all_places ≡ E ∷ G ∷ T ∷ []
 unknown = refl
 
 misplaced : map (λ place. map (λ kind. level_of (Some kind) 1 reasons.Misplaced place) all_kinds) all_places
-    ≡ replicate 40 E ∷ replicate 40 G ∷ replicate 40 T ∷ []
+    ≡ map (replicate (length all_kinds)) (E ∷ G ∷ T ∷ [])
 misplaced = refl
 
 -- what is open after each kind
 places_after_kinds : (scope_after_kind None ≡ scopes.File)
     × (map (λ kind. scope_after_kind (Some kind)) (kinds.Hdr ∷ kinds.Grh ∷ kinds.Grt ∷ kinds.Trl ∷ [])
     ≡ scopes.File ∷ scopes.Group ∷ scopes.File ∷ scopes.File ∷ [])
-    × (map (λ kind. scope_after_kind (Some kind)) (kinds.Agr ∷ kinds.Nwr ∷ kinds.Rev ∷ kinds.Ack ∷ inner_kinds)
-    ≡ replicate 36 scopes.Transaction)
+    × (map (λ kind. scope_after_kind (Some kind)) (header_kinds ++ inner_kinds)
+    ≡ replicate (4 + length inner_kinds) scopes.Transaction)
 places_after_kinds = (refl, refl, refl)
 
 -- a limit
 too_many_records : flat_map (λ place. map (λ kind. level_of (Some kind) 1 (reasons.Limit limits.Records) place) all_kinds)
-    all_places ≡ replicate 120 E
+    all_places ≡ replicate (3 * length all_kinds) E
 too_many_records = refl
 
 too_many_groups : flat_map (λ place. map (λ kind. level_of (Some kind) 1 (reasons.Limit limits.Groups) place) all_kinds)
-    all_places ≡ replicate 120 E
+    all_places ≡ replicate (3 * length all_kinds) E
 too_many_groups = refl
 
 transaction_too_long : (level_of (Some kinds.Grh) 2 (reasons.Limit limits.Transaction) scopes.File ≡ G)
     × (level_of (Some kinds.Ipa) 4 (reasons.Limit limits.Transaction) scopes.Transaction ≡ T)
     × (map (λ kind. level_of (Some kind) 1 (reasons.Limit limits.Transaction) scopes.Transaction)
-    (kinds.Agr ∷ kinds.Nwr ∷ kinds.Rev ∷ kinds.Ack ∷ inner_kinds) ≡ replicate 36 T)
+    (header_kinds ++ inner_kinds) ≡ replicate (4 + length inner_kinds) T)
 transaction_too_long = (refl, refl, refl)
 
 -- a cell, a number or an excess around transactions and in their headers, at field 2, at the last one and after it
@@ -82,17 +88,17 @@ in_group : (levels_in kinds.Grh scopes.File ≡ replicate 30 G) × (levels_in ki
 in_group = (refl, refl)
 
 in_header : flat_map (λ kind. flat_map (levels_in kind) (scopes.Group ∷ scopes.Transaction ∷ []))
-    (kinds.Agr ∷ kinds.Nwr ∷ kinds.Rev ∷ kinds.Ack ∷ []) ≡ replicate 240 T
+    header_kinds ≡ replicate 240 T
 in_header = refl
 
 -- after a header: the two sequences
 in_sequences : flat_map (λ kind. flat_map (λ j. map (λ reason. level_of (Some kind) j reason scopes.Transaction)
-    (reasons.Cell Blank ∷ reasons.Cell NotDigits ∷ reasons.Number 7 ∷ [])) (2 ∷ 3 ∷ [])) inner_kinds ≡ replicate 192 T
+    (reasons.Cell Blank ∷ reasons.Cell NotDigits ∷ reasons.Number 7 ∷ [])) (2 ∷ 3 ∷ [])) inner_kinds ≡ replicate (6 * length inner_kinds) T
 in_sequences = refl
 
 -- after a header: the excess
 in_excess : map (λ kind. level_of (Some kind) (length (layout kind) + 1) reasons.Excess scopes.Transaction) inner_kinds
-    ≡ replicate 32 R
+    ≡ replicate (length inner_kinds) R
 in_excess = refl
 
 -- after a header: a cell, by its type

@@ -22,47 +22,14 @@ fn kinds_by_their_letters(rt: HostRuntime) {
     }
 }
 
-/// How many bytes and how many fields each kind has.
+/// How many bytes and how many fields a record of the kind has.
 const WIDTHS: &[(Kind, usize, u8)] = &[
     (Kind::Hdr, 101, 9),
-    (Kind::Grh, 28, 6),
-    (Kind::Grt, 37, 6),
-    (Kind::Trl, 24, 4),
-    (Kind::Agr, 121, 19),
-    (Kind::Ter, 24, 5),
     (Kind::Ipa, 153, 15),
     (Kind::Nwr, 260, 28),
-    (Kind::Rev, 260, 28),
-    (Kind::Spu, 183, 25),
-    (Kind::Opu, 183, 25),
-    (Kind::Spt, 58, 12),
     (Kind::Swr, 180, 23),
-    (Kind::Owr, 180, 23),
-    (Kind::Swt, 52, 11),
-    (Kind::Pwr, 110, 8),
-    (Kind::Alt, 83, 6),
     (Kind::Ewt, 364, 16),
-    (Kind::Ver, 364, 16),
-    (Kind::Per, 118, 7),
-    (Kind::Rec, 266, 15),
-    (Kind::Orn, 301, 16),
-    (Kind::Com, 308, 15),
-    (Kind::Ack, 159, 13),
     (Kind::Msg, 185, 9),
-    (Kind::Opt, 719, 4),
-    (Kind::Owt, 719, 4),
-    (Kind::Npn, 719, 4),
-    (Kind::Npr, 719, 4),
-    (Kind::Nwn, 719, 4),
-    (Kind::Npa, 719, 4),
-    (Kind::Net, 719, 4),
-    (Kind::Now, 719, 4),
-    (Kind::Nct, 719, 4),
-    (Kind::Nvt, 719, 4),
-    (Kind::Nat, 719, 4),
-    (Kind::Ins, 719, 4),
-    (Kind::Ind, 719, 4),
-    (Kind::Ari, 719, 4),
     (Kind::Xrf, 719, 4),
 ];
 

@@ -2,7 +2,7 @@ use Rattle.std.proofs.Common.{◌≡◌, ℕ, ◌+◌, ◌*◌, ap, ◌∙◌, a
 use Rattle.std.specs.Prelude.{◌%◌, slice_index_or}
 use Rattle.cwr_fields.specs.declared.kinds.Kind.TheVariants.{Hdr}
 use Rattle.cwr_fields.proofs.lemmas.KindPlaces.{at_places, guessed}
-use Rattle.cwr_fields.proofs.kinds.guess.Goals as goal
+use Rattle.cwr_fields.proofs.kind_places.guess.Goals as goal
 
 pub returns : goal.returns
 returns c = λ kind e.
