@@ -1,18 +1,18 @@
 -- What stands in a room once elements are put in their places.
-mod PutElements
+pub mod PutElements
 -- What a line that was taken carries and a record that it holds.
-mod CarriedLines
+pub mod CarriedLines
 -- The numbers of the items that were read, and their records.
-mod CountedItems
+pub mod CountedItems
 -- The items that were read come before the verdict.
-mod ReadItems
+pub mod ReadItems
 -- What is written goes on, record by record, and ends.
-mod WrittenRecords
+pub mod WrittenRecords
 -- The records of a text's lines are written, line by line, up to the text's end or to TRL's line.
-mod WrittenLines
+pub mod WrittenLines
 -- The findings of items are listed, item by item.
-mod ListedFindings
+pub mod ListedFindings
 -- What a run over a text in memory has written to an empty writer.
-mod ReportedTexts
+pub mod ReportedTexts
 -- The line of a record in which nothing was set, field by field.
-mod BlankTexts
+pub mod BlankTexts

@@ -1,42 +1,42 @@
 -- What is told of a transaction, with advice and without.
-mod AdviceTold
+pub mod AdviceTold
 -- How a sequence goes on where the awaited number is the one that belongs there.
-mod Awaited
+pub mod Awaited
 -- Which faults are told of a line.
-mod CellsTold
+pub mod CellsTold
 -- What a lint holds after records of a good text, of which one may have had a wrong number: whatever it counts by the
 -- numbers, what is there is counted right, and each sequence awaits the number that belongs there.
-mod FairStates
+pub mod FairStates
 -- The front of a transmission: its tally is small, what a lint holds after it is fair and fresh, and its next row is gone on
 -- with.
-mod GoodFronts
+pub mod GoodFronts
 -- A line of a row, or one that has another number in one cell: from a fair state it is gone on with.
-mod GoodLines
+pub mod GoodLines
 -- The line that was read last, and what the reader has of it.
-mod LastRead
+pub mod LastRead
 -- Texts that are put one after another.
-mod TextsPut
+pub mod TextsPut
 -- Lines that are held as they are read.
-mod RawLines
+pub mod RawLines
 -- Of a text that differs from a good one in one derived cell just that cell's fault is told.
-mod OneCell
+pub mod OneCell
 -- A text that differs from a good one in one derived cell is neither accepted nor truncated.
-mod OneCellRefused
+pub mod OneCellRefused
 -- Where a text differs from a good one in one derived cell, nothing continues from that cell, and that is the first such place.
-mod OtherPlaces
+pub mod OtherPlaces
 -- A line that is as a row has it tells nothing.
-mod QuietLines
+pub mod QuietLines
 -- From a fair state nothing is told of the rows that follow.
-mod QuietWalks
+pub mod QuietWalks
 -- From a fair state a lint goes on with the next row of a transmission, though one of its numbers is another, and stays fair.
-mod RowsGoOn
+pub mod RowsGoOn
 -- What is told of lines, one after another.
-mod Running
+pub mod Running
 -- What comes after a stage inside a group: the header of a transaction, a further record of one, or the group's foot.
-mod StagesWithin
+pub mod StagesWithin
 -- What is told of one line, step by step.
-mod Telling
+pub mod Telling
 -- Texts that are put one after another, while bytes are taken from a reader.
-mod TextsTold
+pub mod TextsTold
 -- A whole lint: a check up to the first fault, and what follows it.
-mod Tells
+pub mod Tells

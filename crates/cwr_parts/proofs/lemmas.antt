@@ -1,66 +1,66 @@
 -- Where records begin those of a transmission, a call of an encoder that adds more of them may come: it is no mistake, and
 -- it isn't refused by a limit to which the transmission keeps.
-mod BegunTransmissions
+pub mod BegunTransmissions
 -- The items that are joined of whole inputs and of the next one begin those of the transmission to which they are joined.
-mod JoinedItems
+pub mod JoinedItems
 -- Each transaction among a transmission's items is of the type of its group, which the records before it name.
-mod OwnTypes
+pub mod OwnTypes
 -- The items of a transmission, added one by one: each is right, its call of the encoder is no mistake, and its numbers stay
 -- small.
-mod ItemsAdded
+pub mod ItemsAdded
 -- An item is written to an output of a split: it is no mistake, no limit refuses it, and the output goes on with it.
-mod PutItems
+pub mod PutItems
 -- A transaction is added to an output of a split: HDR and GRH come before it where they weren't written.
-mod OutputAdded
+pub mod OutputAdded
 -- An output of a split is handed over: TRL is no mistake, and the outputs have the text of the transmission that its items are.
-mod OutputHandedOver
+pub mod OutputHandedOver
 -- What was joined so far goes on with an item: there is room to count it, its call is no mistake, and it is joined or refused.
-mod JoiningOn
+pub mod JoiningOn
 -- What was joined of one input goes on with each item, up to its end or a fault.
-mod OneInputJoined
+pub mod OneInputJoined
 -- Inputs are joined one after another, up to the last or a fault.
-mod InputsJoined
+pub mod InputsJoined
 -- After the last input TRL is written, which is no mistake, and what is written is the transmission to which the inputs are
 -- joined.
-mod JoinsEnded
+pub mod JoinsEnded
 -- A join that added all inputs and wrote TRL has written the transmission to which they are joined, or its writer failed.
-mod JoinsWhole
+pub mod JoinsWhole
 -- Where all inputs are accepted, and joined to a transmission within the limits, a join stops only where a device or memory
 -- failed.
-mod AcceptedJoins
+pub mod AcceptedJoins
 -- What is put of a join that stopped at an input, where the writer fails in the number of that one.
-mod OutcomesPut
+pub mod OutcomesPut
 -- A list in runs: a first run, and those of the rest.
-mod RunsOfLists
+pub mod RunsOfLists
 -- A transmission that is split: its first part, and those of the rest.
-mod SplitParts
+pub mod SplitParts
 -- A front or a back of a transmission that is within the limits is within them too.
-mod FrontsFit
+pub mod FrontsFit
 -- The open output of a split: it is opened, its group ends, and it is handed over.
-mod OutputSteps
+pub mod OutputSteps
 -- A transaction is added to the open output of a split, which is opened for it or finished with it.
-mod TransactionsAdded
+pub mod TransactionsAdded
 -- What is left of a transmission that is split, after one item more.
-mod StagesLeft
+pub mod StagesLeft
 -- The items of the open part of a split: what the next transaction and what its end make of them.
-mod StagesHeld
+pub mod StagesHeld
 -- The stage that an item comes at in a split.
-mod StagesOfItems
+pub mod StagesOfItems
 -- A split takes HDR or GRH: it knows it from then on.
-mod HeadsTaken
+pub mod HeadsTaken
 -- A split takes a transaction: the open output continues with it, or is whole and handed over.
-mod TransactionsTaken
+pub mod TransactionsTaken
 -- A split takes GRT or TRL: the open group ends, and at TRL the last output is handed over.
-mod EndsTaken
+pub mod EndsTaken
 -- A split takes an item: what it holds is then that of the next stage, and a part that is whole was handed over.
-mod ItemsTaken
+pub mod ItemsTaken
 -- The places that a split passes, and the parts that are whole then.
-mod StagesPassed
+pub mod StagesPassed
 -- A split continues with each item that is handed out.
-mod SplittingOn
+pub mod SplittingOn
 -- A split at the end of its input, and at a fault.
-mod SplitsEnded
+pub mod SplitsEnded
 -- What a split answers is right of its input, and where that is accepted it stops only where a device or memory failed.
-mod AcceptedSplits
+pub mod AcceptedSplits
 -- The fault of an output's writer tells how many bytes that writer has.
-mod WritersCounted
+pub mod WritersCounted

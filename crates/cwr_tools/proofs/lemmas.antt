@@ -7,13 +7,13 @@ pub mod ReportsOn
 -- What a report puts, from what stands before the items to what stands for the verdict, where it writes the lines of `it`.
 pub mod ReportSteps
 -- What was read last, from item to item and at the end of a run.
-mod LastReported
+pub mod LastReported
 -- What a whole run has put, and what its writer then has.
 pub mod ReportsWhole
 -- What a report on a text says of a transmission that the text begins with.
 pub mod RightReports
 -- What is watched for comes among items as among each.
-mod FindingsWatched
+pub mod FindingsWatched
 -- What stands at the end of a run, and what was watched for, came in the items before its verdict.
 pub mod WatchedRuns
 -- What is written of explained findings is what a check writes of them, with indented lines put in.

@@ -9,28 +9,28 @@ pub mod TakenLines
 -- The members that say something, member by member.
 pub mod ToldMembers
 -- The cells of each field are bytes, at most 700.
-mod ByteCells
+pub mod ByteCells
 -- What a `?` hands on is the fault that it met.
-mod FaultsPassed
+pub mod FaultsPassed
 -- Records give one list of items: so an item more continues some transmission where its records do.
-mod ItemsInOrder
+pub mod ItemsInOrder
 -- The records of a line, member by member and value by value.
-mod ItemsRead
+pub mod ItemsRead
 -- What is taken of a text line by line.
-mod LinesTaken
+pub mod LinesTaken
 -- Why a line's value is data of no item: what is told of it is so.
-mod ItemReasons
+pub mod ItemReasons
 -- Values that no item of a transmission has for its data.
-mod NoItemData
+pub mod NoItemData
 -- Members that no record has for its data: by one of them.
-mod NoRecordData
+pub mod NoRecordData
 -- The lines of a transmission's data are data of its items, and of no other's.
-mod OwnLines
+pub mod OwnLines
 -- What bytes are shown as is in UTF-8.
-mod ShownUtf8
+pub mod ShownUtf8
 -- Why members are data of no record: what is told of them is so.
-mod RecordReasons
+pub mod RecordReasons
 -- How a run over lines ends, and what it has then written.
-mod RunsEnded
+pub mod RunsEnded
 -- An item is taken exactly where with it some transmission within the limits begins.
-mod TakenItems
+pub mod TakenItems
