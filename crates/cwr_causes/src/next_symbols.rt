@@ -5,61 +5,28 @@ ghost use Rattle.cwr_shape.specs.declared.symbols.Symbol.{Symbol};
 ghost use Rattle.cwr_shape.specs.Format.Outlines.{Continues};
 ghost use Rattle.cwr_shape.specs.Format.AnyTransmission.{Any};
 ghost use Rattle.cwr_shape.specs.Steps.Left.{StandsAt};
-ghost use Rattle.cwr_causes.specs.Steps.Coming.{AreComing, AsksOne, ComesAt};
+ghost use Rattle.cwr_causes.specs.Steps.Coming.{AreComing, Asks, ComesAt, inner_symbols};
 
-use cwr_fields::{Kind, Role, TransactionType};
+use cwr_fields::{Kind, Role, TransactionType, all_kinds};
 use cwr_shape::{Stage, Symbol};
 use std::alloc::{AllocError, Global};
 
-/// Each symbol that a record may have, by kind and in the order in which a transmission has them.
-static SYMBOLS: [Symbol; 46] = [
-    Symbol::Plain(Kind::Hdr),
+// The symbols of GRH and of IPA, and those of the records that end a group and a transmission.
+static GROUP_SYMBOLS: [Symbol; 5] = [
     Symbol::Plain(Kind::Grh),
     Symbol::Grh(TransactionType::Agreement),
     Symbol::Grh(TransactionType::NewWork),
     Symbol::Grh(TransactionType::RevisedWork),
     Symbol::Grh(TransactionType::Acknowledgement),
-    Symbol::Plain(Kind::Agr),
-    Symbol::Plain(Kind::Ter),
+];
+
+static PARTY_SYMBOLS: [Symbol; 3] = [
     Symbol::Plain(Kind::Ipa),
     Symbol::Ipa(Role::Assignor),
     Symbol::Ipa(Role::Acquirer),
-    Symbol::Plain(Kind::Nwr),
-    Symbol::Plain(Kind::Rev),
-    Symbol::Plain(Kind::Spu),
-    Symbol::Plain(Kind::Opu),
-    Symbol::Plain(Kind::Spt),
-    Symbol::Plain(Kind::Swr),
-    Symbol::Plain(Kind::Owr),
-    Symbol::Plain(Kind::Swt),
-    Symbol::Plain(Kind::Pwr),
-    Symbol::Plain(Kind::Alt),
-    Symbol::Plain(Kind::Ewt),
-    Symbol::Plain(Kind::Ver),
-    Symbol::Plain(Kind::Per),
-    Symbol::Plain(Kind::Rec),
-    Symbol::Plain(Kind::Orn),
-    Symbol::Plain(Kind::Com),
-    Symbol::Plain(Kind::Ack),
-    Symbol::Plain(Kind::Msg),
-    Symbol::Plain(Kind::Opt),
-    Symbol::Plain(Kind::Owt),
-    Symbol::Plain(Kind::Npn),
-    Symbol::Plain(Kind::Npr),
-    Symbol::Plain(Kind::Nwn),
-    Symbol::Plain(Kind::Npa),
-    Symbol::Plain(Kind::Net),
-    Symbol::Plain(Kind::Now),
-    Symbol::Plain(Kind::Nct),
-    Symbol::Plain(Kind::Nvt),
-    Symbol::Plain(Kind::Nat),
-    Symbol::Plain(Kind::Ins),
-    Symbol::Plain(Kind::Ind),
-    Symbol::Plain(Kind::Ari),
-    Symbol::Plain(Kind::Xrf),
-    Symbol::Plain(Kind::Grt),
-    Symbol::Plain(Kind::Trl),
 ];
+
+static END_SYMBOLS: [Symbol; 2] = [Symbol::Plain(Kind::Grt), Symbol::Plain(Kind::Trl)];
 
 /// Whether a record of the symbol may come at the stage: whether some transmission continues so. Limits aren't asked.
 pub fn may_come(stage: Stage, symbol: Symbol) -> bool
@@ -71,7 +38,7 @@ pub fn may_come(stage: Stage, symbol: Symbol) -> bool
 
 /// Adds the symbol, where it may come at the stage.
 fn ask(found: &mut Vec<Symbol>, stage: Stage, symbol: Symbol) -> Result<(), AllocError>
-    ensures ok { OnOk result (AsksOne stage symbol found.old.items found.new.items) }
+    ensures ok { OnOk result (Asks stage (symbol ∷ []) found.old.items found.new.items) }
     ensures err { OnErr result (ComesAt stage symbol) }
 {
     if may_come(stage, symbol) {
@@ -80,15 +47,40 @@ fn ask(found: &mut Vec<Symbol>, stage: Stage, symbol: Symbol) -> Result<(), Allo
     Ok(())
 }
 
-/// The symbols that may come at the stage, in their order.
+/// Adds those of the symbols that may come at the stage.
+fn ask_each(found: &mut Vec<Symbol>, stage: Stage, symbols: &[Symbol]) -> Result<(), AllocError>
+    ensures ok { OnOk result (Asks stage symbols.now found.old.items found.new.items) }
+    ensures err { OnErr result ((symbol : Symbol) × ComesAt stage symbol) }
+{
+    for symbol in symbols {
+        ask(found, stage, *symbol)?;
+    }
+    Ok(())
+}
+
+/// Adds the symbols of the kind that may come at the stage. Those of GRT and TRL are asked last.
+fn ask_kind(found: &mut Vec<Symbol>, stage: Stage, kind: Kind) -> Result<(), AllocError>
+    ensures ok { OnOk result (Asks stage (inner_symbols kind) found.old.items found.new.items) }
+    ensures err { OnErr result ((symbol : Symbol) × ComesAt stage symbol) }
+{
+    match kind {
+        Kind::Grt | Kind::Trl => Ok(()),
+        Kind::Grh => ask_each(found, stage, &GROUP_SYMBOLS),
+        Kind::Ipa => ask_each(found, stage, &PARTY_SYMBOLS),
+        _ => ask(found, stage, Symbol::Plain(kind)),
+    }
+}
+
+/// The symbols that may come at the stage, in the order in which a transmission has them.
 pub fn coming(alloc: Global, stage: Stage) -> Result<Vec<Symbol>, AllocError>
     ensures ok { IfOk result (λ found. AreComing stage found.items) }
     // Memory is asked for only where some symbol may come.
     ensures memory { OnErr result ((symbol : Symbol) × ComesAt stage symbol) }
 {
     let mut found = Vec::new(alloc);
-    for symbol in &SYMBOLS {
-        ask(&mut found, stage, *symbol)?;
+    for kind in all_kinds() {
+        ask_kind(&mut found, stage, *kind)?;
     }
+    ask_each(&mut found, stage, &END_SYMBOLS)?;
     Ok(found)
 }

@@ -173,7 +173,7 @@ pub(crate) fn hand_over<O: Outputs>(
     requires unfailed { is_stopped output.encoder ≡ false }
     requires quiet { O.W.failures (target_of output.encoder) ≡ 0 }
     requires may { MayHandOver O.W.contents output }
-    ensures hands_over { HandsOver (told_by O.texts O.failures O.given_up) O.W.contents output
+    ensures hands_over { HandsOver (told_by O.texts O.failures O.given_up O.W.contents O.W.failures) output
         result outputs.old outputs.new }
     ensures lent { O.lent outputs.new ≡ O.lent outputs.old - 1 }
     ensures written { IfSome (O.texts outputs.old)

@@ -108,7 +108,7 @@ fn open_output<O: Outputs>(
     splitting: &mut Splitting<O::W>,
     outputs: &mut O,
 ) -> Result<(), ToolFault>
-    ensures opens { OpensOutput (told_by O.texts O.failures O.given_up) O.W.contents O.W.failures
+    ensures opens { OpensOutput (told_by O.texts O.failures O.given_up O.W.contents O.W.failures)
         result splitting.old splitting.new outputs.old outputs.new }
     ensures lent { KeepsLent (O.lent outputs.old) splitting.old.output (O.lent outputs.new)
         splitting.new.output }
@@ -133,10 +133,9 @@ fn finish_output<O: Outputs>(
     outputs: &mut O,
 ) -> Result<(), ToolFault>
     requires room { splitting.old.report.outputs < 199999999 }
-    requires may { MayFinish (told_by O.texts O.failures O.given_up) O.W.contents O.W.failures
+    requires may { MayFinish (told_by O.texts O.failures O.given_up O.W.contents O.W.failures)
         splitting.old outputs.old }
-    ensures finishes { FinishesOutput (told_by O.texts O.failures O.given_up) O.W.contents
-        O.W.failures result splitting.old splitting.new outputs.old outputs.new }
+    ensures finishes { FinishesOutput (told_by O.texts O.failures O.given_up O.W.contents O.W.failures) result splitting.old splitting.new outputs.old outputs.new }
     ensures lent { KeepsLent (O.lent outputs.old) splitting.old.output (O.lent outputs.new)
         splitting.new.output }
     ensures written { CountsWritten O.W.contents (O.texts outputs.old) result splitting.old.output
@@ -160,9 +159,8 @@ fn add_transaction<O: Outputs>(
     outputs: &mut O,
 ) -> Result<(), ToolFault>
     requires not_ended { transaction.now ≢ Item.Ended }
-    requires may { MayAddTransaction (told_by O.texts O.failures O.given_up) O.W.contents
-        O.W.failures transaction.now splitting.old outputs.old }
-    ensures adds { AddsTransaction (told_by O.texts O.failures O.given_up) O.W.contents O.W.failures
+    requires may { MayAddTransaction (told_by O.texts O.failures O.given_up O.W.contents O.W.failures) transaction.now splitting.old outputs.old }
+    ensures adds { AddsTransaction (told_by O.texts O.failures O.given_up O.W.contents O.W.failures)
         transaction.now result splitting.old splitting.new outputs.old outputs.new }
     ensures lent { KeepsLent (O.lent outputs.old) splitting.old.output (O.lent outputs.new)
         splitting.new.output }
@@ -183,9 +181,9 @@ fn take_item<O: Outputs>(
     item: Item,
     outputs: &mut O,
 ) -> Result<(), ToolFault>
-    requires { MayTake (told_by O.texts O.failures O.given_up) O.W.contents O.W.failures item
+    requires { MayTake (told_by O.texts O.failures O.given_up O.W.contents O.W.failures) item
         splitting.old outputs.old }
-    ensures takes { TakesItem (told_by O.texts O.failures O.given_up) O.W.contents O.W.failures item
+    ensures takes { TakesItem (told_by O.texts O.failures O.given_up O.W.contents O.W.failures) item
         result splitting.old splitting.new outputs.old outputs.new }
     ensures lent { KeepsLent (O.lent outputs.old) splitting.old.output (O.lent outputs.new)
         splitting.new.output }
@@ -209,7 +207,7 @@ fn take_item<O: Outputs>(
 
 /// Gives the writer of an open output up, if there is one.
 fn give_up<O: Outputs>(output: Option<SplitOutput<O::W>>, outputs: &mut O)
-    ensures gives_up { GivesUp (told_by O.texts O.failures O.given_up) O.W.failures output
+    ensures gives_up { GivesUp (told_by O.texts O.failures O.given_up O.W.contents O.W.failures) output
         outputs.old outputs.new }
     ensures lent { (others : ℕ) → O.lent outputs.old ≡ others + open_outputs output
         → O.lent outputs.new ≡ others }

@@ -10,8 +10,10 @@ pub mod ReportSteps
 pub mod LastReported
 -- What a whole run has put, and what its writer then has.
 pub mod ReportsWhole
--- What a report on a text says of a transmission that the text begins with.
+-- What is told of a text says its verdict, and all of a text that begins with a transmission.
 pub mod RightReports
+-- What a report says of a text that is known: the items before its end are those that its lines give.
+pub mod ToldTexts
 -- What is watched for comes among items as among each.
 pub mod FindingsWatched
 -- What stands at the end of a run, and what was watched for, came in the items before its verdict.

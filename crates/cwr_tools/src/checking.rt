@@ -1,10 +1,9 @@
 //! Checking a transmission.
 
 ghost use Rattle.std.specs.Prelude.{◌≡◌, true, IfOk, OnOk, IsSomeAnd};
-ghost use Rattle.cwr_tools.specs.Format.Verdicts.{JudgesText};
 ghost use Rattle.cwr_tools.specs.Format.Watching.{SeesAccepted};
 ghost use Rattle.cwr_tools.specs.Steps.Verdicts.{IsReadLast};
-ghost use Rattle.cwr_tools.specs.Format.Reports.{CountsReaderFault, CountsWriterFault, JudgesAccepted, JudgesCanonical, lines_of_explained, lines_of_findings};
+ghost use Rattle.cwr_tools.specs.Format.Reports.{CountsReaderFault, CountsWriterFault, ReportsText, lines_of_explained, lines_of_findings};
 ghost use Rattle.cwr_tools.specs.Format.Reports.{lines_up_to_fault};
 ghost use Rattle.cwr_tools.specs.Steps.Reports.{Reports};
 
@@ -33,11 +32,8 @@ pub fn check<R: Source, W: Target + Drop>(
 ) -> (W, Result<Verdict, ToolFault>)
     ensures reported { Reports lines_of_findings limits (R.remaining reader.old)
         (R.remaining reader.new) W.contents writer result.0 result.1 }
-    ensures judged { JudgesText limits (R.remaining reader.old) result.1 }
-    ensures accepted { IfOk result.1 (JudgesAccepted lines_of_findings limits
-        (R.remaining reader.old) (R.remaining reader.new) W.contents writer result.0) }
-    ensures canonical { IfOk result.1 (JudgesCanonical lines_of_findings limits
-        (R.remaining reader.old) (R.remaining reader.new) W.contents writer result.0) }
+    ensures told { ReportsText lines_of_findings limits (R.remaining reader.old)
+        (R.remaining reader.new) W.contents writer result.0 result.1 }
     // No failure is passed over: a device failed only where that is the answer.
     ensures reader_failures { CountsReaderFault result.1 (R.failures reader.old)
         (R.failures reader.new) }
@@ -58,11 +54,8 @@ pub fn check_watched<R: Source, W: Target + Drop>(
 ) -> (W, Result<Verdict, ToolFault>)
     ensures reported { Reports lines_of_findings limits (R.remaining reader.old)
         (R.remaining reader.new) W.contents writer result.0 result.1 }
-    ensures judged { JudgesText limits (R.remaining reader.old) result.1 }
-    ensures accepted { IfOk result.1 (JudgesAccepted lines_of_findings limits
-        (R.remaining reader.old) (R.remaining reader.new) W.contents writer result.0) }
-    ensures canonical { IfOk result.1 (JudgesCanonical lines_of_findings limits
-        (R.remaining reader.old) (R.remaining reader.new) W.contents writer result.0) }
+    ensures told { ReportsText lines_of_findings limits (R.remaining reader.old)
+        (R.remaining reader.new) W.contents writer result.0 result.1 }
     // Where the text is accepted, the watch saw the findings in its transmission.
     ensures seen { OnOk result.1 (SeesAccepted limits (R.remaining reader.old) watch.old watch.new) }
     // No failure is passed over: a device failed only where that is the answer.
@@ -91,9 +84,8 @@ pub fn check_explained<R: Source, W: Target + Drop>(
 ) -> (W, Result<Verdict, ToolFault>, Option<LastRead>)
     ensures reported { Reports lines_of_explained limits (R.remaining reader.old)
         (R.remaining reader.new) W.contents writer result.0 result.1 }
-    ensures judged { JudgesText limits (R.remaining reader.old) result.1 }
-    ensures accepted { IfOk result.1 (JudgesAccepted lines_of_explained limits
-        (R.remaining reader.old) (R.remaining reader.new) W.contents writer result.0) }
+    ensures told { ReportsText lines_of_explained limits (R.remaining reader.old)
+        (R.remaining reader.new) W.contents writer result.0 result.1 }
     ensures seen { OnOk result.1 (SeesAccepted limits (R.remaining reader.old) watch.old watch.new) }
     ensures reader_failures { CountsReaderFault result.1 (R.failures reader.old)
         (R.failures reader.new) }
@@ -130,7 +122,8 @@ pub fn check_up_to_fault<R: Source, W: Target + Drop>(
 ) -> (W, Result<Verdict, ToolFault>, CheckedFront)
     ensures reported { Reports (lines_up_to_fault explained) limits (R.remaining reader.old)
         (R.remaining reader.new) W.contents writer result.0 result.1 }
-    ensures judged { JudgesText limits (R.remaining reader.old) result.1 }
+    ensures told { ReportsText (lines_up_to_fault explained) limits (R.remaining reader.old)
+        (R.remaining reader.new) W.contents writer result.0 result.1 }
     ensures reader_failures { CountsReaderFault result.1 (R.failures reader.old)
         (R.failures reader.new) }
     ensures writer_failures { CountsWriterFault result.1 (W.failures writer) (W.failures result.0) }

@@ -1,8 +1,7 @@
 //! The data of a transmission, as lines of JSON.
 
 ghost use Rattle.std.specs.Prelude.{◌≡◌, true, IfOk, OnOk};
-ghost use Rattle.cwr_tools.specs.Format.Verdicts.{JudgesText};
-ghost use Rattle.cwr_tools.specs.Format.Reports.{CountsReaderFault, CountsWriterFault, JudgesAccepted, JudgesCanonical, lines_of_data};
+ghost use Rattle.cwr_tools.specs.Format.Reports.{CountsReaderFault, CountsWriterFault, ReportsText, lines_of_data};
 ghost use Rattle.cwr_tools.specs.Steps.Reports.{Reports, notes_at};
 
 use crate::finding_lines::writer_fault;
@@ -100,11 +99,8 @@ pub fn json<R: Source, W: Target + Drop>(
 ) -> (W, Result<Verdict, ToolFault>)
     ensures reported { Reports (lines_of_data encoding noted) limits (R.remaining reader.old)
         (R.remaining reader.new) W.contents writer result.0 result.1 }
-    ensures judged { JudgesText limits (R.remaining reader.old) result.1 }
-    ensures accepted { IfOk result.1 (JudgesAccepted (lines_of_data encoding noted) limits
-        (R.remaining reader.old) (R.remaining reader.new) W.contents writer result.0) }
-    ensures canonical { IfOk result.1 (JudgesCanonical (lines_of_data encoding noted) limits
-        (R.remaining reader.old) (R.remaining reader.new) W.contents writer result.0) }
+    ensures told { ReportsText (lines_of_data encoding noted) limits (R.remaining reader.old)
+        (R.remaining reader.new) W.contents writer result.0 result.1 }
     // No failure is passed over: a device failed only where that is the answer.
     ensures reader_failures { CountsReaderFault result.1 (R.failures reader.old)
         (R.failures reader.new) }

@@ -1,10 +1,11 @@
 -- The table of symbols has each symbol, and those that may come are found in it one after another.
-use Rattle.std.proofs.Common.{◌≡◌, zero, suc, true, false, List, [], ◌∷◌, ◌++◌, refl, sym, subst, ◌∙◌, arith, inl, inr}
-use Rattle.std.specs.Prelude.{◌↔◌, ◌⊎◌, Bool, Some, Contains, IsTrue, OnErr, Result, Ok, Err, find}
+use Rattle.std.proofs.Common.{◌≡◌, zero, suc, true, false, List, [], ◌∷◌, ◌++◌, append-nil, refl, sym, ap, subst, ◌∙◌, arith, inl, inr}
+use Rattle.std.specs.Prelude.{◌↔◌, ◌⊎◌, ◌≢◌, Bool, Some, Contains, IsTrue, OnErr, Result, Ok, Err, find}
 use Rattle.std.specs.Str.{bytes_eq}
 use Rattle.std.proofs.lemmas.List.Elements.{Contains-append_cases, Contains-append_left, Contains-append_right}
 use Rattle.cwr_fields.specs.declared.codes.Role.TheVariants as roles
 use Rattle.cwr_fields.specs.declared.codes.TransactionType.TheVariants as types
+use Rattle.cwr_fields.specs.declared.kinds.Kind.{Kind}
 use Rattle.cwr_fields.specs.declared.kinds.Kind.TheVariants as kinds
 use Rattle.cwr_fields.specs.Format.Kinds.{letters}
 use Rattle.cwr_shape.specs.declared.symbols.Symbol.{Symbol}
@@ -13,24 +14,36 @@ use Rattle.cwr_shape.specs.declared.stages.Stage.{Stage}
 use Rattle.cwr_shape.specs.Format.Outlines.{Continues}
 use Rattle.cwr_shape.specs.Format.AnyTransmission.{Any}
 use Rattle.cwr_shape.specs.Steps.Left.{StandsAt}
-use Rattle.cwr_causes.specs.Steps.Coming.{AreComing, HaveCome}
+use Rattle.cwr_causes.specs.Steps.Coming.{AreComing, ComesAt, HaveCome, all_symbols, inner_symbols}
 
 -- what holds also holds where a call failed
 pub on_err : {X E P : Type 0} (result : Result X E) → P → OnErr result P
 on_err (Ok x) p = tt
 on_err (Err e) p = p
 
--- each symbol
-abbrev pub all_symbols : List Symbol
-all_symbols =
-    Plain kinds.Hdr ∷ Plain kinds.Grh ∷ Grh types.Agreement ∷ Grh types.NewWork ∷ Grh types.RevisedWork ∷
-    Grh types.Acknowledgement ∷ Plain kinds.Agr ∷ Plain kinds.Ter ∷ Plain kinds.Ipa ∷ Ipa roles.Assignor ∷
-    Ipa roles.Acquirer ∷ Plain kinds.Nwr ∷ Plain kinds.Rev ∷ Plain kinds.Spu ∷ Plain kinds.Opu ∷ Plain kinds.Spt ∷
-    Plain kinds.Swr ∷ Plain kinds.Owr ∷ Plain kinds.Swt ∷ Plain kinds.Pwr ∷ Plain kinds.Alt ∷ Plain kinds.Ewt ∷
-    Plain kinds.Ver ∷ Plain kinds.Per ∷ Plain kinds.Rec ∷ Plain kinds.Orn ∷ Plain kinds.Com ∷ Plain kinds.Ack ∷
-    Plain kinds.Msg ∷ Plain kinds.Opt ∷ Plain kinds.Owt ∷ Plain kinds.Npn ∷ Plain kinds.Npr ∷ Plain kinds.Nwn ∷
-    Plain kinds.Npa ∷ Plain kinds.Net ∷ Plain kinds.Now ∷ Plain kinds.Nct ∷ Plain kinds.Nvt ∷ Plain kinds.Nat ∷
-    Plain kinds.Ins ∷ Plain kinds.Ind ∷ Plain kinds.Ari ∷ Plain kinds.Xrf ∷ Plain kinds.Grt ∷ Plain kinds.Trl ∷ []
+-- a kind has one symbol, unless its cells say more, or it is asked last
+pub one_symbol : (kind : Kind) → kind ≢ kinds.Grh → kind ≢ kinds.Ipa → kind ≢ kinds.Grt → kind ≢ kinds.Trl
+    → inner_symbols kind ≡ Plain kind ∷ []
+one_symbol kinds.Grh g i f t = absurd (g refl)
+one_symbol kinds.Ipa g i f t = absurd (i refl)
+one_symbol kinds.Grt g i f t = absurd (f refl)
+one_symbol kinds.Trl g i f t = absurd (t refl)
+one_symbol this_kind g i f t = refl
+
+-- those that are asked last have none here
+pub asks_none : (stage : Stage) (kind : Kind) (asked found : List Symbol) → (kind ≡ kinds.Grt) ⊎ (kind ≡ kinds.Trl)
+    → HaveCome stage asked found → HaveCome stage (asked ++ inner_symbols kind) found
+asks_none stage kind asked found is h = subst (λ (all : List Symbol). HaveCome stage all found) (sym (same is)) h
+  where
+    same : (kind ≡ kinds.Grt) ⊎ (kind ≡ kinds.Trl) → asked ++ inner_symbols kind ≡ asked
+    same (inl e) = ap (λ (k : Kind). asked ++ inner_symbols k) e ∙ append-nil asked
+    same (inr e) = ap (λ (k : Kind). asked ++ inner_symbols k) e ∙ append-nil asked
+
+-- a symbol that comes is some
+pub some_comes : {X E : Type 0} (stage : Stage) (s : Symbol) (result : Result X E) → OnErr result (ComesAt stage s)
+    → OnErr result ((symbol : Symbol) × ComesAt stage symbol)
+some_comes stage s (Ok x) h = tt
+some_comes stage s (Err e) h = (s, h)
 
 only : (a s : Symbol) → Contains (a ∷ []) s → a ≡ s
 only a s (zero, l, e) = e

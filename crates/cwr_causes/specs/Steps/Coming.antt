@@ -1,6 +1,13 @@
 -- Which symbols may come.
 use Rattle.std.specs.Prelude.{◌↔◌, List, [], ◌∷◌, ◌++◌, Contains}
+use Rattle.std.specs.List.{flat_map}
+use Rattle.cwr_fields.specs.declared.codes.Role.TheVariants as roles
+use Rattle.cwr_fields.specs.declared.codes.TransactionType.TheVariants as types
+use Rattle.cwr_fields.specs.declared.kinds.Kind.{Kind}
+use Rattle.cwr_fields.specs.declared.kinds.Kind.TheVariants as kinds
+use Rattle.cwr_fields.specs.Format.Kinds.{all_kinds}
 use Rattle.cwr_shape.specs.declared.symbols.Symbol.{Symbol}
+use Rattle.cwr_shape.specs.declared.symbols.Symbol.TheVariants.{Plain, Ipa, Grh}
 use Rattle.cwr_shape.specs.declared.stages.Stage.{Stage}
 use Rattle.cwr_shape.specs.Format.Outlines.{Continues}
 use Rattle.cwr_shape.specs.Format.AnyTransmission.{Any}
@@ -20,6 +27,19 @@ abbrev pub HaveCome : Stage → List Symbol → List Symbol → Type 0
 HaveCome stage asked found =
     (xs : List Symbol) → StandsAt xs stage → (s : Symbol) → Contains found s ↔ (Contains asked s × Continues Any (xs ++ s ∷ []))
 
--- one symbol more was asked
-abbrev pub AsksOne : Stage → Symbol → List Symbol → List Symbol → Type 0
-AsksOne stage symbol old new = (asked : List Symbol) → HaveCome stage asked old → HaveCome stage (asked ++ symbol ∷ []) new
+-- these symbols were asked more
+abbrev pub Asks : Stage → List Symbol → List Symbol → List Symbol → Type 0
+Asks stage symbols old new = (asked : List Symbol) → HaveCome stage asked old → HaveCome stage (asked ++ symbols) new
+
+-- the symbols that a record of the kind may have, unless it ends a group or the transmission
+abbrev pub inner_symbols : Kind → List Symbol
+inner_symbols kinds.Grt = []
+inner_symbols kinds.Trl = []
+inner_symbols kinds.Grh =
+    Plain kinds.Grh ∷ Grh types.Agreement ∷ Grh types.NewWork ∷ Grh types.RevisedWork ∷ Grh types.Acknowledgement ∷ []
+inner_symbols kinds.Ipa = Plain kinds.Ipa ∷ Ipa roles.Assignor ∷ Ipa roles.Acquirer ∷ []
+inner_symbols this_kind = Plain this_kind ∷ []
+
+-- each symbol, in the order in which a transmission has them
+abbrev pub all_symbols : List Symbol
+all_symbols = flat_map inner_symbols all_kinds ++ Plain kinds.Grt ∷ Plain kinds.Trl ∷ []

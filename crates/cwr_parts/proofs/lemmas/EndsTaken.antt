@@ -45,21 +45,21 @@ pub some_open : {W : Type 0} (held : Option (SplitOutput W)) (out : SplitOutput 
 some_open held out zero e none = absurd (let f : Some out ≡ None = sym e ∙ none refl in cc)
 some_open held out (suc n) e none = omega arith
 
-may_end_open : {O W : Type 0} (told : Told O) (contents : W → Option (List ℕ)) (failures : W → ℕ) (o : RecordValue)
+may_end_open : {O W : Type 0} (told : Told O W) (o : RecordValue)
     (closed : List GroupValue) (h : RecordValue) (cur : List (List RecordValue)) (v : TransmissionValue)
     (whole : List TransmissionValue) (rest : List Item)
-    (s : Splitting W) (now : O) → HoldsStage told contents failures (Inside o closed h cur) s now
+    (s : Splitting W) (now : O) → HoldsStage told (Inside o closed h cur) s now
     → RemainsBetween s.limits s.size v whole o (with_group closed h cur) rest → (held : Option (SplitOutput W))
-    → s.output ≡ held → MayEndGroup contents held
-may_end_open told contents failures o closed h cur v whole rest s now had p None e = tt
-may_end_open {W = W} told contents failures o closed h cur v whole rest s now had p (Some out) e =
+    → s.output ≡ held → MayEndGroup told.contents held
+may_end_open told o closed h cur v whole rest s now had p None e = tt
+may_end_open {W = W} told o closed h cur v whole rest s now had p (Some out) e =
     let some : 0 < total_in closed + length cur = some_open s.output out (total_in closed + length cur) e had.none in
     let groups : List GroupValue = with_group closed h cur in
     let there : 0 < length groups = some_closed groups (omega (arith, some, total_with closed h cur)) in
     let right = closed_right s.limits s.size v whole o groups rest p there in
     let items : List Item = open_items (Inside o closed h cur) in
     let output =
-    subst (λ (x : Option (SplitOutput W)). HoldsOutput contents failures s.limits (told.texts now) items x) e had.output in
+    subst (λ (x : Option (SplitOutput W)). HoldsOutput told.contents told.writer_failures s.limits (told.texts now) items x) e had.output in
     let ended : items ++ end_of out ≡ Opened o ∷ flat_map group_items groups =
     ap (λ (x : Option (SplitOutput W)). items ++ open_end x) (sym e) ∙ with_end o closed h cur s.output had.group
     ∙ items_closed o groups there in (
@@ -79,51 +79,51 @@ may_end_open {W = W} told contents failures o closed h cur v whole rest s now ha
       },
     )
 
-pub may_end_group : {O W : Type 0} (told : Told O) (contents : W → Option (List ℕ)) (failures : W → ℕ) (r : RecordValue)
-    (s : Splitting W) (now : O) → MayTake told contents failures (GroupClosed r) s now → MayEndGroup contents s.output
-may_end_group told contents failures r s now may =
+pub may_end_group : {O W : Type 0} (told : Told O W) (r : RecordValue)
+    (s : Splitting W) (now : O) → MayTake told (GroupClosed r) s now → MayEndGroup told.contents s.output
+may_end_group told r s now may =
     let at = at_item s.limits s.size may.value may.whole may.stage (GroupClosed r) may.rest may.remains in
-    let had = subst (λ (q : SplitStage). HoldsStage told contents failures q s now) at.4 may.holds in
-    may_end_open told contents failures at.0 at.1 at.2 at.3 may.value may.whole may.rest s now had at.5 s.output refl
+    let had = subst (λ (q : SplitStage). HoldsStage told q s now) at.4 may.holds in
+    may_end_open told at.0 at.1 at.2 at.3 may.value may.whole may.rest s now had at.5 s.output refl
 
 -- the output without its open group
-outside : {O W : Type 0} (told : Told O) (contents : W → Option (List ℕ)) (failures : W → ℕ) (limits : LimitValues)
-    (had : Option (List (List ℕ))) (items : List Item) (a b : Option (SplitOutput W)) → IsOutsideOpen contents failures a b
-    → HoldsOutput contents failures limits had items a → HoldsOutput contents failures limits had (items ++ open_end a) b
+outside : {O W : Type 0} (told : Told O W) (limits : LimitValues)
+    (had : Option (List (List ℕ))) (items : List Item) (a b : Option (SplitOutput W)) → IsOutsideOpen told.contents told.writer_failures a b
+    → HoldsOutput told.contents told.writer_failures limits had items a → HoldsOutput told.contents told.writer_failures limits had (items ++ open_end a) b
     × (open_count b ≡ open_count a) × (has_open_group b ≡ false) × (a ≡ None → b ≡ None)
-outside told contents failures limits had items None None h k = (append-nil items ∙ k, refl, refl, λ e. refl)
-outside told contents failures limits had items (Some x) (Some y) h k =
-    (ended_output contents failures limits had items x y k h, h.counted, h.group, λ e. absurd (cc e))
-outside told contents failures limits had items None (Some y) h k = absurd h
-outside told contents failures limits had items (Some x) None h k = absurd h
+outside told limits had items None None h k = (append-nil items ∙ k, refl, refl, λ e. refl)
+outside told limits had items (Some x) (Some y) h k =
+    (ended_output told.contents told.writer_failures limits had items x y k h, h.counted, h.group, λ e. absurd (cc e))
+outside told limits had items None (Some y) h k = absurd h
+outside told limits had items (Some x) None h k = absurd h
 
-pub foot_taken : {O W : Type 0} (told : Told O) (contents : W → Option (List ℕ)) (failures : W → ℕ) (r : RecordValue)
-    (u : Unit {0}) (s new : Splitting W) (now : O) → EndsGroup contents failures (Ok u) s new
-    → (may : MayTake told contents failures (GroupClosed r) s now) → IsTaken told contents failures
+pub foot_taken : {O W : Type 0} (told : Told O W) (r : RecordValue)
+    (u : Unit {0}) (s new : Splitting W) (now : O) → EndsGroup told.contents told.writer_failures (Ok u) s new
+    → (may : MayTake told (GroupClosed r) s now) → IsTaken told
     (split_stage_after s.size may.stage (GroupClosed r)) (parts_at s.size may.stage (GroupClosed r)) (GroupClosed r) s new now
     now
-foot_taken {W = W} told contents failures r u s new now done may =
+foot_taken {W = W} told r u s new now done may =
     let at = at_item s.limits s.size may.value may.whole may.stage (GroupClosed r) may.rest may.remains in
     let o : RecordValue = at.0 in
     let closed : List GroupValue = at.1 in
     let h : RecordValue = at.2 in
     let cur : List (List RecordValue) = at.3 in
-    let had = subst (λ (q : SplitStage). HoldsStage told contents failures q s now) at.4 may.holds in
+    let had = subst (λ (q : SplitStage). HoldsStage told q s now) at.4 may.holds in
     let out : Option (SplitOutput W) = new.output in
     let left =
-    outside told contents failures s.limits (told.texts now) (open_items (Inside o closed h cur)) s.output out done.1
+    outside told s.limits (told.texts now) (open_items (Inside o closed h cur)) s.output out done.1
     had.output in
     let total : total_in (with_group closed h cur) ≡ total_in closed + length cur = total_with closed h cur in
-    subst (λ (q : SplitStage). IsTaken told contents failures (split_stage_after s.size q (GroupClosed r))
+    subst (λ (q : SplitStage). IsTaken told (split_stage_after s.size q (GroupClosed r))
     (parts_at s.size q (GroupClosed r)) (GroupClosed r) s new now now) (sym at.4)
     (subst
-    (λ (m : Splitting W). IsTaken told contents failures (Between o (with_group closed h cur)) [] (GroupClosed r) s m now now)
+    (λ (m : Splitting W). IsTaken told (Between o (with_group closed h cur)) [] (GroupClosed r) s m now now)
     (sym done.0) (record {
       holds = record {
         opening = had.opening;
         head = tt;
         output =
-            subst (λ (l : List Item). HoldsOutput contents failures s.limits (told.texts now) l out)
+            subst (λ (l : List Item). HoldsOutput told.contents told.writer_failures s.limits (told.texts now) l out)
             (with_end o closed h cur s.output had.group) left.0;
         count = omega (arith, left.1, had.count, total);
         group = left.2;
@@ -143,13 +143,13 @@ foot_taken {W = W} told contents failures r u s new now done may =
 no_end : {W : Type 0} (out : SplitOutput W) → out.in_group ≡ false → end_of out ≡ []
 no_end out e = ap (λ (b : Bool). if b then blank_end ∷ [] else []) e
 
-may_finish_open : {O W : Type 0} (told : Told O) (contents : W → Option (List ℕ)) (failures : W → ℕ) (o : RecordValue)
+may_finish_open : {O W : Type 0} (told : Told O W) (o : RecordValue)
     (closed : List GroupValue) (v : TransmissionValue) (whole : List TransmissionValue) (rest : List Item) (s : Splitting W)
     (now : O)
-    → HoldsStage told contents failures (Between o closed) s now → RemainsBetween s.limits s.size v whole o closed rest
+    → HoldsStage told (Between o closed) s now → RemainsBetween s.limits s.size v whole o closed rest
     → (held : Option (SplitOutput W)) → s.output ≡ held → MayEndHeld s.limits (open_items (Between o closed)) held
-may_finish_open told contents failures o closed v whole rest s now had p None e = tt
-may_finish_open told contents failures o closed v whole rest s now had p (Some out) e =
+may_finish_open told o closed v whole rest s now had p None e = tt
+may_finish_open told o closed v whole rest s now had p (Some out) e =
     let there : 0 < length closed = some_closed closed (some_open s.output out (total_in closed) e had.none) in
     let right = closed_right s.limits s.size v whole o closed rest p there in
     let items : List Item = open_items (Between o closed) in
@@ -163,22 +163,22 @@ may_finish_open told contents failures o closed v whole rest s now had p (Some o
       items_are = ap (λ (l : List Item). l ++ Ended ∷ []) (sym ended);
     }
 
-pub may_finish : {O W : Type 0} (told : Told O) (contents : W → Option (List ℕ)) (failures : W → ℕ) (s : Splitting W) (now : O)
-    → MayTake told contents failures Ended s now → MayFinish told contents failures s now
-may_finish told contents failures s now may =
+pub may_finish : {O W : Type 0} (told : Told O W) (s : Splitting W) (now : O)
+    → MayTake told Ended s now → MayFinish told s now
+may_finish told s now may =
     let at = at_item s.limits s.size may.value may.whole may.stage Ended may.rest may.remains in
-    let had = subst (λ (q : SplitStage). HoldsStage told contents failures q s now) at.2 may.holds in
+    let had = subst (λ (q : SplitStage). HoldsStage told q s now) at.2 may.holds in
     record {
       items = open_items (Between at.0 at.1);
       held = had.output;
-      ends = may_finish_open told contents failures at.0 at.1 may.value may.whole (Ended ∷ may.rest) s now had at.3 s.output refl;
+      ends = may_finish_open told at.0 at.1 may.value may.whole (Ended ∷ may.rest) s now had at.3 s.output refl;
     }
 
-pub room_to_finish : {O W : Type 0} (told : Told O) (contents : W → Option (List ℕ)) (failures : W → ℕ) (s : Splitting W)
-    (now : O) → MayTake told contents failures Ended s now → s.report.outputs < 199999999
-room_to_finish told contents failures s now may =
+pub room_to_finish : {O W : Type 0} (told : Told O W) (s : Splitting W)
+    (now : O) → MayTake told Ended s now → s.report.outputs < 199999999
+room_to_finish told s now may =
     let at = at_item s.limits s.size may.value may.whole may.stage Ended may.rest may.remains in
-    let had = subst (λ (q : SplitStage). HoldsStage told contents failures q s now) at.2 may.holds in
+    let had = subst (λ (q : SplitStage). HoldsStage told q s now) at.2 may.holds in
     let counted : s.report.outputs * s.size + total_in at.1 ≡ s.report.transactions = had.counted in
     omega (arith, no_fewer s.report.outputs s.size may.some, counted, may.room)
 
@@ -191,15 +191,15 @@ some_last o [] some = absurd (omega (arith, some))
 some_last o (g ∷ gs) some = refl
 
 -- what was handed over at the end
-last_handed_over : {O W : Type 0} (told : Told O) (contents : W → Option (List ℕ)) (failures : W → ℕ) (o : RecordValue)
+last_handed_over : {O W : Type 0} (told : Told O W) (o : RecordValue)
     (closed : List GroupValue) (v : TransmissionValue) (whole : List TransmissionValue) (rest : List Item) (s : Splitting W)
     (now after : O)
-    → HoldsStage told contents failures (Between o closed) s now → RemainsBetween s.limits s.size v whole o closed rest
-    → (held : Option (SplitOutput W)) → s.output ≡ held → IsHandedOver told contents failures s.limits held now after
+    → HoldsStage told (Between o closed) s now → RemainsBetween s.limits s.size v whole o closed rest
+    → (held : Option (SplitOutput W)) → s.output ≡ held → IsHandedOver told s.limits held now after
     → AddsTexts (told.texts now) (told.texts after) (map canonical_text (last_of o closed)) × CountsNone told now after
     × ((report_after s.report held).outputs ≡ s.report.outputs + length (last_of o closed))
     × ((report_after s.report held).transactions ≡ s.report.transactions)
-last_handed_over told contents failures o closed v whole rest s now after had p None e quiet =
+last_handed_over told o closed v whole rest s now after had p None e quiet =
     let none : closed ≡ [] = none_closed closed p.part (sym had.count ∙ ap open_count e) in
     subst (λ (c : List GroupValue). AddsTexts (told.texts now) (told.texts after) (map canonical_text (last_of o c))
     × CountsNone told now after × (s.report.outputs ≡ s.report.outputs + length (last_of o c))
@@ -209,12 +209,12 @@ last_handed_over told contents failures o closed v whole rest s now after had p 
       omega arith,
       refl,
     )
-last_handed_over {W = W} told contents failures o closed v whole rest s now after had p (Some out) e taken =
+last_handed_over {W = W} told o closed v whole rest s now after had p (Some out) e taken =
     let there : 0 < length closed = some_closed closed (some_open s.output out (total_in closed) e had.none) in
     let right = closed_right s.limits s.size v whole o closed rest p there in
     let items : List Item = open_items (Between o closed) in
     let output =
-    subst (λ (x : Option (SplitOutput W)). HoldsOutput contents failures s.limits (told.texts now) items x) e had.output in
+    subst (λ (x : Option (SplitOutput W)). HoldsOutput told.contents told.writer_failures s.limits (told.texts now) items x) e had.output in
     let all : value_items (value_of o closed) ≡ items ++ end_of out ++ Ended ∷ [] =
     ap (λ (l : List Item). l ++ Ended ∷ []) (sym (items_closed o closed there) ∙ sym (append-nil items)
     ∙ ap (λ (l : List Item). items ++ l) (sym (no_end out (sym (ap has_open_group e) ∙ had.group)))) in
@@ -223,19 +223,19 @@ last_handed_over {W = W} told contents failures o closed v whole rest s now afte
     × (s.report.transactions ≡ s.report.transactions)) (sym (some_last o closed there))
     (taken.1 items (value_of o closed) output right.0 all, taken.0, omega arith, refl)
 
-pub end_taken : {O W : Type 0} (told : Told O) (contents : W → Option (List ℕ)) (failures : W → ℕ) (u : Unit {0})
-    (s new : Splitting W) (now after : O) → FinishesOutput told contents failures (Ok u) s new now after
-    → (may : MayTake told contents failures Ended s now) → IsTaken told contents failures
+pub end_taken : {O W : Type 0} (told : Told O W) (u : Unit {0})
+    (s new : Splitting W) (now after : O) → FinishesOutput told (Ok u) s new now after
+    → (may : MayTake told Ended s now) → IsTaken told
     (split_stage_after s.size may.stage Ended) (parts_at s.size may.stage Ended) Ended s new now after
-end_taken {W = W} told contents failures u s new now after done may =
+end_taken {W = W} told u s new now after done may =
     let at = at_item s.limits s.size may.value may.whole may.stage Ended may.rest may.remains in
-    let had = subst (λ (q : SplitStage). HoldsStage told contents failures q s now) at.2 may.holds in
+    let had = subst (λ (q : SplitStage). HoldsStage told q s now) at.2 may.holds in
     let last =
-    last_handed_over told contents failures at.0 at.1 may.value may.whole (Ended ∷ may.rest) s now after had at.3 s.output
+    last_handed_over told at.0 at.1 may.value may.whole (Ended ∷ may.rest) s now after had at.3 s.output
     refl done.1 in
-    subst (λ (q : SplitStage). IsTaken told contents failures (split_stage_after s.size q Ended) (parts_at s.size q Ended) Ended s
+    subst (λ (q : SplitStage). IsTaken told (split_stage_after s.size q Ended) (parts_at s.size q Ended) Ended s
     new now after) (sym at.2)
-    (subst (λ (m : Splitting W). IsTaken told contents failures Over (last_of at.0 at.1) Ended s m now after) (sym done.0)
+    (subst (λ (m : Splitting W). IsTaken told Over (last_of at.0 at.1) Ended s m now after) (sym done.0)
     (record {
       holds = record { opening = tt; head = tt; output = refl; count = refl; group = refl; none = λ e. refl; counted = tt };
       texts = last.0;

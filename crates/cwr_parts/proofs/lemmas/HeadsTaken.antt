@@ -12,15 +12,15 @@ use Rattle.cwr_parts.proofs.lemmas.StagesOfItems.{adds_none, at_item}
 
 -- ---- HDR
 
-pub opening_taken : {O W : Type 0} (told : Told O) (contents : W → Option (List ℕ)) (failures : W → ℕ) (r : RecordValue)
-    (s : Splitting W) (now : O) (may : MayTake told contents failures (Opened r) s now)
-    → IsTaken told contents failures (split_stage_after s.size may.stage (Opened r)) (parts_at s.size may.stage (Opened r))
+pub opening_taken : {O W : Type 0} (told : Told O W) (r : RecordValue)
+    (s : Splitting W) (now : O) (may : MayTake told (Opened r) s now)
+    → IsTaken told (split_stage_after s.size may.stage (Opened r)) (parts_at s.size may.stage (Opened r))
     (Opened r) s (record s { opening = Some (Opened r) }) now now
-opening_taken {W = W} told contents failures r s now may =
+opening_taken {W = W} told r s now may =
     let at : may.stage ≡ Start = at_item s.limits s.size may.value may.whole may.stage (Opened r) may.rest may.remains in
-    let had = subst (λ (p : SplitStage). HoldsStage told contents failures p s now) at may.holds in
+    let had = subst (λ (p : SplitStage). HoldsStage told p s now) at may.holds in
     let next : Splitting W = record s { opening = Some (Opened r) } in
-    subst (λ (p : SplitStage). IsTaken told contents failures (split_stage_after s.size p (Opened r))
+    subst (λ (p : SplitStage). IsTaken told (split_stage_after s.size p (Opened r))
     (parts_at s.size p (Opened r)) (Opened r) s next now now) (sym at) (record {
       holds =
           record {
@@ -47,23 +47,23 @@ same_items : (o : RecordValue) (closed : List GroupValue) (h : RecordValue)
 same_items o [] h = refl
 same_items o (g ∷ gs) h = refl
 
-pub head_taken : {O W : Type 0} (told : Told O) (contents : W → Option (List ℕ)) (failures : W → ℕ) (r : RecordValue)
-    (s : Splitting W) (now : O) (may : MayTake told contents failures (GroupOpened r) s now)
-    → IsTaken told contents failures (split_stage_after s.size may.stage (GroupOpened r))
+pub head_taken : {O W : Type 0} (told : Told O W) (r : RecordValue)
+    (s : Splitting W) (now : O) (may : MayTake told (GroupOpened r) s now)
+    → IsTaken told (split_stage_after s.size may.stage (GroupOpened r))
     (parts_at s.size may.stage (GroupOpened r)) (GroupOpened r) s (record s { head = Some (GroupOpened r) }) now now
-head_taken {W = W} told contents failures r s now may =
+head_taken {W = W} told r s now may =
     let at = at_item s.limits s.size may.value may.whole may.stage (GroupOpened r) may.rest may.remains in
     let o : RecordValue = at.0 in
     let closed : List GroupValue = at.1 in
-    let had = subst (λ (p : SplitStage). HoldsStage told contents failures p s now) at.2 may.holds in
+    let had = subst (λ (p : SplitStage). HoldsStage told p s now) at.2 may.holds in
     let next : Splitting W = record s { head = Some (GroupOpened r) } in
-    subst (λ (p : SplitStage). IsTaken told contents failures (split_stage_after s.size p (GroupOpened r))
+    subst (λ (p : SplitStage). IsTaken told (split_stage_after s.size p (GroupOpened r))
     (parts_at s.size p (GroupOpened r)) (GroupOpened r) s next now now) (sym at.2) (record {
       holds = record {
         opening = had.opening;
         head = refl;
         output =
-            subst (λ (l : List Item). HoldsOutput contents failures s.limits (told.texts now) l s.output) (same_items o closed r)
+            subst (λ (l : List Item). HoldsOutput told.contents told.writer_failures s.limits (told.texts now) l s.output) (same_items o closed r)
             had.output;
         count = omega (arith, had.count);
         group = had.group;

@@ -60,15 +60,15 @@ known start after (Some ts) new text empty h added = known_some start after ts n
         subst (AddsText (Some ts) new) same added
 
 -- they have the text
-pub handed_over : {O W : Type 0} (told : Told O) (contents : W → Option (List ℕ)) (failures : W → ℕ) (out : SplitOutput W)
-    (writer : W) (n : ℕ) (old new : O) → FinishesWriting contents failures out.encoder writer (Ok n)
+pub handed_over : {O W : Type 0} (told : Told O W) (out : SplitOutput W)
+    (writer : W) (n : ℕ) (old new : O) → FinishesWriting told.contents told.writer_failures out.encoder writer (Ok n)
     → told.failures new ≡ told.failures old → told.given_up new ≡ told.given_up old
-    → IfSome (contents writer) (AddsText (told.texts old) (told.texts new)) → TakesOutput told contents out old new
-handed_over told contents failures out writer n old new finishes failed given_up added = record {
+    → IfSome (told.contents writer) (AddsText (told.texts old) (told.texts new)) → TakesOutput told out old new
+handed_over told out writer n old new finishes failed given_up added = record {
   counts = record { failures = failed; given_up = given_up };
   text = λ start items w encodes whole e empty.
       let f = finishes.1 start (records_in items) encodes in
       let same : f.0 ≡ w = one_value f.0 w f.1.whole whole (f.1.records_are ∙ sym (all_records w items e)) in
       subst (λ (v : TransmissionValue). AddsText (told.texts old) (told.texts new) (canonical_text v)) same
-      (known start (contents writer) (told.texts old) (told.texts new) (canonical_text f.0) empty f.2.appended added);
+      (known start (told.contents writer) (told.texts old) (told.texts new) (canonical_text f.0) empty f.2.appended added);
 }

@@ -24,37 +24,37 @@ pub none_there : {A : Type 0} (o : Option A) → false ≡ is_some o → o ≡ N
 none_there None e = refl
 none_there (Some x) e = absurd (cc)
 
-pub already_open : {O W : Type 0} (told : Told O) (contents : W → Option (List ℕ)) (failures : W → ℕ) (s : Splitting W)
-    (before : O) (out : SplitOutput W) → s.output ≡ Some out → IsOpen told contents failures s s before before
-already_open told contents failures s before out e = record {
+pub already_open : {O W : Type 0} (told : Told O W) (s : Splitting W)
+    (before : O) (out : SplitOutput W) → s.output ≡ Some out → IsOpen told s s before before
+already_open told s before out e = record {
   out = out;
   now = ap (holding s) e;
   quiet = record { texts = refl; failures = refl; given_up = refl };
-  held = λ items h. subst (HoldsOutput contents failures s.limits (told.texts before) items) e h;
+  held = λ items h. subst (HoldsOutput told.contents told.writer_failures s.limits (told.texts before) items) e h;
   counted = sym (ap open_count e);
   group = sym (ap has_open_group e);
 }
 
-pub newly_open : {O W : Type 0} (told : Told O) (contents : W → Option (List ℕ)) (failures : W → ℕ) (s : Splitting W)
+pub newly_open : {O W : Type 0} (told : Told O W) (s : Splitting W)
     (before after : O) (writer : W) (out : SplitOutput W) → s.output ≡ None
-    → IfSome (told.texts before) (λ _. contents writer ≡ Some []) → failures writer ≡ 0 → IsQuiet told before after
-    → Encodes contents (contents writer) [] out.encoder → encoder_limits out.encoder ≡ s.limits
+    → IfSome (told.texts before) (λ _. told.contents writer ≡ Some []) → told.writer_failures writer ≡ 0 → IsQuiet told before after
+    → Encodes told.contents (told.contents writer) [] out.encoder → encoder_limits out.encoder ≡ s.limits
     → is_stopped out.encoder ≡ false
     → target_of out.encoder ≡ writer → out.transactions ≡ 0 → out.in_group ≡ false
-    → IsOpen told contents failures s (holding s (Some out)) before after
-newly_open told contents failures s before after writer out e empty quiet same encodes limits unfailed target none outside =
+    → IsOpen told s (holding s (Some out)) before after
+newly_open told s before after writer out e empty quiet same encodes limits unfailed target none outside =
     record {
       out = out;
       now = refl;
       quiet = same;
       held = λ items h.
-          let no_items : items ≡ [] = subst (HoldsOutput contents failures s.limits (told.texts before) items) e h in
+          let no_items : items ≡ [] = subst (HoldsOutput told.contents told.writer_failures s.limits (told.texts before) items) e h in
           record {
-            start = contents writer;
+            start = told.contents writer;
             empty = empty;
-            encodes = subst (λ (l : List Item). Encodes contents (contents writer) (records_in l) out.encoder) (sym no_items) encodes;
+            encodes = subst (λ (l : List Item). Encodes told.contents (told.contents writer) (records_in l) out.encoder) (sym no_items) encodes;
             unfailed = unfailed;
-            quiet = ap failures target ∙ quiet;
+            quiet = ap told.writer_failures target ∙ quiet;
             limits_are = limits;
           };
       counted = none ∙ sym (ap open_count e);
@@ -102,19 +102,19 @@ may_end_held contents failures limits had items (Some out) h ends = (
 )
 
 -- its group may end
-pub may_end_group : {O W : Type 0} (told : Told O) (contents : W → Option (List ℕ)) (failures : W → ℕ) (s : Splitting W)
-    (before : O) → MayFinish told contents failures s before → MayEndGroup contents s.output
-may_end_group told contents failures s before may =
-    may_end_held contents failures s.limits (told.texts before) may.items s.output may.held may.ends
+pub may_end_group : {O W : Type 0} (told : Told O W) (s : Splitting W)
+    (before : O) → MayFinish told s before → MayEndGroup told.contents s.output
+may_end_group told s before may =
+    may_end_held told.contents told.writer_failures s.limits (told.texts before) may.items s.output may.held may.ends
 
 -- and it may be handed over
-pub may_hand_over : {O W : Type 0} (told : Told O) (contents : W → Option (List ℕ)) (failures : W → ℕ) (s mid : Splitting W)
-    (before : O) (out : SplitOutput W) → MayFinish told contents failures s before
-    → IsOutsideOpen contents failures s.output mid.output → mid.output ≡ Some out → MayHandOver contents out
-may_hand_over told contents failures s mid before out may outside e =
-    let was = was_open contents failures s.output mid.output out outside e in
-    let held = subst (HoldsOutput contents failures s.limits (told.texts before) may.items) was.1 may.held in
-    let ended = ended_output contents failures s.limits (told.texts before) may.items was.0 out held was.2 in
+pub may_hand_over : {O W : Type 0} (told : Told O W) (s mid : Splitting W)
+    (before : O) (out : SplitOutput W) → MayFinish told s before
+    → IsOutsideOpen told.contents told.writer_failures s.output mid.output → mid.output ≡ Some out → MayHandOver told.contents out
+may_hand_over told s mid before out may outside e =
+    let was = was_open told.contents told.writer_failures s.output mid.output out outside e in
+    let held = subst (HoldsOutput told.contents told.writer_failures s.limits (told.texts before) may.items) was.1 may.held in
+    let ended = ended_output told.contents told.writer_failures s.limits (told.texts before) may.items was.0 out held was.2 in
     record {
       start = ended.start;
       items = may.items ++ end_of was.0;
@@ -126,25 +126,25 @@ may_hand_over told contents failures s mid before out may outside e =
 
 -- ---- it is handed over
 
-pub finished : {O W : Type 0} (told : Told O) (contents : W → Option (List ℕ)) (failures : W → ℕ) (s mid : Splitting W)
+pub finished : {O W : Type 0} (told : Told O W) (s mid : Splitting W)
     (before after : O) (out : SplitOutput W) (left : Option (SplitOutput W)) → mid ≡ holding s mid.output
-    → IsOutsideOpen contents failures s.output mid.output → mid.output ≡ Some out → left ≡ None
-    → TakesOutput told contents out before after
-    → FinishesOutput told contents failures (Ok tt) s (record mid {
+    → IsOutsideOpen told.contents told.writer_failures s.output mid.output → mid.output ≡ Some out → left ≡ None
+    → TakesOutput told out before after
+    → FinishesOutput told (Ok tt) s (record mid {
       output = left;
       report = record { outputs = mid.report.outputs + 1; transactions = mid.report.transactions };
     }) before after
-finished {W = W} told contents failures s mid before after out left same outside e gone taken =
-    let was = was_open contents failures s.output mid.output out outside e in
+finished {W = W} told s mid before after out left same outside e gone taken =
+    let was = was_open told.contents told.writer_failures s.output mid.output out outside e in
     let ended : Splitting W → Option (SplitOutput W) → Splitting W =
     λ m o. record m
     { output = o; report = record { outputs = m.report.outputs + 1; transactions = m.report.transactions } } in (
       ap (ended mid) gone ∙ ap (λ (m : Splitting W). ended m None) same
           ∙ ap (λ (o : Option (SplitOutput W)). record s { output = None; report = report_after s.report o }) (sym was.1),
-      subst (λ (o : Option (SplitOutput W)). IsHandedOver told contents failures s.limits o before after) (sym was.1) (
+      subst (λ (o : Option (SplitOutput W)). IsHandedOver told s.limits o before after) (sym was.1) (
         taken.counts,
         λ items w h whole w_items.
-            let k = ended_output contents failures s.limits (told.texts before) items was.0 out h was.2 in
+            let k = ended_output told.contents told.writer_failures s.limits (told.texts before) items was.0 out h was.2 in
             taken.text k.start (items ++ end_of was.0) w k.encodes whole w_items k.empty,
       ),
     )

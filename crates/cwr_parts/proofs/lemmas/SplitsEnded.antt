@@ -40,11 +40,10 @@ use Rattle.cwr_parts.proofs.lemmas.SplittingOn.{Begun, IsSplitting, begun_so}
 -- ---- the full runs
 
 -- before the end the parts that are whole are the runs that are filled
-full_runs : {O W : Type 0} (limits : Limits) (n : ℕ) (d : Standing) (before now : Option (List ℕ)) (told : Told O)
-    (contents : W → Option (List ℕ)) (failures : W → ℕ) (count : ℕ) (begin : O) (s : Splitting W) (o : O) → 0 < n
-    → (h : IsSplitting limits n d before now told contents failures count begin s o) → stage_in n Start h.given ≢ Over
+full_runs : {O W : Type 0} (limits : Limits) (n : ℕ) (d : Standing) (before now : Option (List ℕ)) (told : Told O W) (count : ℕ) (begin : O) (s : Splitting W) (o : O) → 0 < n
+    → (h : IsSplitting limits n d before now told count begin s o) → stage_in n Start h.given ≢ Over
     → HasFullRuns limits n h.given (told.texts begin) (told.texts o)
-full_runs limits n d before now told contents failures count begin s o some h before_end =
+full_runs limits n d before now told count begin s o some h before_end =
     let stage : SplitStage = stage_in n Start h.given in
     let parts : List TransmissionValue = parts_in n Start h.given in
     let first =
@@ -72,11 +71,10 @@ full_runs limits n d before now told contents failures count begin s o some h be
 -- ---- the ends
 
 -- all was read
-pub all_split : {O W : Type 0} (limits : Limits) (n : ℕ) (d : Standing) (before left after : Option (List ℕ)) (told : Told O)
-    (contents : W → Option (List ℕ)) (failures : W → ℕ) (count : ℕ) (begin : O) (s : Splitting W) (o : O) → 0 < n
-    → (h : IsSplitting limits n d before left told contents failures count begin s o) → HasReadAll limits before after h.given
+pub all_split : {O W : Type 0} (limits : Limits) (n : ℕ) (d : Standing) (before left after : Option (List ℕ)) (told : Told O W) (count : ℕ) (begin : O) (s : Splitting W) (o : O) → 0 < n
+    → (h : IsSplitting limits n d before left told count begin s o) → HasReadAll limits before after h.given
     → SplitsAll limits n before after (told.texts begin) (told.texts o) s.report
-all_split limits n d before left after told contents failures count begin s o some h read =
+all_split limits n d before left after told count begin s o some h read =
     let all = all_items limits before after h.given read in
     let taken =
     all_taken limits before after h.given all.value read (λ w whole are. items_once all.value w (sym all.given_are ∙ are)) in
@@ -107,16 +105,16 @@ not_ended state fault B C h e =
 
 -- the reading stopped
 pub reading_stopped : {O W : Type 0} (limits : Limits) (n : ℕ) (d : Standing) (before left after : Option (List ℕ))
-    (told : Told O) (contents : W → Option (List ℕ)) (failures : W → ℕ) (count : ℕ) (begin : O) (s : Splitting W) (o : O)
+    (told : Told O W) (count : ℕ) (begin : O) (s : Splitting W) (o : O)
     (fault : ReadFault) (B C : Type 0) → 0 < n
-    → (h : IsSplitting limits n d before left told contents failures count begin s o)
+    → (h : IsSplitting limits n d before left told count begin s o)
     → IfSome (again d.state) (λ x. (Some (Err fault) ≡ answer_of x) × B × C) → StopsAfter limits fault before after h.given
     → Splits limits n before after (told.texts begin) (told.texts o) (Err (reading_fault fault))
-reading_stopped limits n d before left after told contents failures count begin s o fault B C some h same stop = by fault stop
+reading_stopped limits n d before left after told count begin s o fault B C some h same stop = by fault stop
   where
     runs : HasFullRuns limits n h.given (told.texts begin) (told.texts o)
     runs =
-        full_runs limits n d before left told contents failures count begin s o some h
+        full_runs limits n d before left told count begin s o some h
         (λ e. not_ended d.state fault B C same (h.over e))
 
     by : (f : ReadFault) → StopsAfter limits f before after h.given
@@ -128,12 +126,12 @@ reading_stopped limits n d before left after told contents failures count begin 
 
 -- an output failed
 pub output_stopped : {O W : Type 0} (limits : Limits) (n : ℕ) (d new : Standing) (before left after : Option (List ℕ))
-    (told : Told O) (contents : W → Option (List ℕ)) (failures : W → ℕ) (count : ℕ) (begin : O) (s : Splitting W) (o later : O)
+    (told : Told O W) (count : ℕ) (begin : O) (s : Splitting W) (o later : O)
     (item : Item) (fault : ToolFault) (pending : ℕ) → 0 < n
-    → (h : IsSplitting limits n d before left told contents failures count begin s o)
+    → (h : IsSplitting limits n d before left told count begin s o)
     → IsReadingOn limits new before after (h.given ++ item ∷ []) → FailsWith told fault pending o later
     → Splits limits n before after (told.texts begin) (told.texts later) (Err fault)
-output_stopped limits n d new before left after told contents failures count begin s o later item fault pending some h reading f =
+output_stopped limits n d new before left after told count begin s o later item fault pending some h reading f =
     by fault f.is
   where
     first : Begun limits h.given (item ∷ [])
@@ -141,7 +139,7 @@ output_stopped limits n d new before left after told contents failures count beg
 
     runs : HasFullRuns limits n h.given (told.texts begin) (told.texts later)
     runs = subst (λ (t : Option (List (List ℕ))). HasFullRuns limits n h.given (told.texts begin) t) (sym f.texts)
-        (full_runs limits n d before left told contents failures count begin s o some h
+        (full_runs limits n d before left told count begin s o some h
         (more_left limits n first.value (parts_in n Start h.given) (stage_in n Start h.given) item first.more
         (remains_after limits n first.value h.given (item ∷ first.more) some first.whole first.within first.split)))
 
@@ -155,11 +153,10 @@ output_stopped limits n d new before left after told contents failures count beg
     by (tool_faults.Limit limit) k = absurd k
 
 -- once all is read no output is open
-pub no_output_left : {O W : Type 0} (limits : Limits) (n : ℕ) (d : Standing) (before left after : Option (List ℕ)) (told : Told O)
-    (contents : W → Option (List ℕ)) (failures : W → ℕ) (count : ℕ) (begin : O) (s : Splitting W) (o : O) → 0 < n
-    → (h : IsSplitting limits n d before left told contents failures count begin s o) → HasReadAll limits before after h.given
+pub no_output_left : {O W : Type 0} (limits : Limits) (n : ℕ) (d : Standing) (before left after : Option (List ℕ)) (told : Told O W) (count : ℕ) (begin : O) (s : Splitting W) (o : O) → 0 < n
+    → (h : IsSplitting limits n d before left told count begin s o) → HasReadAll limits before after h.given
     → s.output ≡ None
-no_output_left limits n d before left after told contents failures count begin s o some h read =
+no_output_left limits n d before left after told count begin s o some h read =
     let all = all_items limits before after h.given read in
     let taken =
     all_taken limits before after h.given all.value read (λ w whole are. items_once all.value w (sym all.given_are ∙ are)) in

@@ -30,27 +30,25 @@ use Rattle.cwr_parts.proofs.lemmas.StagesPassed.{adds_more, adds_nothing, over_a
 -- ---- what was handed out so far
 
 -- so many items were handed out, and the split holds what it holds after them
-pub record IsSplitting {O W : Type 0} (limits : Limits) (n : ℕ) (d : Standing) (before now : Option (List ℕ)) (told : Told O)
-    (contents : W → Option (List ℕ)) (failures : W → ℕ) (count : ℕ) (begin : O) (s : Splitting W) (o : O) : Type 0 where
+pub record IsSplitting {O W : Type 0} (limits : Limits) (n : ℕ) (d : Standing) (before now : Option (List ℕ)) (told : Told O W) (count : ℕ) (begin : O) (s : Splitting W) (o : O) : Type 0 where
   pub given : List Item
   pub reading : IsReadingOn limits d before now given
   pub handed_out : count ≡ length given
   pub size : s.size ≡ n
   pub limits_are : s.limits ≡ limits
-  pub holds : HoldsStage told contents failures (stage_in n Start given) s o
+  pub holds : HoldsStage told (stage_in n Start given) s o
   pub texts : AddsTexts (told.texts begin) (told.texts o) (map canonical_text (parts_in n Start given))
   pub counts : CountsNone told begin o
   pub outputs : s.report.outputs ≡ length (parts_in n Start given)
   pub transactions : s.report.transactions ≡ count_by is_transaction given
   pub over : stage_in n Start given ≡ Over → d.state ≡ states.Ended
 
-pub none_split : {O W : Type 0} (limits : Limits) (n : ℕ) (d : Standing) (before now : Option (List ℕ)) (told : Told O)
-    (contents : W → Option (List ℕ)) (failures : W → ℕ) (s : Splitting W) (o : O) → s ≡ is_new limits n → IsReadingOn limits d
+pub none_split : {O W : Type 0} (limits : Limits) (n : ℕ) (d : Standing) (before now : Option (List ℕ)) (told : Told O W) (s : Splitting W) (o : O) → s ≡ is_new limits n → IsReadingOn limits d
     before now []
-    → IsSplitting limits n d before now told contents failures 0 o s o
-none_split {W = W} limits n d before now told contents failures s o e reading =
+    → IsSplitting limits n d before now told 0 o s o
+none_split {W = W} limits n d before now told s o e reading =
     let first : Splitting W = is_new limits n in
-    subst (λ (m : Splitting W). IsSplitting limits n d before now told contents failures 0 o m o) (sym e) (record {
+    subst (λ (m : Splitting W). IsSplitting limits n d before now told 0 o m o) (sym e) (record {
       given = [];
       reading = reading;
       handed_out = refl;
@@ -67,13 +65,12 @@ none_split {W = W} limits n d before now told contents failures s o e reading =
 
 -- ---- one item more
 
-pub next_item : {O W : Type 0} (limits : Limits) (n : ℕ) (d new : Standing) (before left after : Option (List ℕ)) (told : Told O)
-    (contents : W → Option (List ℕ)) (failures : W → ℕ) (count : ℕ) (begin : O) (s : Splitting W) (o : O) (reported : Option Item)
+pub next_item : {O W : Type 0} (limits : Limits) (n : ℕ) (d new : Standing) (before left after : Option (List ℕ)) (told : Told O W) (count : ℕ) (begin : O) (s : Splitting W) (o : O) (reported : Option Item)
     (item : Item) (B C : Type 0)
-    → reported ≡ Some item → (h : IsSplitting limits n d before left told contents failures count begin s o)
+    → reported ≡ Some item → (h : IsSplitting limits n d before left told count begin s o)
     → Reads d left (Ok reported) new after → IfSome (again d.state) (λ x. (Some (Ok reported) ≡ answer_of x) × B × C)
     → IsReadingOn limits new before after (h.given ++ item ∷ [])
-next_item limits n d new before left after told contents failures count begin s o reported item B C e h r same =
+next_item limits n d new before left after told count begin s o reported item B C e h r same =
     some_read limits d new before left after h.given reported item B C e h.reading r same
 
 -- a transmission within the limits that begins so
@@ -98,12 +95,11 @@ begun_so limits d before now given rest h =
       split = first.split ∙ append_assoc given rest first.rest;
     }
 
-pub may_take : {O W : Type 0} (limits : Limits) (n : ℕ) (d new : Standing) (before left after : Option (List ℕ)) (told : Told O)
-    (contents : W → Option (List ℕ)) (failures : W → ℕ) (count : ℕ) (begin : O) (s : Splitting W) (o : O) (item : Item)
-    → 0 < n → (h : IsSplitting limits n d before left told contents failures count begin s o)
+pub may_take : {O W : Type 0} (limits : Limits) (n : ℕ) (d new : Standing) (before left after : Option (List ℕ)) (told : Told O W) (count : ℕ) (begin : O) (s : Splitting W) (o : O) (item : Item)
+    → 0 < n → (h : IsSplitting limits n d before left told count begin s o)
     → IsReadingOn limits new before after (h.given ++ item ∷ [])
-    → (may : MayTake told contents failures item s o) × (may.stage ≡ stage_in n Start h.given)
-may_take limits n d new before left after told contents failures count begin s o item some h reading =
+    → (may : MayTake told item s o) × (may.stage ≡ stage_in n Start h.given)
+may_take limits n d new before left after told count begin s o item some h reading =
     let first = begun_so limits new before after h.given (item ∷ []) reading in
     let remains = remains_after limits n first.value h.given (item ∷ first.more) some first.whole first.within first.split in (
       record {
@@ -133,11 +129,11 @@ may_take limits n d new before left after told contents failures count begin s o
     )
 
 pub few_handed_out : {O W : Type 0} (limits : Limits) (n : ℕ) (d new : Standing) (before left after : Option (List ℕ))
-    (told : Told O) (contents : W → Option (List ℕ)) (failures : W → ℕ) (count : ℕ) (begin : O) (s : Splitting W) (o : O)
+    (told : Told O W) (count : ℕ) (begin : O) (s : Splitting W) (o : O)
     (item : Item)
-    → (h : IsSplitting limits n d before left told contents failures count begin s o)
+    → (h : IsSplitting limits n d before left told count begin s o)
     → IsReadingOn limits new before after (h.given ++ item ∷ []) → count + 1 ≤ 199999998
-few_handed_out limits n d new before left after told contents failures count begin s o item h reading =
+few_handed_out limits n d new before left after told count begin s o item h reading =
     omega (
       arith,
       h.handed_out,
@@ -145,14 +141,13 @@ few_handed_out limits n d new before left after told contents failures count beg
       fewer_left limits new before after (h.given ++ item ∷ []) reading,
     )
 
-pub item_taken : {O W : Type 0} (limits : Limits) (n : ℕ) (d new : Standing) (before left after : Option (List ℕ)) (told : Told O)
-    (contents : W → Option (List ℕ)) (failures : W → ℕ) (count : ℕ) (begin : O) (s next : Splitting W) (o later : O) (item : Item)
-    → 0 < n → (h : IsSplitting limits n d before left told contents failures count begin s o)
+pub item_taken : {O W : Type 0} (limits : Limits) (n : ℕ) (d new : Standing) (before left after : Option (List ℕ)) (told : Told O W) (count : ℕ) (begin : O) (s next : Splitting W) (o later : O) (item : Item)
+    → 0 < n → (h : IsSplitting limits n d before left told count begin s o)
     → IsReadingOn limits new before after (h.given ++ item ∷ []) → LeavesRead (Ok (Some item)) new.state
     → (stage : SplitStage) → stage ≡ stage_in n Start h.given
-    → IsTaken told contents failures (split_stage_after s.size stage item) (parts_at s.size stage item) item s next o later
-    → IsSplitting limits n new before after told contents failures (count + 1) begin next later
-item_taken limits n d new before left after told contents failures count begin s next o later item some h reading leaves stage at
+    → IsTaken told (split_stage_after s.size stage item) (parts_at s.size stage item) item s next o later
+    → IsSplitting limits n new before after told (count + 1) begin next later
+item_taken limits n d new before left after told count begin s next o later item some h reading leaves stage at
     taken =
     let first = begun_so limits new before after h.given (item ∷ []) reading in
     let remains = remains_after limits n first.value h.given (item ∷ first.more) some first.whole first.within first.split in
@@ -169,7 +164,7 @@ item_taken limits n d new before left after told contents failures count begin s
       handed_out = omega (arith, h.handed_out, length-append h.given (item ∷ []));
       size = taken.size ∙ h.size;
       limits_are = taken.limits ∙ h.limits_are;
-      holds = subst (λ (p : SplitStage). HoldsStage told contents failures p next later) place_is taken.holds;
+      holds = subst (λ (p : SplitStage). HoldsStage told p next later) place_is taken.holds;
       texts =
           subst (AddsTexts (told.texts begin) (told.texts later))
           (sym (map-append canonical_text (parts_in n Start h.given) (parts_at s.size stage item)) ∙ ap (map canonical_text) all)

@@ -44,10 +44,10 @@ wrote contents failures limits had items added old out p h = record {
 }
 
 -- it may be written
-pub may_write : {O W : Type 0} (told : Told O) (contents : W → Option (List ℕ)) (failures : W → ℕ) (item : Item)
-    (s mid : Splitting W) (before after : O) → MayAddTransaction told contents failures item s before
-    → IsOpen told contents failures s mid before after → MayWrite contents item mid
-may_write {W = W} told contents failures item s mid before after may p =
+pub may_write : {O W : Type 0} (told : Told O W) (item : Item)
+    (s mid : Splitting W) (before after : O) → MayAddTransaction told item s before
+    → IsOpen told s mid before after → MayWrite told.contents item mid
+may_write {W = W} told item s mid before after may p =
     let held = p.held may.items may.held in
     record {
       opening = may.opening;
@@ -75,17 +75,17 @@ may_write {W = W} told contents failures item s mid before after may p =
     }
 
 -- its writer failed
-pub write_failed : {O W : Type 0} (told : Told O) (contents : W → Option (List ℕ)) (failures : W → ℕ) (item : Item)
-    (s mid new : Splitting W) (before after : O) (fault : ToolFault) → MayAddTransaction told contents failures item s before
-    → IsOpen told contents failures s mid before after → FailsOpen failures fault mid.output new.output
-    → FailsWith told fault (open_failures failures new.output) before after
-write_failed {O = O} {W = W} told contents failures item s mid new before after fault may p h = by fault h
+pub write_failed : {O W : Type 0} (told : Told O W) (item : Item)
+    (s mid new : Splitting W) (before after : O) (fault : ToolFault) → MayAddTransaction told item s before
+    → IsOpen told s mid before after → FailsOpen told.writer_failures fault mid.output new.output
+    → FailsWith told fault (open_failures told.writer_failures new.output) before after
+write_failed {O = O} {W = W} told item s mid new before after fault may p h = by fault h
   where
-    quiet : open_failures failures mid.output ≡ 0
-    quiet = ap (λ (m : Splitting W). open_failures failures m.output) p.now ∙ (p.held may.items may.held).quiet
+    quiet : open_failures told.writer_failures mid.output ≡ 0
+    quiet = ap (λ (m : Splitting W). open_failures told.writer_failures m.output) p.now ∙ (p.held may.items may.held).quiet
 
-    by : (fault : ToolFault) → FailsOpen failures fault mid.output new.output
-        → FailsWith told fault (open_failures failures new.output) before after
+    by : (fault : ToolFault) → FailsOpen told.writer_failures fault mid.output new.output
+        → FailsWith told fault (open_failures told.writer_failures new.output) before after
     by (tool_faults.Writer n) h =
         subst (λ (k : ℕ). FailsWith told (tool_faults.Writer n) k before after) (sym (h ∙ ap one_more_failure quiet)) (record {
           is = tt;
@@ -103,23 +103,23 @@ write_failed {O = O} {W = W} told contents failures item s mid new before after 
 -- ---- it was written
 
 -- what one that is open has then
-pub record HasAdded {O W : Type 0} (told : Told O) (contents : W → Option (List ℕ)) (failures : W → ℕ) (opening head item : Item)
+pub record HasAdded {O W : Type 0} (told : Told O W) (opening head item : Item)
     (s next : Splitting W) (before : O) : Type 0 where
   pub opening_is : s.opening ≡ Some opening
   pub head_is : s.head ≡ Some head
   pub out : SplitOutput W
   pub now : next
       ≡ record s { output = Some out; report = record { outputs = s.report.outputs; transactions = s.report.transactions + 1 } }
-  pub held : (items : List Item) → HoldsOutput contents failures s.limits (told.texts before) items s.output
-      → IsOutput contents failures s.limits (told.texts before) (items_with items opening head item s.output) out
+  pub held : (items : List Item) → HoldsOutput told.contents told.writer_failures s.limits (told.texts before) items s.output
+      → IsOutput told.contents told.writer_failures s.limits (told.texts before) (items_with items opening head item s.output) out
   pub counted : out.transactions ≡ open_count s.output + 1
   pub group : out.in_group ≡ true
 
-pub has_added : {O W : Type 0} (told : Told O) (contents : W → Option (List ℕ)) (failures : W → ℕ) (item : Item)
-    (s mid next : Splitting W) (before after : O) (p : IsOpen told contents failures s mid before after)
-    → (h : IsWritten contents failures item mid next)
-    → HasAdded told contents failures h.opening h.head item s next before
-has_added {W = W} told contents failures item s mid next before after p h =
+pub has_added : {O W : Type 0} (told : Told O W) (item : Item)
+    (s mid next : Splitting W) (before after : O) (p : IsOpen told s mid before after)
+    → (h : IsWritten told.contents told.writer_failures item mid next)
+    → HasAdded told h.opening h.head item s next before
+has_added {W = W} told item s mid next before after p h =
     let opened : mid.output ≡ Some p.out = ap (λ (m : Splitting W). m.output) p.now in
     let there : Some p.out ≡ Some h.out = sym opened ∙ h.open_is in
     let same : p.out ≡ h.out = (cc) in
@@ -133,12 +133,12 @@ has_added {W = W} told contents failures item s mid next before after p h =
             report = record { outputs = m.report.outputs; transactions = m.report.transactions + 1 };
           }) p.now;
       held = λ items k.
-          let before_it = subst (IsOutput contents failures s.limits (told.texts before) items) same (p.held items k) in
-          subst (λ (l : List Item). IsOutput contents failures s.limits (told.texts before) l h.added)
+          let before_it = subst (IsOutput told.contents told.writer_failures s.limits (told.texts before) items) same (p.held items k) in
+          subst (λ (l : List Item). IsOutput told.contents told.writer_failures s.limits (told.texts before) l h.added)
           (sym (append_assoc items (front_of h.opening h.head h.out) (item ∷ []))
           ∙ ap (λ (l : List Item). items ++ l ++ item ∷ [])
           (sym (ap (front_of h.opening h.head) same) ∙ same_front h.opening h.head s.output p.out p.counted p.group))
-          (wrote contents failures s.limits (told.texts before) items (front_of h.opening h.head h.out ++ item ∷ []) h.out h.added
+          (wrote told.contents told.writer_failures s.limits (told.texts before) items (front_of h.opening h.head h.out ++ item ∷ []) h.out h.added
           before_it h.puts);
       counted = h.counted ∙ ap (λ (n : ℕ). n + 1) (sym (ap (λ (o : SplitOutput W). o.transactions) same) ∙ p.counted);
       group = h.group;
@@ -155,20 +155,20 @@ none_full n m e f = absurd (let g : (n == m) ≡ true = eq-eqb n m f in cc)
 all_full : (n m : ℕ) → true ≡ (n == m) → n ≡ m
 all_full n m e = elim (eqb_tells n m) as (λ _. n ≡ m) [ inl y ↦ y.1 | inr k ↦ absurd (let g : (n == m) ≡ false = k.0 in cc) ]
 
-test_is : {O W : Type 0} (told : Told O) (contents : W → Option (List ℕ)) (failures : W → ℕ) (opening head item : Item)
-    (s next : Splitting W) (before : O) → HasAdded told contents failures opening head item s next before
+test_is : {O W : Type 0} (told : Told O W) (opening head item : Item)
+    (s next : Splitting W) (before : O) → HasAdded told opening head item s next before
     → has_all next.size next.output ≡ ((open_count s.output + 1) == s.size)
-test_is {W = W} told contents failures opening head item s next before h =
+test_is {W = W} told opening head item s next before h =
     ap (λ (m : Splitting W). has_all m.size m.output) h.now ∙ ap (λ (n : ℕ). n == s.size) h.counted
 
-pub went_on : {O W : Type 0} (told : Told O) (contents : W → Option (List ℕ)) (failures : W → ℕ) (item : Item)
-    (s mid next : Splitting W) (before after : O) → IsOpen told contents failures s mid before after
-    → IsWritten contents failures item mid next → false ≡ has_all next.size next.output
-    → AddsTransaction told contents failures item (Ok tt) s next before after
-went_on told contents failures item s mid next before after p w e =
-    let h = has_added told contents failures item s mid next before after p w in
-    let on : GoesOn told contents failures w.opening w.head item s next before after = record {
-      few = none_full (open_count s.output + 1) s.size (e ∙ test_is told contents failures w.opening w.head item s next before h);
+pub went_on : {O W : Type 0} (told : Told O W) (item : Item)
+    (s mid next : Splitting W) (before after : O) → IsOpen told s mid before after
+    → IsWritten told.contents told.writer_failures item mid next → false ≡ has_all next.size next.output
+    → AddsTransaction told item (Ok tt) s next before after
+went_on told item s mid next before after p w e =
+    let h = has_added told item s mid next before after p w in
+    let on : GoesOn told w.opening w.head item s next before after = record {
+      few = none_full (open_count s.output + 1) s.size (e ∙ test_is told w.opening w.head item s next before h);
       out = h.out;
       now = h.now;
       quiet = p.quiet;
@@ -183,17 +183,17 @@ went_on told contents failures item s mid next before after p w e =
 same_item : (o : Option Item) (a b : Item) → o ≡ Some a → o ≡ Some b → a ≡ b
 same_item o a b e f = let g : Some a ≡ Some b = sym e ∙ f in cc
 
-pub may_finish : {O W : Type 0} (told : Told O) (contents : W → Option (List ℕ)) (failures : W → ℕ) (item : Item)
-    (s mid next : Splitting W) (before after : O) → MayAddTransaction told contents failures item s before
-    → IsOpen told contents failures s mid before after → IsWritten contents failures item mid next
-    → true ≡ has_all next.size next.output → MayFinish told contents failures next after
-may_finish {W = W} told contents failures item s mid next before after may p w e =
-    let h = has_added told contents failures item s mid next before after p w in
+pub may_finish : {O W : Type 0} (told : Told O W) (item : Item)
+    (s mid next : Splitting W) (before after : O) → MayAddTransaction told item s before
+    → IsOpen told s mid before after → IsWritten told.contents told.writer_failures item mid next
+    → true ≡ has_all next.size next.output → MayFinish told next after
+may_finish {W = W} told item s mid next before after may p w e =
+    let h = has_added told item s mid next before after p w in
     let full : open_count s.output + 1 ≡ s.size =
-    all_full (open_count s.output + 1) s.size (e ∙ test_is told contents failures w.opening w.head item s next before h) in
+    all_full (open_count s.output + 1) s.size (e ∙ test_is told w.opening w.head item s next before h) in
     let items : List Item = items_with may.items w.opening w.head item s.output in
     let had =
-    subst (λ (t : Option (List (List ℕ))). IsOutput contents failures s.limits t items h.out) (sym p.quiet.texts)
+    subst (λ (t : Option (List (List ℕ))). IsOutput told.contents told.writer_failures s.limits t items h.out) (sym p.quiet.texts)
     (h.held may.items may.held) in
     let right : items_with may.items may.opening may.head item s.output ≡ items
     = ap₂ (λ (o g : Item). items_with may.items o g item s.output)
@@ -202,18 +202,18 @@ may_finish {W = W} told contents failures item s mid next before after may p w e
     let ends : MayEnd s.limits (items ++ end_of h.out) =
     subst (λ (l : List Item). MayEnd s.limits l) (ap₂ (λ (x y : List Item). x ++ y) right (sym (closed_end h.out h.group)))
     (may.full full) in
-    subst (λ (m : Splitting W). MayFinish told contents failures m after) (sym h.now)
+    subst (λ (m : Splitting W). MayFinish told m after) (sym h.now)
     (record { items = items; held = had; ends = ends })
 
-pub room_for_one : {O W : Type 0} (told : Told O) (contents : W → Option (List ℕ)) (failures : W → ℕ) (item : Item)
-    (s mid next : Splitting W) (before after : O) → MayAddTransaction told contents failures item s before
-    → IsOpen told contents failures s mid before after → IsWritten contents failures item mid next
+pub room_for_one : {O W : Type 0} (told : Told O W) (item : Item)
+    (s mid next : Splitting W) (before after : O) → MayAddTransaction told item s before
+    → IsOpen told s mid before after → IsWritten told.contents told.writer_failures item mid next
     → next.report.outputs < 199999999
-room_for_one {W = W} told contents failures item s mid next before after may p w =
-    let h = has_added told contents failures item s mid next before after p w in
+room_for_one {W = W} told item s mid next before after may p w =
+    let h = has_added told item s mid next before after p w in
     subst (λ (m : Splitting W). m.report.outputs < 199999999) (sym h.now) may.outputs
 
-pub fails_after : {O : Type 0} (told : Told O) (fault : ToolFault) (pending : ℕ) (before mid after : O) → IsQuiet told before mid
+pub fails_after : {O W : Type 0} (told : Told O W) (fault : ToolFault) (pending : ℕ) (before mid after : O) → IsQuiet told before mid
     → FailsWith told fault pending mid after → FailsWith told fault pending before after
 fails_after told fault pending before mid after quiet f = record {
   is = f.is;
@@ -224,25 +224,24 @@ fails_after told fault pending before mid after quiet f = record {
       quiet.given_up f.given_up;
 }
 
-pub filled : {O W : Type 0} (told : Told O) (contents : W → Option (List ℕ)) (failures : W → ℕ) (item : Item)
-    (s mid next new : Splitting W) (before between after : O) (answer : Result (Unit {0}) ToolFault) → IsOpen told contents
-    failures s mid before between
-    → IsWritten contents failures item mid next → true ≡ has_all next.size next.output
-    → FinishesOutput told contents failures answer next new between after
-    → AddsTransaction told contents failures item answer s new before after
-filled told contents failures item s mid next new before between after (Err fault) p w e f =
-    fails_after told fault (open_failures failures new.output) before between after p.quiet f
-filled {W = W} told contents failures item s mid next new before between after (Ok u) p w e f =
-    let h = has_added told contents failures item s mid next before between p w in
-    let done = subst (λ (m : Splitting W). FinishesOutput told contents failures (Ok u) m new between after) h.now f in
-    let whole : FillsOutput told contents failures w.opening w.head item s new before after = record {
-      all = all_full (open_count s.output + 1) s.size (e ∙ test_is told contents failures w.opening w.head item s next before h);
+pub filled : {O W : Type 0} (told : Told O W) (item : Item)
+    (s mid next new : Splitting W) (before between after : O) (answer : Result (Unit {0}) ToolFault) → IsOpen told s mid before between
+    → IsWritten told.contents told.writer_failures item mid next → true ≡ has_all next.size next.output
+    → FinishesOutput told answer next new between after
+    → AddsTransaction told item answer s new before after
+filled told item s mid next new before between after (Err fault) p w e f =
+    fails_after told fault (open_failures told.writer_failures new.output) before between after p.quiet f
+filled {W = W} told item s mid next new before between after (Ok u) p w e f =
+    let h = has_added told item s mid next before between p w in
+    let done = subst (λ (m : Splitting W). FinishesOutput told (Ok u) m new between after) h.now f in
+    let whole : FillsOutput told w.opening w.head item s new before after = record {
+      all = all_full (open_count s.output + 1) s.size (e ∙ test_is told w.opening w.head item s next before h);
       now = done.0;
       counts = record { failures = done.1.0.failures ∙ p.quiet.failures; given_up = done.1.0.given_up ∙ p.quiet.given_up };
       text = λ items v k right are.
           let all : List Item = items_with items w.opening w.head item s.output in
           let had =
-          subst (λ (t : Option (List (List ℕ))). IsOutput contents failures s.limits t all h.out) (sym p.quiet.texts)
+          subst (λ (t : Option (List (List ℕ))). IsOutput told.contents told.writer_failures s.limits t all h.out) (sym p.quiet.texts)
           (h.held items k) in
           subst (λ (t : Option (List (List ℕ))). AddsText t (told.texts after) (canonical_text v)) p.quiet.texts
           (done.1.1 all v had right (are ∙ ap (λ (l : List Item). all ++ l ++ Ended ∷ []) (sym (closed_end h.out h.group))));

@@ -28,17 +28,17 @@ pub no_fewer : (k n : ℕ) → 0 < n → k ≤ k * n
 no_fewer zero n some = omega arith
 no_fewer (suc k) n some = omega (arith, no_fewer k n some, add-mul k 1 n)
 
-pub may_add : {O W : Type 0} (told : Told O) (contents : W → Option (List ℕ)) (failures : W → ℕ) (t : List RecordValue)
-    (s : Splitting W) (now : O) → MayTake told contents failures (Transaction t) s now
-    → MayAddTransaction told contents failures (Transaction t) s now
-may_add told contents failures t s now may =
+pub may_add : {O W : Type 0} (told : Told O W) (t : List RecordValue)
+    (s : Splitting W) (now : O) → MayTake told (Transaction t) s now
+    → MayAddTransaction told (Transaction t) s now
+may_add told t s now may =
     let at = at_item s.limits s.size may.value may.whole may.stage (Transaction t) may.rest may.remains in
     let o : RecordValue = at.0 in
     let closed : List GroupValue = at.1 in
     let h : RecordValue = at.2 in
     let cur : List (List RecordValue) = at.3 in
     let p = at.5 in
-    let had = subst (λ (q : SplitStage). HoldsStage told contents failures q s now) at.4 may.holds in
+    let had = subst (λ (q : SplitStage). HoldsStage told q s now) at.4 may.holds in
     let part : TransmissionValue = value_of o (closed ++ part_group h (cur ++ t ∷ []) ∷ []) in
     let right = part_right s.limits s.size may.value may.whole o closed h cur (Transaction t) may.rest p t at.6 at.7 in
     let items : List Item = items_with (open_items (Inside o closed h cur)) (Opened o) (GroupOpened h) (Transaction t) s.output in
@@ -80,13 +80,13 @@ in_group_with o closed h [] t = refl
 in_group_with o closed h (x ∷ cur) t = refl
 
 -- the open output continues with it
-went_on : {O W : Type 0} (told : Told O) (contents : W → Option (List ℕ)) (failures : W → ℕ) (o : RecordValue)
+went_on : {O W : Type 0} (told : Told O W) (o : RecordValue)
     (closed : List GroupValue) (h : RecordValue) (cur : List (List RecordValue)) (t : List RecordValue) (s new : Splitting W)
     (now after : O) → ArePartGroups closed
-    → HoldsStage told contents failures (Inside o closed h cur) s now
-    → GoesOn told contents failures (Opened o) (GroupOpened h) (Transaction t) s new now after
-    → IsTaken told contents failures (Inside o closed h (cur ++ t ∷ [])) [] (Transaction t) s new now after
-went_on {W = W} told contents failures o closed h cur t s new now after part had g =
+    → HoldsStage told (Inside o closed h cur) s now
+    → GoesOn told (Opened o) (GroupOpened h) (Transaction t) s new now after
+    → IsTaken told (Inside o closed h (cur ++ t ∷ [])) [] (Transaction t) s new now after
+went_on {W = W} told o closed h cur t s new now after part had g =
     let next : Splitting W =
     record s
     { output = Some g.out; report = record { outputs = s.report.outputs; transactions = s.report.transactions + 1 } } in
@@ -95,14 +95,14 @@ went_on {W = W} told contents failures o closed h cur t s new now after part had
     with_transaction o closed h cur t s.output part had.count had.group had.none
     ∙ sym (items_begun o closed h (cur ++ t ∷ []) (omega (arith, length-append cur (t ∷ [])))) in
     let out =
-    subst (λ (l : List Item). IsOutput contents failures s.limits (told.texts now) l g.out) same
+    subst (λ (l : List Item). IsOutput told.contents told.writer_failures s.limits (told.texts now) l g.out) same
     (g.held (open_items (Inside o closed h cur)) had.output) in
-    subst (λ (m : Splitting W). IsTaken told contents failures stage [] (Transaction t) s m now after) (sym g.now) (record {
+    subst (λ (m : Splitting W). IsTaken told stage [] (Transaction t) s m now after) (sym g.now) (record {
       holds = record {
         opening = had.opening;
         head = had.head;
         output =
-            subst (λ (x : Option (List (List ℕ))). IsOutput contents failures s.limits x (open_items stage) g.out)
+            subst (λ (x : Option (List (List ℕ))). IsOutput told.contents told.writer_failures s.limits x (open_items stage) g.out)
             (sym g.quiet.texts) out;
         count = omega (arith, g.counted, had.count, length-append cur (t ∷ []));
         group = g.group ∙ sym (in_group_with o closed h cur t);
@@ -118,15 +118,15 @@ went_on {W = W} told contents failures o closed h cur t s new now after part had
     })
 
 -- it is whole with it
-was_filled : {O W : Type 0} (told : Told O) (contents : W → Option (List ℕ)) (failures : W → ℕ) (o : RecordValue)
+was_filled : {O W : Type 0} (told : Told O W) (o : RecordValue)
     (closed : List GroupValue) (h : RecordValue) (cur : List (List RecordValue)) (t : List RecordValue) (s new : Splitting W)
     (now after : O) → ArePartGroups closed
     → IsTransmission (value_of o (closed ++ part_group h (cur ++ t ∷ []) ∷ []))
-    → HoldsStage told contents failures (Inside o closed h cur) s now
-    → FillsOutput told contents failures (Opened o) (GroupOpened h) (Transaction t) s new now after
-    → IsTaken told contents failures (Inside o [] h []) (value_of o (closed ++ part_group h (cur ++ t ∷ []) ∷ []) ∷ [])
+    → HoldsStage told (Inside o closed h cur) s now
+    → FillsOutput told (Opened o) (GroupOpened h) (Transaction t) s new now after
+    → IsTaken told (Inside o [] h []) (value_of o (closed ++ part_group h (cur ++ t ∷ []) ∷ []) ∷ [])
     (Transaction t) s new now after
-was_filled {W = W} told contents failures o closed h cur t s new now after part right had f =
+was_filled {W = W} told o closed h cur t s new now after part right had f =
     let next : Splitting W =
     record s
     { output = None; report = record { outputs = s.report.outputs + 1; transactions = s.report.transactions + 1 } } in
@@ -136,7 +136,7 @@ was_filled {W = W} told contents failures o closed h cur t s new now after part 
     with_transaction o closed h cur t s.output part had.count had.group had.none in
     let all : value_items whole ≡ items ++ blank_end ∷ [] ++ Ended ∷ [] =
     items_of_part o closed h (cur ++ t ∷ []) ∙ ap (λ (l : List Item). (l ++ blank_end ∷ []) ++ Ended ∷ []) (sym same) in
-    subst (λ (m : Splitting W). IsTaken told contents failures (Inside o [] h []) (whole ∷ []) (Transaction t) s m now after)
+    subst (λ (m : Splitting W). IsTaken told (Inside o [] h []) (whole ∷ []) (Transaction t) s m now after)
     (sym f.now) (record {
       holds = record {
         opening = had.opening;
@@ -155,42 +155,42 @@ was_filled {W = W} told contents failures o closed h cur t s new now after part 
       transactions = omega arith;
     })
 
-pub transaction_taken : {O W : Type 0} (told : Told O) (contents : W → Option (List ℕ)) (failures : W → ℕ) (t : List RecordValue)
-    (u : Unit {0}) (s new : Splitting W) (now after : O) → AddsTransaction told contents failures (Transaction t) (Ok u) s new now
+pub transaction_taken : {O W : Type 0} (told : Told O W) (t : List RecordValue)
+    (u : Unit {0}) (s new : Splitting W) (now after : O) → AddsTransaction told (Transaction t) (Ok u) s new now
     after
-    → (may : MayTake told contents failures (Transaction t) s now) → IsTaken told contents failures
+    → (may : MayTake told (Transaction t) s now) → IsTaken told
     (split_stage_after s.size may.stage (Transaction t)) (parts_at s.size may.stage (Transaction t)) (Transaction t) s new now
     after
-transaction_taken {W = W} told contents failures t u s new now after done may =
+transaction_taken {W = W} told t u s new now after done may =
     let at = at_item s.limits s.size may.value may.whole may.stage (Transaction t) may.rest may.remains in
     let o : RecordValue = at.0 in
     let closed : List GroupValue = at.1 in
     let h : RecordValue = at.2 in
     let cur : List (List RecordValue) = at.3 in
     let p = at.5 in
-    let had = subst (λ (q : SplitStage). HoldsStage told contents failures q s now) at.4 may.holds in
+    let had = subst (λ (q : SplitStage). HoldsStage told q s now) at.4 may.holds in
     let whole : TransmissionValue = value_of o (closed ++ part_group h (cur ++ t ∷ []) ∷ []) in
     let right = part_right s.limits s.size may.value may.whole o closed h cur (Transaction t) may.rest p t at.6 at.7 in
     let opening : done.0 ≡ Opened o = same_item s.opening done.0 (Opened o) done.2 had.opening in
     let head : done.1 ≡ GroupOpened h = same_item s.head done.1 (GroupOpened h) done.3 had.head in
     let Next =
-    λ (b : Bool). IsTaken told contents failures (if b then Inside o [] h [] else Inside o closed h (cur ++ t ∷ []))
+    λ (b : Bool). IsTaken told (if b then Inside o [] h [] else Inside o closed h (cur ++ t ∷ []))
     (if b then whole ∷ [] else []) (Transaction t) s new now after in
-    subst (λ (q : SplitStage). IsTaken told contents failures (split_stage_after s.size q (Transaction t))
+    subst (λ (q : SplitStage). IsTaken told (split_stage_after s.size q (Transaction t))
     (parts_at s.size q (Transaction t)) (Transaction t) s new now after) (sym at.4)
     (elim (done.4) as (λ _. Next ((total_in closed + length cur + 1) == s.size)) [
       | inl g ↦
           let on =
-          subst (λ (i : Item). GoesOn told contents failures i (GroupOpened h) (Transaction t) s new now after) opening
-          (subst (λ (i : Item). GoesOn told contents failures done.0 i (Transaction t) s new now after) head g) in
+          subst (λ (i : Item). GoesOn told i (GroupOpened h) (Transaction t) s new now after) opening
+          (subst (λ (i : Item). GoesOn told done.0 i (Transaction t) s new now after) head g) in
           subst Next (sym (not_full (total_in closed + length cur + 1) s.size (λ e. on.few (omega (arith, e, had.count)))))
-          (went_on told contents failures o closed h cur t s new now after p.part had on)
+          (went_on told o closed h cur t s new now after p.part had on)
       | inr f ↦
           let all =
-          subst (λ (i : Item). FillsOutput told contents failures i (GroupOpened h) (Transaction t) s new now after) opening
-          (subst (λ (i : Item). FillsOutput told contents failures done.0 i (Transaction t) s new now after) head f) in
+          subst (λ (i : Item). FillsOutput told i (GroupOpened h) (Transaction t) s new now after) opening
+          (subst (λ (i : Item). FillsOutput told done.0 i (Transaction t) s new now after) head f) in
           subst Next (sym (eq-eqb (total_in closed + length cur + 1) s.size (omega (arith, all.all, had.count))))
-          (was_filled told contents failures o closed h cur t s new now after p.part right.0 had all)
+          (was_filled told o closed h cur t s new now after p.part right.0 had all)
     ])
   where
     not_full : (n m : ℕ) → n ≢ m → (n == m) ≡ false

@@ -39,18 +39,18 @@ HasCounted Over size report = Unit {0}
 HasCounted stage size report = report.outputs * size + open_total stage ≡ report.transactions
 
 -- what a split holds at a stage
-pub record HoldsStage {O W : Type 0} (told : Told O) (contents : W → Option (List ℕ)) (failures : W → ℕ) (stage : SplitStage)
+pub record HoldsStage {O W : Type 0} (told : Told O W) (stage : SplitStage)
     (s : Splitting W) (now : O) : Type 0 where
   pub opening : KnowsOpening stage s.opening
   pub head : KnowsHead stage s.head
-  pub output : HoldsOutput contents failures s.limits (told.texts now) (open_items stage) s.output
+  pub output : HoldsOutput told.contents told.writer_failures s.limits (told.texts now) (open_items stage) s.output
   pub count : open_count s.output ≡ open_total stage
   pub group : has_open_group s.output ≡ is_in_group stage
   pub none : open_total stage ≡ 0 → s.output ≡ None
   pub counted : HasCounted stage s.size s.report
 
 -- what it holds goes with what is left of some transmission that comes with this item next
-pub record MayTake {O W : Type 0} (told : Told O) (contents : W → Option (List ℕ)) (failures : W → ℕ) (item : Item)
+pub record MayTake {O W : Type 0} (told : Told O W) (item : Item)
     (s : Splitting W) (now : O) : Type 0 where
   pub stage : SplitStage
   pub value : TransmissionValue
@@ -60,13 +60,13 @@ pub record MayTake {O W : Type 0} (told : Told O) (contents : W → Option (List
   pub right : IsTransmission value
   pub within : FitsIn s.limits value
   pub remains : Remains s.limits s.size value whole stage (item ∷ rest)
-  pub holds : HoldsStage told contents failures stage s now
+  pub holds : HoldsStage told stage s now
   pub room : s.report.transactions < 199999999
 
 -- it was taken: the split is at the next stage, and these parts were handed over
-pub record IsTaken {O W : Type 0} (told : Told O) (contents : W → Option (List ℕ)) (failures : W → ℕ) (next : SplitStage)
+pub record IsTaken {O W : Type 0} (told : Told O W) (next : SplitStage)
     (parts : List TransmissionValue) (item : Item) (old new : Splitting W) (before after : O) : Type 0 where
-  pub holds : HoldsStage told contents failures next new after
+  pub holds : HoldsStage told next new after
   pub texts : AddsTexts (told.texts before) (told.texts after) (map canonical_text parts)
   pub counts : CountsNone told before after
   pub limits : new.limits ≡ old.limits
@@ -74,13 +74,13 @@ pub record IsTaken {O W : Type 0} (told : Told O) (contents : W → Option (List
   pub outputs : new.report.outputs ≡ old.report.outputs + length parts
   pub transactions : new.report.transactions ≡ old.report.transactions + count_by is_transaction (item ∷ [])
 
-abbrev pub TakesItem : {O W : Type 0} → Told O → (W → Option (List ℕ)) → (W → ℕ) → Item → Result (Unit {0}) ToolFault
+abbrev pub TakesItem : {O W : Type 0} → Told O W → Item → Result (Unit {0}) ToolFault
     → Splitting W → Splitting W → O → O → Type 0
-TakesItem told contents failures item (Ok u) old new before after =
-    (may : MayTake told contents failures item old before) → IsTaken told contents failures
+TakesItem told item (Ok u) old new before after =
+    (may : MayTake told item old before) → IsTaken told
     (split_stage_after old.size may.stage item) (parts_at old.size may.stage item) item old new before after
-TakesItem told contents failures item (Err fault) old new before after =
-    FailsWith told fault (open_failures failures new.output) before after
+TakesItem told item (Err fault) old new before after =
+    FailsWith told fault (open_failures told.writer_failures new.output) before after
 
 -- ---- a whole input
 

@@ -116,23 +116,33 @@ pub record MayHandOver {W : Type 0} (contents : W → Option (List ℕ)) (out : 
 
 -- ---- what outputs tell
 
--- what outputs tell of themselves
-pub record Told (O : Type 0) : Type 0 where
+-- what outputs tell of themselves, and their writers
+pub record Told (O W : Type 0) : Type 0 where
   pub texts : O → Option (List (List ℕ))
   pub failures : O → ℕ
   pub given_up : O → ℕ
+  pub contents : W → Option (List ℕ)
+  pub writer_failures : W → ℕ
 
-abbrev pub told_by : {O : Type 0} → (O → Option (List (List ℕ))) → (O → ℕ) → (O → ℕ) → Told O
-told_by texts failures given_up = record { texts = texts; failures = failures; given_up = given_up }
+abbrev pub told_by : {O W : Type 0} → (O → Option (List (List ℕ))) → (O → ℕ) → (O → ℕ) → (W → Option (List ℕ)) → (W → ℕ)
+    → Told O W
+told_by texts failures given_up contents writer_failures = record
+  {
+    texts = texts;
+    failures = failures;
+    given_up = given_up;
+    contents = contents;
+    writer_failures = writer_failures;
+  }
 
 -- nothing that they tell is changed
-pub record IsQuiet {O : Type 0} (told : Told O) (old new : O) : Type 0 where
+pub record IsQuiet {O W : Type 0} (told : Told O W) (old new : O) : Type 0 where
   pub texts : told.texts new ≡ told.texts old
   pub failures : told.failures new ≡ told.failures old
   pub given_up : told.given_up new ≡ told.given_up old
 
 -- no failure was counted
-pub record CountsNone {O : Type 0} (told : Told O) (old new : O) : Type 0 where
+pub record CountsNone {O W : Type 0} (told : Told O W) (old new : O) : Type 0 where
   pub failures : told.failures new ≡ told.failures old
   pub given_up : told.given_up new ≡ told.given_up old
 
@@ -146,7 +156,7 @@ IsOutputFault fault = ⊥
 
 -- An output failed: they had no text more, and with a writer of so many failures, once it is given up, just that failure is
 -- counted.
-pub record FailsWith {O : Type 0} (told : Told O) (fault : ToolFault) (pending : ℕ) (old new : O) : Type 0 where
+pub record FailsWith {O W : Type 0} (told : Told O W) (fault : ToolFault) (pending : ℕ) (old new : O) : Type 0 where
   pub is : IsOutputFault fault
   pub texts : told.texts new ≡ told.texts old
   pub failed : CountsSplitOutput {A = Unit {0}} (Err fault) (told.failures old) (told.failures new)
@@ -155,14 +165,14 @@ pub record FailsWith {O : Type 0} (told : Told O) (fault : ToolFault) (pending :
 -- ---- an output that is whole
 
 -- The outputs have had the text of the transmission that its items and TRL are, where its writer had no bytes before.
-pub record TakesOutput {O W : Type 0} (told : Told O) (contents : W → Option (List ℕ)) (out : SplitOutput W) (old new : O) : Type
+pub record TakesOutput {O W : Type 0} (told : Told O W) (out : SplitOutput W) (old new : O) : Type
     0 where
   pub counts : CountsNone told old new
   pub text : (start : Option (List ℕ)) (items : List Item) (w : TransmissionValue)
-      → Encodes contents start (records_in items) out.encoder → IsTransmission w → value_items w ≡ items ++ Ended ∷ []
+      → Encodes told.contents start (records_in items) out.encoder → IsTransmission w → value_items w ≡ items ++ Ended ∷ []
       → IfSome (told.texts old) (λ _. start ≡ Some []) → AddsText (told.texts old) (told.texts new) (canonical_text w)
 
-abbrev pub HandsOver : {O W : Type 0} → Told O → (W → Option (List ℕ)) → SplitOutput W → Result (Unit {0}) ToolFault → O → O
+abbrev pub HandsOver : {O W : Type 0} → Told O W → SplitOutput W → Result (Unit {0}) ToolFault → O → O
     → Type 0
-HandsOver told contents out (Ok u) old new = TakesOutput told contents out old new
-HandsOver told contents out (Err fault) old new = FailsWith told fault 0 old new
+HandsOver told out (Ok u) old new = TakesOutput told out old new
+HandsOver told out (Err fault) old new = FailsWith told fault 0 old new

@@ -51,21 +51,21 @@ FailsOpen failures fault old new = ⊥
 -- ---- an output is open
 
 -- an output is open, which had the items that one had before
-pub record IsOpen {O W : Type 0} (told : Told O) (contents : W → Option (List ℕ)) (failures : W → ℕ) (old new : Splitting W)
+pub record IsOpen {O W : Type 0} (told : Told O W) (old new : Splitting W)
     (before after : O) : Type 0 where
   pub out : SplitOutput W
   pub now : new ≡ holding old (Some out)
   pub quiet : IsQuiet told before after
-  pub held : (items : List Item) → HoldsOutput contents failures old.limits (told.texts before) items old.output
-      → IsOutput contents failures old.limits (told.texts before) items out
+  pub held : (items : List Item) → HoldsOutput told.contents told.writer_failures old.limits (told.texts before) items old.output
+      → IsOutput told.contents told.writer_failures old.limits (told.texts before) items out
   pub counted : out.transactions ≡ open_count old.output
   pub group : out.in_group ≡ has_open_group old.output
 
-abbrev pub OpensOutput : {O W : Type 0} → Told O → (W → Option (List ℕ)) → (W → ℕ) → Result (Unit {0}) ToolFault → Splitting W
+abbrev pub OpensOutput : {O W : Type 0} → Told O W → Result (Unit {0}) ToolFault → Splitting W
     → Splitting W → O → O → Type 0
-OpensOutput told contents failures (Ok u) old new before after = IsOpen told contents failures old new before after
-OpensOutput told contents failures (Err fault) old new before after =
-    FailsWith told fault (open_failures failures new.output) before after
+OpensOutput told (Ok u) old new before after = IsOpen told old new before after
+OpensOutput told (Err fault) old new before after =
+    FailsWith told fault (open_failures told.writer_failures new.output) before after
 
 -- ---- a transaction is written
 
@@ -141,10 +141,10 @@ MayEndHeld limits items None = Unit {0}
 MayEndHeld limits items (Some out) = MayEnd limits (items ++ end_of out)
 
 -- there is no open output, or it may end
-pub record MayFinish {O W : Type 0} (told : Told O) (contents : W → Option (List ℕ)) (failures : W → ℕ) (s : Splitting W)
+pub record MayFinish {O W : Type 0} (told : Told O W) (s : Splitting W)
     (before : O) : Type 0 where
   pub items : List Item
-  pub held : HoldsOutput contents failures s.limits (told.texts before) items s.output
+  pub held : HoldsOutput told.contents told.writer_failures s.limits (told.texts before) items s.output
   pub ends : MayEndHeld s.limits items s.output
 
 -- the report with an output more, where one was open
@@ -153,22 +153,22 @@ report_after report None = report
 report_after report (Some out) = record { outputs = report.outputs + 1; transactions = report.transactions }
 
 -- an output that was open was handed over: whatever transmission its items were
-abbrev pub IsHandedOver : {O W : Type 0} → Told O → (W → Option (List ℕ)) → (W → ℕ) → LimitValues → Option (SplitOutput W) → O → O
+abbrev pub IsHandedOver : {O W : Type 0} → Told O W → LimitValues → Option (SplitOutput W) → O → O
     → Type 0
-IsHandedOver told contents failures limits None before after = IsQuiet told before after
-IsHandedOver told contents failures limits (Some out) before after =
+IsHandedOver told limits None before after = IsQuiet told before after
+IsHandedOver told limits (Some out) before after =
     CountsNone told before after
-    × ((items : List Item) (w : TransmissionValue) → IsOutput contents failures limits (told.texts before) items out
+    × ((items : List Item) (w : TransmissionValue) → IsOutput told.contents told.writer_failures limits (told.texts before) items out
     → IsTransmission w → value_items w ≡ items ++ end_of out ++ Ended ∷ []
     → AddsText (told.texts before) (told.texts after) (canonical_text w))
 
-abbrev pub FinishesOutput : {O W : Type 0} → Told O → (W → Option (List ℕ)) → (W → ℕ) → Result (Unit {0}) ToolFault → Splitting W
+abbrev pub FinishesOutput : {O W : Type 0} → Told O W → Result (Unit {0}) ToolFault → Splitting W
     → Splitting W → O → O → Type 0
-FinishesOutput told contents failures (Ok u) old new before after =
+FinishesOutput told (Ok u) old new before after =
     (new ≡ record old { output = None; report = report_after old.report old.output })
-    × IsHandedOver told contents failures old.limits old.output before after
-FinishesOutput told contents failures (Err fault) old new before after =
-    FailsWith told fault (open_failures failures new.output) before after
+    × IsHandedOver told old.limits old.output before after
+FinishesOutput told (Err fault) old new before after =
+    FailsWith told fault (open_failures told.writer_failures new.output) before after
 
 -- ---- a transaction is added
 
@@ -177,12 +177,12 @@ abbrev pub items_with : {W : Type 0} → List Item → Item → Item → Item �
 items_with items opening head item out = items ++ open_front opening head out ++ item ∷ []
 
 -- these items were written to the open output, and with the transaction some transmission begins, or ends where it is full
-pub record MayAddTransaction {O W : Type 0} (told : Told O) (contents : W → Option (List ℕ)) (failures : W → ℕ) (item : Item)
+pub record MayAddTransaction {O W : Type 0} (told : Told O W) (item : Item)
     (s : Splitting W) (before : O) : Type 0 where
   pub items : List Item
   pub opening : Item
   pub head : Item
-  pub held : HoldsOutput contents failures s.limits (told.texts before) items s.output
+  pub held : HoldsOutput told.contents told.writer_failures s.limits (told.texts before) items s.output
   pub opening_is : s.opening ≡ Some opening
   pub head_is : s.head ≡ Some head
   pub opens : opening ≢ Ended
@@ -194,38 +194,38 @@ pub record MayAddTransaction {O W : Type 0} (told : Told O) (contents : W → Op
   pub full : open_count s.output + 1 ≡ s.size → MayEnd s.limits (items_with items opening head item s.output ++ blank_end ∷ [])
 
 -- the open output continues with it
-pub record GoesOn {O W : Type 0} (told : Told O) (contents : W → Option (List ℕ)) (failures : W → ℕ) (opening head item : Item)
+pub record GoesOn {O W : Type 0} (told : Told O W) (opening head item : Item)
     (old new : Splitting W) (before after : O) : Type 0 where
   pub few : open_count old.output + 1 ≢ old.size
   pub out : SplitOutput W
   pub now : new ≡ record old
       { output = Some out; report = record { outputs = old.report.outputs; transactions = old.report.transactions + 1 } }
   pub quiet : IsQuiet told before after
-  pub held : (items : List Item) → HoldsOutput contents failures old.limits (told.texts before) items old.output
-      → IsOutput contents failures old.limits (told.texts before) (items_with items opening head item old.output) out
+  pub held : (items : List Item) → HoldsOutput told.contents told.writer_failures old.limits (told.texts before) items old.output
+      → IsOutput told.contents told.writer_failures old.limits (told.texts before) (items_with items opening head item old.output) out
   pub counted : out.transactions ≡ open_count old.output + 1
   pub group : out.in_group ≡ true
 
 -- it is whole with it, and was handed over
-pub record FillsOutput {O W : Type 0} (told : Told O) (contents : W → Option (List ℕ)) (failures : W → ℕ)
+pub record FillsOutput {O W : Type 0} (told : Told O W)
     (opening head item : Item) (old new : Splitting W) (before after : O) : Type 0 where
   pub all : open_count old.output + 1 ≡ old.size
   pub now : new ≡ record old
       { output = None; report = record { outputs = old.report.outputs + 1; transactions = old.report.transactions + 1 } }
   pub counts : CountsNone told before after
   pub text : (items : List Item) (w : TransmissionValue)
-      → HoldsOutput contents failures old.limits (told.texts before) items old.output → IsTransmission w
+      → HoldsOutput told.contents told.writer_failures old.limits (told.texts before) items old.output → IsTransmission w
       → value_items w ≡ items_with items opening head item old.output ++ blank_end ∷ [] ++ Ended ∷ []
       → AddsText (told.texts before) (told.texts after) (canonical_text w)
 
-abbrev pub AddsTransaction : {O W : Type 0} → Told O → (W → Option (List ℕ)) → (W → ℕ) → Item → Result (Unit {0}) ToolFault
+abbrev pub AddsTransaction : {O W : Type 0} → Told O W → Item → Result (Unit {0}) ToolFault
     → Splitting W → Splitting W → O → O → Type 0
-AddsTransaction told contents failures item (Ok u) old new before after =
+AddsTransaction told item (Ok u) old new before after =
     (opening : Item) × (head : Item) × (old.opening ≡ Some opening) × (old.head ≡ Some head)
-    × (GoesOn told contents failures opening head item old new before after
-    ⊎ FillsOutput told contents failures opening head item old new before after)
-AddsTransaction told contents failures item (Err fault) old new before after =
-    FailsWith told fault (open_failures failures new.output) before after
+    × (GoesOn told opening head item old new before after
+    ⊎ FillsOutput told opening head item old new before after)
+AddsTransaction told item (Err fault) old new before after =
+    FailsWith told fault (open_failures told.writer_failures new.output) before after
 
 -- ---- the start, and an end before all was read
 
@@ -242,8 +242,8 @@ is_new limits size =
     }
 
 -- the writer of an open output was given up
-pub record GivesUp {O W : Type 0} (told : Told O) (failures : W → ℕ) (out : Option (SplitOutput W)) (before after : O) : Type 0
+pub record GivesUp {O W : Type 0} (told : Told O W) (out : Option (SplitOutput W)) (before after : O) : Type 0
   where
     pub texts : told.texts after ≡ told.texts before
     pub failures_are : told.failures after ≡ told.failures before
-    pub given_up : told.given_up after ≡ given_up_with (open_failures failures out) (told.given_up before)
+    pub given_up : told.given_up after ≡ given_up_with (open_failures told.writer_failures out) (told.given_up before)

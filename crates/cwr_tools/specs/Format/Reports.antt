@@ -1,5 +1,6 @@
 -- The lines of a report: those of each item, and the verdict's.
-use Rattle.std.specs.Prelude.{◌≡◌, ℕ, Bool, true, false, nat_lt, length, List, [], ◌++◌, drop, Option, Some, IfSome, Result, Err}
+use Rattle.std.specs.Prelude.{◌≡◌, ◌⊎◌, ℕ, Bool, true, false, nat_lt, length, List, [], ◌++◌, drop, Option, Some, IfSome, Result, Ok}
+use Rattle.std.specs.Prelude.{Err}
 use Rattle.std.specs.Io.KnownBytes.{Appends}
 use Rattle.cwr_devices.specs.Format.Failures.{one_more_failure}
 use Rattle.cwr_lines.specs.Format.Records.{RecordValue}
@@ -9,14 +10,16 @@ use Rattle.cwr_values.specs.declared.items.Item.TheVariants.{Transaction}
 use Rattle.cwr_values.specs.Format.Values.{TransmissionValue, IsTransmission, FitsIn}
 use Rattle.cwr_values.specs.Format.Rows.{canonical_text}
 use Rattle.cwr_judge.specs.Format.Ends.{IsAccepted}
-use Rattle.cwr_judge.specs.Format.Items.{value_items}
+use Rattle.cwr_judge.specs.Format.Items.{AreFirstItems, value_items}
+use Rattle.cwr_encode.specs.Format.Finishing.{HasFront}
 use Rattle.cwr_json.specs.declared.encodings.Encoding.{Encoding}
 use Rattle.cwr_json.specs.Format.Forms.{data_lines}
 use Rattle.cwr_levels.specs.Format.Findings.{findings}
 use Rattle.cwr_tools.specs.declared.verdicts.Verdict.{Verdict}
 use Rattle.cwr_tools.specs.declared.verdicts.Verdict.TheVariants.{Refused}
 use Rattle.cwr_tools.specs.declared.verdicts.ToolFault.{ToolFault}
-use Rattle.cwr_tools.specs.declared.verdicts.ToolFault.TheVariants.{Reader, Writer}
+use Rattle.cwr_tools.specs.declared.verdicts.ToolFault.TheVariants.{Reader, Writer, Memory}
+use Rattle.cwr_tools.specs.Format.Verdicts.{IsVerdictAfter, TakesSpelling}
 use Rattle.cwr_tools.specs.Format.Texts.{check_lines, finding_lines_in, good_verdict, show_lines, verdict_line}
 use Rattle.cwr_notes.specs.Format.FindingNotes.{explained_in, explained_lines}
 
@@ -80,6 +83,31 @@ CountsReaderFault result old new = new ≡ old
 abbrev pub CountsWriterFault : Result Verdict ToolFault → ℕ → ℕ → Type 0
 CountsWriterFault (Err (Writer written)) old new = new ≡ one_more_failure old
 CountsWriterFault result old new = new ≡ old
+
+-- the text on some first items of a transmission within the limits, or, where the bytes read are known, on those before their end
+-- and on the verdict
+abbrev pub IsTextSoFar : ItemLines → Limits → Option (List ℕ) → List ℕ → Type 0
+IsTextSoFar of limits before text =
+    ((given : List Item) × AreFirstItems limits given × (text ≡ of.lines given))
+    ⊎ ((given : List Item) × (verdict : Verdict) × IfSome before (λ known. IsVerdictAfter limits known verdict given)
+    × (text ≡ text_on of given verdict))
+
+-- Where the bytes that are read are known, the verdict is that on them, and after what the writer had stands the text on the
+-- items before their end and on that verdict. Of a text that is accepted just its spelling is taken. Where the reader failed or
+-- memory was refused, the text on the first items of some transmission is written; where the writer failed, so many first bytes of
+-- such a text are. There is no other fault.
+abbrev pub ReportsText : {W : Type 0} → ItemLines → Limits → Option (List ℕ) → Option (List ℕ) → (W → Option (List ℕ)) → W → W
+    → Result Verdict ToolFault → Type 0
+ReportsText of limits before after contents old new (Ok verdict) =
+    IfSome before (λ text. (given : List Item) × IsVerdictAfter limits text verdict given × TakesSpelling limits text after
+    × Appends (contents old) (contents new) (text_on of given verdict))
+ReportsText of limits before after contents old new (Err (Writer written)) =
+    (text : List ℕ) × IsTextSoFar of limits before text × HasFront contents (contents old) new text written
+ReportsText of limits before after contents old new (Err Reader) =
+    (given : List Item) × AreFirstItems limits given × Appends (contents old) (contents new) (of.lines given)
+ReportsText of limits before after contents old new (Err Memory) =
+    (given : List Item) × AreFirstItems limits given × Appends (contents old) (contents new) (of.lines given)
+ReportsText of limits before after contents old new (Err fault) = ⊥
 
 -- a text that is accepted has its transmission's verdict and is consumed as far as it spells that, and what is written is
 -- the text on that transmission

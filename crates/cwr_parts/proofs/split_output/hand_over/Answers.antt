@@ -22,7 +22,7 @@ fault_of-requires g c =
 
 pub returns-in-Ok-done-clause-hands_over : goal.returns-in-Ok-done-clause-hands_over
 returns-in-Ok-done-clause-hands_over g c =
-    handed_over (told_by g.O.Outputs.texts g.O.Outputs.failures g.O.Outputs.given_up) g.O.W.Target.contents g.O.W.Target.failures
+    handed_over (told_by g.O.Outputs.texts g.O.Outputs.failures g.O.Outputs.given_up g.O.W.Target.contents g.O.W.Target.failures)
     c.args.output c.finish-writer.result.0 c.in-Ok.field-0 c.args.outputs.now c.done.new.self
     (subst (λ (r : Result ℕ EncodeFault). FinishesWriting g.O.W.Target.contents g.O.W.Target.failures c.args.output.encoder
     c.finish-writer.result.0 r) c.in-Ok.is (c.finish-writer.ensures.finishes c.requires.unfailed))

@@ -7,20 +7,20 @@ use Rattle.cwr_parts.proofs.splitting.add_transaction.Goals as goal
 
 pub put-requires-clause-may : goal.put-requires-clause-may
 put-requires-clause-may g c =
-    may_write (told_by g.O.Outputs.texts g.O.Outputs.failures g.O.Outputs.given_up) g.O.W.Target.contents g.O.W.Target.failures
+    may_write (told_by g.O.Outputs.texts g.O.Outputs.failures g.O.Outputs.given_up g.O.W.Target.contents g.O.W.Target.failures)
     c.args.transaction.now c.args.splitting.now c.open_output.new.splitting c.args.outputs.now c.open_output.new.outputs
     c.requires.may c.in_ok-open_output.ensures.opens
 
 pub finish_output-requires-clause-may : goal.finish_output-requires-clause-may
 finish_output-requires-clause-may g c =
-    may_finish (told_by g.O.Outputs.texts g.O.Outputs.failures g.O.Outputs.given_up) g.O.W.Target.contents g.O.W.Target.failures
+    may_finish (told_by g.O.Outputs.texts g.O.Outputs.failures g.O.Outputs.given_up g.O.W.Target.contents g.O.W.Target.failures)
     c.args.transaction.now c.args.splitting.now c.open_output.new.splitting c.put.new.self c.args.outputs.now
     c.open_output.new.outputs
     c.requires.may c.in_ok-open_output.ensures.opens c.in_ok-put.ensures.writes c.if-is_full.ensures
 
 pub returns-then-is_full-clause-adds : goal.returns-then-is_full-clause-adds
 returns-then-is_full-clause-adds g c =
-    filled (told_by g.O.Outputs.texts g.O.Outputs.failures g.O.Outputs.given_up) g.O.W.Target.contents g.O.W.Target.failures
+    filled (told_by g.O.Outputs.texts g.O.Outputs.failures g.O.Outputs.given_up g.O.W.Target.contents g.O.W.Target.failures)
     c.args.transaction.now c.args.splitting.now c.open_output.new.splitting c.put.new.self c.finish_output.new.splitting
     c.args.outputs.now
     c.open_output.new.outputs c.finish_output.new.outputs c.finish_output.result c.in_ok-open_output.ensures.opens
@@ -28,7 +28,7 @@ returns-then-is_full-clause-adds g c =
 
 pub returns-clause-adds : goal.returns-clause-adds
 returns-clause-adds g c =
-    went_on (told_by g.O.Outputs.texts g.O.Outputs.failures g.O.Outputs.given_up) g.O.W.Target.contents g.O.W.Target.failures
+    went_on (told_by g.O.Outputs.texts g.O.Outputs.failures g.O.Outputs.given_up g.O.W.Target.contents g.O.W.Target.failures)
     c.args.transaction.now c.args.splitting.now c.open_output.new.splitting c.put.new.self c.args.outputs.now
     c.open_output.new.outputs
     c.in_ok-open_output.ensures.opens c.in_ok-put.ensures.writes c.if-is_full.ensures

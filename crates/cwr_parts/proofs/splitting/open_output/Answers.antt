@@ -6,12 +6,12 @@ use Rattle.cwr_parts.proofs.splitting.open_output.Goals as goal
 pub returns-then-is_some-clause-opens : goal.returns-then-is_some-clause-opens
 returns-then-is_some-clause-opens g c =
     let there = one_there c.args.splitting.now.output c.if-is_some.ensures in
-    already_open (told_by g.O.Outputs.texts g.O.Outputs.failures g.O.Outputs.given_up) g.O.W.Target.contents g.O.W.Target.failures
+    already_open (told_by g.O.Outputs.texts g.O.Outputs.failures g.O.Outputs.given_up g.O.W.Target.contents g.O.W.Target.failures)
     c.args.splitting.now c.args.outputs.now there.0 there.1
 
 pub returns-in-Ok-clause-opens : goal.returns-in-Ok-clause-opens
 returns-in-Ok-clause-opens g c =
-    newly_open (told_by g.O.Outputs.texts g.O.Outputs.failures g.O.Outputs.given_up) g.O.W.Target.contents g.O.W.Target.failures
+    newly_open (told_by g.O.Outputs.texts g.O.Outputs.failures g.O.Outputs.given_up g.O.W.Target.contents g.O.W.Target.failures)
     c.args.splitting.now c.args.outputs.now c.next.new.self c.in-Ok.writer c.new.result
     (none_there c.args.splitting.now.output c.if-is_some.ensures) c.in-Ok.ensures.empty c.in-Ok.ensures.unfailed
     (record { texts = c.in-Ok.ensures.kept; failures = c.in-Ok.ensures.failures.0; given_up = c.in-Ok.ensures.given_up })

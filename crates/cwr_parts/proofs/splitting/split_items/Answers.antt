@@ -25,7 +25,7 @@ items-init g c =
       splitting =
           none_split c.args.limits c.args.splitting.now.size c.new-reading.result.decoder (g.R.Source.remaining c.args.reader.now)
           (g.R.Source.remaining c.new-reading.result.reader.now)
-          (told_by g.O.Outputs.texts g.O.Outputs.failures g.O.Outputs.given_up) g.O.W.Target.contents g.O.W.Target.failures
+          (told_by g.O.Outputs.texts g.O.Outputs.failures g.O.Outputs.given_up g.O.W.Target.contents g.O.W.Target.failures)
           c.args.splitting.now c.args.outputs.now c.requires.fresh reading;
       lent = λ others e. e;
       began = λ known e b. b;
@@ -37,13 +37,11 @@ pub take_item-requires : goal.take_item-requires
 take_item-requires g c =
     let reading =
     next_item c.args.limits c.args.splitting.now.size c.items.reading.decoder c.next_item.new.self.decoder
-    (g.R.Source.remaining c.args.reader.now) _ _ (told_by g.O.Outputs.texts g.O.Outputs.failures g.O.Outputs.given_up)
-    g.O.W.Target.contents g.O.W.Target.failures c.items.handed_out c.args.outputs.now c.items.splitting c.items.outputs
+    (g.R.Source.remaining c.args.reader.now) _ _ (told_by g.O.Outputs.texts g.O.Outputs.failures g.O.Outputs.given_up g.O.W.Target.contents g.O.W.Target.failures) c.items.handed_out c.args.outputs.now c.items.splitting c.items.outputs
     c.in-Ok-Some.field-0 c.in-Ok-Some.item _ _ c.in-Ok-Some.field-0-is c.items.invariant.splitting c.in-Ok-Some.ensures.reads
     c.in-Ok-Some.ensures.again in
     (may_take c.args.limits c.args.splitting.now.size c.items.reading.decoder c.next_item.new.self.decoder
-    (g.R.Source.remaining c.args.reader.now) _ _ (told_by g.O.Outputs.texts g.O.Outputs.failures g.O.Outputs.given_up)
-    g.O.W.Target.contents g.O.W.Target.failures c.items.handed_out c.args.outputs.now c.items.splitting c.items.outputs
+    (g.R.Source.remaining c.args.reader.now) _ _ (told_by g.O.Outputs.texts g.O.Outputs.failures g.O.Outputs.given_up g.O.W.Target.contents g.O.W.Target.failures) c.items.handed_out c.args.outputs.now c.items.splitting c.items.outputs
     c.in-Ok-Some.item
     c.requires.some c.items.invariant.splitting reading).0
 
@@ -51,15 +49,13 @@ pub overflow_add-handed_out : goal.overflow_add-handed_out
 overflow_add-handed_out g c =
     let reading =
     next_item c.args.limits c.args.splitting.now.size c.items.reading.decoder c.next_item.new.self.decoder
-    (g.R.Source.remaining c.args.reader.now) _ _ (told_by g.O.Outputs.texts g.O.Outputs.failures g.O.Outputs.given_up)
-    g.O.W.Target.contents g.O.W.Target.failures c.items.handed_out c.args.outputs.now c.items.splitting c.items.outputs
+    (g.R.Source.remaining c.args.reader.now) _ _ (told_by g.O.Outputs.texts g.O.Outputs.failures g.O.Outputs.given_up g.O.W.Target.contents g.O.W.Target.failures) c.items.handed_out c.args.outputs.now c.items.splitting c.items.outputs
     c.in-Ok-Some.field-0 c.in-Ok-Some.item _ _ c.in-Ok-Some.field-0-is c.items.invariant.splitting c.in-Ok-Some.ensures.reads
     c.in-Ok-Some.ensures.again in
     omega (
       arith,
       few_handed_out c.args.limits c.args.splitting.now.size c.items.reading.decoder c.next_item.new.self.decoder
-          (g.R.Source.remaining c.args.reader.now) _ _ (told_by g.O.Outputs.texts g.O.Outputs.failures g.O.Outputs.given_up)
-          g.O.W.Target.contents g.O.W.Target.failures c.items.handed_out c.args.outputs.now c.items.splitting c.items.outputs
+          (g.R.Source.remaining c.args.reader.now) _ _ (told_by g.O.Outputs.texts g.O.Outputs.failures g.O.Outputs.given_up g.O.W.Target.contents g.O.W.Target.failures) c.items.handed_out c.args.outputs.now c.items.splitting c.items.outputs
           c.in-Ok-Some.item c.items.invariant.splitting reading,
     )
 
@@ -67,15 +63,13 @@ pub items-smaller : goal.items-smaller
 items-smaller g c =
     let reading =
     next_item c.args.limits c.args.splitting.now.size c.items.reading.decoder c.next_item.new.self.decoder
-    (g.R.Source.remaining c.args.reader.now) _ _ (told_by g.O.Outputs.texts g.O.Outputs.failures g.O.Outputs.given_up)
-    g.O.W.Target.contents g.O.W.Target.failures c.items.handed_out c.args.outputs.now c.items.splitting c.items.outputs
+    (g.R.Source.remaining c.args.reader.now) _ _ (told_by g.O.Outputs.texts g.O.Outputs.failures g.O.Outputs.given_up g.O.W.Target.contents g.O.W.Target.failures) c.items.handed_out c.args.outputs.now c.items.splitting c.items.outputs
     c.in-Ok-Some.field-0 c.in-Ok-Some.item _ _ c.in-Ok-Some.field-0-is c.items.invariant.splitting c.in-Ok-Some.ensures.reads
     c.in-Ok-Some.ensures.again in
     omega (
       arith,
       few_handed_out c.args.limits c.args.splitting.now.size c.items.reading.decoder c.next_item.new.self.decoder
-          (g.R.Source.remaining c.args.reader.now) _ _ (told_by g.O.Outputs.texts g.O.Outputs.failures g.O.Outputs.given_up)
-          g.O.W.Target.contents g.O.W.Target.failures c.items.handed_out c.args.outputs.now c.items.splitting c.items.outputs
+          (g.R.Source.remaining c.args.reader.now) _ _ (told_by g.O.Outputs.texts g.O.Outputs.failures g.O.Outputs.given_up g.O.W.Target.contents g.O.W.Target.failures) c.items.handed_out c.args.outputs.now c.items.splitting c.items.outputs
           c.in-Ok-Some.item c.items.invariant.splitting reading,
     )
 
@@ -83,21 +77,18 @@ pub items-preserved : goal.items-preserved
 items-preserved g c =
     let reading =
     next_item c.args.limits c.args.splitting.now.size c.items.reading.decoder c.next_item.new.self.decoder
-    (g.R.Source.remaining c.args.reader.now) _ _ (told_by g.O.Outputs.texts g.O.Outputs.failures g.O.Outputs.given_up)
-    g.O.W.Target.contents g.O.W.Target.failures c.items.handed_out c.args.outputs.now c.items.splitting c.items.outputs
+    (g.R.Source.remaining c.args.reader.now) _ _ (told_by g.O.Outputs.texts g.O.Outputs.failures g.O.Outputs.given_up g.O.W.Target.contents g.O.W.Target.failures) c.items.handed_out c.args.outputs.now c.items.splitting c.items.outputs
     c.in-Ok-Some.field-0 c.in-Ok-Some.item _ _ c.in-Ok-Some.field-0-is c.items.invariant.splitting c.in-Ok-Some.ensures.reads
     c.in-Ok-Some.ensures.again in
     let may =
     may_take c.args.limits c.args.splitting.now.size c.items.reading.decoder c.next_item.new.self.decoder
-    (g.R.Source.remaining c.args.reader.now) _ _ (told_by g.O.Outputs.texts g.O.Outputs.failures g.O.Outputs.given_up)
-    g.O.W.Target.contents g.O.W.Target.failures c.items.handed_out c.args.outputs.now c.items.splitting c.items.outputs
+    (g.R.Source.remaining c.args.reader.now) _ _ (told_by g.O.Outputs.texts g.O.Outputs.failures g.O.Outputs.given_up g.O.W.Target.contents g.O.W.Target.failures) c.items.handed_out c.args.outputs.now c.items.splitting c.items.outputs
     c.in-Ok-Some.item
     c.requires.some c.items.invariant.splitting reading in
     record {
       splitting =
           item_taken c.args.limits c.args.splitting.now.size c.items.reading.decoder c.next_item.new.self.decoder
-          (g.R.Source.remaining c.args.reader.now) _ _ (told_by g.O.Outputs.texts g.O.Outputs.failures g.O.Outputs.given_up)
-          g.O.W.Target.contents g.O.W.Target.failures c.items.handed_out c.args.outputs.now c.items.splitting
+          (g.R.Source.remaining c.args.reader.now) _ _ (told_by g.O.Outputs.texts g.O.Outputs.failures g.O.Outputs.given_up g.O.W.Target.contents g.O.W.Target.failures) c.items.handed_out c.args.outputs.now c.items.splitting
           c.take_item.new.splitting c.items.outputs
           c.take_item.new.outputs c.in-Ok-Some.item c.requires.some c.items.invariant.splitting reading (leaves_item
           c.in-Ok-Some.field-0 c.in-Ok-Some.item c.next_item.new.self.decoder.state c.in-Ok-Some.field-0-is
@@ -116,8 +107,7 @@ pub returns-in_err-take_item-in-Ok-Some-clause-splits : goal.returns-in_err-take
 returns-in_err-take_item-in-Ok-Some-clause-splits g c =
     let reading =
     next_item c.args.limits c.args.splitting.now.size c.items.reading.decoder c.next_item.new.self.decoder
-    (g.R.Source.remaining c.args.reader.now) _ _ (told_by g.O.Outputs.texts g.O.Outputs.failures g.O.Outputs.given_up)
-    g.O.W.Target.contents g.O.W.Target.failures c.items.handed_out c.args.outputs.now c.items.splitting c.items.outputs
+    (g.R.Source.remaining c.args.reader.now) _ _ (told_by g.O.Outputs.texts g.O.Outputs.failures g.O.Outputs.given_up g.O.W.Target.contents g.O.W.Target.failures) c.items.handed_out c.args.outputs.now c.items.splitting c.items.outputs
     c.in-Ok-Some.field-0 c.in-Ok-Some.item _ _ c.in-Ok-Some.field-0-is c.items.invariant.splitting c.in-Ok-Some.ensures.reads
     c.in-Ok-Some.ensures.again in
     let stopped : Splits c.args.limits c.args.splitting.now.size (g.R.Source.remaining c.args.reader.now)
@@ -125,7 +115,7 @@ returns-in_err-take_item-in-Ok-Some-clause-splits g c =
     (g.O.Outputs.texts c.take_item.new.outputs) (Err c.in_err-take_item-in-Ok-Some.field-0.0)
     = output_stopped c.args.limits c.args.splitting.now.size c.items.reading.decoder c.next_item.new.self.decoder
     (g.R.Source.remaining c.args.reader.now) _ (g.R.Source.remaining c.next_item.new.self.reader.now)
-    (told_by g.O.Outputs.texts g.O.Outputs.failures g.O.Outputs.given_up) g.O.W.Target.contents g.O.W.Target.failures
+    (told_by g.O.Outputs.texts g.O.Outputs.failures g.O.Outputs.given_up g.O.W.Target.contents g.O.W.Target.failures)
     c.items.handed_out c.args.outputs.now c.items.splitting c.items.outputs c.take_item.new.outputs
     c.in-Ok-Some.item c.in_err-take_item-in-Ok-Some.field-0.0 _ c.requires.some c.items.invariant.splitting reading
     c.in_err-take_item-in-Ok-Some.ensures.takes in
@@ -150,7 +140,7 @@ returns-in-Ok-None-clause-splits g c =
     (g.O.Outputs.texts c.items.outputs) c.items.splitting.report (Ok tt)
     = all_split c.args.limits c.args.splitting.now.size c.items.reading.decoder (g.R.Source.remaining c.args.reader.now) _
     (g.R.Source.remaining c.next_item.new.self.reader.now)
-    (told_by g.O.Outputs.texts g.O.Outputs.failures g.O.Outputs.given_up) g.O.W.Target.contents g.O.W.Target.failures
+    (told_by g.O.Outputs.texts g.O.Outputs.failures g.O.Outputs.given_up g.O.W.Target.contents g.O.W.Target.failures)
     c.items.handed_out c.args.outputs.now c.items.splitting c.items.outputs c.requires.some c.items.invariant.splitting all in
     search rules
 
@@ -169,7 +159,7 @@ returns-in-Err-clause-splits g c =
     (g.O.Outputs.texts c.items.outputs) (Err f))
     (sym c.reading_fault.ensures) (reading_stopped c.args.limits c.args.splitting.now.size c.items.reading.decoder
     (g.R.Source.remaining c.args.reader.now) _ (g.R.Source.remaining c.next_item.new.self.reader.now)
-    (told_by g.O.Outputs.texts g.O.Outputs.failures g.O.Outputs.given_up) g.O.W.Target.contents g.O.W.Target.failures
+    (told_by g.O.Outputs.texts g.O.Outputs.failures g.O.Outputs.given_up g.O.W.Target.contents g.O.W.Target.failures)
     c.items.handed_out c.args.outputs.now c.items.splitting c.items.outputs c.in-Err.fault _ _ c.requires.some
     c.items.invariant.splitting
     c.in-Err.ensures.again stop) in
@@ -184,7 +174,7 @@ returns-in-Ok-None-clause-ended g c =
     c.items.invariant.splitting.reading c.in-Ok-None.ensures.reads c.in-Ok-None.ensures.again (λ e. ap g.R.Source.remaining e) in
     no_output_left c.args.limits c.args.splitting.now.size c.items.reading.decoder (g.R.Source.remaining c.args.reader.now) _
     (g.R.Source.remaining c.next_item.new.self.reader.now)
-    (told_by g.O.Outputs.texts g.O.Outputs.failures g.O.Outputs.given_up) g.O.W.Target.contents g.O.W.Target.failures
+    (told_by g.O.Outputs.texts g.O.Outputs.failures g.O.Outputs.given_up g.O.W.Target.contents g.O.W.Target.failures)
     c.items.handed_out c.args.outputs.now c.items.splitting c.items.outputs c.requires.some c.items.invariant.splitting all
 
 pub returns-in_err-take_item-in-Ok-Some-clause-lent : goal.returns-in_err-take_item-in-Ok-Some-clause-lent

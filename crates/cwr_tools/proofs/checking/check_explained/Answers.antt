@@ -2,7 +2,7 @@ use Rattle.std.proofs.Common.{ap₂, sym}
 use Rattle.cwr_tools.specs.Format.Reports.{lines_of_explained}
 use Rattle.cwr_tools.specs.Steps.Reports.{lines_told}
 use Rattle.cwr_tools.proofs.lemmas.FindingsWatched.{worst_none}
-use Rattle.cwr_tools.proofs.lemmas.RightReports.{accepted_reports, judged_text}
+use Rattle.cwr_tools.proofs.lemmas.ToldTexts.{reports_text}
 use Rattle.cwr_tools.proofs.lemmas.WatchedRuns.{sees_accepted}
 use Rattle.cwr_tools.proofs.checking.check_explained.Goals as goal
 
@@ -23,14 +23,9 @@ returns-clause-reported g c =
       worst_none _ c.new-lines.ensures.told,
     )
 
-pub returns-clause-judged : goal.returns-clause-judged
-returns-clause-judged g c =
-    judged_text lines_of_explained c.args.limits _ _ g.W.Target.contents c.args.writer c.write_report-writer.result.0
-    c.write_report-writer.result.1 (returns-clause-reported g c)
-
-pub returns-clause-accepted : goal.returns-clause-accepted
-returns-clause-accepted g c =
-    accepted_reports lines_of_explained c.args.limits _ _ g.W.Target.contents c.args.writer c.write_report-writer.result.0
+pub returns-clause-told : goal.returns-clause-told
+returns-clause-told g c =
+    reports_text lines_of_explained c.args.limits _ _ g.W.Target.contents c.args.writer c.write_report-writer.result.0
     c.write_report-writer.result.1 (returns-clause-reported g c)
 
 pub returns-clause-seen : goal.returns-clause-seen

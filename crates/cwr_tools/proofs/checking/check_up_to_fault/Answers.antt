@@ -2,7 +2,7 @@ use Rattle.std.proofs.Common.{ap₂, sym}
 use Rattle.cwr_tools.specs.Format.Reports.{lines_up_to_fault}
 use Rattle.cwr_tools.specs.Steps.Reports.{lines_told}
 use Rattle.cwr_tools.proofs.lemmas.FindingsWatched.{worst_none}
-use Rattle.cwr_tools.proofs.lemmas.RightReports.{judged_text}
+use Rattle.cwr_tools.proofs.lemmas.ToldTexts.{reports_text}
 use Rattle.cwr_tools.proofs.checking.check_up_to_fault.Goals as goal
 
 pub write_report-writer-requires : goal.write_report-writer-requires
@@ -23,7 +23,7 @@ returns-clause-reported g c =
       worst_none _ c.new-lines.ensures.told,
     )
 
-pub returns-clause-judged : goal.returns-clause-judged
-returns-clause-judged g c =
-    judged_text (lines_up_to_fault c.args.explained) c.args.limits _ _ g.W.Target.contents c.args.writer
+pub returns-clause-told : goal.returns-clause-told
+returns-clause-told g c =
+    reports_text (lines_up_to_fault c.args.explained) c.args.limits _ _ g.W.Target.contents c.args.writer
     c.write_report-writer.result.0 c.write_report-writer.result.1 (returns-clause-reported g c)
