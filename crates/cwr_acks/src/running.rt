@@ -1,8 +1,7 @@
 //! Whole runs over a text: its acknowledgements.
 
 ghost use Rattle.std.specs.Prelude.{◌≡◌, true, IfOk, IfSome, OnOk};
-ghost use Rattle.cwr_tools.specs.Format.Reports.{CountsReaderFault, CountsWriterFault, JudgesAccepted, JudgesCanonical};
-ghost use Rattle.cwr_tools.specs.Format.Verdicts.{JudgesText};
+ghost use Rattle.cwr_tools.specs.Format.Reports.{CountsReaderFault, CountsWriterFault, ReportsText};
 ghost use Rattle.cwr_tools.specs.Steps.Reports.{Reports};
 ghost use Rattle.cwr_acks.specs.Format.AckLines.{lines_of_acks};
 ghost use Rattle.cwr_acks.specs.Format.SentAnswers.{IsFresh, facts_if};
@@ -95,11 +94,8 @@ pub fn acks<R: Source, W: Target + Drop>(
     requires { IfSome sent IsFresh }
     ensures reported { Reports (lines_of_acks form (facts_if sent)) limits (R.remaining reader.old)
         (R.remaining reader.new) W.contents writer result.0 result.1 }
-    ensures judged { JudgesText limits (R.remaining reader.old) result.1 }
-    ensures accepted { IfOk result.1 (JudgesAccepted (lines_of_acks form (facts_if sent)) limits
-        (R.remaining reader.old) (R.remaining reader.new) W.contents writer result.0) }
-    ensures canonical { IfOk result.1 (JudgesCanonical (lines_of_acks form (facts_if sent)) limits
-        (R.remaining reader.old) (R.remaining reader.new) W.contents writer result.0) }
+    ensures told { ReportsText (lines_of_acks form (facts_if sent)) limits (R.remaining reader.old)
+        (R.remaining reader.new) W.contents writer result.0 result.1 }
     // No failure is passed over: a device failed only where that is the answer.
     ensures reader_failures { CountsReaderFault result.1 (R.failures reader.old)
         (R.failures reader.new) }

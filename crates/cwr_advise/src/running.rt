@@ -1,8 +1,7 @@
 //! Whole runs over a text: the findings and the advice in each transaction, and the verdict.
 
 ghost use Rattle.std.specs.Prelude.{◌≡◌, [], true, IfOk, OnOk, IsSomeAnd};
-ghost use Rattle.cwr_tools.specs.Format.Reports.{CountsReaderFault, CountsWriterFault, JudgesAccepted, JudgesCanonical};
-ghost use Rattle.cwr_tools.specs.Format.Verdicts.{JudgesText};
+ghost use Rattle.cwr_tools.specs.Format.Reports.{CountsReaderFault, CountsWriterFault, ReportsText};
 ghost use Rattle.cwr_tools.specs.Steps.Reports.{Reports, StandsAfter};
 ghost use Rattle.cwr_tools.specs.Steps.Verdicts.{IsReadLast};
 ghost use Rattle.cwr_advise.specs.Format.AdviceLines.{lines_advised, lines_of_advice, said_in};
@@ -142,11 +141,8 @@ pub fn advise<R: Source, W: Target + Drop>(
 ) -> (W, Result<Verdict, ToolFault>)
     ensures reported { Reports (lines_of_advice repeated) limits (R.remaining reader.old)
         (R.remaining reader.new) W.contents writer result.0 result.1 }
-    ensures judged { JudgesText limits (R.remaining reader.old) result.1 }
-    ensures accepted { IfOk result.1 (JudgesAccepted (lines_of_advice repeated) limits
-        (R.remaining reader.old) (R.remaining reader.new) W.contents writer result.0) }
-    ensures canonical { IfOk result.1 (JudgesCanonical (lines_of_advice repeated) limits
-        (R.remaining reader.old) (R.remaining reader.new) W.contents writer result.0) }
+    ensures told { ReportsText (lines_of_advice repeated) limits (R.remaining reader.old)
+        (R.remaining reader.new) W.contents writer result.0 result.1 }
     // No failure is passed over: a device failed only where that is the answer.
     ensures reader_failures { CountsReaderFault result.1 (R.failures reader.old)
         (R.failures reader.new) }
@@ -170,7 +166,8 @@ pub fn advise_up_to_fault<R: Source, W: Target + Drop>(
 ) -> (W, Result<Verdict, ToolFault>, CheckedFront, Said)
     ensures reported { Reports (lines_advised explained true 0) limits (R.remaining reader.old)
         (R.remaining reader.new) W.contents writer result.0 result.1 }
-    ensures judged { JudgesText limits (R.remaining reader.old) result.1 }
+    ensures told { ReportsText (lines_advised explained true 0) limits (R.remaining reader.old)
+        (R.remaining reader.new) W.contents writer result.0 result.1 }
     ensures said { IfOk result.1 (StandsAfter (λ given. result.3 ≡ said_in given) limits
         (R.remaining reader.old) (R.remaining reader.new)) }
     ensures reader_failures { CountsReaderFault result.1 (R.failures reader.old)

@@ -1,8 +1,7 @@
 //! Whole runs over a text: the table of its items.
 
 ghost use Rattle.std.specs.Prelude.{◌≡◌, true, IfOk, OnOk};
-ghost use Rattle.cwr_tools.specs.Format.Reports.{CountsReaderFault, CountsWriterFault, JudgesAccepted, JudgesCanonical};
-ghost use Rattle.cwr_tools.specs.Format.Verdicts.{JudgesText};
+ghost use Rattle.cwr_tools.specs.Format.Reports.{CountsReaderFault, CountsWriterFault, ReportsText};
 ghost use Rattle.cwr_tools.specs.Steps.Reports.{Reports};
 ghost use Rattle.cwr_csv.specs.Format.TableLines.{lines_of_table};
 
@@ -27,11 +26,8 @@ pub fn csv<R: Source, W: Target + Drop>(
 ) -> (W, Result<Verdict, ToolFault>)
     ensures reported { Reports (lines_of_table table) limits (R.remaining reader.old)
         (R.remaining reader.new) W.contents writer result.0 result.1 }
-    ensures judged { JudgesText limits (R.remaining reader.old) result.1 }
-    ensures accepted { IfOk result.1 (JudgesAccepted (lines_of_table table) limits
-        (R.remaining reader.old) (R.remaining reader.new) W.contents writer result.0) }
-    ensures canonical { IfOk result.1 (JudgesCanonical (lines_of_table table) limits
-        (R.remaining reader.old) (R.remaining reader.new) W.contents writer result.0) }
+    ensures told { ReportsText (lines_of_table table) limits (R.remaining reader.old)
+        (R.remaining reader.new) W.contents writer result.0 result.1 }
     // No failure is passed over: a device failed only where that is the answer.
     ensures reader_failures { CountsReaderFault result.1 (R.failures reader.old)
         (R.failures reader.new) }

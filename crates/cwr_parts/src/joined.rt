@@ -1,16 +1,15 @@
 //! What was joined so far: the encoder of the result, and the numbers of what it wrote.
 
-ghost use Rattle.std.specs.Prelude.{◌≡◌, ◌≢◌, ◌+◌, ◌≤◌, ◌∷◌, ℕ, Bool, List, Option, [], map, length, true, false, filter, Result, Ok, Err, OnOk};
+ghost use Rattle.std.specs.Prelude.{◌≡◌, ◌≢◌, ◌+◌, ◌≤◌, ◌∷◌, ℕ, Bool, List, Option, [], length, true, false, filter, Result, Ok, Err, OnOk};
 ghost use Rattle.std.specs.List.{AllByRecursion};
-ghost use Rattle.cwr_lines.specs.Format.Records.{RecordValue};
 ghost use Rattle.cwr_shape.specs.Format.Ranges.{AreInRange};
-ghost use Rattle.cwr_values.specs.Format.Values.{IsTransmission, symbol_of, TransmissionValue};
+ghost use Rattle.cwr_values.specs.Format.Values.{IsTransmission, TransmissionValue};
 ghost use Rattle.cwr_values.specs.declared.items.Item.{Item};
 ghost use Rattle.cwr_judge.specs.Format.Items.{item_records};
 ghost use Rattle.cwr_encode.specs.Format.Encoders.{IsNoMistake};
-ghost use Rattle.cwr_encode.specs.Steps.Encoders.{AddsRecords, Encodes, is_stopped, encoder_limits, target_of};
+ghost use Rattle.cwr_encode.specs.Steps.Encoders.{AddsRecords, is_stopped, encoder_limits, target_of};
 ghost use Rattle.cwr_parts.specs.Format.Joins.{is_joined, joined_inputs};
-ghost use Rattle.cwr_parts.specs.Steps.Joined.{AddsItems, EndsJoin, HasJoined, HasJoinedAll, IsAnswerOf, JudgesItem, MayAdd, is_fault_of, joined_writer};
+ghost use Rattle.cwr_parts.specs.Steps.Joined.{AddsItems, EndsJoin, HasJoined, HasJoinedAll, IsAnswerOf, JudgesNext, MayAdd, is_fault_of, joined_writer};
 
 use cwr_devices::Target;
 use cwr_encode::{EncodeFault, Encoder};
@@ -22,8 +21,7 @@ use cwr_values::Item;
 pub(crate) fn put_item<W: Target>(encoder: &mut Encoder<W>, item: &Item) -> Result<(), EncodeFault>
     requires unfailed { is_stopped encoder.old ≡ false }
     requires not_ended { item.now ≢ Item.Ended }
-    ensures judged { (start : Option (List ℕ)) (records : List RecordValue) → Encodes W.contents start records encoder.old
-        → JudgesItem (encoder_limits encoder.old) item.now (map symbol_of records) result }
+    ensures judged { JudgesNext W.contents item.now result encoder.old }
     ensures adds { AddsRecords W.contents W.failures (item_records item.now) result encoder.old
         encoder.new }
     ensures limits { encoder_limits encoder.new ≡ encoder_limits encoder.old }

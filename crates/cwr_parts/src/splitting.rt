@@ -135,7 +135,9 @@ fn finish_output<O: Outputs>(
     requires room { splitting.old.report.outputs < 199999999 }
     requires may { MayFinish (told_by O.texts O.failures O.given_up O.W.contents O.W.failures)
         splitting.old outputs.old }
-    ensures finishes { FinishesOutput (told_by O.texts O.failures O.given_up O.W.contents O.W.failures) result splitting.old splitting.new outputs.old outputs.new }
+    ensures finishes { FinishesOutput
+        (told_by O.texts O.failures O.given_up O.W.contents O.W.failures) result splitting.old
+        splitting.new outputs.old outputs.new }
     ensures lent { KeepsLent (O.lent outputs.old) splitting.old.output (O.lent outputs.new)
         splitting.new.output }
     ensures written { CountsWritten O.W.contents (O.texts outputs.old) result splitting.old.output
@@ -159,7 +161,9 @@ fn add_transaction<O: Outputs>(
     outputs: &mut O,
 ) -> Result<(), ToolFault>
     requires not_ended { transaction.now ≢ Item.Ended }
-    requires may { MayAddTransaction (told_by O.texts O.failures O.given_up O.W.contents O.W.failures) transaction.now splitting.old outputs.old }
+    requires may { MayAddTransaction
+        (told_by O.texts O.failures O.given_up O.W.contents O.W.failures) transaction.now
+        splitting.old outputs.old }
     ensures adds { AddsTransaction (told_by O.texts O.failures O.given_up O.W.contents O.W.failures)
         transaction.now result splitting.old splitting.new outputs.old outputs.new }
     ensures lent { KeepsLent (O.lent outputs.old) splitting.old.output (O.lent outputs.new)

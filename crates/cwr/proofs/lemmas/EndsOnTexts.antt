@@ -11,9 +11,10 @@ use Rattle.cwr_tools.specs.declared.verdicts.Verdict.TheVariants as verdicts
 use Rattle.cwr_tools.specs.declared.verdicts.ToolFault.{ToolFault}
 use Rattle.cwr_tools.specs.declared.verdicts.ToolFault.TheVariants as tool_faults
 use Rattle.cwr_tools.specs.declared.watch.Watch.{Watch}
-use Rattle.cwr_tools.specs.Format.Reports.{CountsReaderFault, CountsWriterFault, ItemLines, JudgesAccepted}
+use Rattle.cwr_tools.specs.Format.Reports.{CountsReaderFault, CountsWriterFault, ItemLines, JudgesAccepted, ReportsText}
 use Rattle.cwr_tools.specs.Format.Verdicts.{IsVerdictOn, JudgesText}
 use Rattle.cwr_tools.specs.Format.Watching.{SeesAccepted, any_from, watched}
+use Rattle.cwr_tools.proofs.lemmas.RightReports.{accepted_text}
 use Rattle.cwr_causes.specs.declared.trailing.Trailing.{Trailing}
 use Rattle.cwr_causes.specs.Format.Trailing.{IsTrailing}
 use Rattle.cwr_explain.specs.Format.Explained.{FindsAfter}
@@ -98,6 +99,15 @@ looks_after of limits (Some text) mid after contents old new (Ok verdict) look j
       subst (λ (m : Option (List ℕ)). IsLook m after look) j.1
           (subst (λ (it : Verdict). LooksOnce mid after (Ok it) look) j.0 once),
     )
+
+-- after one of which all is told
+pub looks_told : {W : Type 0} (of : ItemLines) (limits : Limits) (before mid after : Option (List ℕ))
+    (contents : W → Option (List ℕ)) (old new : W) (outcome : Result Verdict ToolFault) (look : Look)
+    → ReportsText of limits before mid contents old new outcome → LooksOnce mid after outcome look
+    → OnOk outcome (LooksAfter limits before look)
+looks_told of limits before mid after contents old new outcome look told once =
+    looks_after of limits before mid after contents old new outcome look
+    (accepted_text of limits before mid contents old new outcome told) once
 
 -- after one that explained what stands there
 pub looks_found : (limits : Limits) (before after : Option (List ℕ)) (outcome : Result Verdict ToolFault)

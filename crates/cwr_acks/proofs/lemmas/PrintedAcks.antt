@@ -29,7 +29,8 @@ use Rattle.cwr_acks.specs.Steps.DataTexts.{ack_opening, cell_member, cell_member
 use Rattle.cwr_acks.specs.Steps.DataTexts.{counts_data_text, level_member, mark_part, message_part, shown_cell}
 use Rattle.cwr_acks.specs.Steps.DataTexts.{unanswered_data_text}
 use Rattle.cwr_acks.proofs.lemmas.NamedParts.{or_false, or_true}
-use Rattle.cwr_acks.proofs.lemmas.PrintedParts.{Begins, Follows, array_shown, begins_alone, begins_member, cell_follows, cell_follows_if}
+use Rattle.cwr_acks.proofs.lemmas.PrintedParts.{Begins, Follows, array_shown, begins_alone, begins_member, cell_follows}
+use Rattle.cwr_acks.proofs.lemmas.PrintedParts.{cell_follows_if}
 use Rattle.cwr_acks.proofs.lemmas.PrintedParts.{cell_shown, follows_last, follows_none, level_follows, line_shown, mark_follows}
 use Rattle.cwr_acks.proofs.lemmas.PrintedParts.{number_follows, number_follows_if, number_shown, object_listed, object_shown}
 use Rattle.cwr_acks.proofs.lemmas.PrintedParts.{string_shown, text_follows}

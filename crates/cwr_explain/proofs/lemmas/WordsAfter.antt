@@ -1,12 +1,13 @@
 -- A check, and what is written and found after it.
-use Rattle.std.proofs.Common.{◌≡◌, ℕ, true, List, [], Option, Some, None, ap, subst}
+use Rattle.std.proofs.Common.{◌≡◌, ℕ, true, List, [], Option, Some, None, sym, ap, subst}
 use Rattle.std.specs.Prelude.{IsSomeAnd, OnOk, Result, Ok, Err}
 use Rattle.std.proofs.KnownBytes.{Appends-nil}
 use Rattle.cwr_shape.specs.declared.limits.Limits.{Limits}
 use Rattle.cwr_tools.specs.declared.verdicts.Verdict.{Verdict}
 use Rattle.cwr_tools.specs.declared.verdicts.ToolFault.{ToolFault}
+use Rattle.cwr_tools.specs.declared.verdicts.ToolFault.TheVariants as tool_faults
 use Rattle.cwr_tools.specs.Format.Reports.{AddsWords, CountsReaderFault, CountsWriterFault, JudgesAccepted, lines_of_explained}
-use Rattle.cwr_tools.specs.Format.Verdicts.{IsAnswerAfter}
+use Rattle.cwr_tools.specs.Format.Verdicts.{IsAnswerAfter, IsAnswerTo, JudgesText}
 use Rattle.cwr_tools.specs.Steps.Reports.{Reports}
 use Rattle.cwr_causes.specs.declared.trailing.Trailing.{Trailing}
 use Rattle.cwr_causes.specs.Format.Trailing.{IsTrailing, TakesMore}
@@ -53,3 +54,15 @@ finds_after limits None left after contents old new verdict (Ok other) found acc
 finds_after limits (Some text) left after contents old new verdict (Ok other) found accepted h = λ v n a.
     let j = accepted v n a in
     subst (λ (m : Option (List ℕ)). IsSomeAnd found (IsTrailing m after)) j.1 (h (ap is_good j.0))
+
+-- what is answered after a verdict that is right of a text is right of it
+pub judged_after : (limits : Limits) (before : Option (List ℕ)) (verdict : Verdict) (result : Result Verdict ToolFault)
+    → JudgesText limits before (Ok verdict) → IsAnswerTo verdict result → JudgesText limits before result
+judged_after limits before verdict (Ok other) h a = subst (λ (it : Verdict). JudgesText limits before (Ok it)) (sym a) h
+judged_after limits before verdict (Err tool_faults.Reader) h a = tt
+judged_after limits before verdict (Err (tool_faults.Writer written)) h a = tt
+judged_after limits before verdict (Err tool_faults.Memory) h a = tt
+judged_after limits before verdict (Err (tool_faults.Refused refusal)) h a = absurd a
+judged_after limits before verdict (Err (tool_faults.Truncated records)) h a = absurd a
+judged_after limits before verdict (Err (tool_faults.Limit limit)) h a = absurd a
+judged_after limits before verdict (Err tool_faults.Output) h a = absurd a

@@ -59,7 +59,8 @@ may_end_open {W = W} told o closed h cur v whole rest s now had p (Some out) e =
     let right = closed_right s.limits s.size v whole o groups rest p there in
     let items : List Item = open_items (Inside o closed h cur) in
     let output =
-    subst (λ (x : Option (SplitOutput W)). HoldsOutput told.contents told.writer_failures s.limits (told.texts now) items x) e had.output in
+    subst (λ (x : Option (SplitOutput W)). HoldsOutput told.contents told.writer_failures s.limits (told.texts now) items x) e
+    had.output in
     let ended : items ++ end_of out ≡ Opened o ∷ flat_map group_items groups =
     ap (λ (x : Option (SplitOutput W)). items ++ open_end x) (sym e) ∙ with_end o closed h cur s.output had.group
     ∙ items_closed o groups there in (
@@ -88,8 +89,10 @@ may_end_group told r s now may =
 
 -- the output without its open group
 outside : {O W : Type 0} (told : Told O W) (limits : LimitValues)
-    (had : Option (List (List ℕ))) (items : List Item) (a b : Option (SplitOutput W)) → IsOutsideOpen told.contents told.writer_failures a b
-    → HoldsOutput told.contents told.writer_failures limits had items a → HoldsOutput told.contents told.writer_failures limits had (items ++ open_end a) b
+    (had : Option (List (List ℕ))) (items : List Item) (a b : Option (SplitOutput W))
+    → IsOutsideOpen told.contents told.writer_failures a b
+    → HoldsOutput told.contents told.writer_failures limits had items a
+    → HoldsOutput told.contents told.writer_failures limits had (items ++ open_end a) b
     × (open_count b ≡ open_count a) × (has_open_group b ≡ false) × (a ≡ None → b ≡ None)
 outside told limits had items None None h k = (append-nil items ∙ k, refl, refl, λ e. refl)
 outside told limits had items (Some x) (Some y) h k =
@@ -214,7 +217,8 @@ last_handed_over {W = W} told o closed v whole rest s now after had p (Some out)
     let right = closed_right s.limits s.size v whole o closed rest p there in
     let items : List Item = open_items (Between o closed) in
     let output =
-    subst (λ (x : Option (SplitOutput W)). HoldsOutput told.contents told.writer_failures s.limits (told.texts now) items x) e had.output in
+    subst (λ (x : Option (SplitOutput W)). HoldsOutput told.contents told.writer_failures s.limits (told.texts now) items x) e
+    had.output in
     let all : value_items (value_of o closed) ≡ items ++ end_of out ++ Ended ∷ [] =
     ap (λ (l : List Item). l ++ Ended ∷ []) (sym (items_closed o closed there) ∙ sym (append-nil items)
     ∙ ap (λ (l : List Item). items ++ l) (sym (no_end out (sym (ap has_open_group e) ∙ had.group)))) in

@@ -63,7 +63,8 @@ head_taken {W = W} told r s now may =
         opening = had.opening;
         head = refl;
         output =
-            subst (λ (l : List Item). HoldsOutput told.contents told.writer_failures s.limits (told.texts now) l s.output) (same_items o closed r)
+            subst (λ (l : List Item). HoldsOutput told.contents told.writer_failures s.limits (told.texts now) l s.output)
+            (same_items o closed r)
             had.output;
         count = omega (arith, had.count);
         group = had.group;

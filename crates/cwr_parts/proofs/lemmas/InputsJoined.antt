@@ -213,28 +213,32 @@ stops_by limits contents counts inputs before after later old j next Reader same
       given = a.0;
       stops = a.1;
       written =
-          part_written limits contents counts (joined_inputs inputs) (filter (is_joined (is_first inputs)) a.0) old j next same h a.2;
+          part_written limits contents counts (joined_inputs inputs) (filter (is_joined (is_first inputs)) a.0) old j next same h
+          a.2;
     }
 stops_by limits contents counts inputs before after later old j next Memory same h a =
     record {
       given = a.0;
       stops = a.1;
       written =
-          part_written limits contents counts (joined_inputs inputs) (filter (is_joined (is_first inputs)) a.0) old j next same h a.2;
+          part_written limits contents counts (joined_inputs inputs) (filter (is_joined (is_first inputs)) a.0) old j next same h
+          a.2;
     }
 stops_by limits contents counts inputs before after later old j next (Refused r) same h a =
     record {
       given = a.0;
       stops = a.1;
       written =
-          part_written limits contents counts (joined_inputs inputs) (filter (is_joined (is_first inputs)) a.0) old j next same h a.2;
+          part_written limits contents counts (joined_inputs inputs) (filter (is_joined (is_first inputs)) a.0) old j next same h
+          a.2;
     }
 stops_by limits contents counts inputs before after later old j next (Truncated r) same h a =
     record {
       given = a.0;
       stops = a.1;
       written =
-          part_written limits contents counts (joined_inputs inputs) (filter (is_joined (is_first inputs)) a.0) old j next same h a.2;
+          part_written limits contents counts (joined_inputs inputs) (filter (is_joined (is_first inputs)) a.0) old j next same h
+          a.2;
     }
 stops_by limits contents counts inputs before after later old j next (Limit limit) same h a = record {
   given = a.0;

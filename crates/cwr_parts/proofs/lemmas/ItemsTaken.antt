@@ -82,17 +82,20 @@ quiet_output contents failures limits had items None h = refl
 quiet_output contents failures limits had items (Some out) h = h.quiet
 
 pub takes_foot : {O W : Type 0} (told : Told O W) (item : Item)
-    (r : RecordValue) (s new : Splitting W) (now : O) (result : Result (Unit {0}) ToolFault) → item ≡ GroupClosed r → MayTake told item s now
+    (r : RecordValue) (s new : Splitting W) (now : O) (result : Result (Unit {0}) ToolFault) → item ≡ GroupClosed r
+    → MayTake told item s now
     → EndsGroup told.contents told.writer_failures result s new → TakesItem told item result s new now now
 takes_foot told item r s new now (Ok u) e may done =
     subst (λ (i : Item). TakesItem told i (Ok u) s new now now) (sym e)
     (foot_taken told r u s new now done)
 takes_foot told item r s new now (Err fault) e may done =
-    writer_failed told told.writer_failures s.output new.output now fault
-    (quiet_output told.contents told.writer_failures s.limits (told.texts now) (open_items may.stage) s.output may.holds.output) done
+    writer_failed told s.output new.output now fault
+    (quiet_output told.contents told.writer_failures s.limits (told.texts now) (open_items may.stage) s.output may.holds.output)
+    done
 
 pub takes_end : {O W : Type 0} (told : Told O W) (item : Item)
-    (s new : Splitting W) (now after : O) (result : Result (Unit {0}) ToolFault) → item ≡ Ended → FinishesOutput told result s new now after
+    (s new : Splitting W) (now after : O) (result : Result (Unit {0}) ToolFault) → item ≡ Ended
+    → FinishesOutput told result s new now after
     → TakesItem told item result s new now after
 takes_end told item s new now after (Ok u) e done =
     subst (λ (i : Item). TakesItem told i (Ok u) s new now after) (sym e)

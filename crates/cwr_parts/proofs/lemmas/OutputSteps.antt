@@ -37,7 +37,8 @@ already_open told s before out e = record {
 
 pub newly_open : {O W : Type 0} (told : Told O W) (s : Splitting W)
     (before after : O) (writer : W) (out : SplitOutput W) → s.output ≡ None
-    → IfSome (told.texts before) (λ _. told.contents writer ≡ Some []) → told.writer_failures writer ≡ 0 → IsQuiet told before after
+    → IfSome (told.texts before) (λ _. told.contents writer ≡ Some []) → told.writer_failures writer ≡ 0
+    → IsQuiet told before after
     → Encodes told.contents (told.contents writer) [] out.encoder → encoder_limits out.encoder ≡ s.limits
     → is_stopped out.encoder ≡ false
     → target_of out.encoder ≡ writer → out.transactions ≡ 0 → out.in_group ≡ false
@@ -48,11 +49,14 @@ newly_open told s before after writer out e empty quiet same encodes limits unfa
       now = refl;
       quiet = same;
       held = λ items h.
-          let no_items : items ≡ [] = subst (HoldsOutput told.contents told.writer_failures s.limits (told.texts before) items) e h in
+          let no_items : items ≡ [] =
+          subst (HoldsOutput told.contents told.writer_failures s.limits (told.texts before) items) e h in
           record {
             start = told.contents writer;
             empty = empty;
-            encodes = subst (λ (l : List Item). Encodes told.contents (told.contents writer) (records_in l) out.encoder) (sym no_items) encodes;
+            encodes =
+                subst (λ (l : List Item). Encodes told.contents (told.contents writer) (records_in l) out.encoder) (sym no_items)
+                encodes;
             unfailed = unfailed;
             quiet = ap told.writer_failures target ∙ quiet;
             limits_are = limits;

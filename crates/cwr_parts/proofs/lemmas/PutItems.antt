@@ -22,7 +22,8 @@ use Rattle.cwr_tools.specs.declared.verdicts.ToolFault.TheVariants as tool_fault
 use Rattle.cwr_parts.specs.Steps.Joined.{JudgesItem, is_fault_of}
 use Rattle.cwr_parts.specs.Steps.SplitOutputs.{MayPut, PutsItems, PutsOn}
 use Rattle.cwr_parts.proofs.lemmas.BegunTransmissions.{begins_more, begins_more_within, never_barred}
-use Rattle.cwr_parts.proofs.lemmas.ItemsAdded.{IsRight, all_first, all_second, no_mistake, own_item, records_in-append, records_in_value}
+use Rattle.cwr_parts.proofs.lemmas.ItemsAdded.{IsRight, all_first, all_second, no_mistake, own_item, records_in-append}
+use Rattle.cwr_parts.proofs.lemmas.ItemsAdded.{records_in_value}
 use Rattle.cwr_parts.proofs.lemmas.ItemsAdded.{right_items}
 use Rattle.cwr_parts.proofs.lemmas.JoiningOn.{item_barred, records_more}
 

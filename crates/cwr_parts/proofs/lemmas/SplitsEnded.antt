@@ -40,7 +40,8 @@ use Rattle.cwr_parts.proofs.lemmas.SplittingOn.{Begun, IsSplitting, begun_so}
 -- ---- the full runs
 
 -- before the end the parts that are whole are the runs that are filled
-full_runs : {O W : Type 0} (limits : Limits) (n : ℕ) (d : Standing) (before now : Option (List ℕ)) (told : Told O W) (count : ℕ) (begin : O) (s : Splitting W) (o : O) → 0 < n
+full_runs : {O W : Type 0} (limits : Limits) (n : ℕ) (d : Standing) (before now : Option (List ℕ)) (told : Told O W) (count : ℕ)
+    (begin : O) (s : Splitting W) (o : O) → 0 < n
     → (h : IsSplitting limits n d before now told count begin s o) → stage_in n Start h.given ≢ Over
     → HasFullRuns limits n h.given (told.texts begin) (told.texts o)
 full_runs limits n d before now told count begin s o some h before_end =
@@ -71,7 +72,8 @@ full_runs limits n d before now told count begin s o some h before_end =
 -- ---- the ends
 
 -- all was read
-pub all_split : {O W : Type 0} (limits : Limits) (n : ℕ) (d : Standing) (before left after : Option (List ℕ)) (told : Told O W) (count : ℕ) (begin : O) (s : Splitting W) (o : O) → 0 < n
+pub all_split : {O W : Type 0} (limits : Limits) (n : ℕ) (d : Standing) (before left after : Option (List ℕ)) (told : Told O W)
+    (count : ℕ) (begin : O) (s : Splitting W) (o : O) → 0 < n
     → (h : IsSplitting limits n d before left told count begin s o) → HasReadAll limits before after h.given
     → SplitsAll limits n before after (told.texts begin) (told.texts o) s.report
 all_split limits n d before left after told count begin s o some h read =
@@ -153,7 +155,8 @@ output_stopped limits n d new before left after told count begin s o later item 
     by (tool_faults.Limit limit) k = absurd k
 
 -- once all is read no output is open
-pub no_output_left : {O W : Type 0} (limits : Limits) (n : ℕ) (d : Standing) (before left after : Option (List ℕ)) (told : Told O W) (count : ℕ) (begin : O) (s : Splitting W) (o : O) → 0 < n
+pub no_output_left : {O W : Type 0} (limits : Limits) (n : ℕ) (d : Standing) (before left after : Option (List ℕ))
+    (told : Told O W) (count : ℕ) (begin : O) (s : Splitting W) (o : O) → 0 < n
     → (h : IsSplitting limits n d before left told count begin s o) → HasReadAll limits before after h.given
     → s.output ≡ None
 no_output_left limits n d before left after told count begin s o some h read =

@@ -30,7 +30,8 @@ use Rattle.cwr_parts.proofs.lemmas.StagesPassed.{adds_more, adds_nothing, over_a
 -- ---- what was handed out so far
 
 -- so many items were handed out, and the split holds what it holds after them
-pub record IsSplitting {O W : Type 0} (limits : Limits) (n : ℕ) (d : Standing) (before now : Option (List ℕ)) (told : Told O W) (count : ℕ) (begin : O) (s : Splitting W) (o : O) : Type 0 where
+pub record IsSplitting {O W : Type 0} (limits : Limits) (n : ℕ) (d : Standing) (before now : Option (List ℕ)) (told : Told O W)
+    (count : ℕ) (begin : O) (s : Splitting W) (o : O) : Type 0 where
   pub given : List Item
   pub reading : IsReadingOn limits d before now given
   pub handed_out : count ≡ length given
@@ -43,7 +44,8 @@ pub record IsSplitting {O W : Type 0} (limits : Limits) (n : ℕ) (d : Standing)
   pub transactions : s.report.transactions ≡ count_by is_transaction given
   pub over : stage_in n Start given ≡ Over → d.state ≡ states.Ended
 
-pub none_split : {O W : Type 0} (limits : Limits) (n : ℕ) (d : Standing) (before now : Option (List ℕ)) (told : Told O W) (s : Splitting W) (o : O) → s ≡ is_new limits n → IsReadingOn limits d
+pub none_split : {O W : Type 0} (limits : Limits) (n : ℕ) (d : Standing) (before now : Option (List ℕ)) (told : Told O W)
+    (s : Splitting W) (o : O) → s ≡ is_new limits n → IsReadingOn limits d
     before now []
     → IsSplitting limits n d before now told 0 o s o
 none_split {W = W} limits n d before now told s o e reading =
@@ -65,7 +67,8 @@ none_split {W = W} limits n d before now told s o e reading =
 
 -- ---- one item more
 
-pub next_item : {O W : Type 0} (limits : Limits) (n : ℕ) (d new : Standing) (before left after : Option (List ℕ)) (told : Told O W) (count : ℕ) (begin : O) (s : Splitting W) (o : O) (reported : Option Item)
+pub next_item : {O W : Type 0} (limits : Limits) (n : ℕ) (d new : Standing) (before left after : Option (List ℕ))
+    (told : Told O W) (count : ℕ) (begin : O) (s : Splitting W) (o : O) (reported : Option Item)
     (item : Item) (B C : Type 0)
     → reported ≡ Some item → (h : IsSplitting limits n d before left told count begin s o)
     → Reads d left (Ok reported) new after → IfSome (again d.state) (λ x. (Some (Ok reported) ≡ answer_of x) × B × C)
@@ -95,7 +98,8 @@ begun_so limits d before now given rest h =
       split = first.split ∙ append_assoc given rest first.rest;
     }
 
-pub may_take : {O W : Type 0} (limits : Limits) (n : ℕ) (d new : Standing) (before left after : Option (List ℕ)) (told : Told O W) (count : ℕ) (begin : O) (s : Splitting W) (o : O) (item : Item)
+pub may_take : {O W : Type 0} (limits : Limits) (n : ℕ) (d new : Standing) (before left after : Option (List ℕ)) (told : Told O W)
+    (count : ℕ) (begin : O) (s : Splitting W) (o : O) (item : Item)
     → 0 < n → (h : IsSplitting limits n d before left told count begin s o)
     → IsReadingOn limits new before after (h.given ++ item ∷ [])
     → (may : MayTake told item s o) × (may.stage ≡ stage_in n Start h.given)
@@ -141,7 +145,8 @@ few_handed_out limits n d new before left after told count begin s o item h read
       fewer_left limits new before after (h.given ++ item ∷ []) reading,
     )
 
-pub item_taken : {O W : Type 0} (limits : Limits) (n : ℕ) (d new : Standing) (before left after : Option (List ℕ)) (told : Told O W) (count : ℕ) (begin : O) (s next : Splitting W) (o later : O) (item : Item)
+pub item_taken : {O W : Type 0} (limits : Limits) (n : ℕ) (d new : Standing) (before left after : Option (List ℕ))
+    (told : Told O W) (count : ℕ) (begin : O) (s next : Splitting W) (o later : O) (item : Item)
     → 0 < n → (h : IsSplitting limits n d before left told count begin s o)
     → IsReadingOn limits new before after (h.given ++ item ∷ []) → LeavesRead (Ok (Some item)) new.state
     → (stage : SplitStage) → stage ≡ stage_in n Start h.given

@@ -133,12 +133,14 @@ has_added {W = W} told item s mid next before after p h =
             report = record { outputs = m.report.outputs; transactions = m.report.transactions + 1 };
           }) p.now;
       held = λ items k.
-          let before_it = subst (IsOutput told.contents told.writer_failures s.limits (told.texts before) items) same (p.held items k) in
+          let before_it =
+          subst (IsOutput told.contents told.writer_failures s.limits (told.texts before) items) same (p.held items k) in
           subst (λ (l : List Item). IsOutput told.contents told.writer_failures s.limits (told.texts before) l h.added)
           (sym (append_assoc items (front_of h.opening h.head h.out) (item ∷ []))
           ∙ ap (λ (l : List Item). items ++ l ++ item ∷ [])
           (sym (ap (front_of h.opening h.head) same) ∙ same_front h.opening h.head s.output p.out p.counted p.group))
-          (wrote told.contents told.writer_failures s.limits (told.texts before) items (front_of h.opening h.head h.out ++ item ∷ []) h.out h.added
+          (wrote told.contents told.writer_failures s.limits (told.texts before) items
+          (front_of h.opening h.head h.out ++ item ∷ []) h.out h.added
           before_it h.puts);
       counted = h.counted ∙ ap (λ (n : ℕ). n + 1) (sym (ap (λ (o : SplitOutput W). o.transactions) same) ∙ p.counted);
       group = h.group;
@@ -213,7 +215,8 @@ room_for_one {W = W} told item s mid next before after may p w =
     let h = has_added told item s mid next before after p w in
     subst (λ (m : Splitting W). m.report.outputs < 199999999) (sym h.now) may.outputs
 
-pub fails_after : {O W : Type 0} (told : Told O W) (fault : ToolFault) (pending : ℕ) (before mid after : O) → IsQuiet told before mid
+pub fails_after : {O W : Type 0} (told : Told O W) (fault : ToolFault) (pending : ℕ) (before mid after : O)
+    → IsQuiet told before mid
     → FailsWith told fault pending mid after → FailsWith told fault pending before after
 fails_after told fault pending before mid after quiet f = record {
   is = f.is;
@@ -225,7 +228,8 @@ fails_after told fault pending before mid after quiet f = record {
 }
 
 pub filled : {O W : Type 0} (told : Told O W) (item : Item)
-    (s mid next new : Splitting W) (before between after : O) (answer : Result (Unit {0}) ToolFault) → IsOpen told s mid before between
+    (s mid next new : Splitting W) (before between after : O) (answer : Result (Unit {0}) ToolFault)
+    → IsOpen told s mid before between
     → IsWritten told.contents told.writer_failures item mid next → true ≡ has_all next.size next.output
     → FinishesOutput told answer next new between after
     → AddsTransaction told item answer s new before after
@@ -241,7 +245,8 @@ filled {W = W} told item s mid next new before between after (Ok u) p w e f =
       text = λ items v k right are.
           let all : List Item = items_with items w.opening w.head item s.output in
           let had =
-          subst (λ (t : Option (List (List ℕ))). IsOutput told.contents told.writer_failures s.limits t all h.out) (sym p.quiet.texts)
+          subst (λ (t : Option (List (List ℕ))). IsOutput told.contents told.writer_failures s.limits t all h.out)
+          (sym p.quiet.texts)
           (h.held items k) in
           subst (λ (t : Option (List (List ℕ))). AddsText t (told.texts after) (canonical_text v)) p.quiet.texts
           (done.1.1 all v had right (are ∙ ap (λ (l : List Item). all ++ l ++ Ended ∷ []) (sym (closed_end h.out h.group))));

@@ -102,7 +102,8 @@ went_on {W = W} told o closed h cur t s new now after part had g =
         opening = had.opening;
         head = had.head;
         output =
-            subst (λ (x : Option (List (List ℕ))). IsOutput told.contents told.writer_failures s.limits x (open_items stage) g.out)
+            subst
+            (λ (x : Option (List (List ℕ))). IsOutput told.contents told.writer_failures s.limits x (open_items stage) g.out)
             (sym g.quiet.texts) out;
         count = omega (arith, g.counted, had.count, length-append cur (t ∷ []));
         group = g.group ∙ sym (in_group_with o closed h cur t);

@@ -18,7 +18,9 @@ use Rattle.cwr_values.specs.Format.Rows.{canonical_text}
 use Rattle.cwr_judge.specs.Format.Items.{opens_group, is_transaction, records_in, value_items}
 use Rattle.cwr_decode.specs.declared.readings.ReadFault.{ReadFault}
 use Rattle.cwr_decode.specs.declared.readings.ReadFault.TheVariants as read_faults
+use Rattle.cwr_lines.specs.Format.Records.{RecordValue}
 use Rattle.cwr_decode.specs.Format.Runs.{TakesFront}
+use Rattle.cwr_encode.specs.declared.encoders.Encoder.{Encoder}
 use Rattle.cwr_encode.specs.declared.encoders.EncodeFault.{EncodeFault}
 use Rattle.cwr_encode.specs.declared.encoders.EncodeFault.TheVariants as encode_faults
 use Rattle.cwr_encode.specs.Format.Encoders.{JudgesOpening, JudgesGroup, JudgesTransaction, JudgesFoot}
@@ -85,6 +87,11 @@ JudgesItem limits (GroupOpened r) xs answer = JudgesGroup limits r xs answer
 JudgesItem limits (Transaction t) xs answer = JudgesTransaction limits t xs answer
 JudgesItem limits (GroupClosed r) xs answer = JudgesFoot limits r xs answer
 JudgesItem limits Ended xs answer = ⊥
+
+-- whatever records were written, the call for the item is judged after them
+abbrev pub JudgesNext : {W : Type 0} → (W → Option (List ℕ)) → Item → Result (Unit {0}) EncodeFault → Encoder W → Type 0
+JudgesNext contents item result e = (start : Option (List ℕ)) (records : List RecordValue) → Encodes contents start records e
+    → JudgesItem (encoder_limits e) item (map symbol_of records) result
 
 -- what a fault of an encoder is reported as, where that is no mistake
 abbrev pub is_fault_of : EncodeFault → ToolFault → Type 0

@@ -126,14 +126,13 @@ pub record Told (O W : Type 0) : Type 0 where
 
 abbrev pub told_by : {O W : Type 0} → (O → Option (List (List ℕ))) → (O → ℕ) → (O → ℕ) → (W → Option (List ℕ)) → (W → ℕ)
     → Told O W
-told_by texts failures given_up contents writer_failures = record
-  {
-    texts = texts;
-    failures = failures;
-    given_up = given_up;
-    contents = contents;
-    writer_failures = writer_failures;
-  }
+told_by texts failures given_up contents writer_failures = record {
+  texts = texts;
+  failures = failures;
+  given_up = given_up;
+  contents = contents;
+  writer_failures = writer_failures;
+}
 
 -- nothing that they tell is changed
 pub record IsQuiet {O W : Type 0} (told : Told O W) (old new : O) : Type 0 where

@@ -158,7 +158,8 @@ abbrev pub IsHandedOver : {O W : Type 0} → Told O W → LimitValues → Option
 IsHandedOver told limits None before after = IsQuiet told before after
 IsHandedOver told limits (Some out) before after =
     CountsNone told before after
-    × ((items : List Item) (w : TransmissionValue) → IsOutput told.contents told.writer_failures limits (told.texts before) items out
+    × ((items : List Item) (w : TransmissionValue)
+    → IsOutput told.contents told.writer_failures limits (told.texts before) items out
     → IsTransmission w → value_items w ≡ items ++ end_of out ++ Ended ∷ []
     → AddsText (told.texts before) (told.texts after) (canonical_text w))
 
@@ -202,7 +203,8 @@ pub record GoesOn {O W : Type 0} (told : Told O W) (opening head item : Item)
       { output = Some out; report = record { outputs = old.report.outputs; transactions = old.report.transactions + 1 } }
   pub quiet : IsQuiet told before after
   pub held : (items : List Item) → HoldsOutput told.contents told.writer_failures old.limits (told.texts before) items old.output
-      → IsOutput told.contents told.writer_failures old.limits (told.texts before) (items_with items opening head item old.output) out
+      → IsOutput told.contents told.writer_failures old.limits (told.texts before) (items_with items opening head item old.output)
+      out
   pub counted : out.transactions ≡ open_count old.output + 1
   pub group : out.in_group ≡ true
 

@@ -18,28 +18,26 @@ use Rattle.cwr_tools.specs.Format.Texts.{good_verdict}
 use Rattle.cwr_tools.specs.Format.Verdicts.{IsVerdictAfter, IsVerdictOn, JudgesText}
 use Rattle.cwr_tools.specs.Format.Reports.{ItemLines, JudgesAccepted, JudgesCanonical, ReportsText, text_on}
 
+-- the verdict that is told of a text that is accepted is its transmission's, after that one's items
+pub accepted_verdict : (limits : Limits) (text : List ℕ) (verdict : Verdict) (given : List Item) (v : TransmissionValue) (n : ℕ)
+    → IsVerdictAfter limits text verdict given → IsAccepted limits text v n
+    → (verdict ≡ good_verdict v) × (given ≡ value_items v)
+accepted_verdict limits text (Good groups transactions records) given v n t a =
+    let same = accepted_once limits text t.0 v t.1 n t.2 a in (t.3 ∙ ap good_verdict same.0, t.4 ∙ ap value_items same.0)
+accepted_verdict limits text (Refused refusal) given v n t a = absurd (t.0.unaccepted v n a)
+accepted_verdict limits text (Truncated records) given v n t a = absurd (t.0.unaccepted v n a)
+
 judges_accepted : {W : Type 0} (of : ItemLines) (limits : Limits) (before after : Option (List ℕ))
     (contents : W → Option (List ℕ)) (old new : W) (verdict : Verdict)
     → ReportsText of limits before after contents old new (Ok verdict)
     → JudgesAccepted of limits before after contents old new verdict
 judges_accepted of limits None after contents old new verdict h = tt
-judges_accepted of limits (Some text) after contents old new verdict h = λ v n a. by verdict v n a h.1 h.3
-  where
-    by : (it : Verdict) (v : TransmissionValue) (n : ℕ) → IsAccepted limits text v n → IsVerdictAfter limits text it h.0
-        → Appends (contents old) (contents new) (text_on of h.0 it)
-        → (it ≡ good_verdict v) × (after ≡ Some (drop n text))
-        × Appends (contents old) (contents new) (text_on of (value_items v) (good_verdict v))
-    by (Good groups transactions records) v n a t written =
-        let same = accepted_once limits text t.0 v t.1 n t.2 a in
-        let verdict_is : Good groups transactions records ≡ good_verdict v = t.3 ∙ ap good_verdict same.0 in
-        let items_are : h.0 ≡ value_items v = t.4 ∙ ap value_items same.0 in (
-          verdict_is,
-          h.2 v n a,
-          subst (Appends (contents old) (contents new))
-              (ap₂ (λ (items : List Item) (it : Verdict). text_on of items it) items_are verdict_is) written,
-        )
-    by (Refused refusal) v n a t written = absurd (t.0.unaccepted v n a)
-    by (Truncated records) v n a t written = absurd (t.0.unaccepted v n a)
+judges_accepted of limits (Some text) after contents old new verdict h = λ v n a.
+    let is = accepted_verdict limits text verdict h.0 v n h.1 a in (
+      is.0,
+      h.2 v n a,
+      subst (Appends (contents old) (contents new)) (ap₂ (λ (items : List Item) (it : Verdict). text_on of items it) is.1 is.0) h.3,
+    )
 
 judges_canonical : {W : Type 0} (of : ItemLines) (limits : Limits) (before after : Option (List ℕ))
     (contents : W → Option (List ℕ)) (old new : W) (verdict : Verdict)
@@ -52,7 +50,7 @@ judges_canonical of limits before after contents old new verdict h v more whole 
     let all = judged v (length (canonical_text v)) (canonical_accepted limits v more whole within) in
     (all.0, all.1 ∙ ap Some (drop-append_seam (canonical_text v) more), all.2)
 
-verdict_on : (limits : Limits) (text : List ℕ) (verdict : Verdict) (given : List Item) → IsVerdictAfter limits text verdict given
+pub verdict_on : (limits : Limits) (text : List ℕ) (verdict : Verdict) (given : List Item) → IsVerdictAfter limits text verdict given
     → IsVerdictOn limits text verdict
 verdict_on limits text (Good groups transactions records) given t = (t.0, t.1, t.2, t.3)
 verdict_on limits text (Refused refusal) given t = t.0

@@ -1,5 +1,6 @@
 -- The lines of a report: those of each item, and the verdict's.
-use Rattle.std.specs.Prelude.{◌≡◌, ◌⊎◌, ℕ, Bool, true, false, nat_lt, length, List, [], ◌++◌, drop, Option, Some, IfSome, Result, Ok}
+use Rattle.std.specs.Prelude.{◌≡◌, ◌⊎◌, ℕ, Bool, true, false, nat_lt, length, List, [], ◌++◌, drop, Option, Some, IfSome, Result}
+use Rattle.std.specs.Prelude.{Ok}
 use Rattle.std.specs.Prelude.{Err}
 use Rattle.std.specs.Io.KnownBytes.{Appends}
 use Rattle.cwr_devices.specs.Format.Failures.{one_more_failure}

@@ -9,16 +9,18 @@ use Rattle.cwr_csv.specs.Format.TableLines.{lines_of_table}
 use Rattle.cwr_transform.specs.declared.endings.Look.{Look}
 use Rattle.cwr.specs.Steps.Looks.{LooksAfter, tells_findings}
 use Rattle.cwr.specs.Steps.Tellings.{CountsReading}
-use Rattle.cwr.proofs.lemmas.EndsOnTexts.{counts_explained, counts_reading, looks_after, looks_found, sees_nothing, told_as}
+use Rattle.cwr.proofs.lemmas.EndsOnTexts.{counts_explained, counts_reading, looks_after, looks_found, looks_told, sees_nothing}
+use Rattle.cwr.proofs.lemmas.EndsOnTexts.{told_as}
+use Rattle.cwr_tools.proofs.lemmas.RightReports.{judged_text}
 use Rattle.cwr.proofs.reports.tell.Goals as goal
 
 pub returns-in-Findings-clause-looks : goal.returns-in-Findings-clause-looks
 returns-in-Findings-clause-looks g c =
-    looks_after lines_of_findings c.args.limits (g.R.Source.remaining c.args.reader.now)
+    looks_told lines_of_findings c.args.limits (g.R.Source.remaining c.args.reader.now)
     (g.R.Source.remaining c.check_watched-writer.new.reader) (g.R.Source.remaining c.look_after-look.new.reader)
     g.W.Target.contents
     c.args.writer c.check_watched-writer.result.0 c.check_watched-writer.result.1 c.look_after-look.result
-    c.check_watched-writer.ensures.accepted c.look_after-look.ensures.looks
+    c.check_watched-writer.ensures.told c.look_after-look.ensures.looks
 
 pub returns-in-Explained-clause-looks : goal.returns-in-Explained-clause-looks
 returns-in-Explained-clause-looks g c =
@@ -34,10 +36,10 @@ returns-in-Records-clause-seen g c =
 
 pub returns-in-Records-clause-looks : goal.returns-in-Records-clause-looks
 returns-in-Records-clause-looks g c =
-    looks_after lines_of_records c.args.limits (g.R.Source.remaining c.args.reader.now)
+    looks_told lines_of_records c.args.limits (g.R.Source.remaining c.args.reader.now)
     (g.R.Source.remaining c.show-writer.new.reader) (g.R.Source.remaining c.look_after-look-in-Records.new.reader)
     g.W.Target.contents
-    c.args.writer c.show-writer.result.0 c.show-writer.result.1 c.look_after-look-in-Records.result c.show-writer.ensures.accepted
+    c.args.writer c.show-writer.result.0 c.show-writer.result.1 c.look_after-look-in-Records.result c.show-writer.ensures.told
     c.look_after-look-in-Records.ensures.looks
 
 pub returns-in-Data-clause-seen : goal.returns-in-Data-clause-seen
@@ -47,10 +49,10 @@ returns-in-Data-clause-seen g c =
 
 pub returns-in-Data-clause-looks : goal.returns-in-Data-clause-looks
 returns-in-Data-clause-looks g c =
-    looks_after (lines_of_data c.in-Data.encoding c.in-Data.numbers) c.args.limits (g.R.Source.remaining c.args.reader.now)
+    looks_told (lines_of_data c.in-Data.encoding c.in-Data.numbers) c.args.limits (g.R.Source.remaining c.args.reader.now)
     (g.R.Source.remaining c.json-writer.new.reader) (g.R.Source.remaining c.look_after-look-in-Data.new.reader)
     g.W.Target.contents
-    c.args.writer c.json-writer.result.0 c.json-writer.result.1 c.look_after-look-in-Data.result c.json-writer.ensures.accepted
+    c.args.writer c.json-writer.result.0 c.json-writer.result.1 c.look_after-look-in-Data.result c.json-writer.ensures.told
     c.look_after-look-in-Data.ensures.looks
 
 pub returns-in-Rows-clause-seen : goal.returns-in-Rows-clause-seen
@@ -60,10 +62,10 @@ returns-in-Rows-clause-seen g c =
 
 pub returns-in-Rows-clause-looks : goal.returns-in-Rows-clause-looks
 returns-in-Rows-clause-looks g c =
-    looks_after (lines_of_table c.in-Rows.table) c.args.limits (g.R.Source.remaining c.args.reader.now)
+    looks_told (lines_of_table c.in-Rows.table) c.args.limits (g.R.Source.remaining c.args.reader.now)
     (g.R.Source.remaining c.csv-writer.new.reader) (g.R.Source.remaining c.look_after-look-in-Rows.new.reader)
     g.W.Target.contents
-    c.args.writer c.csv-writer.result.0 c.csv-writer.result.1 c.look_after-look-in-Rows.result c.csv-writer.ensures.accepted
+    c.args.writer c.csv-writer.result.0 c.csv-writer.result.1 c.look_after-look-in-Rows.result c.csv-writer.ensures.told
     c.look_after-look-in-Rows.ensures.looks
 
 pub returns-in-Faults-clause-seen : goal.returns-in-Faults-clause-seen
@@ -160,10 +162,10 @@ returns-in-Answers-clause-seen g c =
 
 pub returns-in-Answers-clause-looks : goal.returns-in-Answers-clause-looks
 returns-in-Answers-clause-looks g c =
-    looks_after (lines_of_acks c.in-Answers.form None) c.args.limits (g.R.Source.remaining c.args.reader.now)
+    looks_told (lines_of_acks c.in-Answers.form None) c.args.limits (g.R.Source.remaining c.args.reader.now)
     (g.R.Source.remaining c.acks-writer.new.reader) (g.R.Source.remaining c.look_after-look-in-Answers.new.reader)
     g.W.Target.contents
-    c.args.writer c.acks-writer.result.0 c.acks-writer.result.1 c.look_after-look-in-Answers.result c.acks-writer.ensures.accepted
+    c.args.writer c.acks-writer.result.0 c.acks-writer.result.1 c.look_after-look-in-Answers.result c.acks-writer.ensures.told
     c.look_after-look-in-Answers.ensures.looks
 
 pub returns-in-Answers-clause-told : goal.returns-in-Answers-clause-told
@@ -186,11 +188,11 @@ returns-in-Advice-clause-seen g c =
 
 pub returns-in-Advice-clause-looks : goal.returns-in-Advice-clause-looks
 returns-in-Advice-clause-looks g c =
-    looks_after (lines_of_advice c.in-Advice.repeated) c.args.limits (g.R.Source.remaining c.args.reader.now)
+    looks_told (lines_of_advice c.in-Advice.repeated) c.args.limits (g.R.Source.remaining c.args.reader.now)
     (g.R.Source.remaining c.advise-writer.new.reader) (g.R.Source.remaining c.look_after-look-in-Advice.new.reader)
     g.W.Target.contents
     c.args.writer c.advise-writer.result.0 c.advise-writer.result.1 c.look_after-look-in-Advice.result
-    c.advise-writer.ensures.accepted c.look_after-look-in-Advice.ensures.looks
+    c.advise-writer.ensures.told c.look_after-look-in-Advice.ensures.looks
 
 pub returns-in-Advice-clause-told : goal.returns-in-Advice-clause-told
 returns-in-Advice-clause-told g c =
@@ -204,3 +206,35 @@ returns-in-Advice-clause-reader_failures g c =
     (g.R.Source.failures c.advise-writer.new.reader) (g.R.Source.failures c.look_after-look-in-Advice.new.reader)
     c.advise-writer.ensures.reader_failures c.look_after-look-in-Advice.ensures.unasked
     c.look_after-look-in-Advice.ensures.failures
+
+pub returns-in-Findings-clause-judged : goal.returns-in-Findings-clause-judged
+returns-in-Findings-clause-judged g c =
+    judged_text lines_of_findings c.args.limits _ _ g.W.Target.contents c.args.writer c.check_watched-writer.result.0
+    c.check_watched-writer.result.1 c.check_watched-writer.ensures.told
+
+pub returns-in-Records-clause-judged : goal.returns-in-Records-clause-judged
+returns-in-Records-clause-judged g c =
+    judged_text lines_of_records c.args.limits _ _ g.W.Target.contents c.args.writer c.show-writer.result.0
+    c.show-writer.result.1 c.show-writer.ensures.told
+
+pub returns-in-Data-clause-judged : goal.returns-in-Data-clause-judged
+returns-in-Data-clause-judged g c =
+    judged_text (lines_of_data c.in-Data.encoding c.in-Data.numbers) c.args.limits _ _ g.W.Target.contents c.args.writer
+    c.json-writer.result.0
+    c.json-writer.result.1 c.json-writer.ensures.told
+
+pub returns-in-Rows-clause-judged : goal.returns-in-Rows-clause-judged
+returns-in-Rows-clause-judged g c =
+    judged_text (lines_of_table c.in-Rows.table) c.args.limits _ _ g.W.Target.contents c.args.writer c.csv-writer.result.0
+    c.csv-writer.result.1 c.csv-writer.ensures.told
+
+pub returns-in-Answers-clause-judged : goal.returns-in-Answers-clause-judged
+returns-in-Answers-clause-judged g c =
+    judged_text (lines_of_acks c.in-Answers.form None) c.args.limits _ _ g.W.Target.contents c.args.writer c.acks-writer.result.0
+    c.acks-writer.result.1 c.acks-writer.ensures.told
+
+pub returns-in-Advice-clause-judged : goal.returns-in-Advice-clause-judged
+returns-in-Advice-clause-judged g c =
+    judged_text (lines_of_advice c.in-Advice.repeated) c.args.limits _ _ g.W.Target.contents c.args.writer
+    c.advise-writer.result.0
+    c.advise-writer.result.1 c.advise-writer.ensures.told

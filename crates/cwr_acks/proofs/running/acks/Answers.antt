@@ -4,7 +4,7 @@ use Rattle.cwr_acks.specs.Format.AckLines.{lines_of_acks}
 use Rattle.cwr_acks.specs.Format.SentAnswers.{facts_if}
 use Rattle.cwr_acks.specs.Steps.AckSteps.{IsAnswers}
 use Rattle.cwr_acks.proofs.lemmas.LinesOfItems.{answers_none, matched_none}
-use Rattle.cwr_tools.proofs.lemmas.RightReports.{accepted_reports, canonical_reports, judged_text}
+use Rattle.cwr_tools.proofs.lemmas.ToldTexts.{reports_text}
 use Rattle.cwr_acks.proofs.running.acks.Goals as goal
 
 pub write_report-writer-requires : goal.write_report-writer-requires
@@ -26,17 +26,7 @@ returns-clause-reported g c = c.write_report-writer.ensures.reported (lines_of_a
   subst (λ (a : Answers). IsAnswers a []) (sym c.new.ensures) answers_none,
 )
 
-pub returns-clause-judged : goal.returns-clause-judged
-returns-clause-judged g c =
-    judged_text (lines_of_acks c.args.form (facts_if c.args.sent)) c.args.limits _ _ g.W.Target.contents c.args.writer
-    c.write_report-writer.result.0 c.write_report-writer.result.1 (returns-clause-reported g c)
-
-pub returns-clause-accepted : goal.returns-clause-accepted
-returns-clause-accepted g c =
-    accepted_reports (lines_of_acks c.args.form (facts_if c.args.sent)) c.args.limits _ _ g.W.Target.contents c.args.writer
-    c.write_report-writer.result.0 c.write_report-writer.result.1 (returns-clause-reported g c)
-
-pub returns-clause-canonical : goal.returns-clause-canonical
-returns-clause-canonical g c =
-    canonical_reports (lines_of_acks c.args.form (facts_if c.args.sent)) c.args.limits _ _ g.W.Target.contents c.args.writer
+pub returns-clause-told : goal.returns-clause-told
+returns-clause-told g c =
+    reports_text (lines_of_acks c.args.form (facts_if c.args.sent)) c.args.limits _ _ g.W.Target.contents c.args.writer
     c.write_report-writer.result.0 c.write_report-writer.result.1 (returns-clause-reported g c)

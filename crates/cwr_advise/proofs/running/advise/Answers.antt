@@ -1,6 +1,6 @@
 use Rattle.std.proofs.Common.{true, false}
 use Rattle.cwr_advise.specs.Format.AdviceLines.{lines_of_advice}
-use Rattle.cwr_tools.proofs.lemmas.RightReports.{accepted_reports, canonical_reports, judged_text}
+use Rattle.cwr_tools.proofs.lemmas.ToldTexts.{reports_text}
 use Rattle.cwr_advise.proofs.lemmas.Begun.{begun_lines}
 use Rattle.cwr_advise.proofs.running.advise.Goals as goal
 
@@ -17,17 +17,7 @@ returns-clause-reported g c =
     c.args.repeated c.new-lines.ensures.explained c.new-lines.ensures.up_to_fault c.new-lines.ensures.repeated
     c.new-lines.ensures.before c.new-lines.ensures.works)
 
-pub returns-clause-judged : goal.returns-clause-judged
-returns-clause-judged g c =
-    judged_text (lines_of_advice c.args.repeated) c.args.limits _ _ g.W.Target.contents c.args.writer
-    c.write_report-writer.result.0 c.write_report-writer.result.1 (returns-clause-reported g c)
-
-pub returns-clause-accepted : goal.returns-clause-accepted
-returns-clause-accepted g c =
-    accepted_reports (lines_of_advice c.args.repeated) c.args.limits _ _ g.W.Target.contents c.args.writer
-    c.write_report-writer.result.0 c.write_report-writer.result.1 (returns-clause-reported g c)
-
-pub returns-clause-canonical : goal.returns-clause-canonical
-returns-clause-canonical g c =
-    canonical_reports (lines_of_advice c.args.repeated) c.args.limits _ _ g.W.Target.contents c.args.writer
+pub returns-clause-told : goal.returns-clause-told
+returns-clause-told g c =
+    reports_text (lines_of_advice c.args.repeated) c.args.limits _ _ g.W.Target.contents c.args.writer
     c.write_report-writer.result.0 c.write_report-writer.result.1 (returns-clause-reported g c)

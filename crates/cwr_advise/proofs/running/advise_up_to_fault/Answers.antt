@@ -1,6 +1,6 @@
 use Rattle.std.proofs.Common.{true}
 use Rattle.cwr_advise.specs.Format.AdviceLines.{lines_advised}
-use Rattle.cwr_tools.proofs.lemmas.RightReports.{judged_text}
+use Rattle.cwr_tools.proofs.lemmas.ToldTexts.{reports_text}
 use Rattle.cwr_advise.proofs.lemmas.Begun.{begun_lines, said_after}
 use Rattle.cwr_advise.proofs.running.advise_up_to_fault.Goals as goal
 
@@ -17,9 +17,9 @@ returns-clause-reported g c =
     c.args.explained true 0 c.new-lines.ensures.explained c.new-lines.ensures.up_to_fault c.new-lines.ensures.repeated
     c.new-lines.ensures.before c.new-lines.ensures.works)
 
-pub returns-clause-judged : goal.returns-clause-judged
-returns-clause-judged g c =
-    judged_text (lines_advised c.args.explained true 0) c.args.limits _ _ g.W.Target.contents c.args.writer
+pub returns-clause-told : goal.returns-clause-told
+returns-clause-told g c =
+    reports_text (lines_advised c.args.explained true 0) c.args.limits _ _ g.W.Target.contents c.args.writer
     c.write_report-writer.result.0 c.write_report-writer.result.1 (returns-clause-reported g c)
 
 pub returns-clause-said : goal.returns-clause-said

@@ -13,7 +13,8 @@ returns-in-Grt-clause-ok c = λ asked h. asks_none c.args.stage c.args.kind aske
 
 pub returns-in-Grh-clause-ok : goal.returns-in-Grh-clause-ok
 returns-in-Grh-clause-ok c =
-    subst (λ (k : Kind). OnOk c.ask_each.result (Asks c.args.stage (inner_symbols k) c.args.found.now.items c.ask_each.new.found.items))
+    subst (λ (k : Kind). OnOk c.ask_each.result
+    (Asks c.args.stage (inner_symbols k) c.args.found.now.items c.ask_each.new.found.items))
     (sym c.in-Grh.is) c.ask_each.ensures.ok
 
 pub returns-in-Ipa-clause-ok : goal.returns-in-Ipa-clause-ok
@@ -25,7 +26,8 @@ returns-in-Ipa-clause-ok c =
 pub returns-in_default-clause-ok : goal.returns-in_default-clause-ok
 returns-in_default-clause-ok c =
     subst (λ (s : List Symbol). OnOk c.ask.result (Asks c.args.stage s c.args.found.now.items c.ask.new.found.items))
-    (sym (one_symbol c.args.kind c.in_default.not-Grh c.in_default.not-Ipa c.in_default.not-Grt c.in_default.not-Trl)) c.ask.ensures.ok
+    (sym (one_symbol c.args.kind c.in_default.not-Grh c.in_default.not-Ipa c.in_default.not-Grt c.in_default.not-Trl))
+    c.ask.ensures.ok
 
 pub returns-in_default-clause-err : goal.returns-in_default-clause-err
 returns-in_default-clause-err c = some_comes c.args.stage (Plain c.args.kind) c.ask.result c.ask.ensures.err

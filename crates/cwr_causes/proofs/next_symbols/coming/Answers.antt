@@ -22,7 +22,8 @@ loop-kind-preserved c =
 pub returns-clause-ok : goal.returns-clause-ok
 returns-clause-ok c =
     let all : take c.loop-kind.kind-index c.all_kinds-kind-items.result.now ≡ all_kinds =
-    take_all c.loop-kind.kind-index c.all_kinds-kind-items.result.now (omega (arith, c.loop-kind-test.false)) ∙ c.all_kinds-kind-items.ensures in
+    take_all c.loop-kind.kind-index c.all_kinds-kind-items.result.now (omega (arith, c.loop-kind-test.false))
+    ∙ c.all_kinds-kind-items.ensures in
     all_come c.args.stage c.ask_each.new.found.items
     (c.in_ok-ask_each.ensures.ok (flat_map inner_symbols all_kinds)
     (subst (λ (kinds : List Kind). HaveCome c.args.stage (flat_map inner_symbols kinds) c.loop-kind.found.items) all

@@ -1,6 +1,6 @@
 use Rattle.std.proofs.Common.{ap, sym}
 use Rattle.cwr_csv.specs.Format.TableLines.{lines_of_table}
-use Rattle.cwr_tools.proofs.lemmas.RightReports.{accepted_reports, canonical_reports, judged_text}
+use Rattle.cwr_tools.proofs.lemmas.ToldTexts.{reports_text}
 use Rattle.cwr_csv.proofs.running.csv.Goals as goal
 
 pub write_report-writer-requires : goal.write_report-writer-requires
@@ -10,17 +10,7 @@ pub returns-clause-reported : goal.returns-clause-reported
 returns-clause-reported g c =
     c.write_report-writer.ensures.reported (lines_of_table c.args.table) (ap lines_of_table (sym c.new-rows.ensures))
 
-pub returns-clause-judged : goal.returns-clause-judged
-returns-clause-judged g c =
-    judged_text (lines_of_table c.args.table) c.args.limits _ _ g.W.Target.contents c.args.writer c.write_report-writer.result.0
+pub returns-clause-told : goal.returns-clause-told
+returns-clause-told g c =
+    reports_text (lines_of_table c.args.table) c.args.limits _ _ g.W.Target.contents c.args.writer c.write_report-writer.result.0
     c.write_report-writer.result.1 (returns-clause-reported g c)
-
-pub returns-clause-accepted : goal.returns-clause-accepted
-returns-clause-accepted g c =
-    accepted_reports (lines_of_table c.args.table) c.args.limits _ _ g.W.Target.contents c.args.writer
-    c.write_report-writer.result.0 c.write_report-writer.result.1 (returns-clause-reported g c)
-
-pub returns-clause-canonical : goal.returns-clause-canonical
-returns-clause-canonical g c =
-    canonical_reports (lines_of_table c.args.table) c.args.limits _ _ g.W.Target.contents c.args.writer
-    c.write_report-writer.result.0 c.write_report-writer.result.1 (returns-clause-reported g c)

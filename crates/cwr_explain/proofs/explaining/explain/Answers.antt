@@ -3,9 +3,10 @@ use Rattle.std.specs.Prelude.{IfOk, Result, Err}
 use Rattle.cwr_tools.specs.declared.verdicts.Verdict.{Verdict}
 use Rattle.cwr_tools.specs.declared.verdicts.ToolFault.{ToolFault}
 use Rattle.cwr_tools.specs.Format.Reports.{JudgesAccepted, lines_of_explained}
-use Rattle.cwr_tools.specs.Format.Verdicts.{IsAnswerAfter}
+use Rattle.cwr_tools.specs.Format.Verdicts.{IsAnswerAfter, JudgesText}
+use Rattle.cwr_tools.proofs.lemmas.RightReports.{accepted_text, judged_text}
 use Rattle.cwr_causes.proofs.lemmas.TakenPieces.{no_more}
-use Rattle.cwr_explain.proofs.lemmas.WordsAfter.{explains_after, finds_after, no_words}
+use Rattle.cwr_explain.proofs.lemmas.WordsAfter.{explains_after, finds_after, judged_after, no_words}
 use Rattle.cwr_explain.proofs.explaining.explain.Goals as goal
 
 pub returns-in-Err-clause-explains : goal.returns-in-Err-clause-explains
@@ -21,5 +22,27 @@ returns-in-Some-clause-found g c =
     c.add_explanation.result.1 c.add_explanation.result.2
     (subst (λ (r : Result Verdict ToolFault). IfOk r (JudgesAccepted lines_of_explained c.args.limits
     (g.R.Source.remaining c.args.reader.now) (g.R.Source.remaining c.check_explained-writer.new.reader) g.W.Target.contents
-    c.args.writer c.check_explained-writer.result.0)) c.in-Ok.is c.check_explained-writer.ensures.accepted)
+    c.args.writer c.check_explained-writer.result.0)) c.in-Ok.is (accepted_text lines_of_explained c.args.limits _ _
+    g.W.Target.contents c.args.writer c.check_explained-writer.result.0 c.check_explained-writer.result.1
+    c.check_explained-writer.ensures.told))
     c.add_explanation.ensures.found
+
+pub returns-in-Err-clause-judged : goal.returns-in-Err-clause-judged
+returns-in-Err-clause-judged g c =
+    subst (JudgesText c.args.limits (g.R.Source.remaining c.args.reader.now)) c.in-Err.is
+    (judged_text lines_of_explained c.args.limits _ _ g.W.Target.contents c.args.writer c.check_explained-writer.result.0
+    c.check_explained-writer.result.1 c.check_explained-writer.ensures.told)
+
+pub returns-in-None-clause-judged : goal.returns-in-None-clause-judged
+returns-in-None-clause-judged g c =
+    subst (JudgesText c.args.limits (g.R.Source.remaining c.args.reader.now)) c.in-Ok.is
+    (judged_text lines_of_explained c.args.limits _ _ g.W.Target.contents c.args.writer c.check_explained-writer.result.0
+    c.check_explained-writer.result.1 c.check_explained-writer.ensures.told)
+
+pub returns-in-Some-clause-judged : goal.returns-in-Some-clause-judged
+returns-in-Some-clause-judged g c =
+    judged_after c.args.limits (g.R.Source.remaining c.args.reader.now) c.in-Ok.verdict c.add_explanation.result.1
+    (subst (JudgesText c.args.limits (g.R.Source.remaining c.args.reader.now)) c.in-Ok.is
+    (judged_text lines_of_explained c.args.limits _ _ g.W.Target.contents c.args.writer c.check_explained-writer.result.0
+    c.check_explained-writer.result.1 c.check_explained-writer.ensures.told))
+    c.add_explanation.ensures.answered

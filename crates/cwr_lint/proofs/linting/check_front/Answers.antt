@@ -1,7 +1,9 @@
-use Rattle.std.proofs.Common.{◌≡◌, Bool, Some, sym, subst}
+use Rattle.std.proofs.Common.{◌≡◌, Bool, true, Some, sym, subst}
 use Rattle.std.specs.Prelude.{IfOk}
+use Rattle.cwr_tools.specs.Format.Reports.{lines_up_to_fault}
 use Rattle.cwr_tools.specs.Steps.Reports.{Reports, StandsAfter}
-use Rattle.cwr_advise.specs.Format.AdviceLines.{said_in}
+use Rattle.cwr_tools.proofs.lemmas.RightReports.{judged_text}
+use Rattle.cwr_advise.specs.Format.AdviceLines.{lines_advised, said_in}
 use Rattle.cwr_lint.specs.Format.Wanted.{lines_before_fault, said_when}
 use Rattle.cwr_lint.proofs.lemmas.Tells.{something_said_when}
 use Rattle.cwr_lint.proofs.linting.check_front.Goals as goal
@@ -22,3 +24,13 @@ returns-in-false-clause-reported g c =
     (g.R.Source.remaining c.check_up_to_fault-writer.new.reader) g.W.Target.contents c.args.writer
     c.check_up_to_fault-writer.result.0 c.check_up_to_fault-writer.result.1)
     (sym c.in-false.is) c.check_up_to_fault-writer.ensures.reported
+
+pub returns-in-true-clause-judged : goal.returns-in-true-clause-judged
+returns-in-true-clause-judged g c =
+    judged_text (lines_advised c.args.explained true 0) c.args.limits _ _ g.W.Target.contents c.args.writer
+    c.advise_up_to_fault-writer.result.0 c.advise_up_to_fault-writer.result.1 c.advise_up_to_fault-writer.ensures.told
+
+pub returns-in-false-clause-judged : goal.returns-in-false-clause-judged
+returns-in-false-clause-judged g c =
+    judged_text (lines_up_to_fault c.args.explained) c.args.limits _ _ g.W.Target.contents c.args.writer
+    c.check_up_to_fault-writer.result.0 c.check_up_to_fault-writer.result.1 c.check_up_to_fault-writer.ensures.told

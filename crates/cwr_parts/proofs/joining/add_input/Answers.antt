@@ -6,7 +6,8 @@ use Rattle.cwr_tools.specs.declared.verdicts.ToolFault.{ToolFault}
 use Rattle.cwr_tools.specs.Steps.Verdicts.{StopsAfter}
 use Rattle.cwr_parts.specs.Steps.Joined.{AddsInput}
 use Rattle.cwr_tools.proofs.lemmas.ReportsOn.{same_fault, stops_after}
-use Rattle.cwr_parts.proofs.lemmas.OneInputJoined.{few_handed_out, input_joined, item_added, item_refused, may_add, next_handed_out}
+use Rattle.cwr_parts.proofs.lemmas.OneInputJoined.{few_handed_out, input_joined, item_added, item_refused, may_add}
+use Rattle.cwr_parts.proofs.lemmas.OneInputJoined.{next_handed_out}
 use Rattle.cwr_parts.proofs.lemmas.OneInputJoined.{none_yet, reading_stopped}
 use Rattle.cwr_parts.proofs.joining.add_input.Goals as goal
 

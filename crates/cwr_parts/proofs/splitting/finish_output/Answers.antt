@@ -7,7 +7,9 @@ use Rattle.cwr_parts.proofs.splitting.finish_output.Goals as goal
 
 pub hand_over-requires-clause-may : goal.hand_over-requires-clause-may
 hand_over-requires-clause-may g c =
-    may_hand_over (told_by g.O.Outputs.texts g.O.Outputs.failures g.O.Outputs.given_up g.O.W.Target.contents g.O.W.Target.failures) c.args.splitting.now c.end_group.new.self c.args.outputs.now c.in-Some.output c.requires.may
+    may_hand_over
+    (told_by g.O.Outputs.texts g.O.Outputs.failures g.O.Outputs.given_up g.O.W.Target.contents g.O.W.Target.failures)
+    c.args.splitting.now c.end_group.new.self c.args.outputs.now c.in-Some.output c.requires.may
     c.in_ok-end_group.ensures.ends.1 (sym c.in-Some.ensures.value)
 
 pub returns-in_ok-hand_over-in-Some-clause-finishes : goal.returns-in_ok-hand_over-in-Some-clause-finishes

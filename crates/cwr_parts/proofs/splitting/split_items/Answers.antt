@@ -37,11 +37,15 @@ pub take_item-requires : goal.take_item-requires
 take_item-requires g c =
     let reading =
     next_item c.args.limits c.args.splitting.now.size c.items.reading.decoder c.next_item.new.self.decoder
-    (g.R.Source.remaining c.args.reader.now) _ _ (told_by g.O.Outputs.texts g.O.Outputs.failures g.O.Outputs.given_up g.O.W.Target.contents g.O.W.Target.failures) c.items.handed_out c.args.outputs.now c.items.splitting c.items.outputs
+    (g.R.Source.remaining c.args.reader.now) _ _
+    (told_by g.O.Outputs.texts g.O.Outputs.failures g.O.Outputs.given_up g.O.W.Target.contents g.O.W.Target.failures)
+    c.items.handed_out c.args.outputs.now c.items.splitting c.items.outputs
     c.in-Ok-Some.field-0 c.in-Ok-Some.item _ _ c.in-Ok-Some.field-0-is c.items.invariant.splitting c.in-Ok-Some.ensures.reads
     c.in-Ok-Some.ensures.again in
     (may_take c.args.limits c.args.splitting.now.size c.items.reading.decoder c.next_item.new.self.decoder
-    (g.R.Source.remaining c.args.reader.now) _ _ (told_by g.O.Outputs.texts g.O.Outputs.failures g.O.Outputs.given_up g.O.W.Target.contents g.O.W.Target.failures) c.items.handed_out c.args.outputs.now c.items.splitting c.items.outputs
+    (g.R.Source.remaining c.args.reader.now) _ _
+    (told_by g.O.Outputs.texts g.O.Outputs.failures g.O.Outputs.given_up g.O.W.Target.contents g.O.W.Target.failures)
+    c.items.handed_out c.args.outputs.now c.items.splitting c.items.outputs
     c.in-Ok-Some.item
     c.requires.some c.items.invariant.splitting reading).0
 
@@ -49,13 +53,17 @@ pub overflow_add-handed_out : goal.overflow_add-handed_out
 overflow_add-handed_out g c =
     let reading =
     next_item c.args.limits c.args.splitting.now.size c.items.reading.decoder c.next_item.new.self.decoder
-    (g.R.Source.remaining c.args.reader.now) _ _ (told_by g.O.Outputs.texts g.O.Outputs.failures g.O.Outputs.given_up g.O.W.Target.contents g.O.W.Target.failures) c.items.handed_out c.args.outputs.now c.items.splitting c.items.outputs
+    (g.R.Source.remaining c.args.reader.now) _ _
+    (told_by g.O.Outputs.texts g.O.Outputs.failures g.O.Outputs.given_up g.O.W.Target.contents g.O.W.Target.failures)
+    c.items.handed_out c.args.outputs.now c.items.splitting c.items.outputs
     c.in-Ok-Some.field-0 c.in-Ok-Some.item _ _ c.in-Ok-Some.field-0-is c.items.invariant.splitting c.in-Ok-Some.ensures.reads
     c.in-Ok-Some.ensures.again in
     omega (
       arith,
       few_handed_out c.args.limits c.args.splitting.now.size c.items.reading.decoder c.next_item.new.self.decoder
-          (g.R.Source.remaining c.args.reader.now) _ _ (told_by g.O.Outputs.texts g.O.Outputs.failures g.O.Outputs.given_up g.O.W.Target.contents g.O.W.Target.failures) c.items.handed_out c.args.outputs.now c.items.splitting c.items.outputs
+          (g.R.Source.remaining c.args.reader.now) _ _
+          (told_by g.O.Outputs.texts g.O.Outputs.failures g.O.Outputs.given_up g.O.W.Target.contents g.O.W.Target.failures)
+          c.items.handed_out c.args.outputs.now c.items.splitting c.items.outputs
           c.in-Ok-Some.item c.items.invariant.splitting reading,
     )
 
@@ -63,13 +71,17 @@ pub items-smaller : goal.items-smaller
 items-smaller g c =
     let reading =
     next_item c.args.limits c.args.splitting.now.size c.items.reading.decoder c.next_item.new.self.decoder
-    (g.R.Source.remaining c.args.reader.now) _ _ (told_by g.O.Outputs.texts g.O.Outputs.failures g.O.Outputs.given_up g.O.W.Target.contents g.O.W.Target.failures) c.items.handed_out c.args.outputs.now c.items.splitting c.items.outputs
+    (g.R.Source.remaining c.args.reader.now) _ _
+    (told_by g.O.Outputs.texts g.O.Outputs.failures g.O.Outputs.given_up g.O.W.Target.contents g.O.W.Target.failures)
+    c.items.handed_out c.args.outputs.now c.items.splitting c.items.outputs
     c.in-Ok-Some.field-0 c.in-Ok-Some.item _ _ c.in-Ok-Some.field-0-is c.items.invariant.splitting c.in-Ok-Some.ensures.reads
     c.in-Ok-Some.ensures.again in
     omega (
       arith,
       few_handed_out c.args.limits c.args.splitting.now.size c.items.reading.decoder c.next_item.new.self.decoder
-          (g.R.Source.remaining c.args.reader.now) _ _ (told_by g.O.Outputs.texts g.O.Outputs.failures g.O.Outputs.given_up g.O.W.Target.contents g.O.W.Target.failures) c.items.handed_out c.args.outputs.now c.items.splitting c.items.outputs
+          (g.R.Source.remaining c.args.reader.now) _ _
+          (told_by g.O.Outputs.texts g.O.Outputs.failures g.O.Outputs.given_up g.O.W.Target.contents g.O.W.Target.failures)
+          c.items.handed_out c.args.outputs.now c.items.splitting c.items.outputs
           c.in-Ok-Some.item c.items.invariant.splitting reading,
     )
 
@@ -77,18 +89,24 @@ pub items-preserved : goal.items-preserved
 items-preserved g c =
     let reading =
     next_item c.args.limits c.args.splitting.now.size c.items.reading.decoder c.next_item.new.self.decoder
-    (g.R.Source.remaining c.args.reader.now) _ _ (told_by g.O.Outputs.texts g.O.Outputs.failures g.O.Outputs.given_up g.O.W.Target.contents g.O.W.Target.failures) c.items.handed_out c.args.outputs.now c.items.splitting c.items.outputs
+    (g.R.Source.remaining c.args.reader.now) _ _
+    (told_by g.O.Outputs.texts g.O.Outputs.failures g.O.Outputs.given_up g.O.W.Target.contents g.O.W.Target.failures)
+    c.items.handed_out c.args.outputs.now c.items.splitting c.items.outputs
     c.in-Ok-Some.field-0 c.in-Ok-Some.item _ _ c.in-Ok-Some.field-0-is c.items.invariant.splitting c.in-Ok-Some.ensures.reads
     c.in-Ok-Some.ensures.again in
     let may =
     may_take c.args.limits c.args.splitting.now.size c.items.reading.decoder c.next_item.new.self.decoder
-    (g.R.Source.remaining c.args.reader.now) _ _ (told_by g.O.Outputs.texts g.O.Outputs.failures g.O.Outputs.given_up g.O.W.Target.contents g.O.W.Target.failures) c.items.handed_out c.args.outputs.now c.items.splitting c.items.outputs
+    (g.R.Source.remaining c.args.reader.now) _ _
+    (told_by g.O.Outputs.texts g.O.Outputs.failures g.O.Outputs.given_up g.O.W.Target.contents g.O.W.Target.failures)
+    c.items.handed_out c.args.outputs.now c.items.splitting c.items.outputs
     c.in-Ok-Some.item
     c.requires.some c.items.invariant.splitting reading in
     record {
       splitting =
           item_taken c.args.limits c.args.splitting.now.size c.items.reading.decoder c.next_item.new.self.decoder
-          (g.R.Source.remaining c.args.reader.now) _ _ (told_by g.O.Outputs.texts g.O.Outputs.failures g.O.Outputs.given_up g.O.W.Target.contents g.O.W.Target.failures) c.items.handed_out c.args.outputs.now c.items.splitting
+          (g.R.Source.remaining c.args.reader.now) _ _
+          (told_by g.O.Outputs.texts g.O.Outputs.failures g.O.Outputs.given_up g.O.W.Target.contents g.O.W.Target.failures)
+          c.items.handed_out c.args.outputs.now c.items.splitting
           c.take_item.new.splitting c.items.outputs
           c.take_item.new.outputs c.in-Ok-Some.item c.requires.some c.items.invariant.splitting reading (leaves_item
           c.in-Ok-Some.field-0 c.in-Ok-Some.item c.next_item.new.self.decoder.state c.in-Ok-Some.field-0-is
@@ -107,7 +125,9 @@ pub returns-in_err-take_item-in-Ok-Some-clause-splits : goal.returns-in_err-take
 returns-in_err-take_item-in-Ok-Some-clause-splits g c =
     let reading =
     next_item c.args.limits c.args.splitting.now.size c.items.reading.decoder c.next_item.new.self.decoder
-    (g.R.Source.remaining c.args.reader.now) _ _ (told_by g.O.Outputs.texts g.O.Outputs.failures g.O.Outputs.given_up g.O.W.Target.contents g.O.W.Target.failures) c.items.handed_out c.args.outputs.now c.items.splitting c.items.outputs
+    (g.R.Source.remaining c.args.reader.now) _ _
+    (told_by g.O.Outputs.texts g.O.Outputs.failures g.O.Outputs.given_up g.O.W.Target.contents g.O.W.Target.failures)
+    c.items.handed_out c.args.outputs.now c.items.splitting c.items.outputs
     c.in-Ok-Some.field-0 c.in-Ok-Some.item _ _ c.in-Ok-Some.field-0-is c.items.invariant.splitting c.in-Ok-Some.ensures.reads
     c.in-Ok-Some.ensures.again in
     let stopped : Splits c.args.limits c.args.splitting.now.size (g.R.Source.remaining c.args.reader.now)

@@ -8,7 +8,9 @@ use Rattle.cwr_parts.proofs.splitting.split_items.Given as goal
 abbrev pub invariant-items : goal.invariant-items
 invariant-items g l = record {
   splitting : IsSplitting l.fn.limits l.fn.splitting.size l.reading.decoder (g.R.Source.remaining l.fn.reader)
-      (g.R.Source.remaining l.reading.reader.now) (told_by g.O.Outputs.texts g.O.Outputs.failures g.O.Outputs.given_up g.O.W.Target.contents g.O.W.Target.failures) l.handed_out l.fn.outputs l.splitting l.outputs;
+      (g.R.Source.remaining l.reading.reader.now)
+      (told_by g.O.Outputs.texts g.O.Outputs.failures g.O.Outputs.given_up g.O.W.Target.contents g.O.W.Target.failures)
+      l.handed_out l.fn.outputs l.splitting l.outputs;
   lent : KeepsLent (g.O.Outputs.lent l.fn.outputs) l.fn.splitting.output (g.O.Outputs.lent l.outputs) l.splitting.output;
   began : (known : List (List ℕ)) → g.O.Outputs.texts l.fn.outputs ≡ Some known
       → BeganOpen g.O.W.Target.contents l.fn.splitting.output → BeganOpen g.O.W.Target.contents l.splitting.output;

@@ -15,11 +15,15 @@ end_group-requires g c =
 
 pub finish_output-requires-clause-may : goal.finish_output-requires-clause-may
 finish_output-requires-clause-may g c =
-    may_finish_item (told_by g.O.Outputs.texts g.O.Outputs.failures g.O.Outputs.given_up g.O.W.Target.contents g.O.W.Target.failures) c.args.item c.args.splitting.now c.args.outputs.now c.in-Ended.is c.requires
+    may_finish_item
+    (told_by g.O.Outputs.texts g.O.Outputs.failures g.O.Outputs.given_up g.O.W.Target.contents g.O.W.Target.failures)
+    c.args.item c.args.splitting.now c.args.outputs.now c.in-Ended.is c.requires
 
 pub returns-in-Opened-clause-takes : goal.returns-in-Opened-clause-takes
 returns-in-Opened-clause-takes g c =
-    takes_opening (told_by g.O.Outputs.texts g.O.Outputs.failures g.O.Outputs.given_up g.O.W.Target.contents g.O.W.Target.failures) c.args.item c.in-Opened.field-0 c.args.splitting.now c.args.outputs.now tt c.in-Opened.is
+    takes_opening
+    (told_by g.O.Outputs.texts g.O.Outputs.failures g.O.Outputs.given_up g.O.W.Target.contents g.O.W.Target.failures)
+    c.args.item c.in-Opened.field-0 c.args.splitting.now c.args.outputs.now tt c.in-Opened.is
 
 pub returns-in-GroupOpened-clause-takes : goal.returns-in-GroupOpened-clause-takes
 returns-in-GroupOpened-clause-takes g c =
@@ -28,7 +32,9 @@ returns-in-GroupOpened-clause-takes g c =
 
 pub returns-in-Transaction-clause-takes : goal.returns-in-Transaction-clause-takes
 returns-in-Transaction-clause-takes g c =
-    takes_transaction (told_by g.O.Outputs.texts g.O.Outputs.failures g.O.Outputs.given_up g.O.W.Target.contents g.O.W.Target.failures) c.args.item c.in-Transaction.field-0 c.args.splitting.now c.add_transaction.new.splitting
+    takes_transaction
+    (told_by g.O.Outputs.texts g.O.Outputs.failures g.O.Outputs.given_up g.O.W.Target.contents g.O.W.Target.failures)
+    c.args.item c.in-Transaction.field-0 c.args.splitting.now c.add_transaction.new.splitting
     c.args.outputs.now
     c.add_transaction.new.outputs c.add_transaction.result c.in-Transaction.is c.add_transaction.ensures.adds
 

@@ -30,6 +30,9 @@ returns-clause-told g c =
 
 pub returns-clause-seen : goal.returns-clause-seen
 returns-clause-seen g c =
-    sees_accepted c.args.limits _ _ c.args.watch.now c.see.new.self c.write_report-writer.new.lines.told.worst _ c.write_report-writer.result.1 c.see.ensures (λ given
-    here. here.1) (c.write_report-writer.ensures.stands lines_of_explained
-    (ap₂ lines_told (sym c.new-lines.ensures.explained) (sym c.new-lines.ensures.up_to_fault), worst_none _ c.new-lines.ensures.told))
+    sees_accepted c.args.limits _ _ c.args.watch.now c.see.new.self c.write_report-writer.new.lines.told.worst _
+    c.write_report-writer.result.1 c.see.ensures (λ given
+    here. here.1) (c.write_report-writer.ensures.stands lines_of_explained (
+      ap₂ lines_told (sym c.new-lines.ensures.explained) (sym c.new-lines.ensures.up_to_fault),
+      worst_none _ c.new-lines.ensures.told,
+    ))

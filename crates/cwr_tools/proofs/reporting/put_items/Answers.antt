@@ -13,7 +13,8 @@ use Rattle.cwr_tools.specs.Steps.Verdicts.{IsReadLast, IsRightVerdict, StopsAfte
 use Rattle.cwr_tools.proofs.lemmas.CountedTotals.{counts_none, next_room, total_grows}
 use Rattle.cwr_tools.proofs.lemmas.LastReported.{HoldsRead, err_last, fault_answered, good_answered, holds_more, holds_none}
 use Rattle.cwr_tools.proofs.lemmas.ReportsOn.{IsReporting, fault_reported, first_fault, first_put, good_reported, item_fault}
-use Rattle.cwr_tools.proofs.lemmas.ReportsOn.{no_reader_fault, nothing, reads_item, reports_item, room_in, same_fault, stops_after}
+use Rattle.cwr_tools.proofs.lemmas.ReportsOn.{no_reader_fault, nothing, reads_item, reports_item, room_in, same_fault}
+use Rattle.cwr_tools.proofs.lemmas.ReportsOn.{stops_after}
 use Rattle.cwr_tools.proofs.lemmas.ReportsOn.{stops_decoder}
 use Rattle.cwr_tools.proofs.lemmas.ToldReports.{passes_over, told_grows, told_reporting}
 use Rattle.cwr_tools.proofs.lemmas.WatchedRuns.{fault_right, fault_tells, good_right, stands_before}
@@ -87,7 +88,8 @@ put_item-requires-clause-stands g c =
 
 pub put_item-requires-clause-room : goal.put_item-requires-clause-room
 put_item-requires-clause-room g c =
-    room_in _ _ c.args.limits _ _ _ g.W.Target.contents g.W.Target.failures c.read_on.new.counts c.args.sink.now c.items.sink (told_reporting
+    room_in _ _ c.args.limits _ _ _ g.W.Target.contents g.W.Target.failures c.read_on.new.counts c.args.sink.now c.items.sink
+    (told_reporting
     _ c.requires.stands.0 _ _ _ _ _ _ _ _ _ _ _ _ _ _
     (passes_over c.passes.result _ c.requires.stands.0 _ (λ t. c.passes.ensures t c.requires.stands.0))
     (c.items.invariant.reporting c.requires.stands.0 c.requires.stands.1) c.in-Ok-Some.ensures.told)
@@ -109,21 +111,24 @@ put_item-requires-clause-few g c =
 
 pub count-requires-clause-groups : goal.count-requires-clause-groups
 count-requires-clause-groups g c =
-    (room_in _ _ c.args.limits _ _ _ g.W.Target.contents g.W.Target.failures c.read_on.new.counts c.args.sink.now c.items.sink (told_reporting
+    (room_in _ _ c.args.limits _ _ _ g.W.Target.contents g.W.Target.failures c.read_on.new.counts c.args.sink.now c.items.sink
+    (told_reporting
     _ c.requires.stands.0 _ _ _ _ _ _ _ _ _ _ _ _ _ _
     (passes_over c.passes.result _ c.requires.stands.0 _ (λ t. c.passes.ensures t c.requires.stands.0))
     (c.items.invariant.reporting c.requires.stands.0 c.requires.stands.1) c.in-Ok-Some.ensures.told)).groups
 
 pub count-requires-clause-transactions : goal.count-requires-clause-transactions
 count-requires-clause-transactions g c =
-    (room_in _ _ c.args.limits _ _ _ g.W.Target.contents g.W.Target.failures c.read_on.new.counts c.args.sink.now c.items.sink (told_reporting
+    (room_in _ _ c.args.limits _ _ _ g.W.Target.contents g.W.Target.failures c.read_on.new.counts c.args.sink.now c.items.sink
+    (told_reporting
     _ c.requires.stands.0 _ _ _ _ _ _ _ _ _ _ _ _ _ _
     (passes_over c.passes.result _ c.requires.stands.0 _ (λ t. c.passes.ensures t c.requires.stands.0))
     (c.items.invariant.reporting c.requires.stands.0 c.requires.stands.1) c.in-Ok-Some.ensures.told)).transactions
 
 pub count-requires-clause-in_group : goal.count-requires-clause-in_group
 count-requires-clause-in_group g c =
-    (room_in _ _ c.args.limits _ _ _ g.W.Target.contents g.W.Target.failures c.read_on.new.counts c.args.sink.now c.items.sink (told_reporting
+    (room_in _ _ c.args.limits _ _ _ g.W.Target.contents g.W.Target.failures c.read_on.new.counts c.args.sink.now c.items.sink
+    (told_reporting
     _ c.requires.stands.0 _ _ _ _ _ _ _ _ _ _ _ _ _ _
     (passes_over c.passes.result _ c.requires.stands.0 _ (λ t. c.passes.ensures t c.requires.stands.0))
     (c.items.invariant.reporting c.requires.stands.0 c.requires.stands.1) c.in-Ok-Some.ensures.told)).in_group
@@ -304,7 +309,8 @@ returns-in_err-put_item-in-Ok-Some-clause-stands g c =
 
 pub returns-in_err-put_item-in-Ok-Some-clause-last : goal.returns-in_err-put_item-in-Ok-Some-clause-last
 returns-in_err-put_item-in-Ok-Some-clause-last g c =
-    λ held. err_last c.args.limits _ _ _ c.from_residual-in_err-put_item-in-Ok-Some.result c.in_err-put_item-in-Ok-Some.field-0.0 (same_fault
+    λ held. err_last c.args.limits _ _ _ c.from_residual-in_err-put_item-in-Ok-Some.result c.in_err-put_item-in-Ok-Some.field-0.0
+    (same_fault
     c.from_residual-in_err-put_item-in-Ok-Some.result c.in_err-put_item-in-Ok-Some.field-0.0
     c.from_residual-in_err-put_item-in-Ok-Some.ensures.1)
 
