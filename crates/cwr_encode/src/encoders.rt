@@ -8,7 +8,7 @@ ghost use Rattle.cwr_values.specs.Format.Values.{symbol_of as symbol_by_cells};
 ghost use Rattle.cwr_values.specs.Format.Rows.{canonical_line, trailer};
 ghost use Rattle.cwr_devices.specs.Steps.Sinks.{Puts, writer_of, written_of};
 ghost use Rattle.cwr_encode.specs.Steps.Texts.{text_from};
-ghost use Rattle.cwr_encode.specs.Format.Encoders.{IsUnlimited, IsBetween, IsInGroup, JudgesTransaction, JudgesFoot, JudgesGroup, JudgesOpening, MayBeginGroup};
+ghost use Rattle.cwr_encode.specs.Format.Encoders.{IsUnlimited, IsInGroup, JudgesTransaction, JudgesFoot, JudgesGroup, JudgesOpening, MayBeginGroup};
 ghost use Rattle.cwr_encode.specs.Format.Encoders.{reached};
 ghost use Rattle.cwr_encode.specs.Steps.Encoders.{OfTaken, Encodes, AddsRecords, AnswersAgain, IsNextNumber, TakesNoTransactions, TakesTransactions, end_fault, fault_of_bar, reached_at};
 ghost use Rattle.cwr_encode.specs.Steps.Encoders.{is_stopped, encoder_limits, target_of, bytes_written};
