@@ -5,7 +5,7 @@ ghost use Rattle.std.specs.Prelude.{suc, ◌↔◌};
 ghost use Rattle.cwr_shape.specs.Format.Ranges.{AreInRange, LimitValues};
 ghost use Rattle.cwr_judge.specs.Format.GoodFronts.{ContinuesFrom};
 ghost use Rattle.cwr_judge.specs.Format.Places.{Viable};
-ghost use Rattle.cwr_judge.specs.Format.Ends.{IsAccepted, IsNotAccepted, IsRefused, IsTruncated};
+ghost use Rattle.cwr_judge.specs.Format.Ends.{IsAccepted, IsNotAccepted, IsNotRefused, IsRefused, IsTruncated};
 ghost use Rattle.cwr_judge.specs.Format.FormerEnds.{IsAcceptedIn};
 ghost use Rattle.cwr_judge.specs.Format.Items.{items, value_items};
 ghost use Rattle.cwr_judge.specs.declared.refusals.Refusal.{Refusal};
@@ -76,8 +76,8 @@ pub fn one_end_at_most()
 /// Each text has one of the three ends: one that is neither accepted nor refused is truncated, with as many lines as it has. The
 /// limits are in the ranges that `Limits::new` takes.
 pub fn each_text_has_an_end()
-    ensures { (limits : Limits) (text : List ℕ) → AreInRange limits → IsNotAccepted limits text → ((refusal : Refusal) → ¬ IsRefused limits text refusal)
-        → IsTruncated limits text (length (raw_lines (closed text))) }
+    ensures { (limits : Limits) (text : List ℕ) → AreInRange limits → IsNotAccepted limits text
+        → IsNotRefused limits text → IsTruncated limits text (length (raw_lines (closed text))) }
 {}
 
 /// Some transmission within the limits continues from lines and from the first cells of one more exactly where the lines

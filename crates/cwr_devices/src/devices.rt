@@ -7,7 +7,7 @@ ghost use Rattle.std.specs.Io.KnownBytes.{Keeps, WriteAppends};
 ghost use types.Logic.{sem};
 ghost use Rattle.cwr_devices.specs.Format.DeviceFaultTexts.{device_fault_text};
 ghost use Rattle.cwr_devices.specs.Format.Failures.{CountsFailure};
-ghost use Rattle.cwr_devices.specs.Steps.Failures.{shown_by};
+ghost use Rattle.cwr_devices.specs.Steps.Failures.{ShowsBytes};
 
 use std::error::Error;
 use std::fmt::{self, Display, Formatter, Write};
@@ -44,8 +44,8 @@ pub trait Source {
         ensures end { IfSome (remaining self.old)
             (λ left. IfOk result (λ bytes. length bytes.now ≡ 0 → left ≡ [])) }
         ensures* after_borrow { sem 𝓛 (Rests Self.row self.entry (λ new.
-            Keeps (remaining self.old) (remaining new) × (shown new ≡ shown_by result)
-            × CountsFailure result (failures self.old) (failures new))) };
+            ShowsBytes (remaining self.old) (remaining new) (shown new) result
+            (failures self.old) (failures new))) };
 
     /// Takes the next `count` bytes, of those that the last `fill` showed.
     fn consume(&mut self, count: usize)

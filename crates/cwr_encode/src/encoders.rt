@@ -8,9 +8,9 @@ ghost use Rattle.cwr_values.specs.Format.Values.{symbol_of as symbol_by_cells};
 ghost use Rattle.cwr_values.specs.Format.Rows.{canonical_line, trailer};
 ghost use Rattle.cwr_devices.specs.Steps.Sinks.{Puts, writer_of, written_of};
 ghost use Rattle.cwr_encode.specs.Steps.Texts.{text_from};
-ghost use Rattle.cwr_encode.specs.Format.Encoders.{IsUnlimited, IsBetween, IsInGroup, JudgesTransaction, JudgesFoot, JudgesGroup, JudgesOpening, MayBeginGroup};
+ghost use Rattle.cwr_encode.specs.Format.Encoders.{IsUnlimited, IsInGroup, JudgesTransaction, JudgesFoot, JudgesGroup, JudgesOpening, MayBeginGroup};
 ghost use Rattle.cwr_encode.specs.Format.Encoders.{reached};
-ghost use Rattle.cwr_encode.specs.Steps.Encoders.{OfTaken, Encodes, AddsRecords, AnswersAgain, IsNextNumber, TakesTransactions, end_fault, fault_of_bar, reached_at};
+ghost use Rattle.cwr_encode.specs.Steps.Encoders.{OfTaken, Encodes, AddsRecords, AnswersAgain, IsNextNumber, TakesNoTransactions, TakesTransactions, end_fault, fault_of_bar, reached_at};
 ghost use Rattle.cwr_encode.specs.Steps.Encoders.{is_stopped, encoder_limits, target_of, bytes_written};
 ghost use Rattle.std.specs.Io.KnownBytes.{Keeps};
 ghost use Rattle.cwr_devices.specs.Format.Failures.{one_more_failure};
@@ -214,7 +214,8 @@ impl<W: Target> Encoder<W> {
 
     /// The type of the open group. `None` where none is open, and where a transaction is open that isn't whole.
     fn open_type(&self) -> Option<TransactionType>
-        ensures { MatchOption result ((xs : List Symbol) → IsTallyOf self.now.tally xs → IsBetween xs → ¬ IsInGroup (reached xs))
+        ensures { MatchOption result
+            ((xs : List Symbol) → IsTallyOf self.now.tally xs → TakesNoTransactions xs)
             (λ ty. (xs : List Symbol) → IsTallyOf self.now.tally xs → TakesTransactions ty xs) }
     {
         let stage = self.tally.stage();

@@ -2,7 +2,7 @@
 
 ghost use Rattle.std.specs.Prelude.{◌≡◌, ℕ, List, Option, Some, IfSome, IsOkAnd, true, option_map};
 ghost use Rattle.cwr_files.specs.Format.Inputs.{is_standard};
-ghost use Rattle.cwr_files.specs.Steps.Inputs.{remaining_of};
+ghost use Rattle.cwr_files.specs.Steps.Inputs.{HasLeft, remaining_of};
 
 use crate::faults::{Fault, Name, Reason, STANDARD_INPUT, Told};
 use crate::progress::Pace;
@@ -89,8 +89,8 @@ pub fn open_input<'a, R: Files, I: Read, P: Pace + Drop>(
     mut pace: P,
 ) -> Result<Input<'a, R::File, I, P>, Fault<'a>>
     ensures standard { is_standard (option_map (λ n. n.now) name.entry) ≡ true
-        → IfSome standard.old (λ input. IsOkAnd result
-        (λ opened. remaining_of R.File.remaining I.remaining opened ≡ I.remaining input)) }
+        → IfSome standard.old
+        (λ input. IsOkAnd result (HasLeft R.File.remaining I.remaining (I.remaining input))) }
 {
     match name {
         Some(word) if word != DASH => match File::open(rt, word) {

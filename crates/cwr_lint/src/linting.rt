@@ -14,14 +14,14 @@ ghost use Rattle.cwr_advise.specs.Format.AdviceLines.{said_in};
 ghost use Rattle.cwr_lint.specs.Format.Wanted.{lines_before_fault, lines_linted, said_when, wanting};
 ghost use Rattle.cwr_lint_lines.specs.Format.FaultsAtFields.{fields_end, one_more_line};
 ghost use Rattle.cwr_lint_lines.specs.Steps.Fronts.{state_at};
-ghost use Rattle.cwr_lint.specs.Steps.Walks.{AfterJudged, ended_by, judged_in, state_by};
+ghost use Rattle.cwr_lint.specs.Steps.Walks.{AfterJudged, judged_in, state_by};
 ghost use Rattle.cwr_fields.specs.Format.Bytes.{is_spaces};
 ghost use Rattle.cwr_lint_lines.specs.Steps.JudgedLines.{IsFaultFrom, IsJudged, ends_by, judged_at, scope_by};
 ghost use Rattle.cwr_lint_lines.specs.Steps.Cells.{held_cut};
 ghost use Rattle.cwr_lint.specs.Steps.LinesRead.{IsOfLine, held_raw};
 ghost use Rattle.cwr_lint.specs.Steps.Lints.{EndsRun, Lints, Tells};
 ghost use Rattle.cwr_lint.specs.Steps.Puts.{TellsWith, AppendsSuch, PutsWith, TellsRead};
-ghost use Rattle.cwr_lint.specs.Steps.Runs.{BeginsAt, TakesAll, TakesFirst, TakesFrom, TakesLine, TakesNextIf, TakesRead, TellsOfLine, TellsRun, TellsSoMany};
+ghost use Rattle.cwr_lint.specs.Steps.Runs.{BeginsAt, TakesAll, TakesFirst, TakesFrom, TakesLine, TakesNextIf, TakesRead, TellsJudged, TellsRun, TellsSoMany};
 ghost use Rattle.cwr_lint.specs.Steps.Runs.{TellsAfter, TellsToEnd, asking_of};
 
 use crate::findings::{after_line, put_ended};
@@ -124,10 +124,9 @@ impl LintRun {
         requires unfailed { has_failed sink.old ≡ false }
         requires judged { IsJudged line.now judged.now }
         requires first { 1 ≤ from }
-        ensures puts { PutsWith (TellsOfLine (asking_of asked.now)
-            (judged_in self.old.state line.now judged.now)
-            (ended_by judged.now self.old.state self.old.begun)
-            from) W.contents W.failures result sink.old sink.new }
+        ensures puts { PutsWith (TellsJudged (asking_of asked.now) self.old.state
+            self.old.begun line.now judged.now from) W.contents W.failures result sink.old
+            sink.new }
         ensures state { self.new.state ≡ self.old.state }
         ensures begun { self.new.begun ≡ self.old.begun }
         ensures faults { self.new.faults ≡ self.old.faults }
@@ -239,7 +238,7 @@ impl LintRun {
     ) -> Result<bool, ToolFault>
         requires { has_failed sink.old ≡ false }
         ensures { TellsWith R.remaining R.failures reader.old reader.new W.contents W.failures
-            (λ left after. TakesNextIf (asking_of asked.now) left after before.now raw.new self.old self.new)
+            (TakesNextIf (asking_of asked.now) before.now raw.new self.old self.new)
             result sink.old sink.new }
     {
         if self.state.over || !before.has_ended() {
@@ -263,7 +262,7 @@ impl LintRun {
     ) -> Result<(), ToolFault>
         requires { has_failed sink.old ≡ false }
         ensures { TellsRead R.remaining R.failures reader.old reader.new W.contents W.failures
-            (λ left after. TakesAll (asking_of asked.now) left after first.ended self.old self.new)
+            (TakesAll (asking_of asked.now) first.ended self.old self.new)
             result sink.old sink.new }
     {
         let mut before = first;
@@ -317,7 +316,7 @@ impl LintRun {
         requires unfailed { has_failed sink.old ≡ false }
         requires line { IsOfLine raw }
         ensures { TellsRead R.remaining R.failures reader.old reader.new W.contents W.failures
-            (λ left after. TakesFrom (asking_of asked.now) refusal.now left after raw self.old self.new)
+            (TakesFrom (asking_of asked.now) refusal.now raw self.old self.new)
             result sink.old sink.new }
     {
         let mut cut = LineBuf::new();
@@ -340,7 +339,7 @@ impl LintRun {
         requires line { IsOfLine raw }
         requires begins { BeginsAt refusal.now self.old }
         ensures { TellsRead R.remaining R.failures reader.old reader.new W.contents W.failures
-            (λ left after. TellsToEnd (asking_of asked.now) self.old.state refusal.now left after raw)
+            (TellsToEnd (asking_of asked.now) self.old.state refusal.now raw)
             result sink.old sink.new }
     {
         match self.tell_from(asked, refusal, reader, raw, sink) {

@@ -10,7 +10,7 @@ ghost use Rattle.cwr_shape.specs.declared.limits.Limits.{Limits};
 ghost use Rattle.cwr_values.specs.Format.Begins.{rows_so_far};
 ghost use Rattle.cwr_values.specs.Format.Fits.{value_fault};
 ghost use Rattle.cwr_values.specs.Format.FormerOrders.{IsTransmissionIn};
-ghost use Rattle.cwr_values.specs.Format.Laws.{NumbersFitTheirFields, RecordsAreCompleted, RowsDependOnRecordsBefore};
+ghost use Rattle.cwr_values.specs.Format.Laws.{BeginsWithSpelling, NumbersFitTheirFields, RecordsAreCompleted, RowsDependOnRecordsBefore};
 ghost use Rattle.cwr_values.specs.Format.Rows.{canonical_text, records_of, rows, Spells};
 ghost use Rattle.cwr_values.specs.Format.Values.{FitsIn, IsTransmission, symbol_of, TransmissionValue};
 
@@ -27,8 +27,8 @@ pub fn line_has_one_row()
 
 /// A text begins with at most one spelling of at most one transmission. So no spelling is the beginning of another.
 pub fn text_begins_with_one_spelling()
-    ensures { (v w : TransmissionValue) (front other rest others : List ℕ) → IsTransmission v → IsTransmission w
-        → Spells v front → Spells w other → front ++ rest ≡ other ++ others → (v ≡ w) × (front ≡ other) }
+    ensures { (text front other : List ℕ) (v w : TransmissionValue) → BeginsWithSpelling text v front
+        → BeginsWithSpelling text w other → (v ≡ w) × (front ≡ other) }
 {}
 
 /// Within limits of at most 99,999,999 records and 99,999 groups each number of a transmission fits its field.

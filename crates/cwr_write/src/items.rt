@@ -9,7 +9,7 @@ ghost use Rattle.cwr_lines.specs.Format.Records.{RecordValue};
 ghost use Rattle.cwr_values.specs.Format.Values.{symbol_of};
 ghost use Rattle.cwr_json.specs.declared.encodings.Encoding.{Encoding};
 ghost use Rattle.cwr_json.specs.Format.Forms.{AreOnlyRecords, AreRecordsData, IsItemData, records_key, told};
-ghost use Rattle.cwr_encode.specs.Steps.Encoders.{AddsRecords, Encodes, encoder_limits, is_stopped};
+ghost use Rattle.cwr_encode.specs.Steps.Encoders.{AddsRecords, OfEncoded, encoder_limits, is_stopped};
 ghost use Rattle.cwr_write.specs.Format.AloneKinds.{IsAlone};
 ghost use Rattle.cwr_write.specs.Steps.Members.{IsDataAt, IsKinded, IsOnlyAt, SaysAt};
 ghost use Rattle.cwr_write.specs.Format.Faults.{IsAmong, IsItemReason, IsListReason, IsOfData, NoItem};
@@ -280,8 +280,8 @@ pub(crate) fn write_item<W: Target>(
     ensures adds { AddsRecords W.contents W.failures (given_records item.now) result encoder.old
         encoder.new }
     ensures limits { encoder_limits encoder.new ≡ encoder_limits encoder.old }
-    ensures judged { (start : Option (List ℕ)) (records : List RecordValue) → Encodes W.contents start records encoder.old
-        → JudgesGiven (encoder_limits encoder.old) item.now (map symbol_of records) result }
+    ensures judged { OfEncoded W.contents encoder.old (λ records.
+        JudgesGiven (encoder_limits encoder.old) item.now (map symbol_of records) result) }
 {
     match item {
         Item::Opened(record) => encoder.open(record),

@@ -13,7 +13,7 @@ ghost use Rattle.cwr_json.specs.declared.encodings.Encoding.{Encoding};
 ghost use Rattle.cwr_json.specs.Format.Encodings.{StandFor, are_read_as_is, byte_by_byte, character};
 ghost use Rattle.cwr_json.specs.Format.Forms.{IsDataOf, IsRecordData, first_of, is_note, kind_key, says, told};
 ghost use Rattle.cwr_write.specs.Format.Faults.{AreBytes, IsKindReason, IsMemberReason, IsOfData, IsRecordReason, IsValueReason};
-ghost use Rattle.cwr_write.specs.Steps.Filling.{FitsField, IsBytesReason, IsDraftReason, IsFilled, IsFirstByte, IsReasonOfFilled, IsTextOf, NoneFrom, OfFilled};
+ghost use Rattle.cwr_write.specs.Steps.Filling.{FillsOn, FitsField, IsBytesReason, IsDraftReason, IsFilled, IsFirstByte, IsReasonOfFilled, IsTextOf, NoneFrom, OfFilled};
 ghost use Rattle.cwr_write.specs.Steps.Filling.{joined, with_last, with_told};
 
 use crate::keys::field_of_key;
@@ -304,8 +304,9 @@ impl Filling {
 
     /// Takes a member that says something.
     fn take(&mut self, encoding: Encoding, key: &str, value: &Value<'_>) -> Result<(), (Key, Why)>
-        ensures ok { OnOk result (OfFilled encoding self.old.kind self.old.draft self.old.seen
-            (λ ms. IsFilled encoding self.old.kind (with_last ms key.now (value_view value.now)) self.new.draft self.new.seen)) }
+        ensures ok { OnOk result (FillsOn encoding self.old.kind
+            (λ ms. with_last ms key.now (value_view value.now)) self.old.draft self.old.seen
+            self.new.draft self.new.seen) }
         ensures err { OnErr result (OfFilled encoding self.old.kind self.old.draft self.old.seen
             (λ ms. NoneFrom encoding self.old.kind (with_last ms key.now (value_view value.now)))) }
         ensures why { IfErr result (λ f. IsOfData f.1) }
@@ -332,8 +333,9 @@ impl Filling {
 
     /// Takes a member, if it says something.
     fn meet(&mut self, encoding: Encoding, key: &str, value: &Value<'_>) -> Result<(), (Key, Why)>
-        ensures ok { OnOk result (OfFilled encoding self.old.kind self.old.draft self.old.seen
-            (λ ms. IsFilled encoding self.old.kind (with_told ms key.now (value_view value.now)) self.new.draft self.new.seen)) }
+        ensures ok { OnOk result (FillsOn encoding self.old.kind
+            (λ ms. with_told ms key.now (value_view value.now)) self.old.draft self.old.seen
+            self.new.draft self.new.seen) }
         ensures err { OnErr result (OfFilled encoding self.old.kind self.old.draft self.old.seen
             (λ ms. NoneFrom encoding self.old.kind (with_told ms key.now (value_view value.now)))) }
         ensures why { IfErr result (λ f. IsOfData f.1) }

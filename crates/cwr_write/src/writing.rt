@@ -1,12 +1,11 @@
 //! From lines of JSON to a transmission.
 
 ghost use Rattle.std.specs.Prelude.{◌≡◌, ◌≢◌, ◌<◌, ◌^◌, ◌-◌, IfOk, IfSome, OnErr, OnOk, ℕ, List, [], length, map, Option, true, false};
-ghost use Rattle.cwr_lines.specs.Format.Records.{RecordValue};
 ghost use Rattle.cwr_fields.specs.declared.kinds.Kind.TheVariants.{Trl};
 ghost use Rattle.cwr_shape.specs.declared.symbols.Symbol.TheVariants.{Plain};
 ghost use Rattle.cwr_shape.specs.Format.NextSymbols.{MayCome};
 ghost use Rattle.cwr_values.specs.Format.Values.{FitsIn, IsTransmission, TransmissionValue, symbol_of};
-ghost use Rattle.cwr_encode.specs.Steps.Encoders.{AddsRecords, Encodes, encoder_limits, is_stopped, target_of};
+ghost use Rattle.cwr_encode.specs.Steps.Encoders.{AddsRecords, Encodes, OfEncoded, encoder_limits, is_stopped, target_of};
 ghost use Rattle.cwr_encode.specs.Steps.Finishing.{FinishesWriting};
 ghost use Rattle.cwr_write.specs.Format.Imports.{CountsReaderFault, CountsWriterFault, SaysItem, WritesWhole};
 ghost use Rattle.cwr_write.specs.Format.Faults.{IsOfLine, IsPlaceReason, IsReason, JudgesTrailer, reached_with};
@@ -295,8 +294,9 @@ fn finish<W: Target>(encoder: Encoder<W>, lines: u64) -> (W, Result<Written, Wri
     ensures failures { CountsWriterFault result.1 (W.failures (target_of encoder))
         (W.failures result.0) }
     ensures unread { NoReader result.1 }
-    ensures ended { (start : Option (List ℕ)) (records : List RecordValue) → Encodes W.contents start records encoder
-        → MayCome (encoder_limits encoder) (map symbol_of records) (Plain Trl) → FinishesLines lines result.1 }
+    ensures ended { OfEncoded W.contents encoder (λ records.
+        MayCome (encoder_limits encoder) (map symbol_of records) (Plain Trl)
+        → FinishesLines lines result.1) }
     ensures handed_on { OnOk result.1 (W.handed_on result.0 ≡ true) }
 {
     let (writer, answer) = encoder.finish();

@@ -25,7 +25,7 @@ use Rattle.cwr_decode.specs.Steps.Represents.{Represents, RepresentsIn, IsReadin
 use Rattle.cwr_decode.specs.Steps.Calls.{RefusesLast, Advances, Grows}
 use Rattle.cwr_decode.proofs.lemmas.AfterAcceptedLine.{HasLine, never_too_long}
 use Rattle.cwr_decode.proofs.lemmas.AfterLine.{reported_last, judged_stands, judged_empties}
-use Rattle.cwr_decode.proofs.lemmas.StepsWithoutBytes.{IsPlain, Rest, follows_rest}
+use Rattle.cwr_decode.proofs.lemmas.StepsWithoutBytes.{IsPlain, Rest, follows_rest, with_answer}
 use Rattle.cwr_decode.proofs.lemmas.RightAnswers.{StandsAfterEnd, judged_right}
 
 -- ---- bytes that are taken
@@ -219,9 +219,18 @@ advanced_line d t new piece used out s fresh takes held is ended j =
     let finished : t.finished ≡ d.finished = ap (λ (q : Standing). q.finished) is in
     let limits : t.tally.limits ≡ d.tally.limits = ap (λ (q : Standing). q.tally.limits) is in
     record {
+      carries = record {
+        stands =
+            λ input given st. subst (Represents new (input ++ take used piece)) (with_answer given out)
+            (judged_stands t (input ++ take used piece) given out new (at input given st) j);
+        ready = rest.ready;
+        leaves = rest.leaves;
+        empties = λ input given st. judged_empties t (input ++ take used piece) given out new (at input given st) j;
+        finished = rest.finished ∙ finished;
+        limits = rest.limits ∙ limits;
+      };
       within = takes.within;
       some = some_used t new d.line piece used out takes ended j;
-      stands = λ input given st. judged_stands t (input ++ take used piece) given out new (at input given st) j;
       right = λ input given st.
           subst (λ (l : LimitValues). IfSome out
           (λ o. IsRight l o false (input ++ take used piece) (input ++ piece) (given ++ items_out o))) limits
@@ -230,17 +239,12 @@ advanced_line d t new piece used out s fresh takes held is ended j =
           (judged_right t false (input ++ take used piece) (drop used piece) given out new (at input given st) (finished ∙ fresh)
           (λ z. absurd (true≢false (sym z))) (λ z o. absurd (true≢false (sym z))) (after_used d.line piece used t.line takes)
           j));
-      ready = rest.ready;
-      leaves = rest.leaves;
       more = λ e. absurd (never_more t new out ended j e);
       none = rest.none;
       grows = λ input given st.
           let h = at input given st in
           subst (λ (n : ℕ). Grows n out new.tally.counts.records) (ap (λ (q : Standing). q.tally.counts.records) is)
           (judged_grows t new out (map symbol_of h.records) ended h.read.counted j);
-      empties = λ input given st. judged_empties t (input ++ take used piece) given out new (at input given st) j;
-      finished = rest.finished ∙ finished;
-      limits = rest.limits ∙ limits;
     }
   where
     at : (input : List ℕ) (given : List Item) → Represents d input given → HasLine t (input ++ take used piece) given
@@ -261,22 +265,24 @@ pub advanced_open : (d t : Standing) (piece : List ℕ) (used : ℕ) → d.state
 advanced_open d t piece used s fresh takes held is ended =
     let all : used ≡ length piece = subst (λ (e : LineEnd). Stops e piece used) ended takes.stops in
     subst (λ (q : Standing). Advances d piece used (Some outcomes.More) q) (sym is) (record {
+      carries = record {
+        stands =
+            λ input given st. subst (Represents (with_line d t.line) (input ++ take used piece)) (sym (append-nil given))
+            (line_continues d input given piece used t.line s fresh takes held ended st);
+        ready = subst (λ (q : State). IsReady q d.finished t.line) (sym s) (ended, λ f. absurd (true≢false (sym f ∙ fresh)));
+        leaves = s;
+        empties = λ input given st. tt;
+        finished = refl;
+        limits = refl;
+      };
       within = takes.within;
       some = tt;
-      stands =
-          λ input given st. subst (Represents (with_line d t.line) (input ++ take used piece)) (sym (append-nil given))
-          (line_continues d input given piece used t.line s fresh takes held ended st);
       right =
           λ input given st. record {
             ends = λ more may. tt;
             comes = (refl, ap (λ (x : List ℕ). input ++ x) (ap (λ (n : ℕ). take n piece) all ∙ take-length piece));
           };
-      ready = subst (λ (q : State). IsReady q d.finished t.line) (sym s) (ended, λ f. absurd (true≢false (sym f ∙ fresh)));
-      leaves = s;
       more = λ e. all;
       none = tt;
       grows = λ input given st. (omega arith, λ e. absurd (cc e));
-      empties = λ input given st. tt;
-      finished = refl;
-      limits = refl;
     })

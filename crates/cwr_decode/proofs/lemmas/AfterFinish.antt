@@ -15,9 +15,9 @@ use Rattle.cwr_decode.specs.declared.machine.State.TheVariants as states
 use Rattle.cwr_judge.specs.Format.Ends.{IsTruncated}
 use Rattle.cwr_decode.specs.Steps.Machines.{Standing, IsReady, Settles, again, end_input, stopped}
 use Rattle.cwr_decode.specs.Steps.Represents.{Represents, RepresentsIn, IsReading, IsInput, IsRight, items_out, text_of}
-use Rattle.cwr_decode.specs.Steps.Calls.{IsLive, TakesEnd, Finishes}
+use Rattle.cwr_decode.specs.Steps.Calls.{CarriesAlone, IsLive, TakesEnd, Finishes}
 use Rattle.cwr_decode.proofs.lemmas.CutTruncated.{cut_truncated}
-use Rattle.cwr_decode.proofs.lemmas.StepsWithoutBytes.{settled}
+use Rattle.cwr_decode.proofs.lemmas.StepsWithoutBytes.{carried_both, carried_same, settled}
 use Rattle.cwr_decode.proofs.lemmas.RightAnswers.{plain_right}
 use Rattle.cwr_decode.proofs.lemmas.AfterBytes.{plain_last}
 use Rattle.cwr_decode.proofs.lemmas.AnsweredAtOnce.{settles_live, settles_plain, settles_pending, settles_again, settles_more, if_some}
@@ -26,20 +26,15 @@ use Rattle.cwr_decode.proofs.lemmas.AfterInputEnd.{no_answer, no_bytes}
 -- it is answered to a last line
 pub ends_finish : (old new : Standing) (o : Outcome) → TakesEnd old (Some o) new → Finishes old o new
 ends_finish old new o e = record {
-  stands = e.stands;
+  carries = e.carries;
   right = λ l input given st. e.right input given st;
   last = λ l input given st. e.last input given st;
-  ready = e.ready;
-  leaves = e.leaves;
-  empties = e.empties;
   again =
       if_some (again old.state) (λ p. (Some o ≡ None) × (new ≡ end_input old)) (λ p. (o ≡ p) × (new ≡ end_input old))
       (λ p h. absurd (nothing h.0)) e.stays;
   more = λ q. e.more (ap (λ (x : Outcome). Some x) q);
   memory = λ q l input given st few. absurd (omega (arith, few, (e.grows input given st).1 (ap (λ (x : Outcome). Some x) q)));
   kept = λ input given st. (e.grows input given st).0;
-  finished = e.finished;
-  limits = e.limits;
 }
   where
     nothing : Some o ≡ None → ⊥
@@ -49,27 +44,22 @@ ends_finish old new o e = record {
 pub settles_finish : (old mid new : Standing) (o : Outcome) → TakesEnd old None mid → Settles mid.state mid (Some o) new
     → Finishes old o new
 settles_finish old mid new o e s =
-    let m = settled mid.state mid new (Some o) refl e.ready s in
-    let there =
-    λ (input : List ℕ) (given : List Item) (st : Represents old input given). subst (Represents mid input) (append-nil given)
-    (e.stands input given st) in
+    let m = settled mid.state mid new (Some o) refl e.carries.ready s in
+    let both : CarriesAlone old (Some o) true new =
+    carried_same old new (λ input. input) (λ input. input) mid.finished true (Some o) (λ input. refl) e.carries.finished
+    (carried_both old mid new (λ input. input) (λ input. input) true mid.finished (Some o) e.carries m.carries) in
     record {
-      stands = λ input given st. m.stands input given (there input given st);
+      carries = both;
       right = λ l input given st.
-          subst (λ (k : LimitValues). IsRight k o true input input (given ++ items_out o)) (m.limits ∙ e.limits)
-          (plain_right new o true input input [] (given ++ items_out o) (m.finished ∙ e.finished) (sym (append-nil input))
-          (λ z. refl) (m.stands input given (there input given st)) m.leaves
+          subst (λ (k : LimitValues). IsRight k o true input input (given ++ items_out o)) both.limits
+          (plain_right new o true input input [] (given ++ items_out o) both.finished (sym (append-nil input))
+          (λ z. refl) (both.stands input given st) both.leaves
           (settles_plain mid.state mid new o (e.none l) s));
-      ready = m.ready;
-      leaves = m.leaves;
       last = λ l input given st. plain_last o new input (given ++ items_out o) (settles_plain mid.state mid new o (e.none l) s);
-      empties = λ input given st. m.empties input given (there input given st);
       again = by (again old.state) refl e.stays;
       more = λ q. settles_more mid.state mid new (subst (λ (x : Outcome). Settles mid.state mid (Some x) new) q s);
       memory = λ q l input given st few. (e.waits (settles_pending mid.state mid new o (e.none l) s), refl);
       kept = λ input given st. omega (arith, (e.grows input given st).0, m.counts);
-      finished = m.finished ∙ e.finished;
-      limits = m.limits ∙ e.limits;
     }
   where
     by : (q : Option Outcome) → again old.state ≡ q → IfSome q (λ p. (no_answer ≡ None) × (mid ≡ end_input old))
@@ -122,39 +112,40 @@ pub cut_finish : (old mid after new : Standing) (count : ℕ) → TakesEnd old N
     → Finishes old (outcomes.Truncated count) new
 cut_finish old mid after new count e s stop n =
     let live = settles_live mid.state mid after s in
-    let m = settled mid.state mid after None refl e.ready s in
+    let m = settled mid.state mid after None refl e.carries.ready s in
     let reading : after.state ≡ states.Reading = m.none live in
-    let finished : after.finished ≡ true = m.finished ∙ e.finished in
+    let finished : after.finished ≡ true = m.carries.finished ∙ e.carries.finished in
     subst (Finishes old (outcomes.Truncated count)) (sym stop) (record {
-      stands =
-          λ input given st. subst (Represents (stopped after (states.Truncated count)) input) (sym (append-nil given))
-          (is_cut after count input given (here input given st) reading finished m.ready n);
+      carries = record {
+        stands =
+            λ input given st. subst (Represents (stopped after (states.Truncated count)) input) (sym (append-nil given))
+            (is_cut after count input given (here input given st) reading finished m.carries.ready n);
+        ready = tt;
+        leaves = refl;
+        empties = λ input given st. tt;
+        finished = finished;
+        limits = m.carries.limits ∙ e.carries.limits;
+      };
       right = λ l input given st.
           let cut : IsTruncated old.tally.limits input count
-          = subst (λ (k : LimitValues). IsTruncated k input count) (m.limits ∙ e.limits)
+          = subst (λ (k : LimitValues). IsTruncated k input count) (m.carries.limits ∙ e.carries.limits)
           (cut_truncated (stopped after (states.Truncated count)) input given count
-          (is_cut after count input given (here input given st) reading finished m.ready n).here) in
+          (is_cut after count input given (here input given st) reading finished m.carries.ready n).here) in
           record {
             ends = λ more nothing. subst (λ (x : List ℕ). IsTruncated old.tally.limits x count)
                 (sym (ap (λ (x : List ℕ). input ++ x) nothing ∙ append-nil input)) cut;
             comes = refl;
           };
       last = λ l input given st. tt;
-      ready = tt;
-      leaves = refl;
-      empties = λ input given st. tt;
       again = by (again old.state) refl e.stays live;
       more = λ q. absurd (cc q);
       memory = λ q. absurd (cc q);
       kept = λ input given st. omega (arith, (e.grows input given st).0, m.counts);
-      finished = finished;
-      limits = m.limits ∙ e.limits;
     })
   where
     here : (input : List ℕ) (given : List Item) → Represents old input given → Represents after input given
     here input given st =
-        subst (Represents after input) (append-nil given) ((settled mid.state mid after None refl e.ready s).stands input given
-        (subst (Represents mid input) (append-nil given) (e.stands input given st)))
+        (settled mid.state mid after None refl e.carries.ready s).carries.stands input given (e.carries.stands input given st)
 
     by : (q : Option Outcome) → again old.state ≡ q → IfSome q (λ p. (no_answer ≡ None) × (mid ≡ end_input old))
         → IsLive mid.state

@@ -17,7 +17,7 @@ use Rattle.cwr_decode.specs.Steps.Calls.{IsLive, Grows, TakesEnd}
 use Rattle.cwr_decode.proofs.lemmas.ClosedTexts.{closed_text, closed_open}
 use Rattle.cwr_decode.proofs.lemmas.AfterAcceptedLine.{HasLine}
 use Rattle.cwr_decode.proofs.lemmas.AfterLine.{judged_stands, judged_empties}
-use Rattle.cwr_decode.proofs.lemmas.StepsWithoutBytes.{if_none}
+use Rattle.cwr_decode.proofs.lemmas.StepsWithoutBytes.{if_none, with_answer}
 use Rattle.cwr_decode.proofs.lemmas.RightAnswers.{StandsAfterEnd, judged_right}
 use Rattle.cwr_decode.proofs.lemmas.AfterBytes.{judged_rest, judged_grows, never_more, judged_last}
 
@@ -141,21 +141,21 @@ ended_stands d input given ready empty st = record { in_range = st.in_range; her
 pub ends_without : (old new : Standing) → IsReady old.state old.finished old.line → ClosesLine false old new
     → TakesEnd old None new
 ends_without old new ready c = subst (TakesEnd old None) (sym c.0) (record {
-  stands =
-      λ input given st. subst (Represents (end_input old) input) (sym (append-nil given))
-      (ended_stands old input given ready c.1 st);
+  carries = record {
+    stands = λ input given st. ended_stands old input given ready c.1 st;
+    ready = ready_at_input_end old.state ready c.1;
+    leaves = tt;
+    empties = λ input given st. tt;
+    finished = refl;
+    limits = refl;
+  };
   right = λ input given st. tt;
   last = λ input given st. tt;
-  ready = ready_at_input_end old.state ready c.1;
-  leaves = tt;
   more = λ e. absurd (cc e);
   none = λ l. l;
   waits = λ e. e;
   grows = λ input given st. (omega arith, λ e. absurd (cc e));
-  empties = λ input given st. tt;
   stays = all_so (again old.state) (refl, refl);
-  finished = refl;
-  limits = refl;
 })
   where
     all_so : {A : Type 0} (q : Option Outcome) → A → IfSome q (λ o. A)
@@ -214,7 +214,16 @@ ends_with old mid new out ready c j =
     let finished : mid.finished ≡ true = ap (λ (q : Standing). q.finished) c.2 in
     let limits : mid.tally.limits ≡ old.tally.limits = ap (λ (q : Standing). q.tally.limits) c.2 in
     record {
-      stands = λ input given st. judged_stands mid input given out new (last_line old mid input given ready c st) j;
+      carries = record {
+        stands =
+            λ input given st. subst (Represents new input) (with_answer given out)
+            (judged_stands mid input given out new (last_line old mid input given ready c st) j);
+        ready = rest.ready;
+        leaves = rest.leaves;
+        empties = λ input given st. judged_empties mid input given out new (last_line old mid input given ready c st) j;
+        finished = rest.finished ∙ finished;
+        limits = rest.limits ∙ limits;
+      };
       right = λ input given st.
           subst (λ (l : LimitValues). IfSome out (λ o. IsRight l o true input input (given ++ items_out o))) limits
           (subst (λ (x : List ℕ). IfSome out (λ o. IsRight mid.tally.limits o true input x (given ++ items_out o)))
@@ -225,8 +234,6 @@ ends_with old mid new out ready c j =
       last =
           λ input given st. judged_last mid input given out new (last_line old mid input given ready c st) (line_there old mid c)
           ended j;
-      ready = rest.ready;
-      leaves = rest.leaves;
       more = never_more mid new out ended j;
       none = if_none out (new.state ≡ states.Reading) (IsLive old.state → IsLive new.state) (λ e l. ap again e) rest.none;
       waits =
@@ -236,10 +243,7 @@ ends_with old mid new out ready c j =
           let h = last_line old mid input given ready c st in
           subst (λ (n : ℕ). Grows n out new.tally.counts.records) (ap (λ (q : Standing). q.tally.counts.records) c.2)
           (judged_grows mid new out (map symbol_of h.records) ended h.read.counted j);
-      empties = λ input given st. judged_empties mid input given out new (last_line old mid input given ready c st) j;
       stays = subst (λ (s : State). IfSome (again s) (λ o. (out ≡ None) × (new ≡ end_input old))) (sym c.0) tt;
-      finished = rest.finished ∙ finished;
-      limits = rest.limits ∙ limits;
     }
   where
     not_open : Line ≡ Open → ⊥

@@ -15,9 +15,9 @@ use Rattle.cwr_decode.specs.declared.machine.State.{State}
 use Rattle.cwr_decode.specs.declared.machine.State.TheVariants as states
 use Rattle.cwr_fields.specs.Format.Kinds.{is_in_transaction}
 use Rattle.cwr_decode.specs.Steps.Machines.{Standing, IsReady, Settles, Enters, EntersHeld, WaitsOutside, again, end_input}
-use Rattle.cwr_decode.specs.Steps.Represents.{Represents, IsRight, IsSound, items_out}
-use Rattle.cwr_decode.specs.Steps.Calls.{Advances, Fed, Feeds, Finishes, seen_input}
-use Rattle.cwr_decode.proofs.lemmas.StepsWithoutBytes.{settled}
+use Rattle.cwr_decode.specs.Steps.Represents.{IsRight, IsSound, items_out}
+use Rattle.cwr_decode.specs.Steps.Calls.{Advances, CarriesOn, Fed, Feeds, Finishes, seen_input}
+use Rattle.cwr_decode.proofs.lemmas.StepsWithoutBytes.{carried_both, carried_same, settled}
 use Rattle.cwr_decode.proofs.lemmas.AnsweredAtOnce.{settles_live, if_some}
 
 -- ---- line by line
@@ -45,18 +45,15 @@ fed_none old d piece ready fresh e =
     let m = settled old.state old d None refl ready e in
     let live = settles_live old.state old d e in
     record {
+      carries =
+          carried_same old d (λ input. input) (λ input. input ++ []) old.finished false None (λ input. sym (append-nil input)) fresh
+          m.carries;
       within = omega arith;
-      stands =
-          λ input given st. subst (λ (x : List ℕ). Represents d x given) (sym (append-nil input))
-          (subst (Represents d input) (append-nil given) (m.stands input given st));
       reading = m.none live;
-      ready = m.ready;
-      fresh = m.finished ∙ fresh;
       was_fresh = fresh;
       live = live;
       inside = outside_known old d e;
       grows = λ input given st. omega (arith, m.counts);
-      limits = m.limits;
     }
 
 -- nothing changed
@@ -82,42 +79,40 @@ whole_piece : (input piece : List ℕ) (m : ℕ) → (input ++ take m piece) ++ 
 whole_piece input piece m =
     append_assoc input (take m piece) (drop m piece) ∙ ap (λ (x : List ℕ). input ++ x) (take-append-drop m piece)
 
+-- bytes of a piece, and then of its rest
+carried_on : (old d new : Standing) (piece : List ℕ) (used n : ℕ) (was is : Bool) (out : Option Outcome) → was ≡ is
+    → CarriesOn old piece used None false d → CarriesOn d (drop used piece) n out was new → CarriesOn old piece (used + n) out is new
+carried_on old d new piece used n was is out same f a =
+    carried_same old new (λ input. (input ++ take used piece) ++ take n (drop used piece)) (λ input. input ++ take (used + n) piece)
+    was is out (λ input. pieces input piece used n) same
+    (carried_both old d new (λ input. input ++ take used piece) (λ input. input ++ take n (drop used piece)) false was out f a)
+
 pub fed_more : (old d new : Standing) (piece : List ℕ) (used n : ℕ) → Fed old piece used d
     → Advances d (drop used piece) n None new → Fed old piece (used + n) new
 fed_more old d new piece used n f a = record {
+  carries = carried_on old d new piece used n d.finished false None f.carries.finished f.carries a.carries;
   within = omega (arith, f.within, a.within, length-drop used piece);
-  stands =
-      λ input given st. subst (λ (x : List ℕ). Represents new x given) (pieces input piece used n) (subst
-      (Represents new ((input ++ take used piece) ++ take n (drop used piece))) (append-nil given)
-      (a.stands (input ++ take used piece) given (f.stands input given st)));
   reading = a.none;
-  ready = a.ready;
-  fresh = a.finished ∙ f.fresh;
   was_fresh = f.was_fresh;
   live = f.live;
   inside = f.inside;
   grows =
       λ input given st. omega
-      (arith, f.grows input given st, (a.grows (input ++ take used piece) given (f.stands input given st)).0);
-  limits = a.limits ∙ f.limits;
+      (arith, f.grows input given st, (a.grows (input ++ take used piece) given (f.carries.stands input given st)).0);
 }
 
 pub fed_on : (old d new : Standing) (piece : List ℕ) (used n : ℕ) → Fed old piece used d → Fed d (drop used piece) n new
     → Fed old piece (used + n) new
 fed_on old d new piece used n f a = record {
+  carries = carried_on old d new piece used n false false None refl f.carries a.carries;
   within = omega (arith, f.within, a.within, length-drop used piece);
-  stands =
-      λ input given st. subst (λ (x : List ℕ). Represents new x given) (pieces input piece used n)
-      (a.stands (input ++ take used piece) given (f.stands input given st));
   reading = a.reading;
-  ready = a.ready;
-  fresh = a.fresh;
   was_fresh = f.was_fresh;
   live = f.live;
   inside = f.inside;
   grows =
-      λ input given st. omega (arith, f.grows input given st, a.grows (input ++ take used piece) given (f.stands input given st));
-  limits = a.limits ∙ f.limits;
+      λ input given st. omega
+      (arith, f.grows input given st, a.grows (input ++ take used piece) given (f.carries.stands input given st));
 }
 
 -- what is left of the piece grows less, as long as nothing is answered
@@ -134,52 +129,42 @@ fed_start d piece ready s fresh = fed_none d d piece ready fresh (subst (λ (q :
 pub fed_through : (old d new : Standing) (piece : List ℕ) (used n : ℕ) (o : Outcome) → Fed old piece used d
     → Advances d (drop used piece) n (Some o) new → Advances old piece (used + n) (Some o) new
 fed_through old d new piece used n o f a = record {
+  carries =
+      carried_on old d new piece used n d.finished old.finished (Some o) (f.carries.finished ∙ sym f.was_fresh) f.carries a.carries;
   within = omega (arith, f.within, a.within, length-drop used piece);
   some = tt;
-  stands =
-      λ input given st. subst (λ (x : List ℕ). Represents new x (given ++ items_out o)) (pieces input piece used n)
-      (a.stands (input ++ take used piece) given (f.stands input given st));
   right = λ input given st.
       subst (λ (k : LimitValues). IsRight k o false (input ++ take (used + n) piece) (input ++ piece) (given ++ items_out o))
-      f.limits
+      f.carries.limits
       (subst (λ (x : List ℕ). IsRight d.tally.limits o false x (input ++ piece) (given ++ items_out o))
       (pieces input piece used n)
       (subst (λ (x : List ℕ). IsRight d.tally.limits o false ((input ++ take used piece) ++ take n (drop used piece)) x
       (given ++ items_out o)) (whole_piece input piece used)
-      (a.right (input ++ take used piece) given (f.stands input given st))));
-  ready = a.ready;
-  leaves = a.leaves;
+      (a.right (input ++ take used piece) given (f.carries.stands input given st))));
   more = λ e. omega (arith, f.within, a.more e, length-drop used piece);
   none = tt;
   grows = λ input given st.
       let before : old.tally.counts.records ≤ d.tally.counts.records = f.grows input given st in
-      let after = a.grows (input ++ take used piece) given (f.stands input given st) in
+      let after = a.grows (input ++ take used piece) given (f.carries.stands input given st) in
       (omega (arith, before, after.0), λ e. omega (arith, before, after.1 e));
-  empties = λ input given st. a.empties (input ++ take used piece) given (f.stands input given st);
-  finished = a.finished ∙ f.fresh ∙ sym f.was_fresh;
-  limits = a.limits ∙ f.limits;
 }
 
 pub fed_out : (old d new : Standing) (piece : List ℕ) (used n : ℕ) (o : Outcome) → Fed old piece used d
     → Advances d (drop used piece) n (Some o) new → Feeds old piece (used + n) o new
 fed_out old d new piece used n o f a = record {
+  carries =
+      carried_on old d new piece used n d.finished old.finished (Some o) (f.carries.finished ∙ sym f.was_fresh) f.carries a.carries;
   within = omega (arith, f.within, a.within, length-drop used piece);
-  stands =
-      λ input given st. subst (λ (x : List ℕ). Represents new x (given ++ items_out o)) (pieces input piece used n)
-      (a.stands (input ++ take used piece) given (f.stands input given st));
   right = λ l input given st.
       subst (λ (b : Bool). IsRight old.tally.limits o b (input ++ take (used + n) piece) (seen_input b input piece)
       (given ++ items_out o)) (sym f.was_fresh)
       (subst (λ (k : LimitValues). IsRight k o false (input ++ take (used + n) piece) (input ++ piece) (given ++ items_out o))
-      f.limits
+      f.carries.limits
       (subst (λ (x : List ℕ). IsRight d.tally.limits o false x (input ++ piece) (given ++ items_out o))
       (pieces input piece used n)
       (subst (λ (x : List ℕ). IsRight d.tally.limits o false ((input ++ take used piece) ++ take n (drop used piece)) x
       (given ++ items_out o)) (whole_piece input piece used)
-      (a.right (input ++ take used piece) given (f.stands input given st)))));
-  ready = a.ready;
-  leaves = a.leaves;
-  empties = λ input given st. a.empties (input ++ take used piece) given (f.stands input given st);
+      (a.right (input ++ take used piece) given (f.carries.stands input given st)))));
   again = subst (λ (q : Option Outcome). IfSome q (λ p. (o ≡ p) × (used + n ≡ 0) × (new ≡ old))) (sym f.live) tt;
   more = λ e. (omega (arith, f.within, a.more (ap (λ (x : Outcome). Some x) e), length-drop used piece), f.was_fresh);
   unused = λ z. absurd (true≢false (sym z ∙ f.was_fresh));
@@ -187,13 +172,11 @@ fed_out old d new piece used n o f a = record {
   memory = λ q l input given st few.
       let before : old.tally.counts.records ≤ d.tally.counts.records = f.grows input given st in
       let more : d.tally.counts.records < new.tally.counts.records =
-      (a.grows (input ++ take used piece) given (f.stands input given st)).1 (ap (λ (x : Outcome). Some x) q) in
+      (a.grows (input ++ take used piece) given (f.carries.stands input given st)).1 (ap (λ (x : Outcome). Some x) q) in
       absurd (omega (arith, few, before, more));
   kept =
       λ input given st. omega
-      (arith, f.grows input given st, (a.grows (input ++ take used piece) given (f.stands input given st)).0);
-  finished = a.finished ∙ f.fresh ∙ sym f.was_fresh;
-  limits = a.limits ∙ f.limits;
+      (arith, f.grows input given st, (a.grows (input ++ take used piece) given (f.carries.stands input given st)).0);
 }
 
 -- what was settled before the piece goes before it
@@ -209,8 +192,8 @@ settled_sound old d u e =
     let m = settled old.state old d None refl u.ready e in
     let w = u.under_way in
     record {
-      ready = m.ready;
-      under_way = record { input = w.input; given = w.given ++ []; stands = m.stands w.input w.given w.stands };
+      ready = m.carries.ready;
+      under_way = record { input = w.input; given = w.given; stands = m.carries.stands w.input w.given w.stands };
     }
 
 pub settled_reading : (old d : Standing) → IsSound old → Settles old.state old None d → d.state ≡ states.Reading
@@ -225,18 +208,15 @@ either_sound false old d u s k = subst IsSound (sym (k refl)) u
 pub finished_feeds : (old new : Standing) (piece : List ℕ) (o : Outcome) → old.finished ≡ true → Finishes old o new
     → Feeds old piece 0 o new
 finished_feeds old new piece o is_ended f = record {
+  carries =
+      carried_same old new (λ input. input) (λ input. input ++ []) true old.finished (Some o) (λ input. sym (append-nil input))
+      (sym is_ended) f.carries;
   within = omega arith;
-  stands =
-      λ input given st. subst (λ (x : List ℕ). Represents new x (given ++ items_out o)) (sym (append-nil input))
-      (f.stands input given st);
   right = λ l input given st.
       subst (λ (b : Bool). IsRight old.tally.limits o b (input ++ []) (seen_input b input piece) (given ++ items_out o))
       (sym is_ended)
       (subst (λ (x : List ℕ). IsRight old.tally.limits o true x input (given ++ items_out o)) (sym (append-nil input))
       (f.right l input given st));
-  ready = f.ready;
-  leaves = f.leaves;
-  empties = f.empties;
   again =
       if_some (again old.state) (λ p. (o ≡ p) × (new ≡ end_input old)) (λ p. (o ≡ p) × (0 ≡ 0) × (new ≡ old))
       (λ p h. (h.0, refl, h.1 ∙ same)) f.again;
@@ -245,8 +225,6 @@ finished_feeds old new piece o is_ended f = record {
   alone = λ w. (refl, f.more);
   memory = f.memory;
   kept = f.kept;
-  finished = f.finished ∙ sym is_ended;
-  limits = f.limits;
 }
   where
     same : end_input old ≡ old
@@ -257,17 +235,18 @@ pub fed_sound : (old d : Standing) (piece : List ℕ) (used : ℕ) → IsSound o
 fed_sound old d piece used u f =
     let w = u.under_way in
     record {
-      ready = f.ready;
-      under_way = record { input = w.input ++ take used piece; given = w.given; stands = f.stands w.input w.given w.stands };
+      ready = f.carries.ready;
+      under_way =
+          record { input = w.input ++ take used piece; given = w.given; stands = f.carries.stands w.input w.given w.stands };
     }
 
 fed_item_sound : (old d : Standing) (piece : List ℕ) (used : ℕ) (o : Outcome) → IsSound old → Feeds old piece used o d → IsSound d
 fed_item_sound old d piece used o u f =
     let w = u.under_way in
     record {
-      ready = f.ready;
+      ready = f.carries.ready;
       under_way = record
-          { input = w.input ++ take used piece; given = w.given ++ items_out o; stands = f.stands w.input w.given w.stands };
+          { input = w.input ++ take used piece; given = w.given ++ items_out o; stands = f.carries.stands w.input w.given w.stands };
     }
 
 pub found_sound : (whole : Option (List RecordValue)) (old d : Standing) (piece : List ℕ) (used : ℕ) → IsSound old

@@ -10,9 +10,9 @@ use Rattle.cwr_decode.specs.declared.outcomes.Outcome.TheVariants as outcomes
 use Rattle.cwr_decode.specs.declared.machine.State.{State}
 use Rattle.cwr_decode.specs.declared.machine.State.TheVariants as states
 use Rattle.cwr_decode.specs.Steps.Machines.{Standing, IsReady, Settles, EntersHeld, again}
-use Rattle.cwr_decode.specs.Steps.Represents.{Represents, IsRight, items_out}
-use Rattle.cwr_decode.specs.Steps.Calls.{IsLive, Feeds, seen_input}
-use Rattle.cwr_decode.proofs.lemmas.StepsWithoutBytes.{IsPlain, settled, enters_rest}
+use Rattle.cwr_decode.specs.Steps.Represents.{IsRight, items_out}
+use Rattle.cwr_decode.specs.Steps.Calls.{CarriesOn, IsLive, Feeds, seen_input}
+use Rattle.cwr_decode.proofs.lemmas.StepsWithoutBytes.{IsPlain, carried_same, settled, enters_rest}
 use Rattle.cwr_decode.proofs.lemmas.RightAnswers.{plain_right}
 
 -- ---- what is answered before the piece is looked at
@@ -78,22 +78,19 @@ pub settled_feeds : (old new : Standing) (piece : List ℕ) (o : Outcome) → Is
     → old.finished ≡ false → Settles old.state old (Some o) new → Feeds old piece 0 o new
 settled_feeds old new piece o ready fresh e =
     let m = settled old.state old new (Some o) refl ready e in
+    let on : CarriesOn old piece 0 (Some o) old.finished new =
+    carried_same old new (λ input. input) (λ input. input ++ []) old.finished old.finished (Some o)
+    (λ input. sym (append-nil input)) refl m.carries in
     record {
+      carries = on;
       within = omega arith;
-      stands =
-          λ input given st. subst (λ (x : List ℕ). Represents new x (given ++ items_out o)) (sym (append-nil input))
-          (m.stands input given st);
       right = λ l input given st.
           subst (λ (b : Bool). IsRight old.tally.limits o b (input ++ []) (seen_input b input piece) (given ++ items_out o))
           (sym fresh)
-          (subst (λ (k : LimitValues). IsRight k o false (input ++ []) (input ++ piece) (given ++ items_out o)) m.limits
-          (plain_right new o false (input ++ []) (input ++ piece) piece (given ++ items_out o) (m.finished ∙ fresh)
+          (subst (λ (k : LimitValues). IsRight k o false (input ++ []) (input ++ piece) (given ++ items_out o)) on.limits
+          (plain_right new o false (input ++ []) (input ++ piece) piece (given ++ items_out o) (on.finished ∙ fresh)
           (ap (λ (x : List ℕ). x ++ piece) (sym (append-nil input))) (λ z. absurd (true≢false (sym z)))
-          (subst (λ (x : List ℕ). Represents new x (given ++ items_out o)) (sym (append-nil input)) (m.stands input given st))
-          m.leaves (settles_plain old.state old new o l e)));
-      ready = m.ready;
-      leaves = m.leaves;
-      empties = m.empties;
+          (on.stands input given st) on.leaves (settles_plain old.state old new o l e)));
       again =
           if_some (again old.state) (λ p. (o ≡ p) × (new ≡ old)) (λ p. (o ≡ p) × (0 ≡ 0) × (new ≡ old)) (λ p h. (h.0, refl, h.1))
           (settles_again old.state old new o e);
@@ -102,6 +99,4 @@ settled_feeds old new piece o ready fresh e =
       alone = λ w. (refl, λ q. settles_more old.state old new (subst (λ (x : Outcome). Settles old.state old (Some x) new) q e));
       memory = λ q l input given st few. (settles_pending old.state old new o l e, refl);
       kept = λ input given st. omega (arith, m.counts);
-      finished = m.finished;
-      limits = m.limits;
     }

@@ -264,12 +264,12 @@ feeds_settled d new left ready fresh e =
       consumed = Consumes-nil left;
       stands =
           λ input given h. subst (λ (l : List ℕ). Represents new l given) (sym (append-nil input))
-          (subst (Represents new input) (append-nil given) (m.stands input given h));
+          (m.carries.stands input given h);
       live = live;
       reading = m.none live;
-      fresh = m.finished ∙ fresh;
+      fresh = m.carries.finished ∙ fresh;
       kept = omega (arith, m.counts);
-      limits = m.limits;
+      limits = m.carries.limits;
     }
 
 pub feeds_both : (m n : ℕ) (a : Standing) (p : Option (List ℕ)) (b : Standing) (q : Option (List ℕ)) (c : Standing)

@@ -151,7 +151,7 @@ pub fed_holds : (old d new : Standing) (piece : List ℕ) (used : ℕ) → Repre
     → new.tally ≡ d.tally → new.held ≡ d.held → HoldsOpen new
 fed_holds old d new piece used u f t e =
     holds_as d new t e (reading_holds d
-    (record { input = u.input ++ take used piece; given = u.given; stands = f.stands u.input u.given u.stands }) f.reading)
+    (record { input = u.input ++ take used piece; given = u.given; stands = f.carries.stands u.input u.given u.stands }) f.reading)
 
 -- a last line without its line feed is there
 pub closed_holds : (old new : Standing) → RepresentsSome old → ClosesLine true old new → HoldsOpen new
@@ -161,4 +161,4 @@ closed_holds old new u c =
 -- the end of the input was taken, and nothing was answered
 pub ended_fits : (old new : Standing) → RepresentsSome old → TakesEnd old None new → FitsWaiting new
 ended_fits old new u t =
-    waiting_fits new (record { input = u.input; given = u.given ++ []; stands = t.stands u.input u.given u.stands })
+    waiting_fits new (record { input = u.input; given = u.given; stands = t.carries.stands u.input u.given u.stands })

@@ -77,16 +77,16 @@ passes_more P old self new piece passed n records so_far p clean counted a = rec
   transactions = omega (arith, p.transactions, length-append p.wholes (so_far ∷ []));
   records = omega (arith, p.records, counted, sum_by-append length p.wholes (so_far ∷ []), one_sum so_far);
   stands = λ input given st.
-      let q = a.stands (input ++ take passed.used piece) (given ++ map items.Transaction p.wholes) (p.stands input given st) in
+      let q = a.carries.stands (input ++ take passed.used piece) (given ++ map items.Transaction p.wholes) (p.stands input given st) in
       subst (λ (x : List ℕ). Represents new x (given ++ map items.Transaction (p.wholes ++ so_far ∷ [])))
       (pieces input piece passed.used n)
       (subst (Represents new ((input ++ take passed.used piece) ++ take n (drop passed.used piece)))
       (append_assoc given (map items.Transaction p.wholes) (items.Transaction so_far ∷ [])
       ∙ ap (λ (is : List Item). given ++ is) (sym (map-append items.Transaction p.wholes (so_far ∷ [])))) q);
-  ready = a.ready;
-  live = λ l. ap again a.leaves;
-  finished = a.finished ∙ p.finished;
-  limits = a.limits ∙ p.limits;
+  ready = a.carries.ready;
+  live = λ l. ap again a.carries.leaves;
+  finished = a.carries.finished ∙ p.finished;
+  limits = a.carries.limits ∙ p.limits;
 }
 
 -- ---- the open transaction

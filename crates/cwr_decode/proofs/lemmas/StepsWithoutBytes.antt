@@ -1,5 +1,5 @@
 -- The steps of a decoder: what is left after each, and what its answer says.
-use Rattle.std.proofs.Common.{◌≡◌, Bool, true, false, List, [], ◌∷◌, ◌++◌, Option, Some, None, refl, sym, ap, subst, ◌∙◌}
+use Rattle.std.proofs.Common.{◌≡◌, ℕ, Bool, true, false, List, [], ◌∷◌, ◌++◌, Option, Some, None, refl, sym, ap, subst, ◌∙◌}
 use Rattle.std.proofs.Common.{append-nil}
 use Rattle.std.specs.Prelude.{◌≢◌, IfSome, IfNone, IsSomeAnd}
 use Rattle.cwr_fields.specs.declared.kinds.Kind.{Kind}
@@ -17,8 +17,13 @@ use Rattle.cwr_decode.specs.declared.machine.State.TheVariants as states
 use Rattle.cwr_decode.specs.Steps.Machines.{Standing, IsReady, Leaves, Empties, state_after, Enters, EntersHeld}
 use Rattle.cwr_decode.specs.Steps.Machines.{EntersTransaction, Follows, Settles, pending, reading, stopped, held_list}
 use Rattle.cwr_decode.specs.Steps.Represents.{Represents, items_in}
-use Rattle.cwr_decode.specs.Steps.Calls.{IsLive, Moves}
+use Rattle.cwr_decode.specs.Steps.Calls.{CarriesOver, IsLive, Moves, items_with}
 use Rattle.cwr_decode.proofs.lemmas.AfterLine.{waiting_stands, waiting_empties}
+
+-- the items with that of an answer
+pub with_answer : (given : List Item) (out : Option Outcome) → given ++ items_in out ≡ items_with given out
+with_answer given None = append-nil given
+with_answer given (Some outcome) = refl
 
 -- ---- what else is left after a step
 
@@ -102,6 +107,32 @@ follows_rest false (Some whole) r d out new o l i e =
       limits = refl;
     }) tt refl
 
+-- ---- what is carried over
+
+-- one part of a call goes after another that answered nothing
+pub carried_both : (old mid new : Standing) (f g : List ℕ → List ℕ) (was is : Bool) (out : Option Outcome)
+    → CarriesOver old f None was mid → CarriesOver mid g out is new → CarriesOver old (λ input. g (f input)) out is new
+carried_both old mid new f g was is out one two = record {
+  stands = λ input given st. two.stands (f input) given (one.stands input given st);
+  ready = two.ready;
+  leaves = two.leaves;
+  empties = λ input given st. two.empties (f input) given (one.stands input given st);
+  finished = two.finished;
+  limits = two.limits ∙ one.limits;
+}
+
+-- the same, where the input is put otherwise
+pub carried_same : (old new : Standing) (f g : List ℕ → List ℕ) (was is : Bool) (out : Option Outcome)
+    → ((input : List ℕ) → f input ≡ g input) → was ≡ is → CarriesOver old f out was new → CarriesOver old g out is new
+carried_same old new f g was is out same end one = record {
+  stands = λ input given st. subst (λ (x : List ℕ). Represents new x (items_with given out)) (same input) (one.stands input given st);
+  ready = one.ready;
+  leaves = one.leaves;
+  empties = one.empties;
+  finished = one.finished ∙ end;
+  limits = one.limits;
+}
+
 -- ---- what is answered without a further byte
 
 kept : (d new : Standing) (out o : Option Outcome) → IsReady d.state d.finished d.line → IfSome o (λ x. Leaves x d.state)
@@ -109,16 +140,18 @@ kept : (d new : Standing) (out o : Option Outcome) → IsReady d.state d.finishe
     → Moves d out new
 kept d new out o ready leaves none empties nothing e f =
     subst (λ (q : Option Outcome). Moves d q new) (sym e) (subst (λ (q : Standing). Moves d o q) (sym f) (record {
-      stands =
-          λ input given s. subst (Represents d input)
-          (sym (append-nil given) ∙ ap (λ (is : List Item). given ++ is) (sym nothing)) s;
-      ready = ready;
-      leaves = leaves;
+      carries = record {
+        stands =
+            λ input given s. subst (Represents d input)
+            (sym (append-nil given) ∙ ap (λ (is : List Item). given ++ is) (sym nothing) ∙ with_answer given o) s;
+        ready = ready;
+        leaves = leaves;
+        empties = λ input given s. empties;
+        finished = refl;
+        limits = refl;
+      };
       none = none;
       counts = refl;
-      empties = λ input given s. empties;
-      finished = refl;
-      limits = refl;
     }))
 
 pub if_none : (o : Option Outcome) (A B : Type 0) → (A → B) → IfNone o A → IfNone o B
@@ -132,18 +165,20 @@ waited d new out (Some r) l st e =
     let entered = enters_rest r.kind r d out new e in
     let rest = entered.rest in
     record {
-      stands =
-          λ input given s. waiting_stands d input given out new st s
-          (subst (λ (q : Option RecordValue). EntersHeld q d out new) l e);
-      ready = rest.ready;
-      leaves = rest.leaves;
+      carries = record {
+        stands =
+            λ input given s. subst (Represents new input) (with_answer given out)
+            (waiting_stands d input given out new st s (subst (λ (q : Option RecordValue). EntersHeld q d out new) l e));
+        ready = rest.ready;
+        leaves = rest.leaves;
+        empties =
+            λ input given s. waiting_empties d input given out new st s
+            (subst (λ (q : Option RecordValue). EntersHeld q d out new) l e);
+        finished = rest.finished;
+        limits = rest.limits;
+      };
       none = if_none out (new.state ≡ states.Reading) (IsLive d.state → new.state ≡ states.Reading) (λ h x. h) rest.none;
       counts = ap (λ (t : TallyValue). t.counts.records) entered.tally;
-      empties =
-          λ input given s. waiting_empties d input given out new st s
-          (subst (λ (q : Option RecordValue). EntersHeld q d out new) l e);
-      finished = rest.finished;
-      limits = rest.limits;
     }
 
 pub settled : (st : State) (d new : Standing) (out : Option Outcome) → d.state ≡ st → IsReady d.state d.finished d.line

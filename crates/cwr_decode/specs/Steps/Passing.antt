@@ -30,6 +30,10 @@ at_line finished tally so_far =
 abbrev pub waiting : Bool → TallyValue → HeldLine → Standing
 waiting finished tally line = record { line = line; tally = tally; held = None; state = Pending; finished = finished }
 
+-- that is so of whatever records of the open transaction the keeper stands for
+abbrev pub OfKept : {K : Type 0} → (K → List RecordValue → Type 0) → K → (List RecordValue → Type 0) → Type 0
+OfKept stands_for kept P = (so_far : List RecordValue) → stands_for kept so_far → P so_far
+
 -- what a line was found to be, where a keeper stands for the records of the open transaction: these, and then one more
 abbrev pub KeepsCut : {K : Type 0} → (K → List RecordValue → Type 0) → Found → HeldLine → List RecordValue → TallyValue
     → TallyValue → K → Type 0

@@ -1,12 +1,12 @@
 //! The steps of a decoder that passes over whole transactions.
 
-ghost use Rattle.std.specs.Prelude.{◌≡◌, ◌≢◌, ◌≤◌, List, length, take, false, None, Some, IsTrue};
+ghost use Rattle.std.specs.Prelude.{◌≡◌, ◌≢◌, ◌≤◌, length, take, false, None, Some, IsTrue};
 ghost use Rattle.cwr_fields.specs.Format.Kinds.{kind_of};
-ghost use Rattle.cwr_lines.specs.Format.Records.{RecordValue};
 ghost use Rattle.cwr_decode.specs.Steps.Machines.{HasRecord, IsReady, with_line};
-ghost use Rattle.cwr_decode.specs.Steps.Passing.{BeginsHeld, BeginsWaiting, KeepsCut, KeepsFront, KeepsLine, Passes, waiting};
+ghost use Rattle.cwr_decode.specs.Steps.Passing.{BeginsHeld, BeginsWaiting, KeepsCut, KeepsFront, KeepsLine, OfKept, Passes, waiting};
 
-use super::{Found, Machine, Passed, State, stays_open};
+use super::holding::stays_open;
+use super::{Found, Machine, Passed, State};
 use crate::keepers::Keeper;
 use crate::kind_types::{
     Alt, Com, Ewt, Nwr, OfKind, Opu, Orn, Owr, Per, Pwr, Rec, Rev, Spt, Spu, Swr, Swt, Ver,
@@ -24,8 +24,8 @@ fn keep_cut<K: Keeper>(
     expected: &mut SpelledPair,
     cut: &CutLine<'_>,
 ) -> Found
-    ensures { (so_far : List RecordValue) → K.stands_for keeper.old so_far
-        → KeepsCut K.stands_for result cut.now so_far tally.old tally.new keeper.new }
+    ensures { OfKept K.stands_for keeper.old (λ so_far.
+        KeepsCut K.stands_for result cut.now so_far tally.old tally.new keeper.new) }
 {
     let Some(kind) = cut.kind() else {
         return Found::Nothing;
@@ -85,9 +85,8 @@ impl Machine {
         keeper: &mut K,
         cut: &CutLine<'_>,
     ) -> Found
-        ensures keeps { (so_far : List RecordValue) → K.stands_for keeper.old so_far → KeepsLine
-            K.stands_for K.are_clean result cut.now so_far tally.old tally.new keeper.new
-            self.new.line }
+        ensures keeps { OfKept K.stands_for keeper.old (λ so_far. KeepsLine K.stands_for
+            K.are_clean result cut.now so_far tally.old tally.new keeper.new self.new.line) }
         ensures others { self.new ≡ with_line self.old self.new.line }
         ensures kept { result ≢ Found.Ends → self.new ≡ self.old }
     {
@@ -111,8 +110,9 @@ impl Machine {
         buffer: &mut LineBuf,
         piece: &[u8],
     ) -> (usize, Found)
-        ensures keeps { (so_far : List RecordValue) → K.stands_for keeper.old so_far
-            → KeepsFront K.stands_for K.are_clean result.1 self.old.finished so_far piece.now result.0 tally.old tally.new keeper.new self.new.line }
+        ensures keeps { OfKept K.stands_for keeper.old (λ so_far. KeepsFront K.stands_for
+            K.are_clean result.1 self.old.finished so_far piece.now result.0 tally.old tally.new
+            keeper.new self.new.line) }
         ensures others { self.new ≡ with_line self.old self.new.line }
         ensures kept { result.1 ≢ Found.Ends → self.new ≡ self.old }
     {
@@ -135,8 +135,9 @@ impl Machine {
     ) -> (usize, Found)
         requires named { kind_of (take 3 piece.now) ≡ Some T.KIND }
         requires three { 3 ≤ length piece.now }
-        ensures keeps { (so_far : List RecordValue) → K.stands_for keeper.old so_far
-            → KeepsFront K.stands_for K.are_clean result.1 self.old.finished so_far piece.now result.0 tally.old tally.new keeper.new self.new.line }
+        ensures keeps { OfKept K.stands_for keeper.old (λ so_far. KeepsFront K.stands_for
+            K.are_clean result.1 self.old.finished so_far piece.now result.0 tally.old tally.new
+            keeper.new self.new.line) }
         ensures others { self.new ≡ with_line self.old self.new.line }
         ensures kept { result.1 ≢ Found.Ends → self.new ≡ self.old }
     {
@@ -155,8 +156,9 @@ impl Machine {
         buffer: &mut LineBuf,
         piece: &[u8],
     ) -> (usize, Found)
-        ensures keeps { (so_far : List RecordValue) → K.stands_for keeper.old so_far
-            → KeepsFront K.stands_for K.are_clean result.1 self.old.finished so_far piece.now result.0 tally.old tally.new keeper.new self.new.line }
+        ensures keeps { OfKept K.stands_for keeper.old (λ so_far. KeepsFront K.stands_for
+            K.are_clean result.1 self.old.finished so_far piece.now result.0 tally.old tally.new
+            keeper.new self.new.line) }
         ensures others { self.new ≡ with_line self.old self.new.line }
         ensures kept { result.1 ≢ Found.Ends → self.new ≡ self.old }
     {

@@ -107,6 +107,10 @@ pub record TakesTransactions (ty : TransactionType) (xs : List Symbol) : Type 0 
   pub inside : IsInGroup (reached xs)
   pub between : IsBetween xs
 
+-- where each transaction is whole, no group is open
+abbrev pub TakesNoTransactions : List Symbol → Type 0
+TakesNoTransactions xs = IsBetween xs → ¬ IsInGroup (reached xs)
+
 -- the first limit that is passed with a transaction of so many records more, and GRT and TRL
 abbrev pub passed_with : TallyValue → ℕ → Option LimitKind
 passed_with t n = if nat_lt t.limits.records (t.counts.records + 2 + n) then Some Records
@@ -117,7 +121,10 @@ abbrev pub end_fault : Reached → EncodeFault
 end_fault reached_to.Opening = Incomplete
 end_fault r = OutOfOrder
 
+-- that is so of whatever records the encoder represents
+abbrev pub OfEncoded : {W : Type 0} → (W → Option (List ℕ)) → Encoder W → (List RecordValue → Type 0) → Type 0
+OfEncoded contents e P = (start : Option (List ℕ)) (records : List RecordValue) → Encodes contents start records e → P records
+
 -- that is so of the records that the encoder has taken, where its writer hasn't failed
 abbrev pub OfTaken : {W : Type 0} → (W → Option (List ℕ)) → Encoder W → (List RecordValue → Type 0) → Type 0
-OfTaken contents e P =
-    is_stopped e ≡ false → (start : Option (List ℕ)) (records : List RecordValue) → Encodes contents start records e → P records
+OfTaken contents e P = is_stopped e ≡ false → OfEncoded contents e P

@@ -1,5 +1,5 @@
 -- The bytes that an input has left.
-use Rattle.std.specs.Prelude.{ℕ, List, Option}
+use Rattle.std.specs.Prelude.{◌≡◌, ℕ, List, Option}
 use Rattle.cwr_files.specs.declared.inputs.Device.{Device}
 use Rattle.cwr_files.specs.declared.inputs.Device.TheVariants.{File, Standard}
 use Rattle.cwr_files.specs.declared.inputs.Input.{Input}
@@ -10,3 +10,7 @@ remaining_in of_file of_standard (Standard input) = of_standard input
 
 abbrev pub remaining_of : {F I P : Type 0} → (F → Option (List ℕ)) → (I → Option (List ℕ)) → Input F I P → Option (List ℕ)
 remaining_of of_file of_standard input = remaining_in of_file of_standard input.device
+
+-- these bytes are left of the input
+abbrev pub HasLeft : {F I P : Type 0} → (F → Option (List ℕ)) → (I → Option (List ℕ)) → Option (List ℕ) → Input F I P → Type 0
+HasLeft of_file of_standard left input = remaining_of of_file of_standard input ≡ left

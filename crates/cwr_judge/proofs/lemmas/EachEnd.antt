@@ -33,8 +33,7 @@ use Rattle.cwr_shape.specs.declared.stages.Stage.TheVariants as stages
 use Rattle.cwr_values.specs.Format.Values.{symbol_of}
 use Rattle.cwr_values.specs.Format.Begins.{row_after, rows_after, rows_so_far}
 use Rattle.cwr_values.proofs.lemmas.RowAt.{rows_so_far-snoc}
-use Rattle.cwr_judge.specs.declared.refusals.Refusal.{Refusal}
-use Rattle.cwr_judge.specs.Format.Ends.{IsNotAccepted, IsRefused, IsTruncated, last_kind}
+use Rattle.cwr_judge.specs.Format.Ends.{IsNotAccepted, IsNotRefused, IsTruncated, last_kind}
 use Rattle.cwr_judge.specs.Format.Reasons.{IsReason}
 use Rattle.cwr_judge.specs.Format.Places.{IsBadAt, IsFirstBad, Viable, last_place}
 use Rattle.cwr_judge.specs.Steps.Judged.{HasReasonAt, IsFirstBy, IsFirstFault, IsFirstWrong, IsGoodAt, IsGoodNextCell, IsFaultBy}
@@ -395,7 +394,7 @@ same_field limits text i k first r h field reason cut fault = by (held_kind h) r
 
 -- where no refusal is the text's, nothing is bad first
 nowhere_first : (limits : Limits) (text : List ℕ) → AreInRange limits → IsNotAccepted limits text
-    → ((refusal : Refusal) → ¬ IsRefused limits text refusal) → (i k : ℕ) → ¬ IsFirstBad limits text i k
+    → IsNotRefused limits text → (i k : ℕ) → ¬ IsFirstBad limits text i k
 nowhere_first limits text range unaccepted none i k first =
     front_read limits text i k first.0.before first.0.line first.0.after range first first.0.lines first.0.at after_front
   where
@@ -449,5 +448,5 @@ nowhere_first limits text range unaccepted none i k first =
 
 -- a text that is neither accepted nor refused is truncated
 pub each_end : (limits : Limits) (text : List ℕ) → AreInRange limits → IsNotAccepted limits text
-    → ((refusal : Refusal) → ¬ IsRefused limits text refusal) → IsTruncated limits text (length (raw_lines (closed text)))
+    → IsNotRefused limits text → IsTruncated limits text (length (raw_lines (closed text)))
 each_end limits text range unaccepted none = some_end limits text unaccepted (nowhere_first limits text range unaccepted none)

@@ -40,6 +40,10 @@ pub record IsRefused (limits : Limits) (text : List ℕ) (refusal : Refusal) : T
   pub reason : IsReason limits before line refusal.field refusal.reason
   pub level : refusal.level ≡ level_of (line_kind line) refusal.field refusal.reason (scope_after_kind (last_kind before))
 
+-- no refusal is one of the text
+abbrev pub IsNotRefused : Limits → List ℕ → Type 0
+IsNotRefused limits text = (refusal : Refusal) → ¬ IsRefused limits text refusal
+
 -- the text isn't accepted, something continues from each of its lines, and there are so many
 pub record IsTruncated (limits : Limits) (text : List ℕ) (records : ℕ) : Type 0 where
   pub unaccepted : IsNotAccepted limits text

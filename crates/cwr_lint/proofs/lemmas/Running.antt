@@ -27,7 +27,7 @@ use Rattle.cwr_lint.proofs.lemmas.RawLines.{ends_with, goes_both, goes_line, goe
 pub next_taken : (asked : Asking) (left after : Option (List ℕ)) (before raw : RawLine) (old new : LintRun) (more : Bool)
     (text : List ℕ) → old.state.over ≡ false → before.ended ≡ true → ReadsLine left after raw → TakesRead asked
     (held_cut (held_raw raw)) old new more text
-    → TakesNextIf asked left after before raw old new more text
+    → TakesNextIf asked before raw old new left after more text
 next_taken asked left after before raw old new true text on ended r t =
     record {
       on = on;
@@ -166,7 +166,7 @@ kept_end (Some xs) (Some ys) (Some zs) bytes c k e = sym k ∙ e
 pub run_ends : (asked : Asking) (left mid after : Option (List ℕ)) (ended : Bool) (before : RawLine) (old between new : LintRun)
     (count : ℕ) (text more : List ℕ) → RunSoFar asked left mid ended before old between count text → TakesNone mid after before
     between new more
-    → TakesAll asked left after ended old new (text ++ more)
+    → TakesAll asked ended old new left after (text ++ more)
 run_ends asked left mid after ended before old between new count text more p q = record {
   last = before.ended;
   takes = takes;
@@ -212,24 +212,24 @@ run_ends asked left mid after ended before old between new count text more p q =
   by e (inr (inr end)) = inr (inl (ends_with left mid after p.takes.bytes p.takes.taken end))
 
 pub run_many : (asked : Asking) (left now : Option (List ℕ)) (ended : Bool) (before : RawLine) (old new : LintRun) (count : ℕ)
-    (text : List ℕ) → 2 ^ 64 - 1 ≤ count → RunSoFar asked left now ended before old new count text → TakesAll asked left now ended
-    old new text
+    (text : List ℕ) → 2 ^ 64 - 1 ≤ count → RunSoFar asked left now ended before old new count text → TakesAll asked ended old new
+    left now text
 run_many asked left now ended before old new count text n p =
     record { last = before.ended; takes = p.takes; cut = p.all; all = λ e. inr (inr (omega (arith, n, p.many))) }
 
 -- ---- all that is told
 
 pub from_taken : (asked : Asking) (refusal : Refusal) (left after : Option (List ℕ)) (raw : RawLine) (old between new : LintRun)
-    (beside later : List ℕ) → TakesFirst asked refusal (held_cut (held_raw raw)) old between beside → TakesAll asked left after
-    raw.ended between new later
-    → TakesFrom asked refusal left after raw old new (beside ++ later)
+    (beside later : List ℕ) → TakesFirst asked refusal (held_cut (held_raw raw)) old between beside → TakesAll asked raw.ended between
+    new left after later
+    → TakesFrom asked refusal raw old new left after (beside ++ later)
 from_taken asked refusal left after raw old between new beside later p q =
     record { between = between; beside = beside; first = p; later = later; rest = q; whole = refl }
 
 pub told_to_end : (asked : Asking) (refusal : Refusal) (left after : Option (List ℕ)) (raw : RawLine) (old new : LintRun)
-    (findings : ℕ) (text end : List ℕ) → BeginsAt refusal old → TakesFrom asked refusal left after raw old new text
+    (findings : ℕ) (text end : List ℕ) → BeginsAt refusal old → TakesFrom asked refusal raw old new left after text
     → IsEndText new.state.over new.faults findings new.state.lines end
-    → TellsToEnd asked old.state refusal left after raw (text ++ end)
+    → TellsToEnd asked old.state refusal raw left after (text ++ end)
 told_to_end asked refusal left after raw old new findings text end begins p e = record {
   bytes = p.rest.takes.bytes;
   taken = p.rest.takes.taken;

@@ -5,17 +5,20 @@ use Rattle.std.specs.List.{AllByRecursion, list_any}
 use Rattle.std.specs.Option.{is_some}
 use Rattle.std.specs.Io.KnownBytes.{Consumes, IsAtEnd}
 use Rattle.cwr_lines.specs.Format.Lines.{is_lf, line_kind}
+use Rattle.cwr_lines.specs.Format.Records.{RecordValue}
+use Rattle.cwr_lines.specs.Steps.Held.{HeldLine}
 use Rattle.cwr_fields.specs.declared.kinds.Kind.TheVariants.{Trl}
 use Rattle.cwr_judge.specs.declared.refusals.Refusal.{Refusal}
 use Rattle.cwr_levels.specs.Format.ReportLines.{faults_line}
 use Rattle.cwr_lint.specs.declared.linting.LintRun.{LintRun}
 use Rattle.cwr_lint.specs.declared.puts.Asked.{Asked}
 use Rattle.cwr_lint.specs.declared.raw_lines.RawLine.{RawLine}
+use Rattle.cwr_lint_lines.specs.declared.judging.Judged.{Judged}
 use Rattle.cwr_lint_lines.specs.declared.states.LintState.{LintState}
 use Rattle.cwr_lint_lines.specs.Format.FaultsAtFields.{JudgedLine, LineCut, cut_of, one_more_line}
 use Rattle.cwr_lint.specs.Format.FaultsOfLines.{Asking, EndedTransaction, IsFaultText, Tells, TellsLine, count_after}
 use Rattle.cwr_lint.specs.Format.Told.{truncated_unless}
-use Rattle.cwr_lint.specs.Steps.Walks.{IsTold, Walk, WalksLine, WalksLines}
+use Rattle.cwr_lint.specs.Steps.Walks.{IsTold, Walk, WalksLine, WalksLines, ended_by, judged_in}
 use Rattle.cwr_lint_lines.specs.Steps.Cells.{held_cut}
 use Rattle.cwr_lint.specs.Steps.LinesRead.{GoesOn, HoldsRaw, IsAllRead, IsOfLine, ReadsLast, ReadsLine, held_raw}
 use Rattle.cwr_decode.specs.declared.last_bytes.LastBytes.{LastBytes}
@@ -38,6 +41,11 @@ TellsSoMany asked l from upto count text = (told : List Refusal) × Tells asked 
 abbrev pub TellsOfLine : Asking → JudgedLine → Option EndedTransaction → ℕ → ℕ → List ℕ → Type 0
 TellsOfLine asked judged ended from count text =
     (told : List Refusal) × TellsLine asked judged ended from told text × (count ≡ length told)
+
+-- so it is told of a line that was judged in that state, where these are the records of the open transaction
+abbrev pub TellsJudged : Asking → LintState → Option (List RecordValue) → HeldLine → Judged → ℕ → ℕ → List ℕ → Type 0
+TellsJudged asked state begun line judged from =
+    TellsOfLine asked (judged_in state line judged) (ended_by judged state begun) from
 
 -- what a run holds between two lines
 abbrev pub walk_of : LintRun → Walk
@@ -75,10 +83,11 @@ pub record TakesNone (left after : Option (List ℕ)) (before : RawLine) (old ne
   pub kept : Consumes left after []
   pub why : (old.state.over ≡ true) ⊎ (before.ended ≡ false) ⊎ IfSome left (λ known. IsAtEnd after)
 
-abbrev pub TakesNextIf : Asking → Option (List ℕ) → Option (List ℕ) → RawLine → RawLine → LintRun → LintRun → Bool → List ℕ
+-- one of both
+abbrev pub TakesNextIf : Asking → RawLine → RawLine → LintRun → LintRun → Option (List ℕ) → Option (List ℕ) → Bool → List ℕ
     → Type 0
-TakesNextIf asked left after before raw old new true text = TakesNext asked left after before raw old new text
-TakesNextIf asked left after before raw old new false text = TakesNone left after before old new text
+TakesNextIf asked before raw old new left after true text = TakesNext asked left after before raw old new text
+TakesNextIf asked before raw old new left after false text = TakesNone left after before old new text
 
 -- the last of the lines is a TRL, or there is none
 abbrev pub EndsAtTrl : List (List ℕ) → Type 0
@@ -99,7 +108,7 @@ pub record TakesLines (asked : Asking) (left after : Option (List ℕ)) (ended l
   pub over : new.state.over ≡ true → ((lines ≡ []) × (old.state.over ≡ true)) ⊎ EndsAtTrl lines
 
 -- up to the end
-pub record TakesAll (asked : Asking) (left after : Option (List ℕ)) (ended : Bool) (old new : LintRun) (text : List ℕ) : Type 0
+pub record TakesAll (asked : Asking) (ended : Bool) (old new : LintRun) (left after : Option (List ℕ)) (text : List ℕ) : Type 0
   where
     pub last : Bool
     pub takes : TakesLines asked left after ended last old new text
@@ -115,13 +124,13 @@ pub record TakesFirst (asked : Asking) (refusal : Refusal) (cut : LineCut) (old 
   pub whole : text ≡ line ++ beside
 
 -- and of the lines after it
-pub record TakesFrom (asked : Asking) (refusal : Refusal) (left after : Option (List ℕ)) (raw : RawLine) (old new : LintRun)
+pub record TakesFrom (asked : Asking) (refusal : Refusal) (raw : RawLine) (old new : LintRun) (left after : Option (List ℕ))
     (text : List ℕ) : Type 0 where
   pub between : LintRun
   pub beside : List ℕ
   pub first : TakesFirst asked refusal (held_cut (held_raw raw)) old between beside
   pub later : List ℕ
-  pub rest : TakesAll asked left after raw.ended between new later
+  pub rest : TakesAll asked raw.ended between new left after later
   pub whole : text ≡ beside ++ later
 
 -- the first fault is counted, and the lines before its own; of no transaction the records are known
@@ -132,7 +141,7 @@ pub record BeginsAt (refusal : Refusal) (run : LintRun) : Type 0 where
   pub over : run.state.over ≡ false
 
 -- All that is told, of the line that is held as it was refused, where that state was held, and of those after it.
-pub record TellsToEnd (asked : Asking) (begins : LintState) (refusal : Refusal) (left after : Option (List ℕ)) (raw : RawLine)
+pub record TellsToEnd (asked : Asking) (begins : LintState) (refusal : Refusal) (raw : RawLine) (left after : Option (List ℕ))
     (text : List ℕ) : Type 0 where
   pub bytes : List ℕ
   pub taken : Consumes left after bytes
@@ -153,7 +162,7 @@ pub record TellsRun (asked : Asking) (begins : LintState) (refusal : Refusal) (l
   pub raw : RawLine
   pub held : IsOfLine raw
   pub read : ReadsLast left between last raw
-  pub tells : TellsToEnd asked begins refusal between after raw text
+  pub tells : TellsToEnd asked begins refusal raw between after text
 
 -- how it ended, and how many faults there are, in how many lines
 abbrev pub IsEndText : Bool → ℕ → ℕ → ℕ → List ℕ → Type 0

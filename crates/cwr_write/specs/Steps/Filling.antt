@@ -80,6 +80,10 @@ with_told ms k j = if says k j then with_last ms k j else ms
 abbrev pub OfFilled : Encoding → Kind → RecordValue → List Bool → (Members → Type 0) → Type 0
 OfFilled enc kind draft seen P = (ms : Members) → IsFilled enc kind ms draft seen → P ms
 
+-- where members fill the one draft, these and what is more fill the other
+abbrev pub FillsOn : Encoding → Kind → (Members → Members) → RecordValue → List Bool → RecordValue → List Bool → Type 0
+FillsOn enc kind more draft seen filled marked = OfFilled enc kind draft seen (λ ms. IsFilled enc kind (more ms) filled marked)
+
 -- that is why these members aren't data of a record, whatever others follow them
 abbrev pub IsReasonOfFilled : Encoding → Kind → RecordValue → List Bool → (Members → Members) → Key → Why → Type 0
 IsReasonOfFilled enc kind draft seen more key why =

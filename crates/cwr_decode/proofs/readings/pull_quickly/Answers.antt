@@ -26,9 +26,9 @@ returns-in-Some-clause-reads g c =
     c.requires.fresh c.in-Ok.ensures.front f.within
     (consumes_taken _ _ _ c.in-Ok.piece.now c.feed_quickly-used.result.0 c.fill.follows.holds-at-none.0 c.in-Ok.ensures.front
     f.within c.consume.ensures.bytes)
-    f.stands f.right f.leaves (f.empties way.input way.given way.stands)
-    (subst (λ (s : State). IfSome (again s) (λ o. out ≡ o)) (sym c.requires.reading) tt) (λ is. absurd (cc is)) f.finished
-    f.limits
+    f.carries.stands f.right f.carries.leaves (f.carries.empties way.input way.given way.stands)
+    (subst (λ (s : State). IfSome (again s) (λ o. out ≡ o)) (sym c.requires.reading) tt) (λ is. absurd (cc is)) f.carries.finished
+    f.carries.limits
 
 pub returns-in-None-clause-reads : goal.returns-in-None-clause-reads
 returns-in-None-clause-reads g c =
@@ -40,12 +40,12 @@ returns-in-None-clause-reads g c =
       consumed =
           consumes_taken _ _ _ c.in-Ok.piece.now c.feed_quickly-used.result.0 c.fill.follows.holds-at-none.0 c.in-Ok.ensures.front
           f.within c.consume.ensures.bytes;
-      stands = f.stands;
+      stands = f.carries.stands;
       live = f.live;
       reading = f.reading;
-      fresh = f.fresh;
+      fresh = f.carries.finished;
       kept = f.grows way.input way.given way.stands;
-      limits = f.limits;
+      limits = f.carries.limits;
     }
 
 pub returns-in-Some-clause-last : goal.returns-in-Some-clause-last

@@ -22,7 +22,7 @@ returns-clause-kept c =
 pub returns-clause-empties : goal.returns-clause-empties
 returns-clause-empties c =
     let was = c.self.invariant.under_way in
-    c.feed.ensures.empties was.input was.given was.stands
+    c.feed.ensures.carries.empties was.input was.given was.stands
 
 pub returns-clause-memory : goal.returns-clause-memory
 returns-clause-memory c = λ is live.

@@ -41,7 +41,7 @@ returns-in-Open c =
     fed_through c.args.self.now c.feed_quickly-front.new.self c.take-taken.new.self c.args.piece.now
     (c.loop-whole.used + c.feed_quickly-front.result.0) c.take-taken.result.used outcomes.More at
     (advanced_open c.feed_quickly-front.new.self c.take-taken.new.self
-    (drop (c.loop-whole.used + c.feed_quickly-front.result.0) c.args.piece.now) c.take-taken.result.used at.reading at.fresh
+    (drop (c.loop-whole.used + c.feed_quickly-front.result.0) c.args.piece.now) c.take-taken.result.used at.reading at.carries.finished
     (rw take_rest at c.take-taken.ensures.takes) c.take-taken.ensures.held c.take-taken.ensures.others
     (sym c.take-taken.ensures.ended ∙ c.in-Open.is))
 
@@ -60,7 +60,7 @@ loop-whole-smaller-in-Added c =
     c.feed_quickly-front.new.self c.enter_line.new.self
     (advanced_line c.feed_quickly-front.new.self c.take-taken.new.self c.enter_line.new.self
     (drop (c.loop-whole.used + c.feed_quickly-front.result.0) c.args.piece.now) c.take-taken.result.used None at.reading
-    at.fresh
+    at.carries.finished
     (rw take_rest at c.take-taken.ensures.takes) c.take-taken.ensures.held c.take-taken.ensures.others
     (λ e. c.in_default-ended.not-Open (c.take-taken.ensures.ended ∙ e)) c.in-Added.ensures) in
     let all : length c.args.piece.now - ((c.loop-whole.used + c.feed_quickly-front.result.0) + c.take-taken.result.used)
@@ -82,7 +82,7 @@ loop-whole-preserved-in-Added c =
     (c.loop-whole.used + c.feed_quickly-front.result.0) c.take-taken.result.used at
     (advanced_line c.feed_quickly-front.new.self c.take-taken.new.self c.enter_line.new.self
     (drop (c.loop-whole.used + c.feed_quickly-front.result.0) c.args.piece.now) c.take-taken.result.used None at.reading
-    at.fresh
+    at.carries.finished
     (rw take_rest at c.take-taken.ensures.takes) c.take-taken.ensures.held c.take-taken.ensures.others
     (λ e. c.in_default-ended.not-Open (c.take-taken.ensures.ended ∙ e)) c.in-Added.ensures)
 
@@ -106,7 +106,7 @@ returns-in-Ends c =
     (c.loop-whole.used + c.feed_quickly-front.result.0) c.take-taken.result.used out at
     (advanced_line c.feed_quickly-front.new.self c.take-taken.new.self c.take_whole.new.self
     (drop (c.loop-whole.used + c.feed_quickly-front.result.0) c.args.piece.now) c.take-taken.result.used (Some out) at.reading
-    at.fresh
+    at.carries.finished
     (rw take_rest at c.take-taken.ensures.takes) c.take-taken.ensures.held c.take-taken.ensures.others
     (λ e. c.in_default-ended.not-Open (c.take-taken.ensures.ended ∙ e))
     (subst (Judges c.take-taken.new.self (Some out)) (sym c.take_whole.ensures.others) judged))
@@ -140,7 +140,7 @@ returns-in-Some-take_line c =
     (c.loop-whole.used + c.feed_quickly-front.result.0) c.take-taken.result.used c.in-Some-take_line.outcome at
     (advanced_line c.feed_quickly-front.new.self c.take-taken.new.self c.take_line.new.self
     (drop (c.loop-whole.used + c.feed_quickly-front.result.0) c.args.piece.now) c.take-taken.result.used
-    (Some c.in-Some-take_line.outcome) at.reading at.fresh
+    (Some c.in-Some-take_line.outcome) at.reading at.carries.finished
     (rw take_rest at
     c.take-taken.ensures.takes) c.take-taken.ensures.held c.take-taken.ensures.others (λ e. c.in_default-ended.not-Open
     (c.take-taken.ensures.ended ∙ e)) (subst
@@ -162,7 +162,7 @@ loop-whole-smaller c =
     c.feed_quickly-front.new.self c.take_line.new.self
     (advanced_line c.feed_quickly-front.new.self c.take-taken.new.self c.take_line.new.self
     (drop (c.loop-whole.used + c.feed_quickly-front.result.0) c.args.piece.now) c.take-taken.result.used None at.reading
-    at.fresh
+    at.carries.finished
     (rw take_rest at c.take-taken.ensures.takes) c.take-taken.ensures.held c.take-taken.ensures.others
     (λ e. c.in_default-ended.not-Open (c.take-taken.ensures.ended ∙ e))
     (subst (λ (d : Standing). Judges d None c.take_line.new.self) c.in-Nothing.ensures c.in_default-take_line.ensures)) in
@@ -185,7 +185,7 @@ loop-whole-preserved c =
     (c.loop-whole.used + c.feed_quickly-front.result.0) c.take-taken.result.used at
     (advanced_line c.feed_quickly-front.new.self c.take-taken.new.self c.take_line.new.self
     (drop (c.loop-whole.used + c.feed_quickly-front.result.0) c.args.piece.now) c.take-taken.result.used None at.reading
-    at.fresh
+    at.carries.finished
     (rw take_rest at c.take-taken.ensures.takes) c.take-taken.ensures.held c.take-taken.ensures.others
     (λ e. c.in_default-ended.not-Open (c.take-taken.ensures.ended ∙ e))
     (subst (λ (d : Standing). Judges d None c.take_line.new.self) c.in-Nothing.ensures c.in_default-take_line.ensures))

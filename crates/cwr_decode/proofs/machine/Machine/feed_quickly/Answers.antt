@@ -16,7 +16,7 @@ pub loop-used-smaller : goal.loop-used-smaller
 loop-used-smaller c =
     rest_smaller c.args.piece.now c.loop-used.used c.enter_front-front.result.0 c.loop-used.self c.enter_front-front.new.self
     (advanced_front c.loop-used.self c.enter_front-front.new.self (drop c.loop-used.used c.args.piece.now)
-    c.enter_front-front.result.0 None c.loop-used.invariant.reading c.loop-used.invariant.fresh
+    c.enter_front-front.result.0 None c.loop-used.invariant.reading c.loop-used.invariant.carries.finished
     (found_as c.enter_front-front.result.1 founds.Added c.loop-used.self c.enter_front-front.new.self
     (drop c.loop-used.used c.args.piece.now) c.enter_front-front.result.0 c.in-Added.is
     (rw take_rest at c.enter_front-front.ensures)))
@@ -26,7 +26,7 @@ loop-used-preserved c =
     fed_more c.args.self.now c.loop-used.self c.enter_front-front.new.self c.args.piece.now c.loop-used.used
     c.enter_front-front.result.0 c.loop-used.invariant
     (advanced_front c.loop-used.self c.enter_front-front.new.self (drop c.loop-used.used c.args.piece.now)
-    c.enter_front-front.result.0 None c.loop-used.invariant.reading c.loop-used.invariant.fresh
+    c.enter_front-front.result.0 None c.loop-used.invariant.reading c.loop-used.invariant.carries.finished
     (found_as c.enter_front-front.result.1 founds.Added c.loop-used.self c.enter_front-front.new.self
     (drop c.loop-used.used c.args.piece.now) c.enter_front-front.result.0 c.in-Added.is
     (rw take_rest at c.enter_front-front.ensures)))
@@ -50,7 +50,7 @@ returns-in-Ends-clause-some c =
     fed_through c.args.self.now c.loop-used.self c.take_whole.new.self c.args.piece.now c.loop-used.used
     c.enter_front-front.result.0 out c.loop-used.invariant
     (advanced_front c.loop-used.self c.take_whole.new.self (drop c.loop-used.used c.args.piece.now) c.enter_front-front.result.0
-    (Some out) c.loop-used.invariant.reading c.loop-used.invariant.fresh
+    (Some out) c.loop-used.invariant.reading c.loop-used.invariant.carries.finished
     (subst (JudgesFront c.loop-used.self (drop c.loop-used.used c.args.piece.now) c.enter_front-front.result.0 (Some out))
     (sym c.take_whole.ensures.others) judged))
 

@@ -6,7 +6,7 @@ use Rattle.cwr_lint.proofs.linting.LintRun.run.Goals as goal
 pub returns-in-Ok : goal.returns-in-Ok
 returns-in-Ok g c =
     read_first (λ u. TellsToEnd (asking_of c.args.asked.now) c.args.self.now.state c.args.refusal.now
-    (g.R.Source.remaining c.of_last.new.reader) (g.R.Source.remaining c.tell_to_end.new.reader) c.in-Ok.raw) (λ u. TellsRun
+    c.in-Ok.raw (g.R.Source.remaining c.of_last.new.reader) (g.R.Source.remaining c.tell_to_end.new.reader)) (λ u. TellsRun
     (asking_of c.args.asked.now) c.args.self.now.state c.args.refusal.now c.args.last.now.bytes
     (g.R.Source.remaining c.args.reader.now) (g.R.Source.remaining c.tell_to_end.new.reader)) (g.R.Source.remaining
     c.args.reader.now) (g.R.Source.remaining c.of_last.new.reader) (g.R.Source.remaining

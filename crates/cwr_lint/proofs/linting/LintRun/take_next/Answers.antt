@@ -9,8 +9,8 @@ use Rattle.cwr_lint.proofs.linting.LintRun.take_next.Goals as goal
 pub returns-in-Ok-true : goal.returns-in-Ok-true
 returns-in-Ok-true g c =
     reads_then (TakesRead (asking_of c.args.asked.now) (held_cut (held_raw c.read_after.new.self)) c.args.self.now
-    c.take_read.new.self) (TakesNextIf (asking_of c.args.asked.now) (g.R.Source.remaining c.args.reader.now)
-    (g.R.Source.remaining c.read_after.new.reader) c.args.before.now c.read_after.new.self c.args.self.now c.take_read.new.self)
+    c.take_read.new.self) (TakesNextIf (asking_of c.args.asked.now) c.args.before.now
+    c.read_after.new.self c.args.self.now c.take_read.new.self (g.R.Source.remaining c.args.reader.now) (g.R.Source.remaining c.read_after.new.reader))
     (g.R.Source.remaining c.args.reader.now) (g.R.Source.remaining c.read_after.new.reader)
     (g.R.Source.failures c.args.reader.now) (g.R.Source.failures c.read_after.new.reader) g.W.Target.contents
     g.W.Target.failures c.take_read.result c.args.sink.now c.take_read.new.sink

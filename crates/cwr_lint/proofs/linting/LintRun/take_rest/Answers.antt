@@ -43,8 +43,8 @@ loop-preserved g c = (
   run_more (asking_of c.args.asked.now) (g.R.Source.remaining c.args.reader.now) (g.R.Source.remaining c.loop.reader)
       (g.R.Source.remaining c.take_next.new.reader) c.args.first.ended c.loop.before c.take_next.new.raw c.args.self.now
       c.loop.self c.take_next.new.self c.loop.counter c.loop.invariant.0 c.in-Ok-true.ensures.0 c.loop.invariant.2
-      (subst (λ (b : Bool). TakesNextIf (asking_of c.args.asked.now) (g.R.Source.remaining c.loop.reader)
-      (g.R.Source.remaining c.take_next.new.reader) c.loop.before c.take_next.new.raw c.loop.self c.take_next.new.self b
+      (subst (λ (b : Bool). TakesNextIf (asking_of c.args.asked.now) c.loop.before
+      c.take_next.new.raw c.loop.self c.take_next.new.self (g.R.Source.remaining c.loop.reader) (g.R.Source.remaining c.take_next.new.reader) b
       c.in-Ok-true.ensures.0) c.in-Ok-true.field-0-test c.in-Ok-true.ensures.2),
 )
 
@@ -70,7 +70,7 @@ returns-in-Ok-false g c = (
   run_ends (asking_of c.args.asked.now) (g.R.Source.remaining c.args.reader.now) (g.R.Source.remaining c.loop.reader)
       (g.R.Source.remaining c.take_next.new.reader) c.args.first.ended c.loop.before c.args.self.now c.loop.self
       c.take_next.new.self c.loop.counter c.loop.invariant.0 c.in-Ok-false.ensures.0 c.loop.invariant.2
-      (subst (λ (b : Bool). TakesNextIf (asking_of c.args.asked.now) (g.R.Source.remaining c.loop.reader)
-      (g.R.Source.remaining c.take_next.new.reader) c.loop.before c.take_next.new.raw c.loop.self c.take_next.new.self b
+      (subst (λ (b : Bool). TakesNextIf (asking_of c.args.asked.now) c.loop.before
+      c.take_next.new.raw c.loop.self c.take_next.new.self (g.R.Source.remaining c.loop.reader) (g.R.Source.remaining c.take_next.new.reader) b
       c.in-Ok-false.ensures.0) c.in-Ok-false.field-0-test c.in-Ok-false.ensures.2),
 )

@@ -12,10 +12,10 @@ take_rest-requires g c = c.in-Ok.ensures.1.unfailed
 pub returns-in-Ok : goal.returns-in-Ok
 returns-in-Ok g c =
     reads_after (λ u. TakesFirst (asking_of c.args.asked.now) c.args.refusal.now (held_cut (held_raw c.args.raw)) c.args.self.now
-    c.take_first.new.self) (λ u. TakesAll (asking_of c.args.asked.now) (g.R.Source.remaining c.args.reader.now)
-    (g.R.Source.remaining c.take_rest.new.reader) c.args.raw.ended c.take_first.new.self c.take_rest.new.self)
-    (λ u. TakesFrom (asking_of c.args.asked.now) c.args.refusal.now (g.R.Source.remaining c.args.reader.now)
-    (g.R.Source.remaining c.take_rest.new.reader) c.args.raw c.args.self.now c.take_rest.new.self) (g.R.Source.remaining
+    c.take_first.new.self) (λ u. TakesAll (asking_of c.args.asked.now) c.args.raw.ended
+    c.take_first.new.self c.take_rest.new.self (g.R.Source.remaining c.args.reader.now) (g.R.Source.remaining c.take_rest.new.reader))
+    (λ u. TakesFrom (asking_of c.args.asked.now) c.args.refusal.now c.args.raw
+    c.args.self.now c.take_rest.new.self (g.R.Source.remaining c.args.reader.now) (g.R.Source.remaining c.take_rest.new.reader)) (g.R.Source.remaining
     c.args.reader.now) (g.R.Source.remaining c.args.reader.now) (g.R.Source.remaining
     c.take_rest.new.reader) (g.R.Source.failures c.args.reader.now) (g.R.Source.failures
     c.args.reader.now) (g.R.Source.failures
@@ -32,8 +32,8 @@ pub returns-in-Err : goal.returns-in-Err
 returns-in-Err g c =
     reads_err (λ u. TakesFirst (asking_of c.args.asked.now) c.args.refusal.now (held_cut (held_raw c.args.raw)) c.args.self.now
     c.take_first.new.self) (λ u. TakesFrom (asking_of c.args.asked.now) c.args.refusal.now
-    (g.R.Source.remaining c.args.reader.now) (g.R.Source.remaining c.args.reader.now) c.args.raw c.args.self.now
-    c.take_first.new.self) (g.R.Source.remaining c.args.reader.now) (g.R.Source.remaining c.args.reader.now) (g.R.Source.failures
+    c.args.raw c.args.self.now c.take_first.new.self (g.R.Source.remaining c.args.reader.now)
+    (g.R.Source.remaining c.args.reader.now)) (g.R.Source.remaining c.args.reader.now) (g.R.Source.remaining c.args.reader.now) (g.R.Source.failures
     c.args.reader.now) (g.R.Source.failures
     c.args.reader.now) g.W.Target.contents g.W.Target.failures c.in-Err.fault c.args.sink.now c.take_first.new.sink
     (reads_put {A = Unit {0}} (λ u. TakesFirst (asking_of c.args.asked.now) c.args.refusal.now (held_cut (held_raw c.args.raw))

@@ -8,11 +8,11 @@ put_end-requires g c = c.in-Ok.ensures.1.unfailed
 
 pub returns-in-Ok : goal.returns-in-Ok
 returns-in-Ok g c =
-    reads_after (λ u. TakesFrom (asking_of c.args.asked.now) c.args.refusal.now (g.R.Source.remaining c.args.reader.now)
-    (g.R.Source.remaining c.tell_from.new.reader) c.args.raw c.args.self.now c.tell_from.new.self) (λ u. IsEndText
+    reads_after (λ u. TakesFrom (asking_of c.args.asked.now) c.args.refusal.now c.args.raw
+    c.args.self.now c.tell_from.new.self (g.R.Source.remaining c.args.reader.now) (g.R.Source.remaining c.tell_from.new.reader)) (λ u. IsEndText
     c.tell_from.new.self.state.over c.tell_from.new.self.faults c.tell_from.new.self.findings c.tell_from.new.self.state.lines)
     (λ u. TellsToEnd (asking_of c.args.asked.now) c.args.self.now.state c.args.refusal.now
-    (g.R.Source.remaining c.args.reader.now) (g.R.Source.remaining c.tell_from.new.reader) c.args.raw) (g.R.Source.remaining
+    c.args.raw (g.R.Source.remaining c.args.reader.now) (g.R.Source.remaining c.tell_from.new.reader)) (g.R.Source.remaining
     c.args.reader.now) (g.R.Source.remaining c.tell_from.new.reader) (g.R.Source.remaining
     c.tell_from.new.reader) (g.R.Source.failures c.args.reader.now) (g.R.Source.failures
     c.tell_from.new.reader) (g.R.Source.failures
@@ -27,9 +27,9 @@ returns-in-Ok g c =
 
 pub returns-in-Err : goal.returns-in-Err
 returns-in-Err g c =
-    reads_err (λ u. TakesFrom (asking_of c.args.asked.now) c.args.refusal.now (g.R.Source.remaining c.args.reader.now)
-    (g.R.Source.remaining c.tell_from.new.reader) c.args.raw c.args.self.now c.tell_from.new.self) (λ u. TellsToEnd
-    (asking_of c.args.asked.now) c.args.self.now.state c.args.refusal.now (g.R.Source.remaining c.args.reader.now)
-    (g.R.Source.remaining c.tell_from.new.reader) c.args.raw) (g.R.Source.remaining c.args.reader.now) (g.R.Source.remaining
+    reads_err (λ u. TakesFrom (asking_of c.args.asked.now) c.args.refusal.now c.args.raw
+    c.args.self.now c.tell_from.new.self (g.R.Source.remaining c.args.reader.now) (g.R.Source.remaining c.tell_from.new.reader)) (λ u. TellsToEnd
+    (asking_of c.args.asked.now) c.args.self.now.state c.args.refusal.now c.args.raw
+    (g.R.Source.remaining c.args.reader.now) (g.R.Source.remaining c.tell_from.new.reader)) (g.R.Source.remaining c.args.reader.now) (g.R.Source.remaining
     c.tell_from.new.reader) (g.R.Source.failures c.args.reader.now) (g.R.Source.failures
     c.tell_from.new.reader) g.W.Target.contents g.W.Target.failures c.in-Err.fault c.args.sink.now c.tell_from.new.sink c.in-Err.ensures

@@ -2,7 +2,7 @@ use Rattle.std.proofs.Common.{◌∷◌, ◌++◌, [], sym, ◌∙◌}
 use Rattle.cwr_fields.specs.declared.codes.TransactionType.TheVariants.{Acknowledgement}
 use Rattle.cwr_shape.specs.Format.NextSymbols.{scope_after, transactions_begun, has_open_transaction}
 use Rattle.cwr_decode.proofs.lemmas.LineSteps.{continuing_yes, continuing_outside, continuing_begins, inside_scope, outside_scope}
-use Rattle.cwr_decode.proofs.machine.stays_open.Goals as goal
+use Rattle.cwr_decode.proofs.machine.holding.stays_open.Goals as goal
 
 pub returns-in-Transaction : goal.returns-in-Transaction
 returns-in-Transaction c = λ xs symbol st next.

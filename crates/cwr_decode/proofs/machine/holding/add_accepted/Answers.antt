@@ -1,6 +1,6 @@
 use Rattle.std.proofs.Common.{◌∙◌}
 use Rattle.cwr_decode.proofs.lemmas.HeldOpen.{inside_unless}
-use Rattle.cwr_decode.proofs.machine.add_accepted.Goals as goal
+use Rattle.cwr_decode.proofs.machine.holding.add_accepted.Goals as goal
 
 pub add-requires : goal.add-requires
 add-requires c =

@@ -5,7 +5,7 @@ use Rattle.cwr_lines.specs.Format.Records.{RecordValue, IsRecord}
 use Rattle.cwr_fields.specs.Format.Kinds.{is_in_transaction}
 use Rattle.cwr_decode.specs.Steps.Machines.{HandsOut, Standing, reading, with_tally}
 use Rattle.cwr_decode.proofs.lemmas.LineSteps.{added_now, same_record, waits_now}
-use Rattle.cwr_decode.proofs.machine.enter_cut.Goals as goal
+use Rattle.cwr_decode.proofs.machine.quickly.enter_cut.Goals as goal
 
 pub known_record-requires : goal.known_record-requires
 known_record-requires c =

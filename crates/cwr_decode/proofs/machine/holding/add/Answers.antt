@@ -3,7 +3,7 @@ use Rattle.std.specs.Prelude.{Result, Ok, Err, OnErr}
 use Rattle.cwr_lines.specs.Format.Growth.{AsksMemory}
 use Rattle.cwr_lines.specs.Format.Records.{RecordValue}
 use Rattle.cwr_decode.specs.Steps.Machines.{held_list}
-use Rattle.cwr_decode.proofs.machine.add.Goals as goal
+use Rattle.cwr_decode.proofs.machine.holding.add.Goals as goal
 
 -- what follows of a fault holds where there is one
 where_fails : {A E : Type 0} (r : Result A E) (P Q : Type 0) → OnErr r P → (P → Q) → OnErr r Q

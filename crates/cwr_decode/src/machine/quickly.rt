@@ -1,0 +1,176 @@
+//! Lines that are taken by quick tests. Most are such.
+
+ghost use Rattle.std.specs.Prelude.{◌≡◌, ◌≢◌, ◌≤◌, length, take, false, Some, IsNone, IfSome};
+ghost use Rattle.cwr_fields.specs.Format.Kinds.{kind_of};
+ghost use Rattle.cwr_decode.specs.Steps.Machines.{FindsCut, FindsFront, FindsLine, IsReady};
+ghost use Rattle.cwr_decode.specs.Steps.Calls.{Advances, Fed};
+
+use super::holding::{adds_known, stays_open};
+use super::{Found, Machine, State};
+use crate::outcomes::Outcome;
+use cwr_fields::{Kind, SpelledPair, is_in_transaction};
+use cwr_judge::count_quickly;
+use cwr_lines::{CutLine, LineEnd};
+use cwr_shape::Tally;
+use cwr_values::{Item, Transaction};
+
+/// Judges a line by quick tests. A record that continues the open transaction is added to it and counted; one that ends it
+/// is counted. Most lines are such, and no answer of a transaction's size is built for them.
+#[inline(always)]
+fn enter_cut(
+    tally: &mut Tally,
+    held: &mut Option<Transaction>,
+    expected: &mut SpelledPair,
+    cut: &CutLine<'_>,
+) -> Found
+    ensures { FindsCut result cut.now tally.old held.old tally.new held.new }
+{
+    let Some(kind) = cut.kind() else {
+        return Found::Nothing;
+    };
+    if !is_in_transaction(kind) {
+        return Found::Nothing;
+    }
+    let Some(transaction) = held else {
+        return Found::Nothing;
+    };
+    let before = *tally;
+    if !count_quickly(tally, cut, expected) {
+        return Found::Nothing;
+    }
+    if !stays_open(&before, tally) {
+        return Found::Ends;
+    }
+    if !adds_known(transaction, cut.known_record()) {
+        *tally = before;
+        return Found::Nothing;
+    }
+    Found::Added
+}
+
+impl Machine {
+    /// Judges the line that ended by quick tests. The record of one that ends the open transaction waits.
+    #[inline(never)]
+    pub(super) fn enter_line(&mut self) -> Found
+        requires { self.old.line.ended ≢ LineEnd.Open }
+        ensures { FindsLine result self.old self.new }
+    {
+        let cut = self.line.cut_looked_through();
+        let found = enter_cut(&mut self.tally, &mut self.held, &mut self.expected, &cut);
+        match found {
+            Found::Added => self.begin_line(),
+            Found::Ends => self.state = State::Pending,
+            Found::Nothing => {}
+        }
+        found
+    }
+
+    /// Judges the line that the piece begins with by quick tests, filled up in the line buffer, and answers how many bytes it
+    /// takes. Of one that the piece cuts nothing is found.
+    #[inline(always)]
+    fn enter_filled(&mut self, piece: &[u8]) -> (usize, Found)
+        requires unended { self.old.line.ended ≡ LineEnd.Open }
+        requires empty { length self.old.line.bytes ≡ 0 }
+        ensures { FindsFront result.1 self.old piece.now result.0 self.new }
+    {
+        let Some(used) = self.line.take_ended(piece) else {
+            return (0, Found::Nothing);
+        };
+        match self.enter_line() {
+            Found::Added => (used, Found::Added),
+            Found::Ends => (used, Found::Ends),
+            Found::Nothing => {
+                self.line.clear();
+                (0, Found::Nothing)
+            }
+        }
+    }
+
+    /// Judges the line that the piece begins with, which is of the kind, by quick tests, where it stands, and answers how many
+    /// bytes it takes. It is copied only where it waits. A kind that is constant where this is called makes each width and
+    /// place constant too.
+    #[inline(always)]
+    fn enter_as(&mut self, kind: Kind, piece: &[u8]) -> (usize, Found)
+        requires unended { self.old.line.ended ≡ LineEnd.Open }
+        requires reading { self.old.state ≡ State.Reading }
+        requires empty { length self.old.line.bytes ≡ 0 }
+        requires named { kind_of (take 3 piece.now) ≡ Some kind }
+        requires three { 3 ≤ length piece.now }
+        ensures { FindsFront result.1 self.old piece.now result.0 self.new }
+    {
+        let Some((cut, used)) = CutLine::at_front(kind, piece) else {
+            return self.enter_filled(piece);
+        };
+        match enter_cut(&mut self.tally, &mut self.held, &mut self.expected, &cut) {
+            Found::Added => (used, Found::Added),
+            Found::Ends => {
+                self.line.keep(&cut);
+                self.state = State::Pending;
+                (used, Found::Ends)
+            }
+            Found::Nothing => (0, Found::Nothing),
+        }
+    }
+
+    /// Judges the line that the piece begins with by quick tests, where it stands, and answers how many bytes it takes. Of a
+    /// line that is under way, and of one that the piece cuts, nothing is found. The kinds of most lines have a branch each.
+    #[inline(always)]
+    fn enter_front(&mut self, piece: &[u8]) -> (usize, Found)
+        requires unended { self.old.line.ended ≡ LineEnd.Open }
+        requires reading { self.old.state ≡ State.Reading }
+        ensures { FindsFront result.1 self.old piece.now result.0 self.new }
+    {
+        if self.line.len() > 0 || piece.len() < 3 {
+            return (0, Found::Nothing);
+        }
+        let Some(kind) = Kind::of(&piece[..3]) else {
+            return (0, Found::Nothing);
+        };
+        match kind {
+            Kind::Ter => self.enter_as(Kind::Ter, piece),
+            Kind::Ipa => self.enter_as(Kind::Ipa, piece),
+            Kind::Spu => self.enter_as(Kind::Spu, piece),
+            Kind::Opu => self.enter_as(Kind::Opu, piece),
+            Kind::Spt => self.enter_as(Kind::Spt, piece),
+            Kind::Swr => self.enter_as(Kind::Swr, piece),
+            Kind::Owr => self.enter_as(Kind::Owr, piece),
+            Kind::Swt => self.enter_as(Kind::Swt, piece),
+            Kind::Pwr => self.enter_as(Kind::Pwr, piece),
+            Kind::Alt => self.enter_as(Kind::Alt, piece),
+            Kind::Ewt => self.enter_as(Kind::Ewt, piece),
+            Kind::Ver => self.enter_as(Kind::Ver, piece),
+            Kind::Per => self.enter_as(Kind::Per, piece),
+            Kind::Rec => self.enter_as(Kind::Rec, piece),
+            Kind::Orn => self.enter_as(Kind::Orn, piece),
+            Kind::Com => self.enter_as(Kind::Com, piece),
+            Kind::Msg => self.enter_as(Kind::Msg, piece),
+            Kind::Agr => self.enter_as(Kind::Agr, piece),
+            Kind::Nwr => self.enter_as(Kind::Nwr, piece),
+            Kind::Rev => self.enter_as(Kind::Rev, piece),
+            Kind::Ack => self.enter_as(Kind::Ack, piece),
+            _ => self.enter_as(kind, piece),
+        }
+    }
+
+    /// Takes lines of the piece by quick tests alone, up to the next transaction: how many bytes these are, and that. Where
+    /// none is answered, what is left of the piece is left to `feed`.
+    #[inline(never)]
+    pub fn feed_quickly(&mut self, piece: &[u8]) -> (usize, Option<Transaction>)
+        requires ready { IsReady self.old.state self.old.finished self.old.line }
+        requires reading { self.old.state ≡ State.Reading }
+        requires fresh { self.old.finished ≡ false }
+        ensures some { IfSome result.1 (λ whole. Advances self.old piece.now result.0
+            (Some (Outcome.Item (Item.Transaction whole))) self.new) }
+        ensures none { IsNone result.1 → Fed self.old piece.now result.0 self.new }
+    {
+        let mut used = 0;
+        loop {
+            let (front, found) = self.enter_front(&piece[used..]);
+            match found {
+                Found::Added => used += front,
+                Found::Ends => return (used + front, Some(self.take_whole())),
+                Found::Nothing => return (used, None),
+            }
+        }
+    }
+}
