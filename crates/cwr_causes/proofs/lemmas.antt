@@ -8,3 +8,13 @@ pub mod ComingSymbols
 pub mod RefusedLines
 -- What is read and counted in two steps.
 pub mod TakenPieces
+-- The codes of a list of members are those of the members.
+pub mod ListedCodes
+-- The letters of the kinds and the words of constant cells are in UTF-8.
+pub mod PlainLetters
+-- In a line that ends before it no sequence stands.
+pub mod ShortLines
+-- A text that goes on, and goes on again.
+pub mod Extended
+-- What is said of the line with which the bytes end that were read.
+pub mod LastRefused

@@ -2,4 +2,5 @@
 pub mod Coming
 pub mod Laws
 pub mod LinesAtEnd
+pub mod Refused
 pub mod Trailing

@@ -1,6 +1,7 @@
 //! How the numbers go on after a wrong one.
 
-ghost use Rattle.std.specs.Prelude.{OnErr, OnOk};
+ghost use Rattle.std.specs.Prelude.{◌≡◌, OnErr, OnOk, option_map};
+ghost use Rattle.cwr_causes.specs.Format.Lookings.{number_at, sequence_start};
 ghost use Rattle.cwr_causes.specs.Format.Trailing.{CountsRead, TakesMore};
 
 use crate::sequences::{RECORD_SEQUENCE, TRANSACTION_SEQUENCE, sequence_in};
@@ -36,16 +37,29 @@ pub struct Ahead {
     pub goes_on: bool,
 }
 
-/// The sequence whose number at that field of a line is wrong, and that number.
-pub(crate) fn sequence_at(kind: Option<Kind>, field: u8, line: &[u8]) -> Option<(Sequence, u64)> {
-    match (kind?, field) {
-        (Kind::Hdr | Kind::Grh | Kind::Grt | Kind::Trl, _) => None,
-        (Kind::Agr | Kind::Nwr | Kind::Rev | Kind::Ack, 2) => Some((
+/// The sequence that a field of the kind is, and where that stands in a line: the first byte, from 0.
+fn sequence_of(kind: Kind, field: u8) -> Option<(Sequence, usize)>
+    ensures { option_map (λ s. s.1) result ≡ sequence_start kind field }
+{
+    match kind {
+        Kind::Hdr | Kind::Grh | Kind::Grt | Kind::Trl => None,
+        Kind::Agr | Kind::Nwr | Kind::Rev | Kind::Ack if field == 2 => Some((
             Sequence::Transactions,
-            sequence_in(line, TRANSACTION_SEQUENCE)?,
+            TRANSACTION_SEQUENCE,
         )),
-        (_, 3) => Some((Sequence::Records, sequence_in(line, RECORD_SEQUENCE)?)),
+        _ if field == 3 => Some((Sequence::Records, RECORD_SEQUENCE)),
         _ => None,
+    }
+}
+
+/// The sequence whose number at that field of a line is wrong, and that number.
+pub(crate) fn sequence_at(kind: Option<Kind>, field: u8, line: &[u8]) -> Option<(Sequence, u64)>
+    ensures { option_map (λ s. s.1) result ≡ number_at kind field line.now }
+{
+    let (sequence, start) = sequence_of(kind?, field)?;
+    match sequence_in(line, start) {
+        Some(number) => Some((sequence, number)),
+        None => None,
     }
 }
 

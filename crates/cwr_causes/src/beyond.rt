@@ -1,7 +1,10 @@
 //! What a reader has after the line in hand, and a refused line explained.
 
-ghost use Rattle.std.specs.Prelude.{◌≡◌};
+ghost use Rattle.std.specs.Prelude.{◌≡◌, [], IfOk, OnOk, option_map, string_bytes};
+ghost use Rattle.std.specs.Option.{is_some};
+ghost use Rattle.cwr_causes.specs.Format.Lookings.{LooksAfterLine, asks_numbers, is_open};
 ghost use Rattle.cwr_causes.specs.Format.Trailing.{CountsRead, TakesMore};
+ghost use Rattle.cwr_causes.specs.Steps.Refused.{ExplainsLine, ExplainsRefusal, ahead_in, fault_line, goes_on};
 ghost use Rattle.cwr_causes.specs.Steps.Trailing.{found_in};
 
 use crate::ahead::{Ahead, Sequence, look_ahead, sequence_at};
@@ -28,6 +31,26 @@ pub enum Beyond {
 }
 
 impl Beyond {
+    /// Whether the line goes on after what is shown.
+    fn goes_on(self) -> bool
+        ensures { result ≡ goes_on self }
+    {
+        match self {
+            Beyond::GoesOn(more) => more,
+            Beyond::Trailing(_) | Beyond::Numbers(_) | Beyond::Unasked => false,
+        }
+    }
+
+    /// How the numbers after it go on, where they were looked at.
+    fn ahead(self) -> Option<Ahead>
+        ensures { result ≡ ahead_in self }
+    {
+        match self {
+            Beyond::Numbers(ahead) => Some(ahead),
+            Beyond::Trailing(_) | Beyond::GoesOn(_) | Beyond::Unasked => None,
+        }
+    }
+
     /// What was found after a transmission, if that was looked for.
     pub fn found(self) -> Option<Trailing>
         ensures { result ≡ found_in self }
@@ -48,13 +71,26 @@ fn has_more<R: Source>(reader: &mut R) -> Result<bool, DeviceFault>
 }
 
 /// The sequence of a line whose number is refused, and that number.
-fn wrong_sequence(refusal: &Refusal, line: &LineAtEnd<'_>) -> Option<(Sequence, u64)> {
+fn wrong_sequence(refusal: &Refusal, line: &LineAtEnd<'_>) -> Option<(Sequence, u64)>
+    ensures { is_some result ≡ asks_numbers refusal.now line.now }
+{
     match refusal.reason {
-        Reason::Number { .. } if line.ended => {
-            sequence_at(kind_of(line.bytes), refusal.field, line.bytes)
+        Reason::Number { .. } => {
+            if line.ended {
+                sequence_at(kind_of(line.bytes), refusal.field, line.bytes)
+            } else {
+                None
+            }
         }
         _ => None,
     }
+}
+
+/// Whether the line has as many bytes as a line may have, and no line feed so far.
+fn is_open(line: &LineAtEnd<'_>) -> bool
+    ensures { result ≡ is_open line.now }
+{
+    !line.ended && line.bytes.len() == LONGEST_LINE
 }
 
 /// Looks at what the reader has after a refused line: whether there is a byte after one of 1,024 bytes, and how the numbers go on after
@@ -66,8 +102,10 @@ pub fn look_after_line<R: Source>(
 ) -> Result<Beyond, DeviceFault>
     ensures taken { TakesMore (R.remaining reader.old) (R.remaining reader.new) }
     ensures failures { CountsRead result (R.failures reader.old) (R.failures reader.new) }
+    // Nothing that helps is left unasked.
+    ensures looks { IfOk result (LooksAfterLine refusal.now line.now) }
 {
-    if !line.ended && line.bytes.len() == LONGEST_LINE {
+    if is_open(line) {
         return Ok(Beyond::GoesOn(has_more(reader)?));
     }
     match wrong_sequence(refusal, line) {
@@ -85,7 +123,10 @@ pub fn add_refused(
     refusal: &Refusal,
     last: &LastRead,
     beyond: Beyond,
-) -> Result<(), AllocError> {
+) -> Result<(), AllocError>
+    ensures { OnOk result (ExplainsRefusal name.now refusal.now last.now.bytes beyond
+        (string_bytes text.old) (string_bytes text.new)) }
+{
     let line = line_at_end(&last.bytes);
     let refused = Refused {
         name,
@@ -93,11 +134,8 @@ pub fn add_refused(
         line,
         before: line_before(&last.bytes),
         kind: kind_of(line.bytes),
-        is_too_long: matches!(beyond, Beyond::GoesOn(true)),
-        ahead: match beyond {
-            Beyond::Numbers(ahead) => Some(ahead),
-            Beyond::Trailing(_) | Beyond::GoesOn(_) | Beyond::Unasked => None,
-        },
+        is_too_long: beyond.goes_on(),
+        ahead: beyond.ahead(),
         is_first: true,
     };
     refused.add(alloc, text, limits, Some(last.stage))
@@ -116,7 +154,10 @@ pub fn explain_fault(
     is_too_long: bool,
     is_first: bool,
     stage: Option<Stage>,
-) -> Result<String, AllocError> {
+) -> Result<String, AllocError>
+    ensures { IfOk result (λ text. ExplainsLine (fault_line name.now fault.now line.entry
+        (option_map (λ b. b.now) before.entry) is_too_long) [] (string_bytes text)) }
+{
     let mut text = String::new(alloc);
     let refused = Refused {
         name,

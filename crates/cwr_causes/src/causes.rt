@@ -1,10 +1,22 @@
 //! The lines that explain a verdict.
 
+ghost use Rattle.std.specs.Prelude.{◌≡◌, ◌≤◌, ◌==◌, ◌++◌, not, position, length, option_map, string_bytes, OnOk};
+ghost use Rattle.cwr_fields.specs.Steps.Views.{field_view};
+ghost use Rattle.cwr_lines.specs.Format.Lines.{without_cr};
+ghost use Rattle.cwr_causes.specs.Format.Texts.{Extends, label_words};
+ghost use Rattle.cwr_causes.specs.Format.Refusals.{byte_of_file_words, content_words, end_of_fields, excess_at, field_name, field_words};
+ghost use Rattle.cwr_causes.specs.Format.Refusals.{first_kind, found_words, head_words, named_field, number_points_words, refused_field};
+ghost use Rattle.cwr_causes.specs.Format.Refusals.{range_words, range_of_file_words, refused_level_words, shown, where_words, without_return};
+ghost use Rattle.cwr_causes.specs.Format.TrailingTexts.{after_words, count_words, least_words, second_words, trailing_words};
+ghost use Rattle.cwr_causes.specs.Format.TruncatedTexts.{end_words, last_words};
+ghost use Rattle.cwr_causes.specs.Steps.Refused.{ExplainsEnd, ExplainsLine, refused_line};
+
 use crate::ahead::Ahead;
 use crate::expected::{add_cell_type, letters_of, number_rule};
 use crate::lines_at_end::{LineAtEnd, line_again, line_at_end};
 use crate::next_symbols::coming;
 use crate::openings::opening_of;
+use crate::sequences::number_in;
 use crate::shifts::add_shift;
 use crate::texts::{add_beginning, add_cell, add_label};
 use crate::trailing::Trailing;
@@ -41,37 +53,136 @@ pub(crate) struct Refused<'a> {
     pub is_first: bool,
 }
 
+/// The line without a carriage return at its end.
+fn without_cr(line: &[u8]) -> &[u8]
+    ensures { result.now ≡ without_cr line.now }
+{
+    if line.ends_with(b"\r") {
+        &line[..line.len() - 1]
+    } else {
+        line
+    }
+}
+
+/// The first byte that isn't a space, from 0.
+fn first_other(bytes: &[u8]) -> Option<usize>
+    ensures { result ≡ position (λ b. not (b == 32)) bytes.now }
+{
+    bytes.iter().position(|byte| *byte != b' ')
+}
+
+/// Adds which bytes of a line: so many, after so many others.
+#[tactic(auto, unfolding(crate::specs::Format::Refusals::range_words))]
+fn add_range(text: &mut String, start: u64, width: u64) -> Result<(), AllocError>
+    ensures { OnOk result (string_bytes text.new ≡ string_bytes text.old ++ range_words start width) }
+{
+    let first = start.saturating_add(1);
+    if width == 1 {
+        write!(text, "byte {first} of the line")
+    } else {
+        let last = start.saturating_add(width);
+        write!(text, "bytes {first} to {last} of the line")
+    }
+}
+
+/// Adds which byte of the file that is, from 1.
+#[tactic(auto, unfolding(crate::specs::Format::Refusals::byte_of_file_words))]
+fn add_byte_of_file(text: &mut String, at: u64) -> Result<(), AllocError>
+    ensures { OnOk result (string_bytes text.new ≡ string_bytes text.old ++ byte_of_file_words at) }
+{
+    writeln!(text, ", byte {at} of the file")
+}
+
+/// Adds which bytes of a line, before which so many were read, and which byte of the file the first of them is.
+#[tactic(auto, unfolding(crate::specs::Format::Refusals::range_of_file_words))]
+fn add_range_of_file(
+    text: &mut String,
+    start: u64,
+    width: u64,
+    offset: u64,
+) -> Result<(), AllocError>
+    ensures { OnOk result (string_bytes text.new ≡ string_bytes text.old ++ range_of_file_words start width offset) }
+{
+    let at = offset.saturating_add(start.saturating_add(1));
+    add_range(text, start, width)?;
+    add_byte_of_file(text, at)
+}
+
+/// Adds what a field of a kind is called, or that it is none of its fields.
+fn add_named(text: &mut String, kind: Kind, place: Option<Field>) -> Result<(), AllocError>
+    ensures { OnOk result (string_bytes text.new ≡ string_bytes text.old
+        ++ named_field kind (option_map field_view place)) }
+{
+    let letters = letters_of(kind);
+    match place {
+        Some(place) => {
+            let name = place.name;
+            writeln!(text, "{letters} {name}")
+        }
+        None => writeln!(text, "{letters}, after its last field"),
+    }
+}
+
+/// Adds what a field is called, where the kind is known.
+fn add_field_name(
+    text: &mut String,
+    kind: Option<Kind>,
+    place: Option<Field>,
+) -> Result<(), AllocError>
+    ensures { OnOk result (string_bytes text.new ≡ string_bytes text.old
+        ++ field_name kind (option_map field_view place)) }
+{
+    match kind {
+        Some(kind) => add_named(text, kind, place),
+        None => text.push_str("record type\n"),
+    }
+}
+
 impl Refused<'_> {
     /// The field at which it is refused, where its kind has that.
-    fn refused_field(&self) -> Option<Field> {
+    fn refused_field(&self) -> Option<Field>
+        ensures { option_map field_view result ≡ refused_field (refused_line self.now) }
+    {
         field(self.kind?, self.refusal.field)
     }
 
     /// The line without the carriage return of its end.
-    fn without_return(&self) -> &[u8] {
-        match self.line.bytes {
-            [front @ .., b'\r'] if !self.is_too_long => front,
-            bytes => bytes,
+    fn without_return(&self) -> &[u8]
+        ensures { result.now ≡ without_return (refused_line self.now) }
+    {
+        if self.is_too_long {
+            self.line.bytes
+        } else {
+            without_cr(self.line.bytes)
+        }
+    }
+
+    /// Where the last field ends, or the line where that is shorter.
+    fn end_of_fields(&self) -> usize
+        ensures value { result ≡ end_of_fields self.now.kind self.now.line.bytes.now }
+        ensures within { result ≤ length self.now.line.bytes.now }
+    {
+        match self.kind {
+            Some(kind) => width(kind).min(self.line.bytes.len()),
+            None => 0,
         }
     }
 
     /// The first byte of what stands after the last field and isn't a space, from 0.
-    fn excess(&self) -> usize {
+    fn excess(&self) -> usize
+        ensures { result ≡ excess_at (refused_line self.now) }
+    {
         if self.is_too_long {
             return LONGEST_LINE;
         }
-        let end = match self.kind {
-            Some(kind) => width(kind).min(self.line.bytes.len()),
-            None => 0,
-        };
-        match self.line.bytes[end..].iter().position(|byte| *byte != b' ') {
-            Some(at) => end.saturating_add(at),
-            None => end,
-        }
+        let end = self.end_of_fields();
+        end + first_other(&self.line.bytes[end..]).unwrap_or(0)
     }
 
     /// The first byte of what is shown, and how many, from 0.
-    fn shown(&self) -> (usize, usize) {
+    fn shown(&self) -> (usize, usize)
+        ensures { result ≡ shown (refused_line self.now) }
+    {
         match (self.refused_field(), self.refusal.reason) {
             (Some(place), _) => (place.start, place.width),
             (None, Reason::Excess) => (self.excess(), 1),
@@ -80,58 +191,56 @@ impl Refused<'_> {
     }
 
     /// Adds where that is.
-    fn add_where(&self, text: &mut String) -> Result<(), AllocError> {
+    #[tactic(auto, unfolding(crate::specs::Format::Refusals::where_words))]
+    fn add_where(&self, text: &mut String) -> Result<(), AllocError>
+        ensures { OnOk result (string_bytes text.new ≡ string_bytes text.old ++ where_words (refused_line self.now)) }
+    {
         let (start, width) = self.shown();
-        let (name, number) = (self.name, self.refusal.rec);
-        let first = (start as u64).saturating_add(1);
-        let last = (start as u64).saturating_add(width as u64);
-        let at = self.line.offset.saturating_add(first);
         add_label(text, "where")?;
-        if width == 1 {
-            writeln!(
-                text,
-                "{name}, line {number}, byte {first} of the line, byte {at} of the file"
-            )
-        } else {
-            writeln!(
-                text,
-                "{name}, line {number}, bytes {first} to {last} of the line, byte {at} of the file"
-            )
-        }
+        write!(text, "{}, line {}, ", self.name, self.refusal.rec)?;
+        add_range_of_file(text, start as u64, width as u64, self.line.offset)
     }
 
     /// Adds the name of the field.
-    fn add_field(&self, text: &mut String) -> Result<(), AllocError> {
+    #[tactic(auto, unfolding(crate::specs::Format::Refusals::field_words))]
+    fn add_field(&self, text: &mut String) -> Result<(), AllocError>
+        ensures { OnOk result (string_bytes text.new ≡ string_bytes text.old ++ field_words (refused_line self.now)) }
+    {
         add_label(text, "field")?;
-        match (self.kind, self.refused_field()) {
-            (Some(kind), Some(place)) => {
-                let (letters, name) = (letters_of(kind), place.name);
-                writeln!(text, "{letters} {name}")
-            }
-            (Some(kind), None) => {
-                let letters = letters_of(kind);
-                writeln!(text, "{letters}, after its last field")
-            }
-            (None, _) => text.push_str("record type\n"),
-        }
+        add_field_name(text, self.kind, self.refused_field())
     }
 
-    /// Adds what stands there.
-    fn add_found(&self, text: &mut String, cut: &CutLine<'_>) -> Result<(), AllocError> {
-        add_label(text, "found")?;
-        match cut.cell(self.refusal.field) {
-            Some(cell) => add_cell(text, cell)?,
+    /// Adds what stands in the field's cell, or in its place.
+    fn add_content(&self, text: &mut String, cell: Option<&[u8]>) -> Result<(), AllocError>
+        ensures { OnOk result (string_bytes text.new ≡ string_bytes text.old
+            ++ content_words (refused_line self.now) (option_map (λ c. c.now) cell.entry)) }
+    {
+        match cell {
+            Some(cell) => add_cell(text, cell),
             None => {
                 let bytes = self.without_return();
                 let from = self.shown().0.min(bytes.len());
-                add_beginning(text, &bytes[from..])?;
+                add_beginning(text, &bytes[from..])
             }
         }
+    }
+
+    /// Adds the line that says what stands there.
+    #[tactic(auto, unfolding(crate::specs::Format::Refusals::found_words))]
+    fn add_found(&self, text: &mut String, cell: Option<&[u8]>) -> Result<(), AllocError>
+        ensures { OnOk result (string_bytes text.new ≡ string_bytes text.old
+            ++ found_words (refused_line self.now) (option_map (λ c. c.now) cell.entry)) }
+    {
+        add_label(text, "found")?;
+        self.add_content(text, cell)?;
         text.push('\n')
     }
 
     /// Adds which byte of the cell is a control byte.
-    fn add_control(&self, text: &mut String, cut: &CutLine<'_>) -> Result<(), AllocError> {
+    #[tactic(auto, using(crate::proofs::lemmas::Extended::extended))]
+    fn add_control(&self, text: &mut String, cut: &CutLine<'_>) -> Result<(), AllocError>
+        ensures { OnOk result (Extends (string_bytes text.old) (string_bytes text.new)) }
+    {
         let Some(cell) = cut.cell(self.refusal.field) else {
             return Ok(());
         };
@@ -150,7 +259,10 @@ impl Refused<'_> {
 }
 
 /// Adds a symbol as an order of records names it.
-fn add_symbol(text: &mut String, symbol: Symbol) -> Result<(), AllocError> {
+#[tactic(auto, using(crate::proofs::lemmas::Extended::extended))]
+fn add_symbol(text: &mut String, symbol: Symbol) -> Result<(), AllocError>
+    ensures { OnOk result (Extends (string_bytes text.old) (string_bytes text.new)) }
+{
     match symbol {
         Symbol::Plain(kind) => text.push_str(letters_of(kind)),
         Symbol::Ipa(role) => write!(text, "IPA of role {role}"),
@@ -166,45 +278,74 @@ fn is_carried_symbol(symbol: Symbol) -> bool {
     }
 }
 
+/// Adds what stands between two symbols, where one was added before.
+#[tactic(auto, using(crate::proofs::lemmas::Extended::extended))]
+fn add_separator(text: &mut String, follows: bool) -> Result<(), AllocError>
+    ensures { OnOk result (Extends (string_bytes text.old) (string_bytes text.new)) }
+{
+    if follows { text.push_str(", ") } else { Ok(()) }
+}
+
+/// Adds the symbol, if it is one of those carried as text, or one of the others, that are asked for. The answer is whether one was
+/// added so far.
+#[tactic(auto, using(crate::proofs::lemmas::Extended::extended))]
+fn add_listed_symbol(
+    text: &mut String,
+    symbol: Symbol,
+    carried: bool,
+    follows: bool,
+) -> Result<bool, AllocError>
+    ensures { OnOk result (Extends (string_bytes text.old) (string_bytes text.new)) }
+{
+    if is_carried_symbol(symbol) != carried {
+        return Ok(follows);
+    }
+    add_separator(text, follows)?;
+    add_symbol(text, symbol)?;
+    Ok(true)
+}
+
 /// Adds those of the symbols that are carried as text, or the others.
-fn add_symbols(text: &mut String, symbols: &[Symbol], carried: bool) -> Result<(), AllocError> {
-    let mut separator = "";
+#[tactic(auto, using(crate::proofs::lemmas::Extended::extended))]
+fn add_symbols(text: &mut String, symbols: &[Symbol], carried: bool) -> Result<(), AllocError>
+    ensures { OnOk result (Extends (string_bytes text.old) (string_bytes text.new)) }
+{
+    let mut follows = false;
     for symbol in symbols {
-        if is_carried_symbol(*symbol) == carried {
-            text.push_str(separator)?;
-            add_symbol(text, *symbol)?;
-            separator = ", ";
-        }
+        follows = add_listed_symbol(text, *symbol, carried, follows)?;
     }
     text.push('\n')
 }
 
+/// Adds those of the symbols that are carried as text, on a line of their own, if there are some.
+#[tactic(auto, using(crate::proofs::lemmas::Extended::extended))]
+fn add_carried(text: &mut String, symbols: &[Symbol]) -> Result<(), AllocError>
+    ensures { OnOk result (Extends (string_bytes text.old) (string_bytes text.new)) }
+{
+    if !symbols.iter().any(|symbol| is_carried_symbol(*symbol)) {
+        return Ok(());
+    }
+    add_label(text, "")?;
+    text.push_str("or, carried as text, ")?;
+    add_symbols(text, symbols, true)
+}
+
 /// Adds what may come at a stage.
-fn add_coming(alloc: Global, text: &mut String, stage: Stage) -> Result<(), AllocError> {
+#[tactic(auto, using(crate::proofs::lemmas::Extended::extended))]
+fn add_coming(alloc: Global, text: &mut String, stage: Stage) -> Result<(), AllocError>
+    ensures { OnOk result (Extends (string_bytes text.old) (string_bytes text.new)) }
+{
     let symbols = coming(alloc, stage)?;
     add_label(text, "expected")?;
     add_symbols(text, symbols.as_slice(), false)?;
-    if symbols.iter().any(|symbol| is_carried_symbol(*symbol)) {
-        add_label(text, "")?;
-        text.push_str("or, carried as text, ")?;
-        add_symbols(text, symbols.as_slice(), true)?;
-    }
-    Ok(())
-}
-
-/// The number that digits write.
-fn number_in(digits: &[u8]) -> u64 {
-    let mut number: u64 = 0;
-    for digit in digits {
-        number = number
-            .saturating_mul(10)
-            .saturating_add(u64::from(digit.saturating_sub(b'0')));
-    }
-    number
+    add_carried(text, symbols.as_slice())
 }
 
 /// Adds a number in the width of its field.
-fn add_number(text: &mut String, width: usize, number: u64) -> Result<(), AllocError> {
+#[tactic(auto, using(crate::proofs::lemmas::Extended::extended))]
+fn add_number(text: &mut String, width: usize, number: u64) -> Result<(), AllocError>
+    ensures { OnOk result (Extends (string_bytes text.old) (string_bytes text.new)) }
+{
     match width {
         5 => write!(text, "{number:05}"),
         8 => write!(text, "{number:08}"),
@@ -213,7 +354,10 @@ fn add_number(text: &mut String, width: usize, number: u64) -> Result<(), AllocE
 }
 
 /// Adds a limit and how it is raised.
-fn add_limit(text: &mut String, limits: &Limits, limit: LimitKind) -> Result<(), AllocError> {
+#[tactic(auto, using(crate::proofs::lemmas::Extended::extended))]
+fn add_limit(text: &mut String, limits: &Limits, limit: LimitKind) -> Result<(), AllocError>
+    ensures { OnOk result (Extends (string_bytes text.old) (string_bytes text.new)) }
+{
     let word = limit.word();
     match limit {
         LimitKind::Records => {
@@ -237,13 +381,16 @@ fn add_limit(text: &mut String, limits: &Limits, limit: LimitKind) -> Result<(),
 
 impl Refused<'_> {
     /// Adds what may stand in the cell.
+    #[tactic(auto, using(crate::proofs::lemmas::Extended::extended))]
     fn add_cell_expected(
         &self,
         text: &mut String,
         place: &Field,
         cut: &CutLine<'_>,
         fault: CellFault,
-    ) -> Result<(), AllocError> {
+    ) -> Result<(), AllocError>
+        ensures { OnOk result (Extends (string_bytes text.old) (string_bytes text.new)) }
+    {
         add_label(text, "expected")?;
         add_cell_type(text, place)?;
         if let (true, Some(kind)) = (place.derived, self.kind) {
@@ -257,7 +404,10 @@ impl Refused<'_> {
     }
 
     /// Adds the number that belongs there.
-    fn add_number_expected(&self, text: &mut String, number: u64) -> Result<(), AllocError> {
+    #[tactic(auto, using(crate::proofs::lemmas::Extended::extended))]
+    fn add_number_expected(&self, text: &mut String, number: u64) -> Result<(), AllocError>
+        ensures { OnOk result (Extends (string_bytes text.old) (string_bytes text.new)) }
+    {
         add_label(text, "expected")?;
         if let (Some(kind), Some(place)) = (self.kind, self.refused_field()) {
             add_number(text, place.width, number)?;
@@ -267,13 +417,17 @@ impl Refused<'_> {
         text.push('\n')
     }
 
-    /// Adds what a wrong number points to.
-    fn add_points(&self, text: &mut String, cut: &CutLine<'_>) -> Result<(), AllocError> {
+    /// Adds what a wrong number in the cell of the refused field points to.
+    #[tactic(auto, unfolding(crate::specs::Format::Refusals::number_points_words))]
+    fn add_points(&self, text: &mut String, cell: Option<&[u8]>) -> Result<(), AllocError>
+        ensures { OnOk result (string_bytes text.new ≡ string_bytes text.old
+            ++ number_points_words (refused_line self.now) (option_map (λ c. c.now) cell.entry)) }
+    {
         let Reason::Number { expected } = self.refusal.reason else {
             return Ok(());
         };
         let field = self.refusal.field;
-        match (self.kind, cut.cell(field)) {
+        match (self.kind, cell) {
             (Some(kind), Some(cell)) => WrongNumber {
                 kind,
                 field,
@@ -298,12 +452,15 @@ impl Refused<'_> {
     }
 
     /// Adds what the header of another type's transaction in a group points to.
+    #[tactic(auto, using(crate::proofs::lemmas::Extended::extended))]
     fn add_other_type(
         &self,
         text: &mut String,
         stage: Option<Stage>,
         kind: Kind,
-    ) -> Result<(), AllocError> {
+    ) -> Result<(), AllocError>
+        ensures { OnOk result (Extends (string_bytes text.old) (string_bytes text.new)) }
+    {
         let Some(Stage::Within(ty, step)) = stage else {
             return Ok(());
         };
@@ -321,7 +478,10 @@ impl Refused<'_> {
     }
 
     /// Adds what a misplaced line points to.
-    fn add_order(&self, text: &mut String, stage: Option<Stage>) -> Result<(), AllocError> {
+    #[tactic(auto, using(crate::proofs::lemmas::Extended::extended))]
+    fn add_order(&self, text: &mut String, stage: Option<Stage>) -> Result<(), AllocError>
+        ensures { OnOk result (Extends (string_bytes text.old) (string_bytes text.new)) }
+    {
         match (self.refusal.reason, self.kind) {
             (Reason::Misplaced, Some(kind)) => {
                 if self.stands_twice() {
@@ -336,7 +496,10 @@ impl Refused<'_> {
     }
 
     /// Adds where the line may end.
-    fn add_end_expected(&self, text: &mut String) -> Result<(), AllocError> {
+    #[tactic(auto, using(crate::proofs::lemmas::Extended::extended))]
+    fn add_end_expected(&self, text: &mut String) -> Result<(), AllocError>
+        ensures { OnOk result (Extends (string_bytes text.old) (string_bytes text.new)) }
+    {
         add_label(text, "expected")?;
         if self.is_too_long {
             return text.push_str("a line of at most 1024 bytes before its line end\n");
@@ -354,6 +517,7 @@ impl Refused<'_> {
     }
 
     /// Adds what may stand there.
+    #[tactic(auto, using(crate::proofs::lemmas::Extended::extended))]
     fn add_expected(
         &self,
         alloc: Global,
@@ -361,7 +525,9 @@ impl Refused<'_> {
         limits: &Limits,
         stage: Option<Stage>,
         cut: &CutLine<'_>,
-    ) -> Result<(), AllocError> {
+    ) -> Result<(), AllocError>
+        ensures { OnOk result (Extends (string_bytes text.old) (string_bytes text.new)) }
+    {
         match (self.refusal.reason, self.refused_field()) {
             (Reason::UnknownKind | Reason::Misplaced, _) => match stage {
                 Some(stage) => add_coming(alloc, text, stage),
@@ -379,7 +545,10 @@ impl Refused<'_> {
     }
 
     /// Adds what the line looks like that names no record.
-    fn add_opening(&self, text: &mut String) -> Result<(), AllocError> {
+    #[tactic(auto, using(crate::proofs::lemmas::Extended::extended))]
+    fn add_opening(&self, text: &mut String) -> Result<(), AllocError>
+        ensures { OnOk result (Extends (string_bytes text.old) (string_bytes text.new)) }
+    {
         if self.refusal.reason != Reason::UnknownKind {
             return Ok(());
         }
@@ -393,10 +562,81 @@ impl Refused<'_> {
     }
 
     /// Adds the refusal's level.
-    fn add_level(&self, text: &mut String) -> Result<(), AllocError> {
+    #[tactic(auto, unfolding(crate::specs::Format::Refusals::refused_level_words))]
+    fn add_level(&self, text: &mut String) -> Result<(), AllocError>
+        ensures { OnOk result (string_bytes text.new ≡ string_bytes text.old ++ refused_level_words (refused_line self.now)) }
+    {
         let words = level_words(self.refusal.level);
         add_label(text, "level")?;
         writeln!(text, "{words}")
+    }
+
+    /// Adds where and in which field the line is refused, what stands there, and what a wrong number points to.
+    #[tactic(auto, unfolding(crate::specs::Format::Refusals::head_words))]
+    fn add_head(&self, text: &mut String, cell: Option<&[u8]>) -> Result<(), AllocError>
+        ensures { OnOk result (string_bytes text.new ≡ string_bytes text.old
+            ++ head_words (refused_line self.now) (option_map (λ c. c.now) cell.entry)) }
+    {
+        self.add_where(text)?;
+        self.add_field(text)?;
+        self.add_found(text, cell)?;
+        self.add_points(text, cell)
+    }
+
+    /// Adds what a misplaced line points to, and what may stand there.
+    #[tactic(auto, using(crate::proofs::lemmas::Extended::extended))]
+    fn add_wanted(
+        &self,
+        alloc: Global,
+        text: &mut String,
+        limits: &Limits,
+        stage: Option<Stage>,
+        cut: &CutLine<'_>,
+    ) -> Result<(), AllocError>
+        ensures { OnOk result (Extends (string_bytes text.old) (string_bytes text.new)) }
+    {
+        self.add_order(text, stage)?;
+        self.add_expected(alloc, text, limits, stage, cut)
+    }
+
+    /// Adds why the cells may stand elsewhere, where that is said with this fault.
+    #[tactic(auto, using(crate::proofs::lemmas::Extended::extended))]
+    fn add_first(&self, text: &mut String) -> Result<(), AllocError>
+        ensures { OnOk result (Extends (string_bytes text.old) (string_bytes text.new)) }
+    {
+        if self.is_first && !self.is_too_long {
+            add_shift(text, self.kind, self.refusal.field, self.without_return())
+        } else {
+            Ok(())
+        }
+    }
+
+    /// Adds what its first bytes, and the version that it names, show.
+    #[tactic(auto, using(crate::proofs::lemmas::Extended::extended))]
+    fn add_notes(&self, text: &mut String) -> Result<(), AllocError>
+        ensures { OnOk result (Extends (string_bytes text.old) (string_bytes text.new)) }
+    {
+        self.add_opening(text)?;
+        add_version(text, self.kind, self.line.bytes)
+    }
+
+    /// Adds what else the line shows.
+    #[tactic(auto, using(crate::proofs::lemmas::Extended::extended))]
+    fn add_signs(&self, text: &mut String) -> Result<(), AllocError>
+        ensures { OnOk result (Extends (string_bytes text.old) (string_bytes text.new)) }
+    {
+        self.add_notes(text)?;
+        self.add_first(text)?;
+        self.add_ends(text)
+    }
+
+    /// Adds a word on its carriage returns, and that it may have been cut off.
+    #[tactic(auto, using(crate::proofs::lemmas::Extended::extended))]
+    fn add_ends(&self, text: &mut String) -> Result<(), AllocError>
+        ensures { OnOk result (Extends (string_bytes text.old) (string_bytes text.new)) }
+    {
+        add_returns(text, self.line.bytes)?;
+        add_cut_off(text, &self.line, self.kind)
     }
 
     /// Adds all that is said of the refusal, where the records before have come to that stage.
@@ -406,23 +646,17 @@ impl Refused<'_> {
         text: &mut String,
         limits: &Limits,
         stage: Option<Stage>,
-    ) -> Result<(), AllocError> {
+    ) -> Result<(), AllocError>
+        ensures { OnOk result (ExplainsLine (refused_line self.now) (string_bytes text.old)
+            (string_bytes text.new)) }
+    {
         let again = line_again(self.line.bytes);
         let cut = again.cut();
-        self.add_where(text)?;
-        self.add_field(text)?;
-        self.add_found(text, &cut)?;
-        self.add_points(text, &cut)?;
-        self.add_order(text, stage)?;
-        self.add_expected(alloc, text, limits, stage, &cut)?;
+        let cell = cut.cell(self.refusal.field);
+        self.add_head(text, cell)?;
+        self.add_wanted(alloc, text, limits, stage, &cut)?;
         self.add_level(text)?;
-        self.add_opening(text)?;
-        add_version(text, self.kind, self.line.bytes)?;
-        if self.is_first && !self.is_too_long {
-            add_shift(text, self.kind, self.refusal.field, self.without_return())?;
-        }
-        add_returns(text, self.line.bytes)?;
-        add_cut_off(text, &self.line, self.kind)
+        self.add_signs(text)
     }
 }
 
@@ -437,7 +671,10 @@ fn header_of(ty: TransactionType) -> Kind {
 }
 
 /// Adds a word on a carriage return that isn't part of the line's end.
-fn add_returns(text: &mut String, bytes: &[u8]) -> Result<(), AllocError> {
+#[tactic(auto, using(crate::proofs::lemmas::Extended::extended))]
+fn add_returns(text: &mut String, bytes: &[u8]) -> Result<(), AllocError>
+    ensures { OnOk result (Extends (string_bytes text.old) (string_bytes text.new)) }
+{
     let inner = match bytes {
         [inner @ .., _] => inner,
         [] => bytes,
@@ -456,11 +693,14 @@ fn add_returns(text: &mut String, bytes: &[u8]) -> Result<(), AllocError> {
 }
 
 /// Adds that a last line may have been cut off.
+#[tactic(auto, using(crate::proofs::lemmas::Extended::extended))]
 fn add_cut_off(
     text: &mut String,
     line: &LineAtEnd<'_>,
     kind: Option<Kind>,
-) -> Result<(), AllocError> {
+) -> Result<(), AllocError>
+    ensures { OnOk result (Extends (string_bytes text.old) (string_bytes text.new)) }
+{
     let whole = match kind {
         Some(kind) => width(kind),
         None => 3,
@@ -477,63 +717,147 @@ fn add_cut_off(
 }
 
 /// The kind of a line.
-pub(crate) fn kind_of(bytes: &[u8]) -> Option<Kind> {
+pub(crate) fn kind_of(bytes: &[u8]) -> Option<Kind>
+    ensures { result ≡ first_kind bytes.now }
+{
     match bytes {
         [a, b, c, ..] => Kind::of(&[*a, *b, *c]),
         _ => None,
     }
 }
 
+/// Adds where an input ends: after a record of the kind, if there is one, and after so many bytes.
+#[tactic(auto, unfolding(crate::specs::Format::TruncatedTexts::end_words))]
+fn add_end(
+    text: &mut String,
+    name: &str,
+    kind: Option<Kind>,
+    records: u32,
+    bytes: u64,
+) -> Result<(), AllocError>
+    ensures { OnOk result (string_bytes text.new ≡ string_bytes text.old
+        ++ end_words name.now kind records bytes) }
+{
+    add_label(text, "where")?;
+    match kind {
+        Some(kind) if records > 0 => add_last(text, name, letters_of(kind), records, bytes),
+        _ => writeln!(text, "{name}: the file is empty"),
+    }
+}
+
+/// Adds after which record, by its letters, and how many bytes an input ends.
+#[tactic(auto, unfolding(crate::specs::Format::TruncatedTexts::last_words))]
+fn add_last(
+    text: &mut String,
+    name: &str,
+    letters: &str,
+    records: u32,
+    bytes: u64,
+) -> Result<(), AllocError>
+    ensures { OnOk result (string_bytes text.new ≡ string_bytes text.old
+        ++ last_words name.now letters.now records bytes) }
+{
+    writeln!(
+        text,
+        "{name}, after line {records}, {letters}: the file ends there, after byte {bytes}"
+    )
+}
+
+/// Adds that the last line may have been cut off, where there is one.
+#[tactic(auto, using(crate::proofs::lemmas::Extended::extended))]
+fn add_last_cut_off(
+    text: &mut String,
+    records: u32,
+    line: &LineAtEnd<'_>,
+    kind: Option<Kind>,
+) -> Result<(), AllocError>
+    ensures { OnOk result (Extends (string_bytes text.old) (string_bytes text.new)) }
+{
+    if records > 0 {
+        add_cut_off(text, line, kind)
+    } else {
+        Ok(())
+    }
+}
+
 /// Adds what is said of an input that ends too early.
+#[tactic(auto, using(crate::proofs::lemmas::Extended::truncated_said))]
 pub fn add_truncated(
     alloc: Global,
     text: &mut String,
     name: &str,
     records: u32,
     last: &LastRead,
-) -> Result<(), AllocError> {
+) -> Result<(), AllocError>
+    ensures { OnOk result (ExplainsEnd name.now records last.now (string_bytes text.old)
+        (string_bytes text.new)) }
+{
     let line = line_at_end(&last.bytes);
     let kind = kind_of(line.bytes);
-    let bytes = last.bytes.read();
-    add_label(text, "where")?;
-    match kind {
-        Some(kind) if records > 0 => {
-            let letters = letters_of(kind);
-            writeln!(
-                text,
-                "{name}, after line {records}, {letters}: the file ends there, after byte {bytes}"
-            )?;
-        }
-        _ => writeln!(text, "{name}: the file is empty")?,
-    }
+    add_end(text, name, kind, records, last.bytes.read())?;
     add_coming(alloc, text, last.stage)?;
-    if records > 0 {
-        add_cut_off(text, &line, kind)?;
-    }
-    Ok(())
+    add_last_cut_off(text, records, &line, kind)
 }
 
-/// Adds what is said of the bytes after a transmission.
-pub fn add_trailing(text: &mut String, name: &str, found: &Trailing) -> Result<(), AllocError> {
-    if found.bytes == 0 {
+/// Adds how many bytes stand there.
+#[tactic(auto, unfolding(crate::specs::Format::TrailingTexts::count_words))]
+fn add_count(text: &mut String, count: u64) -> Result<(), AllocError>
+    ensures { OnOk result (string_bytes text.new ≡ string_bytes text.old ++ count_words count) }
+{
+    if count == 1 {
+        text.push_str("1 byte stands")
+    } else {
+        write!(text, "{count} bytes stand")
+    }
+}
+
+/// Adds that there may be more of them.
+fn add_least(text: &mut String, is_all: bool) -> Result<(), AllocError>
+    ensures { OnOk result (string_bytes text.new ≡ string_bytes text.old ++ least_words is_all) }
+{
+    if is_all {
+        Ok(())
+    } else {
+        text.push_str("at least ")
+    }
+}
+
+/// Adds that they begin as another transmission does, if they do.
+#[tactic(auto, unfolding(crate::specs::Format::TrailingTexts::second_words))]
+fn add_second(text: &mut String, begins: &[u8]) -> Result<(), AllocError>
+    ensures { OnOk result (string_bytes text.new ≡ string_bytes text.old ++ second_words begins.now) }
+{
+    if begins != b"HDR".as_slice() {
         return Ok(());
     }
-    let count = found.bytes;
+    add_label(text, "note")?;
+    text.push_str(
+        "it begins with HDR, as a second transmission does: check that one in a file of its own\n",
+    )
+}
+
+/// Adds how many bytes stand after a transmission, and that nobody judges them.
+#[tactic(auto, unfolding(crate::specs::Format::TrailingTexts::after_words))]
+fn add_after(text: &mut String, name: &str, found: &Trailing) -> Result<(), AllocError>
+    ensures { OnOk result (string_bytes text.new ≡ string_bytes text.old ++ after_words name.now found.now) }
+{
     add_label(text, "after")?;
-    text.push_str(if found.is_all { "" } else { "at least " })?;
-    text.push_str(if count == 1 { "1 byte stands" } else { "" })?;
-    if count != 1 {
-        write!(text, "{count} bytes stand")?;
-    }
+    add_least(text, found.is_all)?;
+    add_count(text, found.bytes)?;
     writeln!(
         text,
         " in {name} after the transmission; what stands there isn't judged"
-    )?;
-    if &found.begins == b"HDR" {
-        add_label(text, "note")?;
-        text.push_str(
-            "it begins with HDR, as a second transmission does: check that one in a file of its own\n",
-        )?;
+    )
+}
+
+/// Adds what is said of the bytes after a transmission.
+#[tactic(auto, unfolding(crate::specs::Format::TrailingTexts::trailing_words))]
+pub fn add_trailing(text: &mut String, name: &str, found: &Trailing) -> Result<(), AllocError>
+    ensures { OnOk result (string_bytes text.new ≡ string_bytes text.old ++ trailing_words name.now found.now) }
+{
+    if found.bytes == 0 {
+        return Ok(());
     }
-    Ok(())
+    add_after(text, name, found)?;
+    add_second(text, &found.begins[..])
 }

@@ -1,25 +1,43 @@
 //! What may stand in a cell, in words.
 
+ghost use Rattle.std.specs.Prelude.{◌≡◌, ◌++◌, flat_map, map, string_bytes, OnOk};
+ghost use Rattle.std.specs.Str.{IsUtf8};
+ghost use Rattle.cwr_fields.specs.Format.Codes.{word_text};
+ghost use Rattle.cwr_fields.specs.Format.Kinds.{letters};
+ghost use Rattle.cwr_causes.specs.Format.Expected.{counted_words, listed_words, spaced, spaced_code, table_words, type_words};
+
 use cwr_fields::{
     AgreementType, CellType, Coded, CompositeType, DistributionCategory, ExcerptType, Field,
     InclusionExclusion, Kind, MessageLevel, PostTermCollectionStatus, PriorRoyaltyStatus,
     PublisherType, RecordingFormat, RecordingTechnique, Role, SalesManufactureClause, SenderType,
-    Table, TitleType, TransactionStatus, TransactionType, VersionType, WriterDesignation,
+    Table, TitleType, TransactionStatus, TransactionType, VersionType, Word, WriterDesignation,
 };
 use std::alloc::AllocError;
 use std::fmt::Write;
 
-/// Adds the codes of a table.
-fn add_codes<C: Coded>(text: &mut String) -> Result<(), AllocError> {
-    for (_, code) in C::list() {
+/// Adds the codes of members.
+fn add_listed<C: Copy>(text: &mut String, list: &[(C, &'static str)]) -> Result<(), AllocError>
+    ensures { OnOk result (string_bytes text.new ≡ string_bytes text.old ++ flat_map spaced_code list.now) }
+{
+    for (_, code) in list {
         text.push(' ')?;
         text.push_str(code)?;
     }
     Ok(())
 }
 
+/// Adds the codes of a table of members.
+fn add_codes<C: Coded>(text: &mut String) -> Result<(), AllocError>
+    ensures { OnOk result (string_bytes text.new ≡ string_bytes text.old
+        ++ flat_map spaced (map C.code C.members)) }
+{
+    add_listed(text, C::list())
+}
+
 /// Adds the codes of senders.
-fn add_senders(text: &mut String) -> Result<(), AllocError> {
+fn add_senders(text: &mut String) -> Result<(), AllocError>
+    ensures { OnOk result (string_bytes text.new ≡ string_bytes text.old ++ listed_words Table.Sender) }
+{
     let [first, second, third, fourth] = [
         SenderType::Publisher,
         SenderType::Society,
@@ -29,9 +47,10 @@ fn add_senders(text: &mut String) -> Result<(), AllocError> {
     write!(text, " {first} {second} {third} {fourth}, or two digits")
 }
 
-/// Adds the codes of a table.
-fn add_table(text: &mut String, table: Table) -> Result<(), AllocError> {
-    text.push_str("a code, one of:")?;
+/// Adds the codes of a table, each after a space.
+fn add_table_codes(text: &mut String, table: Table) -> Result<(), AllocError>
+    ensures { OnOk result (string_bytes text.new ≡ string_bytes text.old ++ listed_words table) }
+{
     match table {
         Table::Sender => add_senders(text),
         Table::TransactionType => add_codes::<TransactionType>(text),
@@ -55,8 +74,20 @@ fn add_table(text: &mut String, table: Table) -> Result<(), AllocError> {
     }
 }
 
+/// Adds that a code of a table may stand there.
+#[tactic(auto, unfolding(crate::specs::Format::Expected::table_words))]
+fn add_table(text: &mut String, table: Table) -> Result<(), AllocError>
+    ensures { OnOk result (string_bytes text.new ≡ string_bytes text.old ++ table_words table) }
+{
+    text.push_str("a code, one of:")?;
+    add_table_codes(text, table)
+}
+
 /// Adds what a cell of the field may hold.
-pub(crate) fn add_cell_type(text: &mut String, place: &Field) -> Result<(), AllocError> {
+#[tactic(auto, unfolding(crate::specs::Format::Expected::type_words))]
+pub(crate) fn add_cell_type(text: &mut String, place: &Field) -> Result<(), AllocError>
+    ensures { OnOk result (string_bytes text.new ≡ string_bytes text.old ++ type_words place.now.width place.now.ty) }
+{
     let width = place.width;
     match place.ty {
         CellType::Text => text.push_str("text without control bytes"),
@@ -80,22 +111,34 @@ pub(crate) fn add_cell_type(text: &mut String, place: &Field) -> Result<(), Allo
             text.push_str(", or spaces")
         }
         CellType::Constant(word) => {
-            let letters = str_of(word.text());
+            let letters = word_letters(word);
             write!(text, "{letters}, and nothing else")
         }
     }
 }
 
 /// The letters of a word of the format.
-fn str_of(word: &'static [u8]) -> &'static str {
+fn str_of(word: &'static [u8]) -> &'static str
+    ensures { IsUtf8 word.now → result.now ≡ word.now }
+{
     match std::str::from_utf8(word) {
         Ok(letters) => letters,
         Err(_) => "",
     }
 }
 
+/// The letters of the word of a constant cell.
+fn word_letters(word: Word) -> &'static str
+    ensures { result.now ≡ word_text word }
+{
+    str_of(word.text())
+}
+
 /// What is counted in field `j` of a kind, from 1, where that is a number of the file's own.
-pub(crate) fn number_rule(kind: Kind, j: u8) -> &'static str {
+#[tactic(auto, unfolding(crate::specs::Format::Expected::counted_words))]
+pub(crate) fn number_rule(kind: Kind, j: u8) -> &'static str
+    ensures { result.now ≡ counted_words kind j }
+{
     match (kind, j) {
         (Kind::Grh, _) => "the group's number in the file, from 1",
         (Kind::Grt, 2) => "the number of the group that it ends",
@@ -110,6 +153,8 @@ pub(crate) fn number_rule(kind: Kind, j: u8) -> &'static str {
 }
 
 /// The letters of a kind.
-pub(crate) fn letters_of(kind: Kind) -> &'static str {
+pub(crate) fn letters_of(kind: Kind) -> &'static str
+    ensures { result.now ≡ letters kind }
+{
     str_of(cwr_fields::letters(kind))
 }

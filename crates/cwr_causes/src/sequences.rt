@@ -1,7 +1,7 @@
 //! The sequences of a line and of the line before it.
 
-ghost use Rattle.std.specs.Prelude.{IfSome, IsSomeAnd};
-ghost use Rattle.cwr_causes.specs.Format.Sequences.{HasSequence};
+ghost use Rattle.std.specs.Prelude.{◌≡◌, IfSome, option_and_then, option_map};
+ghost use Rattle.cwr_causes.specs.Format.Sequences.{HasSequence, capped_number, sequence_in, start_of_sequence};
 
 use cwr_fields::spells;
 
@@ -23,15 +23,19 @@ pub(crate) struct Sequences {
 }
 
 /// Where the sequence of that field stands in a line: the first byte, from 0.
-pub(crate) fn start_of_sequence(field: u8) -> usize {
+pub(crate) fn start_of_sequence(field: u8) -> usize
+    ensures { result ≡ start_of_sequence field }
+{
     match field {
         2 => TRANSACTION_SEQUENCE,
         _ => RECORD_SEQUENCE,
     }
 }
 
-/// The number that the bytes write, if they are digits.
-fn number_in(digits: &[u8]) -> u64 {
+/// The number that digits write, or the largest one of 64 bits where that is larger.
+pub(crate) fn number_in(digits: &[u8]) -> u64
+    ensures { result ≡ capped_number digits.now }
+{
     let mut number: u64 = 0;
     for digit in digits {
         number = number
@@ -42,8 +46,10 @@ fn number_in(digits: &[u8]) -> u64 {
 }
 
 /// The sequence that stands in a line from that byte on, from 0. `None` where no eight digits stand there.
+#[tactic(auto, using(crate::proofs::lemmas::ShortLines::none_in_short))]
 pub(crate) fn sequence_in(line: &[u8], start: usize) -> Option<u64>
-    ensures { IfSome result (λ n. HasSequence start n line.now) }
+    ensures value { result ≡ sequence_in start line.now }
+    ensures stands { IfSome result (λ n. HasSequence start n line.now) }
 {
     let digits = line.get(start..start.saturating_add(DIGITS))?;
     let number = number_in(digits);
@@ -56,9 +62,9 @@ pub(crate) fn sequence_in(line: &[u8], start: usize) -> Option<u64>
 
 /// The sequences that stand in a line and in the line before it from that byte on, from 0.
 pub(crate) fn sequences_of(line: &[u8], before: Option<&[u8]>, start: usize) -> Sequences
-    ensures here { IfSome result.here (λ n. HasSequence start n line.now) }
-    ensures before { IfSome result.before
-        (λ n. IsSomeAnd before.entry (λ b. HasSequence start n b.now)) }
+    ensures here { result.here ≡ sequence_in start line.now }
+    ensures before { result.before
+        ≡ option_and_then (sequence_in start) (option_map (λ b. b.now) before.entry) }
 {
     let here = sequence_in(line, start);
     match before {

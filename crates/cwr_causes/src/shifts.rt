@@ -1,5 +1,8 @@
 //! Why the cells of a line may stand elsewhere than in their places.
 
+ghost use Rattle.std.specs.Prelude.{string_bytes, OnOk};
+ghost use Rattle.cwr_causes.specs.Format.Texts.{Extends};
+
 use crate::expected::letters_of;
 use crate::texts::add_label;
 use cwr_fields::{Field, Kind, field, fields, width};
@@ -21,12 +24,15 @@ fn bytes_beyond(bytes: &[u8]) -> usize {
 }
 
 /// Adds that characters of several bytes shift the cells of a line, if it has some.
+#[tactic(auto, using(crate::proofs::lemmas::Extended::extended))]
 fn add_characters(
     text: &mut String,
     kind: Kind,
     bytes: &[u8],
     count: usize,
-) -> Result<(), AllocError> {
+) -> Result<(), AllocError>
+    ensures { OnOk result (Extends (string_bytes text.old) (string_bytes text.new)) }
+{
     add_label(text, "note")?;
     write!(
         text,
@@ -116,12 +122,15 @@ fn field_with_sign(kind: Kind, refused: u8, bytes: &[u8]) -> Option<(Field, Sign
 
 /// Adds why the cells of a refused line may stand elsewhere than in their places: characters of several bytes, or blanks that were
 /// lost. `refused` is the number of the field at which it is refused.
+#[tactic(auto, using(crate::proofs::lemmas::Extended::extended))]
 pub(crate) fn add_shift(
     text: &mut String,
     kind: Option<Kind>,
     refused: u8,
     bytes: &[u8],
-) -> Result<(), AllocError> {
+) -> Result<(), AllocError>
+    ensures { OnOk result (Extends (string_bytes text.old) (string_bytes text.new)) }
+{
     let Some(kind) = kind else {
         return Ok(());
     };

@@ -1,5 +1,8 @@
 //! Which other version of CWR a line names.
 
+ghost use Rattle.std.specs.Prelude.{string_bytes, OnOk};
+ghost use Rattle.cwr_causes.specs.Format.Texts.{Extends};
+
 use crate::texts::add_label;
 use cwr_fields::Kind;
 use std::alloc::AllocError;
@@ -59,11 +62,14 @@ fn version_in(kind: Kind, bytes: &[u8]) -> Option<&'static str> {
 }
 
 /// Adds which other version of CWR a line names.
+#[tactic(auto, using(crate::proofs::lemmas::Extended::extended))]
 pub(crate) fn add_version(
     text: &mut String,
     kind: Option<Kind>,
     bytes: &[u8],
-) -> Result<(), AllocError> {
+) -> Result<(), AllocError>
+    ensures { OnOk result (Extends (string_bytes text.old) (string_bytes text.new)) }
+{
     let Some(kind) = kind else {
         return Ok(());
     };

@@ -1,0 +1,21 @@
+use Rattle.std.proofs.Common.{true}
+use Rattle.cwr_causes.specs.Steps.LinesAtEnd.{EndsInLine}
+use Rattle.cwr_causes.proofs.lemmas.Extended.{on_ok}
+use Rattle.cwr_causes.proofs.lemmas.LastRefused.{of_last, seen_before}
+use Rattle.cwr_causes.proofs.beyond.add_refused.Goals as goal
+
+pub returns : goal.returns
+returns c =
+    on_ok c.add.result
+    (λ h. record {
+      line = c.line_at_end-line.result;
+      is_last = c.line_at_end-line.ensures;
+      before = _;
+      is_before =
+          λ read front line held ends. seen_before (EndsInLine front true) c.line_before.result
+          (c.line_before.ensures read front line held ends);
+      explains =
+          of_last c.args.name.now c.args.refusal.now c.line_at_end-line.result _ c.args.beyond _ _ _ _ _ c.kind_of.ensures
+          c.goes_on.ensures c.ahead.ensures h;
+    })
+    c.add.ensures

@@ -1,0 +1,20 @@
+use Rattle.std.proofs.Common.{ℕ, ap, ◌∙◌, option_map}
+use Rattle.cwr_lines.specs.Steps.Held.{HeldLine, held_cell}
+use Rattle.cwr_causes.specs.Steps.Refused.{HasCell, refused_line}
+use Rattle.cwr_causes.proofs.lemmas.Extended.{on_ok, refusal_said}
+use Rattle.cwr_causes.proofs.causes.Refused.add.Goals as goal
+
+pub returns : goal.returns
+returns c =
+    let field : ℕ = c.args.self.now.refusal.now.field in
+    let has : HasCell (refused_line c.args.self.now) (option_map (λ x. x.now) c.cell-cell.result) =
+    λ short no_lf. c.cell-cell.ensures
+    ∙ ap (λ (line : HeldLine). held_cell line field) (c.cut-cut.ensures ∙ c.line_again-again.ensures.whole short no_lf) in
+    on_ok c.add_signs.result
+    (λ signs. (
+      _,
+      has,
+      refusal_said (refused_line c.args.self.now) _ _ _ _ _ _ c.in_ok-add_head.ensures c.in_ok-add_wanted.ensures
+          c.in_ok-add_level.ensures signs,
+    ))
+    c.add_signs.ensures

@@ -1,0 +1,33 @@
+-- What is said of the bytes after a transmission.
+use Rattle.std.specs.Prelude.{ℕ, ◌==◌, Bool, true, false, List, [], ◌∷◌, ◌++◌, codes, decimal, if◌then◌else◌}
+use Rattle.std.specs.List.{concat}
+use Rattle.std.specs.Str.{bytes_eq}
+use Rattle.cwr_causes.specs.declared.trailing.Trailing.{Trailing}
+use Rattle.cwr_causes.specs.Format.Texts.{label_words}
+
+-- how many bytes stand there
+unfoldable pub count_words : ℕ → List ℕ
+count_words count = if count == 1 then codes "1 byte stands" else decimal count ++ codes " bytes stand"
+
+-- that there may be more of them
+abbrev pub least_words : Bool → List ℕ
+least_words true = []
+least_words false = codes "at least "
+
+-- that they begin as another transmission does, if they do
+unfoldable pub second_words : List ℕ → List ℕ
+second_words begins =
+    if bytes_eq begins (codes "HDR") then label_words (codes "note")
+    ++ codes "it begins with HDR, as a second transmission does: check that one in a file of its own\n" else []
+
+-- how many bytes stand after a transmission, and that nobody judges them
+unfoldable pub after_words : List ℕ → Trailing → List ℕ
+after_words name found =
+    concat
+    (label_words (codes "after") ∷ least_words found.is_all ∷ count_words found.bytes ∷ codes " in " ∷ name
+    ∷ codes " after the transmission; what stands there isn't judged\n" ∷ [])
+
+-- the same, and how they begin, where there are some
+unfoldable pub trailing_words : List ℕ → Trailing → List ℕ
+trailing_words name found =
+    if found.bytes == 0 then [] else after_words name found ++ second_words found.begins

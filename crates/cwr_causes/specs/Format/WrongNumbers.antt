@@ -1,0 +1,290 @@
+-- What is said of a number that isn't the one that belongs there: what is missing or stands twice, or which count wasn't changed.
+use Rattle.std.specs.Prelude.{ℕ, ◌+◌, ◌-◌, ◌==◌, ◌&&◌, nat_lt, min, Bool, true, false, not, List, [], ◌∷◌, ◌++◌, codes, decimal, length}
+use Rattle.std.specs.Prelude.{drop, take, Option, None, Some, if◌then◌else◌}
+use Rattle.std.specs.List.{concat}
+use Rattle.std.specs.Str.{bytes_eq}
+use Rattle.std.specs.Option.{option_and_then, option_map, option_or}
+use Rattle.cwr_causes.specs.Format.Sequences.{sequence_in, start_of_sequence}
+use Rattle.cwr_fields.specs.declared.kinds.Kind.{Kind}
+use Rattle.cwr_fields.specs.declared.kinds.Kind.TheVariants.{Agr, Nwr, Rev, Ack, Grh, Grt, Trl}
+use Rattle.cwr_causes.specs.declared.ahead.Ahead.{Ahead}
+use Rattle.cwr_causes.specs.declared.sequences.Sequences.{Sequences}
+use Rattle.cwr_causes.specs.declared.wrong_numbers.Names.{Names}
+use Rattle.cwr_causes.specs.declared.wrong_numbers.Numbered.{Numbered}
+use Rattle.cwr_causes.specs.declared.wrong_numbers.WrongNumber.{WrongNumber}
+use Rattle.cwr_causes.specs.Format.Texts.{label_words}
+use Rattle.cwr_causes.specs.declared.wrong_numbers.Numbered.TheVariants as numbered
+
+-- ---- what is numbered one by one
+
+-- what is numbered, as one and as several, and what its number is called
+pub record Naming : Type 0 where
+  pub one : List ℕ
+  pub several : List ℕ
+  pub number : List ℕ
+
+-- as its names are kept
+abbrev pub naming_of : Names → Naming
+naming_of names = record { one = names.one.now; several = names.several.now; number = names.number.now }
+
+unfoldable pub naming : Numbered → Naming
+naming numbered.Record = record { one = codes "record"; several = codes "records"; number = codes "sequence" }
+naming numbered.Transaction =
+    record { one = codes "transaction"; several = codes "transactions"; number = codes "sequence" }
+naming numbered.Group = record { one = codes "group"; several = codes "groups"; number = codes "ID" }
+
+-- that two numbers stand beside each other
+abbrev pub beside_words : Naming → Option ℕ → Option ℕ → List ℕ
+beside_words what (Some before) (Some here) =
+    concat (what.several ∷ codes " " ∷ decimal before ∷ codes " and " ∷ decimal here ∷ codes " stand beside each other: " ∷ [])
+beside_words what before here = []
+
+-- the number is the one
+abbrev pub is_number : Option ℕ → ℕ → Bool
+is_number (Some m) n = m == n
+is_number None n = false
+
+-- the number that belongs here is the first one after it
+abbrev pub stands_after : Option Ahead → ℕ → Bool
+stands_after (Some ahead) expected = is_number ahead.first expected
+stands_after None expected = false
+
+-- what is added where nothing after it was looked at
+abbrev pub unless_seen : Option Ahead → List ℕ → List ℕ
+unless_seen None words = words
+unless_seen (Some ahead) words = []
+
+-- that one changed places with the one after it
+unfoldable pub swapped_words : Naming → ℕ → List ℕ
+swapped_words what expected =
+    concat
+    (codes "the " ∷ what.one ∷ codes " with " ∷ what.number ∷ codes " " ∷ decimal expected
+    ∷ codes " stands after this line: the two changed places" ∷ [])
+
+-- that one is missing
+unfoldable pub one_missing_words : Naming → ℕ → List ℕ
+one_missing_words what expected =
+    concat
+    (codes "the " ∷ what.one ∷ codes " with " ∷ what.number ∷ codes " " ∷ decimal expected
+    ∷ codes " is missing before this line" ∷ [])
+
+-- that some are missing, up to the last
+unfoldable pub some_missing_words : Naming → ℕ → ℕ → List ℕ
+some_missing_words what expected last =
+    concat
+    (codes "the " ∷ what.several ∷ codes " with " ∷ what.number ∷ codes " " ∷ decimal expected ∷ codes " to " ∷ decimal last
+    ∷ codes " are missing before this line" ∷ [])
+
+-- where the missing ones are
+unfoldable pub place_words : Naming → ℕ → ℕ → Option Ahead → List ℕ
+place_words what found expected after =
+    if stands_after after expected then swapped_words what expected
+    else (if found - 1 == expected then one_missing_words what expected ++ unless_seen after (codes ", or stands after it")
+    else some_missing_words what expected (found - 1)
+    ++ unless_seen after (codes ", or stand after it, or the number is mistyped"))
+
+-- which ones are missing between the one before and this one
+unfoldable pub missing_words : Naming → Sequences → ℕ → ℕ → Option Ahead → List ℕ
+missing_words what neighbours found expected after =
+    beside_words what neighbours.before neighbours.here ++ place_words what found expected after
+
+-- that the number was used before
+unfoldable pub used_words : Naming → ℕ → ℕ → List ℕ
+used_words what found expected =
+    if expected - found == 1 then concat
+    (codes "this " ∷ what.one ∷ codes " has the number of the one before: it stands twice, or two files were put together" ∷ [])
+    else concat
+    (decimal (expected - found) ∷ codes " " ∷ what.several ∷ codes " before, this number was used: " ∷ what.several
+    ∷ codes " stand twice or elsewhere, or two files were put together" ∷ [])
+
+-- ---- how the numbers go on
+
+-- which numbers are shifted
+unfoldable pub shifted_words : Naming → ℕ → List ℕ
+shifted_words what count =
+    if count == 1 then concat (codes "; this number and that of the " ∷ what.one ∷ codes " after it are " ∷ [])
+    else concat
+    (codes "; this number and those of the " ∷ decimal count ∷ codes " " ∷ what.several ∷ codes " after it are " ∷ [])
+
+-- by how much they are higher, and what was taken out after that line
+unfoldable pub taken_out_words : Naming → ℕ → ℕ → List ℕ
+taken_out_words what higher line =
+    if higher == 1 then concat (codes "1 higher: the " ∷ what.one ∷ codes " after line " ∷ decimal line ∷ codes " was taken out" ∷ [])
+    else concat
+    (decimal higher ∷ codes " higher: the " ∷ what.several ∷ codes " after line " ∷ decimal line ∷ codes " were taken out" ∷ [])
+
+-- by how much they are higher or lower on the line of that number
+unfoldable pub amount_words : Naming → ℕ → ℕ → ℕ → List ℕ
+amount_words what found expected line =
+    if nat_lt expected found then taken_out_words what (found - expected) (line - 1)
+    else decimal (expected - found) ++ codes " lower"
+
+-- how the numbers after a wrong one go on
+unfoldable pub ahead_words : Naming → ℕ → ℕ → ℕ → Ahead → List ℕ
+ahead_words what found expected line ahead =
+    if ahead.count == 0 then []
+    else (if ahead.goes_on then shifted_words what ahead.count ++ amount_words what found expected line
+    else concat
+    (codes "; the " ∷ what.several ∷ codes " after it don't go on from this number, so it may be the one that is wrong" ∷ []))
+
+-- the same where they were looked at, and where it isn't said that two changed places
+abbrev pub going_on_words : Naming → ℕ → ℕ → ℕ → Option Ahead → List ℕ
+going_on_words what found expected line None = []
+going_on_words what found expected line (Some ahead) =
+    if nat_lt expected found && is_number ahead.first expected then [] else ahead_words what found expected line ahead
+
+-- what is missing, or that the number was used before
+abbrev pub reason_words : Naming → Sequences → ℕ → ℕ → Option Ahead → List ℕ
+reason_words what neighbours found expected after =
+    if nat_lt expected found then missing_words what neighbours found expected after else used_words what found expected
+
+-- what a number points to that is one more with each of what it numbers
+unfoldable pub order_words : Naming → Sequences → ℕ → ℕ → ℕ → Option Ahead → List ℕ
+order_words what neighbours found expected line after =
+    reason_words what neighbours found expected after ++ going_on_words what found expected line after
+
+-- ---- counts
+
+-- by how much a count is wrong
+unfoldable pub difference_words : ℕ → ℕ → List ℕ
+difference_words found expected =
+    if nat_lt expected found
+    then decimal (found - expected) ++ codes " missing, or the count wasn't changed when some were taken out"
+    else decimal (expected - found) ++ codes " too many, or the count wasn't changed when some were put in"
+
+-- what a count points to: that of some in the whole
+unfoldable pub count_words : List ℕ → List ℕ → ℕ → ℕ → List ℕ
+count_words whole counted found expected =
+    concat
+    (codes "the " ∷ whole ∷ codes " has " ∷ decimal expected ∷ codes " " ∷ counted ∷ codes " and says " ∷ decimal found
+    ∷ codes ": " ∷ [])
+    ++ difference_words found expected
+
+-- ---- the sequences of lines
+
+-- the one before a number
+abbrev pub one_before : ℕ → Option ℕ
+one_before n = if n == 0 then None else Some (n - 1)
+
+-- the sequence of the line before, where that is held and has one, and else the number before the one that belongs here
+abbrev pub number_before : ℕ → ℕ → Option (List ℕ) → Option ℕ
+number_before start expected before = option_or (option_and_then (sequence_in start) before) (one_before expected)
+
+-- The two numbers that stand beside each other: the sequences of the line before and of this one, or the IDs of two groups. There is
+-- no group before the first.
+abbrev pub neighbours_of : Kind → ℕ → ℕ → ℕ → List ℕ → Option (List ℕ) → Sequences
+neighbours_of Grh field found expected line before =
+    record { before = if nat_lt 1 expected then Some (expected - 1) else None; here = Some found }
+neighbours_of this_kind field found expected line before =
+    record {
+      before = number_before (start_of_sequence field) expected before;
+      here = sequence_in (start_of_sequence field) line;
+    }
+
+-- but for what stands in bytes 4 to 19, where the sequences are, the lines are the same
+abbrev pub is_same_line : List ℕ → List ℕ → Bool
+is_same_line line before =
+    let from = min (min 19 (length line)) (length before) in
+    bytes_eq (drop from line) (drop from before) && bytes_eq (take (min 3 from) line) (take (min 3 from) before)
+
+-- whether the line is the one before but for its sequences, where that is known
+abbrev pub comparison_words : List ℕ → Option (List ℕ) → List ℕ
+comparison_words line None = []
+comparison_words line (Some before) =
+    if is_same_line line before then codes "; but for the numbers both lines are the same"
+    else codes "; the two lines aren't the same"
+
+-- ---- the number that isn't the one that belongs there
+
+-- the record is the header of a transaction
+abbrev pub is_header : Kind → Bool
+is_header Agr = true
+is_header Nwr = true
+is_header Rev = true
+is_header Ack = true
+is_header this_kind = false
+
+-- A number that isn't the one that belongs there: the kind of its record, its field, what stands there, what belongs there, the
+-- number of its line, that line, the line before where it is held, and how the numbers after it go on where they were looked at.
+pub record WrongValue : Type 0 where
+  pub kind : Kind
+  pub field : ℕ
+  pub found : ℕ
+  pub expected : ℕ
+  pub number : ℕ
+  pub line : List ℕ
+  pub before : Option (List ℕ)
+  pub ahead : Option Ahead
+
+abbrev pub wrong_value : WrongNumber → WrongValue
+wrong_value wrong =
+    record {
+      kind = wrong.kind;
+      field = wrong.field;
+      found = wrong.found;
+      expected = wrong.expected;
+      number = wrong.number;
+      line = wrong.line.now;
+      before = option_map (λ b. b.now) wrong.before;
+      ahead = wrong.ahead;
+    }
+
+abbrev pub neighbours_at : WrongValue → Sequences
+neighbours_at wrong = neighbours_of wrong.kind wrong.field wrong.found wrong.expected wrong.line wrong.before
+
+-- what it points to where it is one more with each of what it numbers
+unfoldable pub in_order_words : Numbered → WrongValue → List ℕ
+in_order_words what wrong =
+    order_words (naming what) (neighbours_at wrong) wrong.found wrong.expected wrong.number wrong.ahead
+
+-- how the line compares where its number is one less than the one that belongs here
+abbrev pub repeated_words : WrongValue → List ℕ
+repeated_words wrong =
+    if wrong.expected - wrong.found == 1 then comparison_words wrong.line wrong.before else []
+
+-- what the sequence of a record points to
+unfoldable pub record_words : WrongValue → List ℕ
+record_words wrong =
+    if is_header wrong.kind && (wrong.expected == 0)
+    then codes "the header of a transaction is its first record, which has sequence 0"
+    else in_order_words numbered.Record wrong ++ repeated_words wrong
+
+-- what the sequence of a transaction points to
+unfoldable pub transaction_words : WrongValue → List ℕ
+transaction_words wrong =
+    if is_header wrong.kind then in_order_words numbered.Transaction wrong
+    else concat
+    (codes "the header of this transaction has sequence " ∷ decimal wrong.expected ∷ codes ", and the record "
+    ∷ decimal wrong.found
+    ∷ codes ": it belongs to another one, or a header is missing before it, or the number is mistyped" ∷ [])
+
+-- what the number of a group's GRT points to
+unfoldable pub foot_words : WrongValue → List ℕ
+foot_words wrong =
+    if wrong.field == 2 then concat
+    (codes "the group's GRH has ID " ∷ decimal wrong.expected ∷ codes ", and its GRT " ∷ decimal wrong.found
+    ∷ codes ": a GRT and a GRH are missing between, or one was put in the other's place" ∷ [])
+    else (if wrong.field == 3 then count_words (codes "group") (codes "transactions") wrong.found wrong.expected
+    else count_words (codes "group") (codes "records") wrong.found wrong.expected)
+
+-- what a number of the trailer points to
+unfoldable pub trailer_words : WrongValue → List ℕ
+trailer_words wrong =
+    if wrong.field == 2 then count_words (codes "file") (codes "groups") wrong.found wrong.expected
+    else (if wrong.field == 3 then count_words (codes "file") (codes "transactions") wrong.found wrong.expected
+    else count_words (codes "file") (codes "records") wrong.found wrong.expected)
+
+-- what a sequence points to
+unfoldable pub sequence_words : WrongValue → List ℕ
+sequence_words wrong = if wrong.field == 2 then transaction_words wrong else record_words wrong
+
+-- what a number of a record of the kind points to
+abbrev pub meaning_words : Kind → WrongValue → List ℕ
+meaning_words Grh wrong = in_order_words numbered.Group wrong
+meaning_words Grt wrong = foot_words wrong
+meaning_words Trl wrong = trailer_words wrong
+meaning_words this_kind wrong = sequence_words wrong
+
+-- the line that says what the number points to
+unfoldable pub points_words : WrongValue → List ℕ
+points_words wrong = concat (label_words (codes "points to") ∷ meaning_words wrong.kind wrong ∷ codes "\n" ∷ [])
