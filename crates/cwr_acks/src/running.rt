@@ -92,8 +92,10 @@ pub fn acks<R: Source, W: Target + Drop>(
     writer: W,
 ) -> (W, Result<Verdict, ToolFault>)
     requires { IfSome sent IsFresh }
+    // Of any reader, by what was read of it.
     ensures reported { Reports (lines_of_acks form (facts_if sent)) limits (R.remaining reader.old)
         (R.remaining reader.new) W.contents writer result.0 result.1 }
+    // Of bytes that are known, in the words of the text alone.
     ensures told { ReportsText (lines_of_acks form (facts_if sent)) limits (R.remaining reader.old)
         (R.remaining reader.new) W.contents writer result.0 result.1 }
     // No failure is passed over: a device failed only where that is the answer.

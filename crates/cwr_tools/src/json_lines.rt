@@ -97,8 +97,10 @@ pub fn json<R: Source, W: Target + Drop>(
     reader: &mut R,
     writer: W,
 ) -> (W, Result<Verdict, ToolFault>)
+    // Of any reader, by what was read of it.
     ensures reported { Reports (lines_of_data encoding noted) limits (R.remaining reader.old)
         (R.remaining reader.new) W.contents writer result.0 result.1 }
+    // Of bytes that are known, in the words of the text alone.
     ensures told { ReportsText (lines_of_data encoding noted) limits (R.remaining reader.old)
         (R.remaining reader.new) W.contents writer result.0 result.1 }
     // No failure is passed over: a device failed only where that is the answer.

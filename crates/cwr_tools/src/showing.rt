@@ -24,8 +24,10 @@ pub fn show<R: Source, W: Target + Drop>(
     reader: &mut R,
     writer: W,
 ) -> (W, Result<Verdict, ToolFault>)
+    // Of any reader, by what was read of it.
     ensures reported { Reports lines_of_records limits (R.remaining reader.old)
         (R.remaining reader.new) W.contents writer result.0 result.1 }
+    // Of bytes that are known, in the words of the text alone.
     ensures told { ReportsText lines_of_records limits (R.remaining reader.old)
         (R.remaining reader.new) W.contents writer result.0 result.1 }
     // No failure is passed over: a device failed only where that is the answer.
