@@ -8,9 +8,10 @@ ghost use Rattle.cwr_causes.specs.Steps.Refused.{ExplainsLine, ExplainsRefusal, 
 ghost use Rattle.cwr_causes.specs.Steps.Trailing.{found_in};
 
 use crate::ahead::{Ahead, Sequence, look_ahead, sequence_at};
-use crate::causes::{Refused, kind_of};
+use crate::causes::Refused;
 use crate::lines_at_end::{LineAtEnd, line_at_end, line_before};
 use crate::trailing::Trailing;
+use crate::truncated_words::kind_of;
 use cwr_decode::{LastRead, Refusal};
 use cwr_devices::{DeviceFault, Source};
 use cwr_lines::LONGEST_LINE;

@@ -1,34 +1,30 @@
-//! The lines that explain a verdict.
+//! The lines that explain a refusal.
 
 ghost use Rattle.std.specs.Prelude.{◌≡◌, ◌≤◌, ◌==◌, ◌++◌, not, position, length, option_map, string_bytes, OnOk};
 ghost use Rattle.cwr_fields.specs.Steps.Views.{field_view};
 ghost use Rattle.cwr_lines.specs.Format.Lines.{without_cr};
-ghost use Rattle.cwr_causes.specs.Format.Texts.{Extends, label_words};
+ghost use Rattle.cwr_causes.specs.Format.Texts.{Extends};
 ghost use Rattle.cwr_causes.specs.Format.Refusals.{byte_of_file_words, content_words, end_of_fields, excess_at, field_name, field_words};
-ghost use Rattle.cwr_causes.specs.Format.Refusals.{first_kind, found_words, head_words, named_field, number_points_words, refused_field};
+ghost use Rattle.cwr_causes.specs.Format.Refusals.{found_words, head_words, named_field, number_points_words, refused_field};
 ghost use Rattle.cwr_causes.specs.Format.Refusals.{range_words, range_of_file_words, refused_level_words, shown, where_words, without_return};
-ghost use Rattle.cwr_causes.specs.Format.TrailingTexts.{after_words, count_words, least_words, second_words, trailing_words};
-ghost use Rattle.cwr_causes.specs.Format.TruncatedTexts.{end_words, last_words};
-ghost use Rattle.cwr_causes.specs.Steps.Refused.{ExplainsEnd, ExplainsLine, refused_line};
+ghost use Rattle.cwr_causes.specs.Steps.Refused.{ExplainsLine, refused_line};
 
 use crate::ahead::Ahead;
+use crate::coming_words::add_coming;
 use crate::expected::{add_cell_type, letters_of, number_rule};
-use crate::lines_at_end::{LineAtEnd, line_again, line_at_end};
-use crate::next_symbols::coming;
+use crate::lines_at_end::{LineAtEnd, line_again};
 use crate::openings::opening_of;
 use crate::sequences::number_in;
 use crate::shifts::add_shift;
 use crate::texts::{add_beginning, add_cell, add_label};
-use crate::trailing::Trailing;
+use crate::truncated_words::add_cut_off;
 use crate::versions::add_version;
 use crate::wrong_numbers::{WrongNumber, is_header};
-use cwr_decode::{LastRead, Refusal};
-use cwr_fields::{
-    CellFault, Field, Kind, TransactionType, field, first_control, is_carried, width,
-};
+use cwr_decode::Refusal;
+use cwr_fields::{CellFault, Field, Kind, TransactionType, field, first_control, width};
 use cwr_lines::{CutLine, LONGEST_LINE};
 use cwr_notes::level_words;
-use cwr_shape::{LimitKind, Limits, Reason, Stage, Symbol, TransactionStep};
+use cwr_shape::{LimitKind, Limits, Reason, Stage, TransactionStep};
 use std::alloc::{AllocError, Global};
 use std::fmt::Write;
 
@@ -256,89 +252,6 @@ impl Refused<'_> {
             None => Ok(()),
         }
     }
-}
-
-/// Adds a symbol as an order of records names it.
-#[tactic(auto, using(crate::proofs::lemmas::Extended::extended))]
-fn add_symbol(text: &mut String, symbol: Symbol) -> Result<(), AllocError>
-    ensures { OnOk result (Extends (string_bytes text.old) (string_bytes text.new)) }
-{
-    match symbol {
-        Symbol::Plain(kind) => text.push_str(letters_of(kind)),
-        Symbol::Ipa(role) => write!(text, "IPA of role {role}"),
-        Symbol::Grh(ty) => write!(text, "GRH of type {ty}"),
-    }
-}
-
-/// Whether the symbol is that of a record that is carried as text.
-fn is_carried_symbol(symbol: Symbol) -> bool {
-    match symbol {
-        Symbol::Plain(kind) => is_carried(kind),
-        _ => false,
-    }
-}
-
-/// Adds what stands between two symbols, where one was added before.
-#[tactic(auto, using(crate::proofs::lemmas::Extended::extended))]
-fn add_separator(text: &mut String, follows: bool) -> Result<(), AllocError>
-    ensures { OnOk result (Extends (string_bytes text.old) (string_bytes text.new)) }
-{
-    if follows { text.push_str(", ") } else { Ok(()) }
-}
-
-/// Adds the symbol, if it is one of those carried as text, or one of the others, that are asked for. The answer is whether one was
-/// added so far.
-#[tactic(auto, using(crate::proofs::lemmas::Extended::extended))]
-fn add_listed_symbol(
-    text: &mut String,
-    symbol: Symbol,
-    carried: bool,
-    follows: bool,
-) -> Result<bool, AllocError>
-    ensures { OnOk result (Extends (string_bytes text.old) (string_bytes text.new)) }
-{
-    if is_carried_symbol(symbol) != carried {
-        return Ok(follows);
-    }
-    add_separator(text, follows)?;
-    add_symbol(text, symbol)?;
-    Ok(true)
-}
-
-/// Adds those of the symbols that are carried as text, or the others.
-#[tactic(auto, using(crate::proofs::lemmas::Extended::extended))]
-fn add_symbols(text: &mut String, symbols: &[Symbol], carried: bool) -> Result<(), AllocError>
-    ensures { OnOk result (Extends (string_bytes text.old) (string_bytes text.new)) }
-{
-    let mut follows = false;
-    for symbol in symbols {
-        follows = add_listed_symbol(text, *symbol, carried, follows)?;
-    }
-    text.push('\n')
-}
-
-/// Adds those of the symbols that are carried as text, on a line of their own, if there are some.
-#[tactic(auto, using(crate::proofs::lemmas::Extended::extended))]
-fn add_carried(text: &mut String, symbols: &[Symbol]) -> Result<(), AllocError>
-    ensures { OnOk result (Extends (string_bytes text.old) (string_bytes text.new)) }
-{
-    if !symbols.iter().any(|symbol| is_carried_symbol(*symbol)) {
-        return Ok(());
-    }
-    add_label(text, "")?;
-    text.push_str("or, carried as text, ")?;
-    add_symbols(text, symbols, true)
-}
-
-/// Adds what may come at a stage.
-#[tactic(auto, using(crate::proofs::lemmas::Extended::extended))]
-fn add_coming(alloc: Global, text: &mut String, stage: Stage) -> Result<(), AllocError>
-    ensures { OnOk result (Extends (string_bytes text.old) (string_bytes text.new)) }
-{
-    let symbols = coming(alloc, stage)?;
-    add_label(text, "expected")?;
-    add_symbols(text, symbols.as_slice(), false)?;
-    add_carried(text, symbols.as_slice())
 }
 
 /// Adds a number in the width of its field.
@@ -690,174 +603,4 @@ fn add_returns(text: &mut String, bytes: &[u8]) -> Result<(), AllocError>
         }
         None => Ok(()),
     }
-}
-
-/// Adds that a last line may have been cut off.
-#[tactic(auto, using(crate::proofs::lemmas::Extended::extended))]
-fn add_cut_off(
-    text: &mut String,
-    line: &LineAtEnd<'_>,
-    kind: Option<Kind>,
-) -> Result<(), AllocError>
-    ensures { OnOk result (Extends (string_bytes text.old) (string_bytes text.new)) }
-{
-    let whole = match kind {
-        Some(kind) => width(kind),
-        None => 3,
-    };
-    let count = line.bytes.len();
-    if line.ended || count >= whole {
-        return Ok(());
-    }
-    add_label(text, "note")?;
-    writeln!(
-        text,
-        "the last line has no line end and {count} of {whole} bytes: the file may have been cut off"
-    )
-}
-
-/// The kind of a line.
-pub(crate) fn kind_of(bytes: &[u8]) -> Option<Kind>
-    ensures { result ≡ first_kind bytes.now }
-{
-    match bytes {
-        [a, b, c, ..] => Kind::of(&[*a, *b, *c]),
-        _ => None,
-    }
-}
-
-/// Adds where an input ends: after a record of the kind, if there is one, and after so many bytes.
-#[tactic(auto, unfolding(crate::specs::Format::TruncatedTexts::end_words))]
-fn add_end(
-    text: &mut String,
-    name: &str,
-    kind: Option<Kind>,
-    records: u32,
-    bytes: u64,
-) -> Result<(), AllocError>
-    ensures { OnOk result (string_bytes text.new ≡ string_bytes text.old
-        ++ end_words name.now kind records bytes) }
-{
-    add_label(text, "where")?;
-    match kind {
-        Some(kind) if records > 0 => add_last(text, name, letters_of(kind), records, bytes),
-        _ => writeln!(text, "{name}: the file is empty"),
-    }
-}
-
-/// Adds after which record, by its letters, and how many bytes an input ends.
-#[tactic(auto, unfolding(crate::specs::Format::TruncatedTexts::last_words))]
-fn add_last(
-    text: &mut String,
-    name: &str,
-    letters: &str,
-    records: u32,
-    bytes: u64,
-) -> Result<(), AllocError>
-    ensures { OnOk result (string_bytes text.new ≡ string_bytes text.old
-        ++ last_words name.now letters.now records bytes) }
-{
-    writeln!(
-        text,
-        "{name}, after line {records}, {letters}: the file ends there, after byte {bytes}"
-    )
-}
-
-/// Adds that the last line may have been cut off, where there is one.
-#[tactic(auto, using(crate::proofs::lemmas::Extended::extended))]
-fn add_last_cut_off(
-    text: &mut String,
-    records: u32,
-    line: &LineAtEnd<'_>,
-    kind: Option<Kind>,
-) -> Result<(), AllocError>
-    ensures { OnOk result (Extends (string_bytes text.old) (string_bytes text.new)) }
-{
-    if records > 0 {
-        add_cut_off(text, line, kind)
-    } else {
-        Ok(())
-    }
-}
-
-/// Adds what is said of an input that ends too early.
-#[tactic(auto, using(crate::proofs::lemmas::Extended::truncated_said))]
-pub fn add_truncated(
-    alloc: Global,
-    text: &mut String,
-    name: &str,
-    records: u32,
-    last: &LastRead,
-) -> Result<(), AllocError>
-    ensures { OnOk result (ExplainsEnd name.now records last.now (string_bytes text.old)
-        (string_bytes text.new)) }
-{
-    let line = line_at_end(&last.bytes);
-    let kind = kind_of(line.bytes);
-    add_end(text, name, kind, records, last.bytes.read())?;
-    add_coming(alloc, text, last.stage)?;
-    add_last_cut_off(text, records, &line, kind)
-}
-
-/// Adds how many bytes stand there.
-#[tactic(auto, unfolding(crate::specs::Format::TrailingTexts::count_words))]
-fn add_count(text: &mut String, count: u64) -> Result<(), AllocError>
-    ensures { OnOk result (string_bytes text.new ≡ string_bytes text.old ++ count_words count) }
-{
-    if count == 1 {
-        text.push_str("1 byte stands")
-    } else {
-        write!(text, "{count} bytes stand")
-    }
-}
-
-/// Adds that there may be more of them.
-fn add_least(text: &mut String, is_all: bool) -> Result<(), AllocError>
-    ensures { OnOk result (string_bytes text.new ≡ string_bytes text.old ++ least_words is_all) }
-{
-    if is_all {
-        Ok(())
-    } else {
-        text.push_str("at least ")
-    }
-}
-
-/// Adds that they begin as another transmission does, if they do.
-#[tactic(auto, unfolding(crate::specs::Format::TrailingTexts::second_words))]
-fn add_second(text: &mut String, begins: &[u8]) -> Result<(), AllocError>
-    ensures { OnOk result (string_bytes text.new ≡ string_bytes text.old ++ second_words begins.now) }
-{
-    if begins != b"HDR".as_slice() {
-        return Ok(());
-    }
-    add_label(text, "note")?;
-    text.push_str(
-        "it begins with HDR, as a second transmission does: check that one in a file of its own\n",
-    )
-}
-
-/// Adds how many bytes stand after a transmission, and that nobody judges them.
-#[tactic(auto, unfolding(crate::specs::Format::TrailingTexts::after_words))]
-fn add_after(text: &mut String, name: &str, found: &Trailing) -> Result<(), AllocError>
-    ensures { OnOk result (string_bytes text.new ≡ string_bytes text.old ++ after_words name.now found.now) }
-{
-    add_label(text, "after")?;
-    add_least(text, found.is_all)?;
-    add_count(text, found.bytes)?;
-    writeln!(
-        text,
-        " in {name} after the transmission; what stands there isn't judged"
-    )
-}
-
-/// Adds what is said of the bytes after a transmission.
-#[tactic(auto, unfolding(crate::specs::Format::TrailingTexts::trailing_words))]
-pub fn add_trailing(text: &mut String, name: &str, found: &Trailing) -> Result<(), AllocError>
-    ensures { OnOk result (string_bytes text.new ≡ string_bytes text.old ++ trailing_words name.now found.now) }
-{
-    if found.bytes == 0 {
-        return Ok(());
-    }
-    add_after(text, name, found)?;
-    add_second(text, &found.begins[..])
 }

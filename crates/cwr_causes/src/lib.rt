@@ -5,6 +5,7 @@
 mod ahead;
 mod beyond;
 mod causes;
+mod coming_words;
 mod expected;
 pub mod laws;
 mod lines_at_end;
@@ -14,12 +15,15 @@ mod sequences;
 mod shifts;
 mod texts;
 mod trailing;
+mod trailing_words;
+mod truncated_words;
 mod versions;
 mod wrong_numbers;
 
 pub use ahead::Ahead;
 pub use beyond::{Beyond, add_refused, explain_fault, look_after_line};
-pub use causes::{add_trailing, add_truncated};
 pub use lines_at_end::{LineAtEnd, line_at_end};
 pub use next_symbols::{coming, may_come};
 pub use trailing::{Trailing, read_trailing};
+pub use trailing_words::add_trailing;
+pub use truncated_words::add_truncated;

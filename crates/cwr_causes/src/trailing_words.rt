@@ -1,0 +1,72 @@
+//! What is said of the bytes after a transmission.
+
+ghost use Rattle.std.specs.Prelude.{◌≡◌, ◌++◌, string_bytes, OnOk};
+ghost use Rattle.cwr_causes.specs.Format.TrailingTexts.{after_words, count_words, least_words, second_words, trailing_words};
+
+use crate::texts::add_label;
+use crate::trailing::Trailing;
+use std::alloc::AllocError;
+use std::fmt::Write;
+
+/// Adds how many bytes stand there.
+#[tactic(auto, unfolding(crate::specs::Format::TrailingTexts::count_words))]
+fn add_count(text: &mut String, count: u64) -> Result<(), AllocError>
+    ensures { OnOk result (string_bytes text.new ≡ string_bytes text.old ++ count_words count) }
+{
+    if count == 1 {
+        text.push_str("1 byte stands")
+    } else {
+        write!(text, "{count} bytes stand")
+    }
+}
+
+/// Adds that there may be more of them.
+fn add_least(text: &mut String, is_all: bool) -> Result<(), AllocError>
+    ensures { OnOk result (string_bytes text.new ≡ string_bytes text.old ++ least_words is_all) }
+{
+    if is_all {
+        Ok(())
+    } else {
+        text.push_str("at least ")
+    }
+}
+
+/// Adds that they begin as another transmission does, if they do.
+#[tactic(auto, unfolding(crate::specs::Format::TrailingTexts::second_words))]
+fn add_second(text: &mut String, begins: &[u8]) -> Result<(), AllocError>
+    ensures { OnOk result (string_bytes text.new ≡ string_bytes text.old ++ second_words begins.now) }
+{
+    if begins != b"HDR".as_slice() {
+        return Ok(());
+    }
+    add_label(text, "note")?;
+    text.push_str(
+        "it begins with HDR, as a second transmission does: check that one in a file of its own\n",
+    )
+}
+
+/// Adds how many bytes stand after a transmission, and that nobody judges them.
+#[tactic(auto, unfolding(crate::specs::Format::TrailingTexts::after_words))]
+fn add_after(text: &mut String, name: &str, found: &Trailing) -> Result<(), AllocError>
+    ensures { OnOk result (string_bytes text.new ≡ string_bytes text.old ++ after_words name.now found.now) }
+{
+    add_label(text, "after")?;
+    add_least(text, found.is_all)?;
+    add_count(text, found.bytes)?;
+    writeln!(
+        text,
+        " in {name} after the transmission; what stands there isn't judged"
+    )
+}
+
+/// Adds what is said of the bytes after a transmission.
+#[tactic(auto, unfolding(crate::specs::Format::TrailingTexts::trailing_words))]
+pub fn add_trailing(text: &mut String, name: &str, found: &Trailing) -> Result<(), AllocError>
+    ensures { OnOk result (string_bytes text.new ≡ string_bytes text.old ++ trailing_words name.now found.now) }
+{
+    if found.bytes == 0 {
+        return Ok(());
+    }
+    add_after(text, name, found)?;
+    add_second(text, &found.begins[..])
+}
