@@ -24,11 +24,18 @@ pub struct CwrField {
     pub derived: u32,
 }
 
+/// The kind at a place of a list, from 0.
+fn kind_in(kinds: &[Kind], i: usize) -> Option<Kind>
+    ensures { result ≡ slice_get kinds.now i }
+{
+    kinds.get(i).copied()
+}
+
 /// Kind number `i`, from 0. `None` where there are no more.
 pub(crate) fn kind_at(i: usize) -> Option<Kind>
     ensures { result ≡ slice_get all_kinds i }
 {
-    all_kinds().get(i).copied()
+    kind_in(all_kinds(), i)
 }
 
 /// Field `j`, from 1, of the kind that the letters name.

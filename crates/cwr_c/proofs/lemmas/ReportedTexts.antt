@@ -36,6 +36,13 @@ text_on_items of limits before after text report contents old new (Ok verdict) e
     (there.0, after, there.1, alone (contents old) (contents new) report (text_on of there.0 verdict) none has there.2)
 text_on_items of limits before after text report contents old new (Err fault) e none has h = tt
 
+pub text_reported : {W : Type 0} (of : ItemLines) (limits : Limits) (before after : Option (List ℕ)) (text report : List ℕ)
+    (contents : W → Option (List ℕ)) (old new : W) (result : Result Verdict ToolFault)
+    → Reports of limits before after contents old new result → before ≡ Some text → contents old ≡ Some []
+    → contents new ≡ Some report → IsWritten (IsTextOn of limits text report) result
+text_reported of limits before after text report contents old new result h e none has =
+    text_on_items of limits before after text report contents old new result e none has h
+
 -- words that follow a text
 followed : (old mid new : Option (List ℕ)) (report text words : List ℕ) → old ≡ Some [] → new ≡ Some report → Appends old mid text
     → Appends mid new words → report ≡ text ++ words
