@@ -1,6 +1,7 @@
 //! Inputs: files, and standard input.
 
 ghost use Rattle.std.specs.Prelude.{◌≡◌, ℕ, List, Option, Some, IfSome, IsOkAnd, true, option_map};
+ghost use Rattle.cwr_files.specs.Format.Faults.{IfErr, IsUnopened};
 ghost use Rattle.cwr_files.specs.Format.Inputs.{is_standard};
 ghost use Rattle.cwr_files.specs.Steps.Inputs.{HasLeft, remaining_of};
 
@@ -91,6 +92,7 @@ pub fn open_input<'a, R: Files, I: Read, P: Pace + Drop>(
     ensures standard { is_standard (option_map (λ n. n.now) name.entry) ≡ true
         → IfSome standard.old
         (λ input. IsOkAnd result (HasLeft R.File.remaining I.remaining (I.remaining input))) }
+    ensures unopened { IfErr result IsUnopened }
 {
     match name {
         Some(word) if word != DASH => match File::open(rt, word) {

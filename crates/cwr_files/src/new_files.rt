@@ -1,9 +1,10 @@
 //! Files that are written, and that have their names only once they are whole.
 
-ghost use Rattle.std.specs.Prelude.{◌≡◌, ◌+◌, ℕ, None, Some, IfOk, string_bytes};
+ghost use Rattle.std.specs.Prelude.{◌≡◌, ◌+◌, ℕ, None, Some, IfOk, OnOk, string_bytes};
+ghost use Rattle.cwr_files.specs.Format.Faults.{IfErr, IsOfOutput, IsUnkept, IsUnmade};
 ghost use Rattle.cwr_devices.specs.Steps.Counted.{failures_of};
 ghost use Rattle.cwr_devices.specs.Format.Failures.{one_more_failure};
-ghost use Rattle.cwr_files.specs.Steps.NumberedFiles.{asked_of, failed_calls_of, given_up_of, lent_of, part_name, replaces_none};
+ghost use Rattle.cwr_files.specs.Steps.NumberedFiles.{IsPartUnmade, asked_of, failed_calls_of, given_up_of, lent_of, name_of, part_name, replaces_none};
 
 use crate::faults::{Fault, Name, Reason};
 use crate::outputs::{Gathered, gathered, told_of};
@@ -81,9 +82,13 @@ impl NewFile {
     }
 
     /// Gives the file its name as `keep` does, and tells what it is called where that fails.
-    pub fn keep_as<'a, R: Files>(self, rt: &R, name: Name<'a>) -> Result<(), Fault<'a>> {
-        self.keep(rt)
-            .map_err(|fault| Fault::Output(name, Some(Reason::of(&fault))))
+    pub fn keep_as<'a, R: Files>(self, rt: &R, name: Name<'a>) -> Result<(), Fault<'a>>
+        ensures { IfErr result (IsUnkept name.entry) }
+    {
+        match self.keep(rt) {
+            Ok(()) => Ok(()),
+            Err(fault) => Err(Fault::Output(name, Some(Reason::of(&fault)))),
+        }
     }
 
     /// Removes the file. Where that can't be done it stays under the name that says so.
@@ -99,8 +104,12 @@ pub fn create_output<'a, R: Files>(
     rt: &R,
     alloc: Global,
     out: &'a str,
-) -> Result<(NewFile, R::File), Fault<'a>> {
-    let name = out.to_string(alloc).map_err(|_| Fault::Memory)?;
+) -> Result<(NewFile, R::File), Fault<'a>>
+    ensures { IfErr result (IsUnmade (Name.File out.entry)) }
+{
+    let Ok(name) = out.to_string(alloc) else {
+        return Err(Fault::Memory);
+    };
     match NewFile::create(rt, alloc, name) {
         Ok(made) => Ok(made),
         Err(fault) if fault.kind() == io::ErrorKind::OutOfMemory => Err(Fault::Memory),
@@ -165,7 +174,9 @@ impl<'r, 'a, R: Files> NumberedFiles<'r, 'a, R> {
     }
 
     /// What the part in hand is called.
-    fn name(&self) -> Name<'a> {
+    fn name(&self) -> Name<'a>
+        ensures { result ≡ name_of self.now }
+    {
         Name::Part(self.prefix, self.asked)
     }
 
@@ -178,6 +189,7 @@ impl<'r, 'a, R: Files> NumberedFiles<'r, 'a, R> {
         ensures given_up { given_up_of self.new ≡ given_up_of self.old }
         ensures unfailed { IfOk result (λ writer. failures_of writer ≡ 0) }
         ensures lent { IfOk result (λ writer. lent_of self.new ≡ 1) }
+        ensures unmade { IfErr result (IsPartUnmade self.old) }
     {
         if self.input.is_some() && identity_of(self.rt, name.as_str()) == self.input {
             return Err(Fault::IsInput(self.name()));
@@ -188,7 +200,10 @@ impl<'r, 'a, R: Files> NumberedFiles<'r, 'a, R> {
         match NewFile::create(self.rt, self.alloc, name) {
             Ok((made, file)) => {
                 self.open_file = Some(made);
-                gathered(self.alloc, file, self.name()).map_err(|_| Fault::Memory)
+                match gathered(self.alloc, file, self.name()) {
+                    Ok(writer) => Ok(writer),
+                    Err(_) => Err(Fault::Memory),
+                }
             }
             Err(fault) => Err(Fault::Output(self.name(), Some(Reason::of(&fault)))),
         }
@@ -215,6 +230,8 @@ impl<'r, 'a, R: Files> NumberedFiles<'r, 'a, R> {
 
     /// Gives the file that was written its name.
     fn keep(&mut self) -> Result<(), Fault<'a>>
+        ensures kept { OnOk result (lent_of self.old ≡ 1) }
+        ensures unkept { IfErr result (IsOfOutput (name_of self.old)) }
         ensures asked { asked_of self.new ≡ asked_of self.old }
         ensures guarded { replaces_none self.new ≡ replaces_none self.old }
         ensures failed_calls { failed_calls_of self.new ≡ failed_calls_of self.old }

@@ -1,13 +1,15 @@
 //! How a run ends, by its verdict and by what is wanted beside it.
 
-ghost use Rattle.std.specs.Prelude.{◌≡◌};
+ghost use Rattle.std.specs.Prelude.{◌≡◌, true};
+ghost use Rattle.cwr_files.specs.Format.Faults.{IfErr, IsUnkept};
 ghost use Rattle.cwr_transform.specs.Format.Endings.{EndsAfterFault};
 ghost use Rattle.cwr_transform.specs.Steps.Looks.{follows, status_in, whole_status};
 
 use cwr_causes::Trailing;
-use cwr_files::{Fault, Told};
+use cwr_files::{Fault, Name, NewFile, Told};
 use cwr_shape::Level;
 use cwr_tools::{ToolFault, Verdict};
+use std::rt::Files;
 
 /// How a run ended, as its exit status, from the best to the worst.
 #[derive(Clone, Copy, Debug, PartialEq, Eq, PartialOrd, Ord)]
@@ -89,5 +91,22 @@ pub fn ended_by<'a>(
         Some(ToolFault::Refused(_) | ToolFault::Truncated { .. } | ToolFault::Limit(_)) => {
             Ok(Status::Refused)
         }
+    }
+}
+
+/// Gives a file its name where it is wanted, and else removes it.
+pub(crate) fn settle<'a, R: Files>(
+    rt: &R,
+    made: NewFile,
+    out: &'a str,
+    is_wanted: bool,
+) -> Result<(), Fault<'a>>
+    ensures { IfErr result (λ fault. (is_wanted ≡ true) × IsUnkept (Name.File out.entry) fault) }
+{
+    if is_wanted {
+        made.keep_as(rt, Name::File(out))
+    } else {
+        made.discard(rt);
+        Ok(())
     }
 }

@@ -1,8 +1,9 @@
 //! Transmissions that are written from lines of JSON.
 
-ghost use Rattle.cwr_transform.specs.Format.Endings.{ImportEndsAs};
+ghost use Rattle.cwr_files.specs.Steps.Inputs.{remaining_of};
+ghost use Rattle.cwr_transform.specs.Format.Imports.{EndsAsFileImport, EndsAsImport, ImportEndsAs, JudgesImport};
 
-use crate::endings::Status;
+use crate::endings::{Status, settle};
 use cwr_devices::{Counted, Sink};
 use cwr_files::{Fault, Gathered, Input, Name, Pace, Told, create_output, gathered, told_of};
 use cwr_json::Encoding;
@@ -56,7 +57,9 @@ fn import_from<'a, F: Read + Drop, I: Read + Drop, P: Pace + Drop, O: Write + Dr
     import: &Import,
     input: Input<'a, F, I, P>,
     writer: Gathered<'a, O>,
-) -> (Result<Written, WriteFault>, Told<'a>, Told<'a>) {
+) -> (Result<Written, WriteFault>, Told<'a>, Told<'a>)
+    ensures { JudgesImport import.now (remaining_of F.remaining I.remaining input.entry) result.0 }
+{
     let mut reader = Counted::new(input);
     let (writer, outcome) = write(
         alloc,
@@ -76,8 +79,12 @@ pub fn import_input<'a, F: Read + Drop, I: Read + Drop, P: Pace + Drop, O: Write
     input: Input<'a, F, I, P>,
     output: O,
     error: &mut E,
-) -> Result<Status, Fault<'a>> {
-    let writer = gathered(alloc, output, Name::StandardOutput).map_err(|_| Fault::Memory)?;
+) -> Result<Status, Fault<'a>>
+    ensures { EndsAsImport import.now (remaining_of F.remaining I.remaining input.entry) result }
+{
+    let Ok(writer) = gathered(alloc, output, Name::StandardOutput) else {
+        return Err(Fault::Memory);
+    };
     let (outcome, read, written) = import_from(alloc, import, input, writer);
     tell_import(import, &outcome, error);
     import_ending(outcome, read, written)
@@ -97,18 +104,21 @@ pub fn import_file<
     input: Input<'a, F, I, P>,
     out: &'a str,
     error: &mut E,
-) -> Result<Status, Fault<'a>> {
+) -> Result<Status, Fault<'a>>
+    ensures { EndsAsFileImport import.now (remaining_of F.remaining I.remaining input.entry) result }
+{
     let alloc = rt.alloc();
-    let (made, file) = create_output(rt, alloc, out)?;
+    let (made, file) = match create_output(rt, alloc, out) {
+        Ok(made) => made,
+        Err(fault) => return Err(fault),
+    };
     let Ok(writer) = gathered(alloc, file, Name::File(out)) else {
         made.discard(rt);
         return Err(Fault::Memory);
     };
     let (outcome, read, written) = import_from(alloc, import, input, writer);
-    if outcome.is_ok() {
-        made.keep_as(rt, Name::File(out))?;
-    } else {
-        made.discard(rt);
+    if let Err(fault) = settle(rt, made, out, outcome.is_ok()) {
+        return Err(fault);
     }
     tell_import(import, &outcome, error);
     import_ending(outcome, read, written)

@@ -1,8 +1,10 @@
 //! Transmissions that are joined to one.
 
-ghost use Rattle.std.specs.Prelude.{◌<◌, length};
+ghost use Rattle.std.specs.Prelude.{◌≡◌, ◌<◌, length, IfOk};
+ghost use Rattle.cwr_files.specs.Format.Faults.{IfErr};
+ghost use Rattle.cwr_transform.specs.Format.Joins.{EndsAfterJoin, EndsAsJoin, EndsJoined, IsRefusedOut, IsUnjoined, IsUnread, IsUnwritten, is_wanted};
 
-use crate::endings::{Look, Status, ended_by, follows};
+use crate::endings::{Look, Status, ended_by, follows, settle};
 use crate::looks::{look_beyond, tell_following};
 use crate::splits::hand_on;
 use cwr_devices::{Counted, Sink, Source};
@@ -38,14 +40,21 @@ fn open_inputs<'a, R: Files, I: Read + Drop>(
     alloc: Global,
     names: &[&'a str],
     standard: I,
-) -> Result<Vec<Reader<'a, R::File, I>>, Fault<'a>> {
+) -> Result<Vec<Reader<'a, R::File, I>>, Fault<'a>>
+    ensures opened { IfOk result (λ readers. length readers.items ≡ length names.now) }
+    ensures unopened { IfErr result IsUnread }
+{
     let mut standard = Some(standard);
     let mut readers = Vec::new(alloc);
     for name in names {
-        let input = open_input(rt, Some(*name), &mut standard, Unwatched)?;
-        readers
-            .push(Counted::new(input))
-            .map_err(|_| Fault::Memory)?;
+        match open_input(rt, Some(*name), &mut standard, Unwatched) {
+            Ok(input) => {
+                if readers.push(Counted::new(input)).is_err() {
+                    return Err(Fault::Memory);
+                }
+            }
+            Err(fault) => return Err(fault),
+        }
     }
     Ok(readers)
 }
@@ -56,7 +65,9 @@ pub fn refuse_out<'a, R: Files>(
     out: &'a str,
     only_new: bool,
     names: &[&'a str],
-) -> Result<(), Fault<'a>> {
+) -> Result<(), Fault<'a>>
+    ensures { IfErr result (IsRefusedOut (Name.File out.entry) only_new) }
+{
     let own = identity_of(rt, out);
     for name in names {
         if own.is_some() && identity_of_input(rt, name) == own {
@@ -127,9 +138,12 @@ struct Joined<'a> {
 
 impl Joined<'_> {
     /// Whether what was written is what is wanted: a transmission, and where nothing may follow those of the inputs nothing does.
-    fn is_wanted(&self, whole: bool) -> bool {
+    fn is_wanted(&self, whole: bool) -> bool
+        ensures { result ≡ is_wanted whole self.now.after }
+    {
         match self.after {
-            Some(after) => !whole || after == Ok(false),
+            Some(Ok(follows)) => !(whole && follows),
+            Some(Err(_)) => !whole,
             None => false,
         }
     }
@@ -163,9 +177,13 @@ fn join_to_file<'a, R: Files + AllocGlobal, S: Source, P: Pace, E: Write>(
     error: &mut E,
 ) -> Result<Joined<'a>, Fault<'a>>
     requires { 0 < length readers.old }
+    ensures { IfErr result (IsUnjoined (Name.File union.now.out)) }
 {
     let alloc = rt.alloc();
-    let (made, file) = create_output(rt, alloc, union.out)?;
+    let (made, file) = match create_output(rt, alloc, union.out) {
+        Ok(made) => made,
+        Err(fault) => return Err(fault),
+    };
     let Some((outcome, written)) = write_joined(alloc, union, &mut *readers, file, pace) else {
         made.discard(rt);
         return Err(Fault::Memory);
@@ -179,19 +197,19 @@ fn join_to_file<'a, R: Files + AllocGlobal, S: Source, P: Pace, E: Write>(
         after,
         written,
     };
-    if joined.is_wanted(union.whole) {
-        made.keep_as(rt, Name::File(union.out))?;
-    } else {
-        made.discard(rt);
+    match settle(rt, made, union.out, joined.is_wanted(union.whole)) {
+        Ok(()) => Ok(joined),
+        Err(fault) => Err(fault),
     }
-    Ok(joined)
 }
 
 /// Writes the line that says how a join ended.
 fn put_line<'a, O: Write + Drop>(
     outcome: &Result<JoinReport, JoinFault>,
     lines: Gathered<'a, O>,
-) -> Result<(), Fault<'a>> {
+) -> Result<(), Fault<'a>>
+    ensures { IfErr result IsUnwritten }
+{
     let mut sink = Sink::new(lines);
     let put = put_join_outcome(outcome, &mut sink);
     hand_on(put, sink)
@@ -202,19 +220,45 @@ fn ending<'a, F: Drop, I: Drop>(
     joined: Joined<'a>,
     union: &Union<'a>,
     readers: Vec<Reader<'a, F, I>>,
-) -> Result<Status, Fault<'a>> {
+) -> Result<Status, Fault<'a>>
+    ensures { EndsJoined union.now joined.entry.outcome joined.entry.after result }
+{
     let written = joined.written;
-    match (joined.outcome, joined.after) {
-        (Ok(_), Some(Err(number))) if union.whole => {
-            Err(Fault::Read(told_at(readers, number).unwrap_or(written)))
-        }
-        (Ok(_), Some(Ok(true))) if union.whole => Ok(Status::Refused),
-        (Ok(_), _) => Ok(Status::Good),
-        (Err(stopped), _) => {
+    match joined.outcome {
+        Ok(_) => after_join(joined.after, union.whole, readers, written),
+        Err(stopped) => {
             let read = told_at(readers, stopped.input).unwrap_or(written);
             let made = Fault::Output(Name::File(union.out), None);
             ended_by(Some(stopped.fault), read, written, made)
         }
+    }
+}
+
+/// How a run ends whose inputs are joined, by what stands after their transmissions.
+fn after_join<'a, F: Drop, I: Drop>(
+    after: Option<Result<bool, usize>>,
+    whole: bool,
+    readers: Vec<Reader<'a, F, I>>,
+    written: Told<'a>,
+) -> Result<Status, Fault<'a>>
+    ensures { EndsAfterJoin whole after result }
+{
+    match after {
+        Some(Ok(follows)) => {
+            if whole && follows {
+                Ok(Status::Refused)
+            } else {
+                Ok(Status::Good)
+            }
+        }
+        Some(Err(number)) => {
+            if whole {
+                Err(Fault::Read(told_at(readers, number).unwrap_or(written)))
+            } else {
+                Ok(Status::Good)
+            }
+        }
+        None => Ok(Status::Good),
     }
 }
 
@@ -228,17 +272,44 @@ pub fn join_files<'a, R: Files + AllocGlobal, I: Read + Drop, P: Pace, O: Write 
     pace: &mut P,
     output: O,
     error: &mut E,
-) -> Result<Status, Fault<'a>> {
+) -> Result<Status, Fault<'a>>
+    ensures { EndsAsJoin union.now (length names.now) result }
+{
     let alloc = rt.alloc();
-    let lines = gathered(alloc, output, Name::StandardOutput).map_err(|_| Fault::Memory)?;
-    let mut readers = open_inputs(rt, alloc, names, standard)?;
+    let Ok(lines) = gathered(alloc, output, Name::StandardOutput) else {
+        return Err(Fault::Memory);
+    };
+    let mut readers = match open_inputs(rt, alloc, names, standard) {
+        Ok(readers) => readers,
+        Err(fault) => return Err(fault),
+    };
     if readers.is_empty() {
         return Ok(Status::CommandLine);
     }
-    refuse_out(rt, union.out, union.only_new, names)?;
-    let joined = join_to_file(rt, union, names, readers.as_mut_slice(), pace, error)?;
-    if joined.outcome.is_err() || joined.is_wanted(union.whole) {
-        put_line(&joined.outcome, lines)?;
+    if let Err(fault) = refuse_out(rt, union.out, union.only_new, names) {
+        return Err(fault);
+    }
+    let joined = match join_to_file(rt, union, names, readers.as_mut_slice(), pace, error) {
+        Ok(joined) => joined,
+        Err(fault) => return Err(fault),
+    };
+    if let Err(fault) = put_joined(&joined, union.whole, lines) {
+        return Err(fault);
     }
     ending(joined, union, readers)
+}
+
+/// Writes the line that says how a join ended: none where it isn't what is wanted.
+fn put_joined<'a, O: Write + Drop>(
+    joined: &Joined<'_>,
+    whole: bool,
+    lines: Gathered<'a, O>,
+) -> Result<(), Fault<'a>>
+    ensures { IfErr result IsUnwritten }
+{
+    if joined.outcome.is_err() || joined.is_wanted(whole) {
+        put_line(&joined.outcome, lines)
+    } else {
+        Ok(())
+    }
 }

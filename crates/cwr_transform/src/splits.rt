@@ -1,6 +1,8 @@
 //! Transmissions that are cut into files.
 
 ghost use Rattle.cwr_transform.specs.Format.Endings.{EndsAsSplit};
+ghost use Rattle.cwr_transform.specs.Format.Joins.{IsUnwritten};
+ghost use Rattle.cwr_files.specs.Format.Faults.{IfErr};
 ghost use Rattle.cwr_files.specs.Steps.Inputs.{remaining_of};
 ghost use Rattle.cwr_transform.specs.Steps.Looks.{whole_status};
 ghost use Rattle.cwr_transform.specs.Steps.Splits.{JudgesCut, SplitEndsAs};
@@ -40,7 +42,9 @@ pub struct Cut<'a> {
 pub fn hand_on<'a, O: Write + Drop>(
     put: Result<(), SinkFault>,
     sink: Sink<Gathered<'a, O>>,
-) -> Result<(), Fault<'a>> {
+) -> Result<(), Fault<'a>>
+    ensures { IfErr result IsUnwritten }
+{
     let mut writer = sink.into_inner();
     match (put, writer.flush()) {
         (Ok(()), Ok(())) => Ok(()),

@@ -1,5 +1,9 @@
 -- What the files of a split count, and their names.
-use Rattle.std.specs.Prelude.{ℕ, ◌-◌, ◌^◌, Bool, List, ◌++◌, Option, Some, None}
+use Rattle.std.specs.Prelude.{◌≡◌, ℕ, ◌-◌, ◌^◌, Bool, true, List, ◌++◌, Option, Some, None, IsSome}
+use Rattle.cwr_files.specs.declared.faults.Fault.{Fault}
+use Rattle.cwr_files.specs.declared.faults.Fault.TheVariants as faults
+use Rattle.cwr_files.specs.declared.faults.Name.{Name}
+use Rattle.cwr_files.specs.declared.faults.Name.TheVariants.{Part}
 use Rattle.std.specs.Fmt.{format_spec, styled_decimal}
 use Rattle.cwr_files.specs.declared.new_files.NumberedFiles.{NumberedFiles}
 use Rattle.cwr_files.specs.declared.new_files.NewFile.{NewFile}
@@ -31,3 +35,16 @@ written_at (Some file) = 1
 
 abbrev pub lent_of : {R F D : Type 0} → NumberedFiles R F D → ℕ
 lent_of files = written_at files.open_file
+
+-- what the part in hand is called
+abbrev pub name_of : {R F D : Type 0} → NumberedFiles R F D → Name
+name_of files = Part files.prefix files.asked
+
+-- The part couldn't be made: it is the input, where that is known, or it is there where none may be replaced, or the system couldn't
+-- make it, or there was no memory.
+abbrev pub IsPartUnmade : {R F D : Type 0} → NumberedFiles R F D → Fault → Type 0
+IsPartUnmade files (faults.IsInput of) = (of ≡ name_of files) × IsSome files.input
+IsPartUnmade files (faults.IsThere of) = (of ≡ name_of files) × (files.only_new ≡ true)
+IsPartUnmade files (faults.Output of reason) = of ≡ name_of files
+IsPartUnmade files faults.Memory = Unit {0}
+IsPartUnmade files fault = ⊥

@@ -8,9 +8,6 @@ use Rattle.cwr_judge.specs.Format.Items.{value_items}
 use Rattle.cwr_tools.specs.declared.verdicts.ToolFault.{ToolFault}
 use Rattle.cwr_tools.specs.declared.verdicts.ToolFault.TheVariants as tool_faults
 use Rattle.cwr_tools.specs.Format.Watching.{any_from}
-use Rattle.cwr_write.specs.declared.writing.Written.{Written}
-use Rattle.cwr_write.specs.declared.writing.WriteFault.{WriteFault}
-use Rattle.cwr_write.specs.declared.writing.WriteFault.TheVariants as write_faults
 use Rattle.cwr_transform.specs.declared.endings.Status.{Status}
 use Rattle.cwr_transform.specs.declared.endings.Status.TheVariants as statuses
 use Rattle.cwr_transform.specs.declared.endings.Wanted.{Wanted}
@@ -56,12 +53,3 @@ abbrev pub EndsAsSplit : Limits → Bool → Option (List ℕ) → Result Status
 EndsAsSplit limits whole input (Ok status) =
     IfSome input (λ text. IsStatusOn limits (record { whole = whole; fail_on = None }) text status)
 EndsAsSplit limits whole input (Err fault) = Unit {0}
-
--- an import that is written ends the run well, and one that is refused otherwise; the fault of a device or of memory is reported
-abbrev pub ImportEndsAs : Told → Told → Result Written WriteFault → Result Status Fault → Type 0
-ImportEndsAs input output (Ok written) ending = ending ≡ Ok statuses.Good
-ImportEndsAs input output (Err (write_faults.Refused refusal)) ending = ending ≡ Ok statuses.Refused
-ImportEndsAs input output (Err (write_faults.Early lines)) ending = ending ≡ Ok statuses.Refused
-ImportEndsAs input output (Err write_faults.Reader) ending = ending ≡ Err (faults.Read input)
-ImportEndsAs input output (Err (write_faults.Writer written)) ending = ending ≡ Err (faults.Write output)
-ImportEndsAs input output (Err write_faults.Memory) ending = ending ≡ Err faults.Memory

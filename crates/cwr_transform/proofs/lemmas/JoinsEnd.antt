@@ -1,0 +1,127 @@
+-- A join ends as what it is made of answers.
+use Rattle.std.proofs.Common.{◌≡◌, ℕ, ◌<◌, Bool, true, false, ◌&&◌, List, Option, Some, None, sym, subst}
+use Rattle.std.specs.Prelude.{Result, Ok, Err}
+use Rattle.cwr_tools.specs.declared.verdicts.JoinFault.{JoinFault}
+use Rattle.cwr_tools.specs.declared.verdicts.JoinReport.{JoinReport}
+use Rattle.cwr_tools.specs.declared.verdicts.ToolFault.{ToolFault}
+use Rattle.cwr_tools.specs.declared.verdicts.ToolFault.TheVariants as tool_faults
+use Rattle.cwr_files.specs.declared.faults.Fault.{Fault}
+use Rattle.cwr_files.specs.declared.faults.Fault.TheVariants as faults
+use Rattle.cwr_files.specs.declared.faults.Name.{Name}
+use Rattle.cwr_files.specs.declared.faults.Name.TheVariants.{File}
+use Rattle.cwr_files.specs.declared.faults.Told.{Told}
+use Rattle.cwr_files.specs.Format.Faults.{IsUnkept, IsUnmade, IsUnopened}
+use Rattle.cwr_transform.specs.declared.endings.Status.{Status}
+use Rattle.cwr_transform.specs.declared.endings.Status.TheVariants as statuses
+use Rattle.cwr_transform.specs.declared.joins.Union.{Union}
+use Rattle.cwr_transform.specs.Format.Endings.{EndsAfterFault}
+use Rattle.cwr_transform.specs.Format.Joins.{EndsAfterJoin, EndsAsJoin, EndsJoined, EndsLooked, EndsUnseen, IsJoinFault}
+use Rattle.cwr_transform.specs.Format.Joins.{IsRefusedOut, IsUnjoined, IsUnread, IsUnwritten}
+
+-- ---- faults
+
+pub unread : (union : Union) (fault : Fault) → IsUnread fault → IsJoinFault union fault
+unread union (faults.Open name reason) h = tt
+unread union (faults.Read told) h = absurd h
+unread union (faults.Write told) h = absurd h
+unread union (faults.Output name reason) h = absurd h
+unread union (faults.IsInput name) h = absurd h
+unread union (faults.IsThere name) h = absurd h
+unread union (faults.IsTwice name) h = absurd h
+unread union faults.Memory h = tt
+
+pub unwritten : (union : Union) (fault : Fault) → IsUnwritten fault → IsJoinFault union fault
+unwritten union (faults.Open name reason) h = absurd h
+unwritten union (faults.Read told) h = absurd h
+unwritten union (faults.Write told) h = tt
+unwritten union (faults.Output name reason) h = absurd h
+unwritten union (faults.IsInput name) h = absurd h
+unwritten union (faults.IsThere name) h = absurd h
+unwritten union (faults.IsTwice name) h = absurd h
+unwritten union faults.Memory h = absurd h
+
+pub refused_out : (union : Union) (fault : Fault) → IsRefusedOut (File union.out) union.only_new fault → IsJoinFault union fault
+refused_out union (faults.Open name reason) h = absurd h
+refused_out union (faults.Read told) h = absurd h
+refused_out union (faults.Write told) h = absurd h
+refused_out union (faults.Output name reason) h = absurd h
+refused_out union (faults.IsInput name) h = h
+refused_out union (faults.IsThere name) h = h
+refused_out union (faults.IsTwice name) h = absurd h
+refused_out union faults.Memory h = absurd h
+
+pub unjoined : (union : Union) (fault : Fault) → IsUnjoined (File union.out) fault → IsJoinFault union fault
+unjoined union (faults.Open name reason) h = tt
+unjoined union (faults.Read told) h = absurd h
+unjoined union (faults.Write told) h = absurd h
+unjoined union (faults.Output name reason) h = tt
+unjoined union (faults.IsInput name) h = absurd h
+unjoined union (faults.IsThere name) h = absurd h
+unjoined union (faults.IsTwice name) h = absurd h
+unjoined union faults.Memory h = tt
+
+pub unmade : (name : Name) (fault : Fault) → IsUnmade name fault → IsUnjoined name fault
+unmade name (faults.Open of reason) h = h.0
+unmade name (faults.Read told) h = absurd h
+unmade name (faults.Write told) h = absurd h
+unmade name (faults.Output of reason) h = absurd h
+unmade name (faults.IsInput of) h = absurd h
+unmade name (faults.IsThere of) h = absurd h
+unmade name (faults.IsTwice of) h = absurd h
+unmade name faults.Memory h = tt
+
+pub unkept : (name : Name) (fault : Fault) → IsUnkept name fault → IsUnjoined name fault
+unkept name (faults.Open of reason) h = absurd h
+unkept name (faults.Read told) h = absurd h
+unkept name (faults.Write told) h = absurd h
+unkept name (faults.Output of reason) h = h.0
+unkept name (faults.IsInput of) h = absurd h
+unkept name (faults.IsThere of) h = absurd h
+unkept name (faults.IsTwice of) h = absurd h
+unkept name faults.Memory h = absurd h
+
+-- ---- the end
+
+as_join : (union : Union) (n : ℕ) (ending goal : Result Status Fault) → ending ≡ goal → EndsAsJoin union n goal
+    → EndsAsJoin union n ending
+as_join union n ending goal e h = subst (EndsAsJoin union n) (sym e) h
+
+looked : (union : Union) (n : ℕ) (b : Bool) (ending : Result Status Fault) → 0 < n → EndsLooked b ending → EndsAsJoin union n ending
+looked union n true ending some h = as_join union n ending (Ok statuses.Refused) h some
+looked union n false ending some h = as_join union n ending (Ok statuses.Good) h some
+
+unseen : (union : Union) (n : ℕ) (b : Bool) (ending : Result Status Fault) → 0 < n → EndsUnseen b ending → EndsAsJoin union n ending
+unseen union n true ending some h = as_join union n ending (Err (faults.Read h.0)) h.1 tt
+unseen union n false ending some h = as_join union n ending (Ok statuses.Good) h some
+
+after : (union : Union) (n : ℕ) (whole : Bool) (found : Option (Result Bool ℕ)) (ending : Result Status Fault) → 0 < n
+    → EndsAfterJoin whole found ending → EndsAsJoin union n ending
+after union n whole (Some (Ok follows)) ending some h = looked union n (whole && follows) ending some h
+after union n whole (Some (Err number)) ending some h = unseen union n whole ending some h
+after union n whole None ending some h = as_join union n ending (Ok statuses.Good) h some
+
+failed : (union : Union) (n : ℕ) (read written : Told) (fault : ToolFault) (ending : Result Status Fault) → 0 < n
+    → EndsAfterFault read written (faults.Output (File union.out) None) (Some fault) ending → EndsAsJoin union n ending
+failed union n read written tool_faults.Reader ending some h = as_join union n ending (Err (faults.Read read)) h tt
+failed union n read written (tool_faults.Writer k) ending some h = as_join union n ending (Err (faults.Write written)) h tt
+failed union n read written tool_faults.Memory ending some h = as_join union n ending (Err faults.Memory) h tt
+failed union n read written tool_faults.Output ending some h =
+    as_join union n ending (Err (faults.Output (File union.out) None)) h tt
+failed union n read written (tool_faults.Refused r) ending some h = as_join union n ending (Ok statuses.Refused) h some
+failed union n read written (tool_faults.Truncated k) ending some h = as_join union n ending (Ok statuses.Refused) h some
+failed union n read written (tool_faults.Limit l) ending some h = as_join union n ending (Ok statuses.Refused) h some
+
+pub join_ends : (union : Union) (n : ℕ) (outcome : Result JoinReport JoinFault) (found : Option (Result Bool ℕ))
+    (ending : Result Status Fault) → 0 < n → EndsJoined union outcome found ending → EndsAsJoin union n ending
+join_ends union n (Ok report) found ending some h = after union n union.whole found ending some h
+join_ends union n (Err stopped) found ending some h = failed union n h.0 h.1 stopped.fault ending some h.2
+
+pub unopened : (fault : Fault) → IsUnopened fault → IsUnread fault
+unopened (faults.Open name reason) h = tt
+unopened (faults.Read told) h = absurd h
+unopened (faults.Write told) h = absurd h
+unopened (faults.Output name reason) h = absurd h
+unopened (faults.IsInput name) h = absurd h
+unopened (faults.IsThere name) h = absurd h
+unopened (faults.IsTwice name) h = absurd h
+unopened faults.Memory h = absurd h

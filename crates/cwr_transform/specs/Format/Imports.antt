@@ -1,0 +1,53 @@
+-- What the end of an import means for the program.
+use Rattle.std.specs.Prelude.{◌≡◌, ◌⊎◌, ℕ, ◌-◌, ◌^◌, ◌<◌, List, length, Option, IfSome, Result, Ok, Err}
+use Rattle.cwr_write.specs.declared.refusals.LineFault.{LineFault}
+use Rattle.cwr_write.specs.declared.writing.Written.{Written}
+use Rattle.cwr_write.specs.declared.writing.WriteFault.{WriteFault}
+use Rattle.cwr_write.specs.declared.writing.WriteFault.TheVariants as write_faults
+use Rattle.cwr_write.specs.Format.Endings.{EndsAtLine, EndsEarly, EndsWell, StopsAtLine}
+use Rattle.cwr_transform.specs.declared.endings.Status.{Status}
+use Rattle.cwr_transform.specs.declared.endings.Status.TheVariants as statuses
+use Rattle.cwr_transform.specs.declared.imports.Import.{Import}
+use Rattle.cwr_files.specs.declared.faults.Told.{Told}
+use Rattle.cwr_files.specs.declared.faults.Fault.{Fault}
+use Rattle.cwr_files.specs.declared.faults.Fault.TheVariants as faults
+
+-- an import that is written ends the run well, and one that is refused otherwise; the fault of a device or of memory is reported
+abbrev pub ImportEndsAs : Told → Told → Result Written WriteFault → Result Status Fault → Type 0
+ImportEndsAs input output (Ok written) ending = ending ≡ Ok statuses.Good
+ImportEndsAs input output (Err (write_faults.Refused refusal)) ending = ending ≡ Ok statuses.Refused
+ImportEndsAs input output (Err (write_faults.Early lines)) ending = ending ≡ Ok statuses.Refused
+ImportEndsAs input output (Err write_faults.Reader) ending = ending ≡ Err (faults.Read input)
+ImportEndsAs input output (Err (write_faults.Writer written)) ending = ending ≡ Err (faults.Write output)
+ImportEndsAs input output (Err write_faults.Memory) ending = ending ≡ Err faults.Memory
+
+-- of an input of fewer than 2^64 - 1 bytes that are known the outcome is right: all lines are taken, or up to which one no
+-- transmission continues, or they end too early
+abbrev pub JudgesImport : Import → Option (List ℕ) → Result Written WriteFault → Type 0
+JudgesImport import input outcome =
+    IfSome input
+    (λ text. length text < 2 ^ 64 - 1 → EndsAtLine import.encoding import.limits import.most text outcome)
+
+-- An import of the text ends well where all its lines are taken and a transmission within the limits ends with them, and as refused
+-- where up to some line no transmission continues, or none ends with them.
+abbrev pub IsImportStatus : Import → List ℕ → Status → Type 0
+IsImportStatus import text statuses.Good = (n : ℕ) × EndsWell import.encoding import.limits import.most text n
+IsImportStatus import text statuses.Refused =
+    ((n : ℕ) × (fault : LineFault) × StopsAtLine import.encoding import.limits import.most text n fault)
+    ⊎ ((n : ℕ) × EndsEarly import.encoding import.limits import.most text n)
+IsImportStatus import text statuses.CommandLine = ⊥
+IsImportStatus import text statuses.Fault = ⊥
+
+-- so it does where the bytes of the input are known, or the input, the output or memory failed
+abbrev pub EndsAsImport : Import → Option (List ℕ) → Result Status Fault → Type 0
+EndsAsImport import input (Ok status) = IfSome input (λ text. length text < 2 ^ 64 - 1 → IsImportStatus import text status)
+EndsAsImport import input (Err (faults.Read told)) = Unit {0}
+EndsAsImport import input (Err (faults.Write told)) = Unit {0}
+EndsAsImport import input (Err faults.Memory) = Unit {0}
+EndsAsImport import input (Err fault) = ⊥
+
+-- so it does too where it is written to a file, which may not be made, or not be given its name
+abbrev pub EndsAsFileImport : Import → Option (List ℕ) → Result Status Fault → Type 0
+EndsAsFileImport import input (Err (faults.Open name reason)) = Unit {0}
+EndsAsFileImport import input (Err (faults.Output name reason)) = Unit {0}
+EndsAsFileImport import input ending = EndsAsImport import input ending

@@ -1,0 +1,91 @@
+-- What the end of a join means for the program.
+use Rattle.std.specs.Prelude.{◌≡◌, ◌<◌, ℕ, Bool, true, false, not, ◌&&◌, Option, Some, None, Result, Ok, Err}
+use Rattle.cwr_tools.specs.declared.verdicts.JoinFault.{JoinFault}
+use Rattle.cwr_tools.specs.declared.verdicts.JoinReport.{JoinReport}
+use Rattle.cwr_files.specs.declared.faults.Fault.{Fault}
+use Rattle.cwr_files.specs.declared.faults.Fault.TheVariants as faults
+use Rattle.cwr_files.specs.declared.faults.Name.{Name}
+use Rattle.cwr_files.specs.declared.faults.Name.TheVariants.{File}
+use Rattle.cwr_files.specs.declared.faults.Told.{Told}
+use Rattle.cwr_transform.specs.declared.endings.Status.{Status}
+use Rattle.cwr_transform.specs.declared.endings.Status.TheVariants as statuses
+use Rattle.cwr_transform.specs.declared.joins.Union.{Union}
+use Rattle.cwr_transform.specs.Format.Endings.{EndsAfterFault}
+
+-- ---- faults
+
+-- an input couldn't be opened, or there was no memory
+abbrev pub IsUnread : Fault → Type 0
+IsUnread (faults.Open name reason) = Unit {0}
+IsUnread faults.Memory = Unit {0}
+IsUnread fault = ⊥
+
+-- what is written to standard output wasn't taken
+abbrev pub IsUnwritten : Fault → Type 0
+IsUnwritten (faults.Write told) = Unit {0}
+IsUnwritten fault = ⊥
+
+-- what was to be written is an input, or is there where only a new file may be made
+abbrev pub IsRefusedOut : Name → Bool → Fault → Type 0
+IsRefusedOut name only_new (faults.IsInput of) = of ≡ name
+IsRefusedOut name only_new (faults.IsThere of) = (of ≡ name) × (only_new ≡ true)
+IsRefusedOut name only_new fault = ⊥
+
+-- the file couldn't be made, or not be given its name, or there was no memory
+abbrev pub IsUnjoined : Name → Fault → Type 0
+IsUnjoined name (faults.Open of reason) = of ≡ name
+IsUnjoined name (faults.Output of reason) = of ≡ name
+IsUnjoined name faults.Memory = Unit {0}
+IsUnjoined name fault = ⊥
+
+-- ---- the end
+
+-- What was written is what is wanted, by what stands after the transmissions of the inputs: whether bytes do, or the number of the
+-- input that failed there. Nothing was looked at where the join failed.
+abbrev pub is_wanted : Bool → Option (Result Bool ℕ) → Bool
+is_wanted whole None = false
+is_wanted whole (Some (Ok follows)) = not (whole && follows)
+is_wanted whole (Some (Err number)) = not whole
+
+-- a join that failed ends as its fault does, with what is known of the input and of the output
+abbrev pub EndsAfterJoinFault : Name → JoinFault → Result Status Fault → Type 0
+EndsAfterJoinFault name stopped ending =
+    (read : Told) × (written : Told) × EndsAfterFault read written (faults.Output name None) (Some stopped.fault) ending
+
+-- something follows where nothing may
+abbrev pub EndsLooked : Bool → Result Status Fault → Type 0
+EndsLooked true ending = ending ≡ Ok statuses.Refused
+EndsLooked false ending = ending ≡ Ok statuses.Good
+
+-- an input failed there
+abbrev pub EndsUnseen : Bool → Result Status Fault → Type 0
+EndsUnseen true ending = (told : Told) × (ending ≡ Err (faults.Read told))
+EndsUnseen false ending = ending ≡ Ok statuses.Good
+
+-- A join that succeeds ends well unless something follows a transmission where nothing may, which ends it as refused, or an input
+-- failed there.
+abbrev pub EndsAfterJoin : Bool → Option (Result Bool ℕ) → Result Status Fault → Type 0
+EndsAfterJoin whole (Some (Ok follows)) ending = EndsLooked (whole && follows) ending
+EndsAfterJoin whole (Some (Err number)) ending = EndsUnseen whole ending
+EndsAfterJoin whole None ending = ending ≡ Ok statuses.Good
+
+-- so a run ends, by what the join answered
+abbrev pub EndsJoined : Union → Result JoinReport JoinFault → Option (Result Bool ℕ) → Result Status Fault → Type 0
+EndsJoined union (Ok report) after ending = EndsAfterJoin union.whole after ending
+EndsJoined union (Err stopped) after ending = EndsAfterJoinFault (File union.out) stopped ending
+
+-- the fault of a join
+abbrev pub IsJoinFault : Union → Fault → Type 0
+IsJoinFault union (faults.IsInput of) = of ≡ File union.out
+IsJoinFault union (faults.IsThere of) = (of ≡ File union.out) × (union.only_new ≡ true)
+IsJoinFault union (faults.IsTwice of) = ⊥
+IsJoinFault union fault = Unit {0}
+
+-- A join of so many inputs ends well or as refused; where there is none, as words do that ask for nothing. Else a file, a device or
+-- memory failed, or the file may not be written.
+abbrev pub EndsAsJoin : Union → ℕ → Result Status Fault → Type 0
+EndsAsJoin union inputs (Ok statuses.Good) = 0 < inputs
+EndsAsJoin union inputs (Ok statuses.Refused) = 0 < inputs
+EndsAsJoin union inputs (Ok statuses.CommandLine) = inputs ≡ 0
+EndsAsJoin union inputs (Ok statuses.Fault) = ⊥
+EndsAsJoin union inputs (Err fault) = IsJoinFault union fault
