@@ -29,45 +29,7 @@ utf8 bs h = IsUtf8-from_ascii bs (low_bytes bs h)
 low_letters : (kind : Kind) → are_low (letters kind) ≡ true
 unfolding are_low
 low_letters kinds.Hdr = refl
-low_letters kinds.Grh = refl
-low_letters kinds.Grt = refl
-low_letters kinds.Trl = refl
-low_letters kinds.Agr = refl
-low_letters kinds.Ter = refl
-low_letters kinds.Ipa = refl
-low_letters kinds.Nwr = refl
-low_letters kinds.Rev = refl
-low_letters kinds.Spu = refl
-low_letters kinds.Opu = refl
-low_letters kinds.Spt = refl
-low_letters kinds.Swr = refl
-low_letters kinds.Owr = refl
-low_letters kinds.Swt = refl
-low_letters kinds.Pwr = refl
-low_letters kinds.Alt = refl
-low_letters kinds.Ewt = refl
-low_letters kinds.Ver = refl
-low_letters kinds.Per = refl
-low_letters kinds.Rec = refl
-low_letters kinds.Orn = refl
-low_letters kinds.Com = refl
-low_letters kinds.Ack = refl
-low_letters kinds.Msg = refl
-low_letters kinds.Opt = refl
-low_letters kinds.Owt = refl
-low_letters kinds.Npn = refl
-low_letters kinds.Npr = refl
-low_letters kinds.Nwn = refl
-low_letters kinds.Npa = refl
-low_letters kinds.Net = refl
-low_letters kinds.Now = refl
-low_letters kinds.Nct = refl
-low_letters kinds.Nvt = refl
-low_letters kinds.Nat = refl
-low_letters kinds.Ins = refl
-low_letters kinds.Ind = refl
-low_letters kinds.Ari = refl
-low_letters kinds.Xrf = refl
+low_letters this_kind = refl
 
 pub letters_utf8 : (kind : Kind) → IsUtf8 (letters kind)
 letters_utf8 kind = utf8 (letters kind) (low_letters kind)
