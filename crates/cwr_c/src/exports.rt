@@ -1,56 +1,21 @@
 //! What C calls.
 
 ghost use Rattle.std.specs.Prelude.{◌≡◌};
-ghost use Rattle.cwr_c.specs.Format.Answers.{Checks, Indexes};
-ghost use Rattle.cwr_c.specs.Format.FieldNumbers.{TellsBlank, TellsCode, TellsField, TellsKind};
-ghost use Rattle.cwr_c.specs.Format.WrittenTexts.{TellsImported, TellsWritten};
-ghost use Rattle.cwr_c.specs.Steps.Listed.{TellsFindings};
-ghost use Rattle.cwr_c.specs.Steps.Reported.{TellsReport};
+ghost use Rattle.cwr_calls.specs.Format.Answers.{Checks, Indexes};
+ghost use Rattle.cwr_calls.specs.Format.FieldNumbers.{TellsBlank, TellsCode, TellsField, TellsKind};
+ghost use Rattle.cwr_calls.specs.Format.WrittenTexts.{TellsImported, TellsWritten};
+ghost use Rattle.cwr_calls.specs.Steps.Listed.{TellsFindings};
+ghost use Rattle.cwr_calls.specs.Steps.Reported.{TellsReport};
 
-use crate::codes::{blank_line, put_code};
-use crate::fields::{CwrField, find_field, kind_at, place_of};
-use crate::imports::import_text;
-use crate::listing::{CwrFinding, list_findings};
-use crate::reports::{copy_out, report, what_is_asked};
-use crate::verdicts::{CwrVerdict, end_in_c, ended, in_c};
-use crate::writing::{CwrWritten, write_text, written};
-use cwr_decode::{IndexEntry, index};
-use cwr_devices::{Counted, DeviceFault, Target};
-use cwr_fields::{Kind, letters};
-use cwr_shape::Limits;
-use cwr_tools::check;
+use cwr_calls::{
+    CwrField, CwrFinding, CwrVerdict, CwrWritten, blank_record, check_text, code_text, field_place,
+    findings_in, index_text, kind_letters, report_on, write_data, write_records,
+};
+use cwr_decode::IndexEntry;
 use std::alloc::Global;
-use std::str::from_utf8;
 
 /// The number of this interface: it changes where a call, a struct or a number means something else than before.
 const INTERFACE: u32 = 1;
-
-/// A writer that keeps nothing.
-#[derive(Drop)]
-struct Nowhere {
-    /// All that was written was handed on.
-    handed_on: bool,
-}
-
-impl Target for Nowhere {
-    ghost use Rattle.std.specs.Prelude.{None};
-
-    ghost contents = { λ w. None };
-
-    ghost handed_on = { λ w. w.handed_on };
-
-    ghost failures = { λ w. 0 };
-
-    fn write(&mut self, text: &[u8]) -> Result<usize, DeviceFault> {
-        self.handed_on = false;
-        Ok(text.len())
-    }
-
-    fn flush(&mut self) -> Result<(), DeviceFault> {
-        self.handed_on = true;
-        Ok(())
-    }
-}
 
 /// The number of the interface that was linked: a header or a binding for another one doesn't fit.
 #[unsafe(no_mangle)]
@@ -72,16 +37,7 @@ pub extern "C" fn cwr_check(
 )
     ensures { Checks records groups transaction text.now verdict.new }
 {
-    let Ok(limits) = Limits::new(records, groups, transaction) else {
-        *verdict = ended(4);
-        return;
-    };
-    let mut reader = Counted::new(text);
-    let (_, checked) = check(alloc, limits, &mut reader, Nowhere { handed_on: true });
-    *verdict = match checked {
-        Ok(found) => in_c(found),
-        Err(_) => ended(3),
-    };
+    check_text(alloc, text, records, groups, transaction, verdict)
 }
 
 /// Checks the text, writes the verdict, and puts the findings that a check tells before it, as far as there is room. Answers how many
@@ -99,21 +55,7 @@ pub extern "C" fn cwr_findings(
     ensures { TellsFindings records groups transaction text.now findings.old findings.new result
         verdict.new }
 {
-    let Ok(limits) = Limits::new(records, groups, transaction) else {
-        *verdict = ended(4);
-        return 0;
-    };
-    let (count, found) = list_findings(alloc, limits, text, findings);
-    match found {
-        Ok(found) => {
-            *verdict = in_c(found);
-            count
-        }
-        Err(_) => {
-            *verdict = ended(3);
-            0
-        }
-    }
+    findings_in(alloc, text, records, groups, transaction, findings, verdict)
 }
 
 /// Puts an entry for each record that is accepted, as far as there is room, writes how the text ended, and answers how
@@ -129,13 +71,7 @@ pub extern "C" fn cwr_index(
 ) -> usize
     ensures { Indexes records groups transaction text.now lines.old lines.new result verdict.new }
 {
-    let Ok(limits) = Limits::new(records, groups, transaction) else {
-        *verdict = ended(4);
-        return 0;
-    };
-    let (count, end) = index(limits, text, lines);
-    *verdict = end_in_c(end);
-    count
+    index_text(text, records, groups, transaction, lines, verdict)
 }
 
 /// Writes the report that `what` asks for into the room, as far as there is any: 0 a check, 1 a show, 2 an explanation, 3 the data as
@@ -156,26 +92,17 @@ pub extern "C" fn cwr_report(
     ensures { TellsReport what records groups transaction text.now room.old room.new result
         verdict.new }
 {
-    let Ok(limits) = Limits::new(records, groups, transaction) else {
-        *verdict = ended(4);
-        return 0;
-    };
-    let Some(what) = what_is_asked(what) else {
-        *verdict = ended(4);
-        return 0;
-    };
-    let name = from_utf8(name).unwrap_or("-");
-    let (made, found) = report(alloc, limits, what, name, text);
-    match found {
-        Ok(found) => {
-            *verdict = in_c(found);
-            copy_out(made.as_slice(), room)
-        }
-        Err(_) => {
-            *verdict = ended(3);
-            0
-        }
-    }
+    report_on(
+        alloc,
+        what,
+        text,
+        records,
+        groups,
+        transaction,
+        name,
+        room,
+        verdict,
+    )
 }
 
 /// Puts the three letters of kind number `i`, from 0, as far as there is room. Answers 3, and 0 where there are no more kinds.
@@ -183,10 +110,7 @@ pub extern "C" fn cwr_report(
 pub extern "C" fn cwr_kind(i: u32, kind: &mut [u8]) -> usize
     ensures { TellsKind i kind.old kind.new result }
 {
-    match kind_at(i as usize) {
-        Some(found) => copy_out(letters(found), kind),
-        None => 0,
-    }
+    kind_letters(i, kind)
 }
 
 /// Where field `j`, from 1, of the kind that three letters name stands, and its name, as far as there is room. Answers how
@@ -195,13 +119,7 @@ pub extern "C" fn cwr_kind(i: u32, kind: &mut [u8]) -> usize
 pub extern "C" fn cwr_field(kind: &[u8], j: u8, place: &mut CwrField, name: &mut [u8]) -> usize
     ensures { TellsField kind.now j place.old place.new name.old name.new result }
 {
-    match find_field(kind, j) {
-        Some(found) => {
-            *place = place_of(&found);
-            copy_out(found.name.as_bytes(), name)
-        }
-        None => 0,
-    }
+    field_place(kind, j, place, name)
 }
 
 /// Puts text number `i`, from 0, of those that cells of field `j` may hold, as far as there is room: a code, a flag or a constant.
@@ -210,10 +128,7 @@ pub extern "C" fn cwr_field(kind: &[u8], j: u8, place: &mut CwrField, name: &mut
 pub extern "C" fn cwr_code(kind: &[u8], j: u8, i: u32, code: &mut [u8]) -> usize
     ensures { TellsCode kind.now j code.old code.new result }
 {
-    match Kind::of(kind) {
-        Some(kind) => put_code(kind, j, i, code),
-        None => 0,
-    }
+    code_text(kind, j, i, code)
 }
 
 /// Puts the line of a record in which nothing was set, in full width, as far as there is room: the kind's letters, the words of
@@ -222,13 +137,7 @@ pub extern "C" fn cwr_code(kind: &[u8], j: u8, i: u32, code: &mut [u8]) -> usize
 pub extern "C" fn cwr_blank(kind: &[u8], line: &mut [u8]) -> usize
     ensures { TellsBlank kind.now line.old line.new result }
 {
-    match Kind::of(kind) {
-        Some(kind) => match blank_line(kind) {
-            Some(blank) => copy_out(blank.as_slice(), line),
-            None => 0,
-        },
-        None => 0,
-    }
+    blank_record(kind, line)
 }
 
 /// Writes the canonical text of the transmission whose records the lines carry into the room, as far as there is any. The
@@ -245,20 +154,7 @@ pub extern "C" fn cwr_write(
 ) -> usize
     ensures { TellsWritten records groups transaction lines.now room.old room.new result told.new }
 {
-    let Ok(limits) = Limits::new(records, groups, transaction) else {
-        *told = written(7, 0, 0);
-        return 0;
-    };
-    match write_text(alloc, limits, lines) {
-        Ok(text) => {
-            *told = written(0, 0, 0);
-            copy_out(text.as_slice(), room)
-        }
-        Err(fault) => {
-            *told = fault;
-            0
-        }
-    }
+    write_records(alloc, lines, records, groups, transaction, room, told)
 }
 
 /// Writes the canonical text of the transmission that lines of JSON are into the room, as far as there is any; where they are none, the
@@ -275,11 +171,5 @@ pub extern "C" fn cwr_write_json(
 ) -> usize
     ensures { TellsImported records groups transaction room.old room.new result told.new }
 {
-    let Ok(limits) = Limits::new(records, groups, transaction) else {
-        *told = written(7, 0, 0);
-        return 0;
-    };
-    let (text, found) = import_text(alloc, limits, json);
-    *told = found;
-    copy_out(text.as_slice(), room)
+    write_data(alloc, json, records, groups, transaction, room, told)
 }

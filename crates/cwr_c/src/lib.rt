@@ -1,16 +1,6 @@
-//! CWR 2.1 for C and all that calls C: checks, findings, an index of the records of a text in memory, reports, layouts and writing.
+//! CWR 2.1 for C and all that calls C: the calls of `cwr_calls` under the names that C knows.
 #![tactic(auto)]
 
-mod codes;
 mod exports;
-mod fields;
-mod imports;
-mod listing;
-mod reports;
-mod verdicts;
-mod writing;
 
-pub use fields::CwrField;
-pub use listing::CwrFinding;
-pub use verdicts::CwrVerdict;
-pub use writing::CwrWritten;
+pub use cwr_calls::{CwrField, CwrFinding, CwrVerdict, CwrWritten};

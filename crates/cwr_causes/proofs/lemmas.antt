@@ -10,6 +10,8 @@ pub mod RefusedLines
 pub mod TakenPieces
 -- The codes of a list of members are those of the members.
 pub mod ListedCodes
+-- Symbols are listed one by one.
+pub mod ListedSymbols
 -- The letters of the kinds and the words of constant cells are in UTF-8.
 pub mod PlainLetters
 -- In a line that ends before it no sequence stands.

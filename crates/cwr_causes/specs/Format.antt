@@ -1,10 +1,13 @@
 -- What is promised, in the words of the format.
+pub mod ComingTexts
 pub mod Expected
 pub mod Lookings
 pub mod Refusals
 pub mod Sequences
+pub mod Signs
 pub mod Texts
 pub mod Trailing
 pub mod TrailingTexts
 pub mod TruncatedTexts
+pub mod Wanted
 pub mod WrongNumbers

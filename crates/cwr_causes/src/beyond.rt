@@ -125,7 +125,7 @@ pub fn add_refused(
     last: &LastRead,
     beyond: Beyond,
 ) -> Result<(), AllocError>
-    ensures { OnOk result (ExplainsRefusal name.now refusal.now last.now.bytes beyond
+    ensures { OnOk result (ExplainsRefusal limits.now name.now refusal.now last.now beyond
         (string_bytes text.old) (string_bytes text.new)) }
 {
     let line = line_at_end(&last.bytes);
@@ -156,7 +156,7 @@ pub fn explain_fault(
     is_first: bool,
     stage: Option<Stage>,
 ) -> Result<String, AllocError>
-    ensures { IfOk result (λ text. ExplainsLine (fault_line name.now fault.now line.entry
+    ensures { IfOk result (λ text. ExplainsLine limits.now stage (fault_line name.now fault.now line.entry
         (option_map (λ b. b.now) before.entry) is_too_long) [] (string_bytes text)) }
 {
     let mut text = String::new(alloc);

@@ -1,13 +1,21 @@
 //! The lines that explain a refusal.
 
-ghost use Rattle.std.specs.Prelude.{◌≡◌, ◌≤◌, ◌==◌, ◌++◌, not, position, length, option_map, string_bytes, OnOk};
+ghost use Rattle.std.specs.Prelude.{◌≡◌, ◌≤◌, ◌<◌, ◌==◌, ◌++◌, not, true, codes, position, length, option_map, string_bytes, Some, IfSome, OnOk};
 ghost use Rattle.cwr_fields.specs.Steps.Views.{field_view};
 ghost use Rattle.cwr_lines.specs.Format.Lines.{without_cr};
-ghost use Rattle.cwr_causes.specs.Format.Texts.{Extends};
-ghost use Rattle.cwr_causes.specs.Format.Refusals.{byte_of_file_words, content_words, end_of_fields, excess_at, field_name, field_words};
-ghost use Rattle.cwr_causes.specs.Format.Refusals.{found_words, head_words, named_field, number_points_words, refused_field};
+ghost use Rattle.cwr_fields.specs.Format.Layouts.{line_width};
+ghost use Rattle.cwr_shape.specs.declared.symbols.Symbol.{Symbol};
+ghost use Rattle.cwr_shape.specs.Format.NextSymbols.{header_kind, is_header_of};
+ghost use Rattle.cwr_causes.specs.Format.Texts.{Extends, hex_words};
+ghost use Rattle.cwr_causes.specs.Format.Refusals.{byte_of_file_words, content_words, end_byte_words, end_of_fields, excess_at, field_name, field_words};
+ghost use Rattle.cwr_causes.specs.Format.Refusals.{found_words, head_words, named_field, number_points_words, place_words, range_beyond_words, refused_field};
 ghost use Rattle.cwr_causes.specs.Format.Refusals.{range_words, range_of_file_words, refused_level_words, shown, where_words, without_return};
-ghost use Rattle.cwr_causes.specs.Steps.Refused.{ExplainsLine, refused_line};
+ghost use Rattle.cwr_causes.specs.Format.Signs.{end_signs, return_line, return_words};
+ghost use Rattle.cwr_causes.specs.Format.Wanted.{another_type_line, another_type_words, cell_expected_words, control_line, control_place, control_words, counted_number};
+ghost use Rattle.cwr_causes.specs.Format.Wanted.{end_expected_words, end_of_line_words, fault_words, is_of_another_type, last_byte_words, limit_words};
+ghost use Rattle.cwr_causes.specs.Format.Wanted.{may_be_copy, misplaced_words, most_words, number_expected_words, number_in_width, number_of_field};
+ghost use Rattle.cwr_causes.specs.Format.Wanted.{order_words, raised_words, rule_words, stands_twice, twice_words};
+ghost use Rattle.cwr_causes.specs.Steps.Refused.{ExplainsLine, SaysComing, SaysExpected, SaysSigns, SaysWanted, refused_line};
 
 use crate::ahead::Ahead;
 use crate::coming_words::add_coming;
@@ -22,7 +30,7 @@ use crate::versions::add_version;
 use crate::wrong_numbers::{WrongNumber, is_header};
 use cwr_decode::Refusal;
 use cwr_fields::{CellFault, Field, Kind, TransactionType, field, first_control, width};
-use cwr_lines::{CutLine, LONGEST_LINE};
+use cwr_lines::LONGEST_LINE;
 use cwr_notes::level_words;
 use cwr_shape::{LimitKind, Limits, Reason, Stage, TransactionStep};
 use std::alloc::{AllocError, Global};
@@ -102,6 +110,31 @@ fn add_range_of_file(
     let at = offset.saturating_add(start.saturating_add(1));
     add_range(text, start, width)?;
     add_byte_of_file(text, at)
+}
+
+/// Adds after which byte of it a line ends, from 1.
+#[tactic(auto, unfolding(crate::specs::Format::Refusals::end_byte_words))]
+fn add_end_byte(text: &mut String, count: u64) -> Result<(), AllocError>
+    ensures { OnOk result (string_bytes text.new ≡ string_bytes text.old ++ end_byte_words count) }
+{
+    write!(text, ", which ends after byte {count}")
+}
+
+/// Adds which bytes of a line, where that ends before them, and which byte of the file its last one is: so many bytes has the line,
+/// and so many were read before it.
+fn add_range_beyond(
+    text: &mut String,
+    start: u64,
+    width: u64,
+    count: u64,
+    offset: u64,
+) -> Result<(), AllocError>
+    ensures { OnOk result (string_bytes text.new ≡ string_bytes text.old
+        ++ range_beyond_words start width count offset) }
+{
+    add_range(text, start, width)?;
+    add_end_byte(text, count)?;
+    add_byte_of_file(text, offset.saturating_add(count))
 }
 
 /// Adds what a field of a kind is called, or that it is none of its fields.
@@ -186,15 +219,28 @@ impl Refused<'_> {
         }
     }
 
+    /// Adds which bytes are shown. Of a line that ends before them, where that is.
+    fn add_place(&self, text: &mut String) -> Result<(), AllocError>
+        ensures { OnOk result (string_bytes text.new ≡ string_bytes text.old ++ place_words (refused_line self.now)) }
+    {
+        let (start, width) = self.shown();
+        let count = self.without_return().len();
+        let offset = self.line.offset;
+        if self.is_too_long || start == 0 || start < count {
+            add_range_of_file(text, start as u64, width as u64, offset)
+        } else {
+            add_range_beyond(text, start as u64, width as u64, count as u64, offset)
+        }
+    }
+
     /// Adds where that is.
     #[tactic(auto, unfolding(crate::specs::Format::Refusals::where_words))]
     fn add_where(&self, text: &mut String) -> Result<(), AllocError>
         ensures { OnOk result (string_bytes text.new ≡ string_bytes text.old ++ where_words (refused_line self.now)) }
     {
-        let (start, width) = self.shown();
         add_label(text, "where")?;
         write!(text, "{}, line {}, ", self.name, self.refusal.rec)?;
-        add_range_of_file(text, start as u64, width as u64, self.line.offset)
+        self.add_place(text)
     }
 
     /// Adds the name of the field.
@@ -231,33 +277,75 @@ impl Refused<'_> {
         self.add_content(text, cell)?;
         text.push('\n')
     }
+}
 
-    /// Adds which byte of the cell is a control byte.
-    #[tactic(auto, using(crate::proofs::lemmas::Extended::extended))]
-    fn add_control(&self, text: &mut String, cut: &CutLine<'_>) -> Result<(), AllocError>
-        ensures { OnOk result (Extends (string_bytes text.old) (string_bytes text.new)) }
-    {
-        let Some(cell) = cut.cell(self.refusal.field) else {
-            return Ok(());
-        };
-        match first_control(cell) {
-            Some(at) => {
-                let number = at as u64 + 1;
-                let byte = cell[at];
-                write!(
-                    text,
-                    "; byte {number} of the cell is the control byte {byte:02X} (hex)"
-                )
-            }
-            None => Ok(()),
-        }
+/// Adds which byte of a cell is a control byte, from 1.
+#[tactic(auto, unfolding(crate::specs::Format::Wanted::control_place))]
+fn add_control_place(text: &mut String, number: usize) -> Result<(), AllocError>
+    ensures { OnOk result (string_bytes text.new ≡ string_bytes text.old ++ control_place number) }
+{
+    write!(text, "; byte {number} of the cell is the control byte ")
+}
+
+/// Adds a byte in two digits of sixteen.
+fn add_hex(text: &mut String, byte: u8) -> Result<(), AllocError>
+    ensures { OnOk result (string_bytes text.new ≡ string_bytes text.old ++ hex_words byte) }
+{
+    write!(text, "{byte:02X}")
+}
+
+/// Adds that a number was one of sixteen digits.
+fn add_hex_mark(text: &mut String) -> Result<(), AllocError>
+    ensures { OnOk result (string_bytes text.new ≡ string_bytes text.old ++ codes " (hex)") }
+{
+    text.push_str(" (hex)")
+}
+
+/// Adds which byte of a cell is a control byte, from 1, and that.
+fn add_control_line(text: &mut String, number: usize, byte: u8) -> Result<(), AllocError>
+    ensures { OnOk result (string_bytes text.new ≡ string_bytes text.old ++ control_line number byte) }
+{
+    add_control_place(text, number)?;
+    add_hex(text, byte)?;
+    add_hex_mark(text)
+}
+
+/// Adds the first control byte of a cell.
+fn add_control_of(text: &mut String, cell: &[u8]) -> Result<(), AllocError>
+    ensures { OnOk result (string_bytes text.new ≡ string_bytes text.old
+        ++ control_words (Some cell.now)) }
+{
+    match first_control(cell) {
+        Some(at) => add_control_line(text, at + 1, cell[at]),
+        None => Ok(()),
+    }
+}
+
+/// Adds the same, if there is a cell.
+fn add_control(text: &mut String, cell: Option<&[u8]>) -> Result<(), AllocError>
+    ensures { OnOk result (string_bytes text.new ≡ string_bytes text.old
+        ++ control_words (option_map (λ c. c.now) cell.entry)) }
+{
+    match cell {
+        Some(cell) => add_control_of(text, cell),
+        None => Ok(()),
+    }
+}
+
+/// Adds the same where a control byte is the cell's fault.
+fn add_fault(text: &mut String, fault: CellFault, cell: Option<&[u8]>) -> Result<(), AllocError>
+    ensures { OnOk result (string_bytes text.new ≡ string_bytes text.old
+        ++ fault_words fault (option_map (λ c. c.now) cell.entry)) }
+{
+    match fault {
+        CellFault::Control => add_control(text, cell),
+        _ => Ok(()),
     }
 }
 
 /// Adds a number in the width of its field.
-#[tactic(auto, using(crate::proofs::lemmas::Extended::extended))]
 fn add_number(text: &mut String, width: usize, number: u64) -> Result<(), AllocError>
-    ensures { OnOk result (Extends (string_bytes text.old) (string_bytes text.new)) }
+    ensures { OnOk result (string_bytes text.new ≡ string_bytes text.old ++ number_in_width width number) }
 {
     match width {
         5 => write!(text, "{number:05}"),
@@ -266,68 +354,213 @@ fn add_number(text: &mut String, width: usize, number: u64) -> Result<(), AllocE
     }
 }
 
-/// Adds a limit and how it is raised.
-#[tactic(auto, using(crate::proofs::lemmas::Extended::extended))]
-fn add_limit(text: &mut String, limits: &Limits, limit: LimitKind) -> Result<(), AllocError>
-    ensures { OnOk result (Extends (string_bytes text.old) (string_bytes text.new)) }
+/// Adds what a number of the kind's field counts.
+fn add_rule(text: &mut String, kind: Kind, j: u8) -> Result<(), AllocError>
+    ensures { OnOk result (string_bytes text.new ≡ string_bytes text.old
+        ++ rule_words true (Some kind) j) }
 {
-    let word = limit.word();
+    let rule = number_rule(kind, j);
+    write!(text, ": {rule}")
+}
+
+/// Adds the same where it is one of the file's own.
+fn add_rule_of(
+    text: &mut String,
+    derived: bool,
+    kind: Option<Kind>,
+    j: u8,
+) -> Result<(), AllocError>
+    ensures { OnOk result (string_bytes text.new ≡ string_bytes text.old ++ rule_words derived kind j) }
+{
+    match (derived, kind) {
+        (true, Some(kind)) => add_rule(text, kind, j),
+        _ => Ok(()),
+    }
+}
+
+/// Adds a number that belongs in the kind's field, and what it counts.
+#[tactic(auto, unfolding(crate::specs::Format::Wanted::counted_number))]
+fn add_counted(
+    text: &mut String,
+    kind: Kind,
+    j: u8,
+    width: usize,
+    number: u64,
+) -> Result<(), AllocError>
+    ensures { OnOk result (string_bytes text.new ≡ string_bytes text.old
+        ++ counted_number kind j width number) }
+{
+    let rule = number_rule(kind, j);
+    add_number(text, width, number)?;
+    write!(text, ": {rule}; write it only if no record is missing")
+}
+
+/// Adds what a limit is.
+fn add_most(text: &mut String, limits: &Limits, limit: LimitKind) -> Result<(), AllocError>
+    ensures { OnOk result (string_bytes text.new ≡ string_bytes text.old ++ most_words limits.now limit) }
+{
     match limit {
         LimitKind::Records => {
             let most = limits.records();
-            write!(text, "at most {most} records in the file")?;
+            write!(text, "at most {most} records in the file")
         }
         LimitKind::Groups => {
             let most = limits.groups();
-            write!(text, "at most {most} groups in the file")?;
+            write!(text, "at most {most} groups in the file")
         }
         LimitKind::Transaction => {
             let most = limits.transaction();
-            write!(text, "at most {most} records in a transaction")?;
+            write!(text, "at most {most} records in a transaction")
         }
     }
+}
+
+/// Adds how the limit of that word is raised.
+#[tactic(auto, unfolding(crate::specs::Format::Wanted::raised_words))]
+fn add_raised(text: &mut String, word: &str) -> Result<(), AllocError>
+    ensures { OnOk result (string_bytes text.new ≡ string_bytes text.old ++ raised_words word.now) }
+{
     writeln!(
         text,
         "; no file can be finished within that from here. The option --{word} raises it"
     )
 }
 
+/// Adds a limit and how it is raised.
+#[tactic(auto, unfolding(crate::specs::Format::Wanted::limit_words))]
+fn add_limit(text: &mut String, limits: &Limits, limit: LimitKind) -> Result<(), AllocError>
+    ensures { OnOk result (string_bytes text.new ≡ string_bytes text.old ++ limit_words limits.now limit) }
+{
+    add_label(text, "expected")?;
+    add_most(text, limits, limit)?;
+    add_raised(text, limit.word())
+}
+
+/// Adds where the last field of a line ends.
+#[tactic(auto, unfolding(crate::specs::Format::Wanted::last_byte_words))]
+fn add_last_byte(text: &mut String, last: usize) -> Result<(), AllocError>
+    ensures { OnOk result (string_bytes text.new ≡ string_bytes text.old ++ last_byte_words last) }
+{
+    writeln!(
+        text,
+        "nothing but spaces after byte {last} of the line, where its last field ends"
+    )
+}
+
+/// Adds where a line may end.
+fn add_end_of_line(
+    text: &mut String,
+    is_too_long: bool,
+    kind: Option<Kind>,
+) -> Result<(), AllocError>
+    ensures { OnOk result (string_bytes text.new ≡ string_bytes text.old
+        ++ end_of_line_words is_too_long kind) }
+{
+    match (is_too_long, kind) {
+        (true, _) => text.push_str("a line of at most 1024 bytes before its line end\n"),
+        (false, Some(kind)) => add_last_byte(text, width(kind)),
+        (false, None) => text.push_str("\n"),
+    }
+}
+
+/// Whether a record that comes at that step of a group of the type may begin the copy in an acknowledgement.
+fn may_be_copy(ty: TransactionType, step: TransactionStep) -> bool
+    ensures { result ≡ may_be_copy ty step }
+{
+    match (ty, step) {
+        (TransactionType::Acknowledgement, TransactionStep::InGroup) => false,
+        (TransactionType::Acknowledgement, _) => true,
+        _ => false,
+    }
+}
+
+/// Whether a record of the kind is the header of another type's transaction than those of the open group.
+fn is_of_another_type(ty: TransactionType, step: TransactionStep, kind: Kind) -> bool
+    ensures { result ≡ is_of_another_type ty step kind }
+{
+    is_header(kind) && !is_header_of(ty, kind) && !may_be_copy(ty, step)
+}
+
+/// Adds what such a record points to, by its letters and by those of the header that is wanted.
+#[tactic(auto, unfolding(crate::specs::Format::Wanted::another_type_line))]
+fn add_another_type_line(text: &mut String, found: &str, wanted: &str) -> Result<(), AllocError>
+    ensures { OnOk result (string_bytes text.new ≡ string_bytes text.old
+        ++ another_type_line found.now wanted.now) }
+{
+    add_label(text, "points to")?;
+    writeln!(
+        text,
+        "the group's GRH says {wanted} in bytes 4 to 6, and this is the header of a transaction of type {found}: the type in GRH is wrong, or a GRT and a GRH are missing before this line, or its kind is mistyped"
+    )
+}
+
+/// Adds the same where the records before have come to that stage, if it is such a record.
+fn add_another_type(text: &mut String, stage: Option<Stage>, kind: Kind) -> Result<(), AllocError>
+    ensures { OnOk result (string_bytes text.new ≡ string_bytes text.old
+        ++ another_type_words stage kind) }
+{
+    let Some(Stage::Within(ty, step)) = stage else {
+        return Ok(());
+    };
+    if is_of_another_type(ty, step, kind) {
+        add_another_type_line(text, letters_of(kind), letters_of(header_of(ty)))
+    } else {
+        Ok(())
+    }
+}
+
+/// Adds that the line stands twice.
+#[tactic(auto, unfolding(crate::specs::Format::Wanted::twice_words))]
+fn add_twice(text: &mut String) -> Result<(), AllocError>
+    ensures { OnOk result (string_bytes text.new ≡ string_bytes text.old ++ twice_words) }
+{
+    add_label(text, "points to")?;
+    text.push_str("the line before it is the same: it stands twice\n")
+}
+
 impl Refused<'_> {
     /// Adds what may stand in the cell.
-    #[tactic(auto, using(crate::proofs::lemmas::Extended::extended))]
+    #[tactic(auto, unfolding(crate::specs::Format::Wanted::cell_expected_words))]
     fn add_cell_expected(
         &self,
         text: &mut String,
         place: &Field,
-        cut: &CutLine<'_>,
         fault: CellFault,
+        cell: Option<&[u8]>,
     ) -> Result<(), AllocError>
-        ensures { OnOk result (Extends (string_bytes text.old) (string_bytes text.new)) }
+        ensures { OnOk result (string_bytes text.new ≡ string_bytes text.old
+            ++ cell_expected_words (refused_line self.now) (field_view place.now).1 fault
+            (option_map (λ c. c.now) cell.entry)) }
     {
         add_label(text, "expected")?;
         add_cell_type(text, place)?;
-        if let (true, Some(kind)) = (place.derived, self.kind) {
-            let rule = number_rule(kind, self.refusal.field);
-            write!(text, ": {rule}")?;
+        add_rule_of(text, place.derived, self.kind, self.refusal.field)?;
+        add_fault(text, fault, cell)?;
+        text.push_str("\n")
+    }
+
+    /// Adds a number that belongs in the field, where the kind has that.
+    fn add_number_of_field(&self, text: &mut String, number: u64) -> Result<(), AllocError>
+        ensures { OnOk result (string_bytes text.new ≡ string_bytes text.old
+            ++ number_of_field self.now.kind (refused_field (refused_line self.now)) self.now.refusal.now.field number) }
+    {
+        match (self.kind, self.refused_field()) {
+            (Some(kind), Some(place)) => {
+                add_counted(text, kind, self.refusal.field, place.width, number)
+            }
+            _ => Ok(()),
         }
-        if fault == CellFault::Control {
-            self.add_control(text, cut)?;
-        }
-        text.push('\n')
     }
 
     /// Adds the number that belongs there.
-    #[tactic(auto, using(crate::proofs::lemmas::Extended::extended))]
+    #[tactic(auto, unfolding(crate::specs::Format::Wanted::number_expected_words))]
     fn add_number_expected(&self, text: &mut String, number: u64) -> Result<(), AllocError>
-        ensures { OnOk result (Extends (string_bytes text.old) (string_bytes text.new)) }
+        ensures { OnOk result (string_bytes text.new ≡ string_bytes text.old
+            ++ number_expected_words (refused_line self.now) number) }
     {
         add_label(text, "expected")?;
-        if let (Some(kind), Some(place)) = (self.kind, self.refused_field()) {
-            add_number(text, place.width, number)?;
-            let rule = number_rule(kind, self.refusal.field);
-            write!(text, ": {rule}; write it only if no record is missing")?;
-        }
-        text.push('\n')
+        self.add_number_of_field(text, number)?;
+        text.push_str("\n")
     }
 
     /// Adds what a wrong number in the cell of the refused field points to.
@@ -357,101 +590,71 @@ impl Refused<'_> {
     }
 
     /// Whether the line stands there once more, right after itself.
-    fn stands_twice(&self) -> bool {
+    fn stands_twice(&self) -> bool
+        ensures { result ≡ stands_twice (refused_line self.now).before self.now.line.bytes.now }
+    {
         match self.before {
             Some(before) => *before == *self.line.bytes,
             None => false,
         }
     }
 
-    /// Adds what the header of another type's transaction in a group points to.
-    #[tactic(auto, using(crate::proofs::lemmas::Extended::extended))]
-    fn add_other_type(
+    /// Adds what a misplaced line of the kind points to.
+    fn add_misplaced(
         &self,
         text: &mut String,
         stage: Option<Stage>,
         kind: Kind,
     ) -> Result<(), AllocError>
-        ensures { OnOk result (Extends (string_bytes text.old) (string_bytes text.new)) }
+        ensures { OnOk result (string_bytes text.new ≡ string_bytes text.old
+            ++ misplaced_words stage (refused_line self.now) kind) }
     {
-        let Some(Stage::Within(ty, step)) = stage else {
-            return Ok(());
-        };
-        let header = header_of(ty);
-        let may_be_copy = header == Kind::Ack && step != TransactionStep::InGroup;
-        if !is_header(kind) || kind == header || may_be_copy {
-            return Ok(());
+        if self.stands_twice() {
+            add_twice(text)
+        } else {
+            add_another_type(text, stage, kind)
         }
-        let (letters, wanted) = (letters_of(kind), letters_of(header));
-        add_label(text, "points to")?;
-        writeln!(
-            text,
-            "the group's GRH says {wanted} in bytes 4 to 6, and this is the header of a transaction of type {letters}: the type in GRH is wrong, or a GRT and a GRH are missing before this line, or its kind is mistyped"
-        )
     }
 
     /// Adds what a misplaced line points to.
-    #[tactic(auto, using(crate::proofs::lemmas::Extended::extended))]
     fn add_order(&self, text: &mut String, stage: Option<Stage>) -> Result<(), AllocError>
-        ensures { OnOk result (Extends (string_bytes text.old) (string_bytes text.new)) }
+        ensures { OnOk result (string_bytes text.new ≡ string_bytes text.old
+            ++ order_words stage (refused_line self.now) self.now.refusal.now.reason self.now.kind) }
     {
         match (self.refusal.reason, self.kind) {
-            (Reason::Misplaced, Some(kind)) => {
-                if self.stands_twice() {
-                    add_label(text, "points to")?;
-                    text.push_str("the line before it is the same: it stands twice\n")
-                } else {
-                    self.add_other_type(text, stage, kind)
-                }
-            }
+            (Reason::Misplaced, Some(kind)) => self.add_misplaced(text, stage, kind),
             _ => Ok(()),
         }
     }
 
     /// Adds where the line may end.
-    #[tactic(auto, using(crate::proofs::lemmas::Extended::extended))]
+    #[tactic(auto, unfolding(crate::specs::Format::Wanted::end_expected_words))]
     fn add_end_expected(&self, text: &mut String) -> Result<(), AllocError>
-        ensures { OnOk result (Extends (string_bytes text.old) (string_bytes text.new)) }
+        ensures { OnOk result (string_bytes text.new ≡ string_bytes text.old
+            ++ end_expected_words (refused_line self.now)) }
     {
         add_label(text, "expected")?;
-        if self.is_too_long {
-            return text.push_str("a line of at most 1024 bytes before its line end\n");
-        }
-        match self.kind {
-            Some(kind) => {
-                let last = width(kind);
-                writeln!(
-                    text,
-                    "nothing but spaces after byte {last} of the line, where its last field ends"
-                )
-            }
-            None => text.push('\n'),
-        }
+        add_end_of_line(text, self.is_too_long, self.kind)
     }
 
-    /// Adds what may stand there.
-    #[tactic(auto, using(crate::proofs::lemmas::Extended::extended))]
+    /// Adds what may stand there, where the records before have come to that stage.
     fn add_expected(
         &self,
         alloc: Global,
         text: &mut String,
         limits: &Limits,
         stage: Option<Stage>,
-        cut: &CutLine<'_>,
+        cell: Option<&[u8]>,
     ) -> Result<(), AllocError>
-        ensures { OnOk result (Extends (string_bytes text.old) (string_bytes text.new)) }
+        ensures { OnOk result (SaysExpected limits.now stage (refused_line self.now)
+            (option_map (λ c. c.now) cell.entry) self.now.refusal.now.reason
+            (refused_field (refused_line self.now)) (string_bytes text.old) (string_bytes text.new)) }
     {
         match (self.refusal.reason, self.refused_field()) {
-            (Reason::UnknownKind | Reason::Misplaced, _) => match stage {
-                Some(stage) => add_coming(alloc, text, stage),
-                None => Ok(()),
-            },
-            (Reason::Cell(fault), Some(place)) => self.add_cell_expected(text, &place, cut, fault),
+            (Reason::UnknownKind | Reason::Misplaced, _) => add_coming_at(alloc, text, stage),
+            (Reason::Cell(fault), Some(place)) => self.add_cell_expected(text, &place, fault, cell),
             (Reason::Number { expected }, _) => self.add_number_expected(text, expected),
-            (Reason::Limit(limit), _) => {
-                add_label(text, "expected")?;
-                add_limit(text, limits, limit)
-            }
+            (Reason::Limit(limit), _) => add_limit(text, limits, limit),
             (Reason::Excess, _) => self.add_end_expected(text),
             (Reason::Cell(_), None) => Ok(()),
         }
@@ -497,19 +700,19 @@ impl Refused<'_> {
     }
 
     /// Adds what a misplaced line points to, and what may stand there.
-    #[tactic(auto, using(crate::proofs::lemmas::Extended::extended))]
     fn add_wanted(
         &self,
         alloc: Global,
         text: &mut String,
         limits: &Limits,
         stage: Option<Stage>,
-        cut: &CutLine<'_>,
+        cell: Option<&[u8]>,
     ) -> Result<(), AllocError>
-        ensures { OnOk result (Extends (string_bytes text.old) (string_bytes text.new)) }
+        ensures { OnOk result (SaysWanted limits.now stage (refused_line self.now)
+            (option_map (λ c. c.now) cell.entry) (string_bytes text.old) (string_bytes text.new)) }
     {
         self.add_order(text, stage)?;
-        self.add_expected(alloc, text, limits, stage, cut)
+        self.add_expected(alloc, text, limits, stage, cell)
     }
 
     /// Adds why the cells may stand elsewhere, where that is said with this fault.
@@ -534,9 +737,9 @@ impl Refused<'_> {
     }
 
     /// Adds what else the line shows.
-    #[tactic(auto, using(crate::proofs::lemmas::Extended::extended))]
     fn add_signs(&self, text: &mut String) -> Result<(), AllocError>
-        ensures { OnOk result (Extends (string_bytes text.old) (string_bytes text.new)) }
+        ensures { OnOk result (SaysSigns (refused_line self.now) (string_bytes text.old)
+            (string_bytes text.new)) }
     {
         self.add_notes(text)?;
         self.add_first(text)?;
@@ -544,9 +747,10 @@ impl Refused<'_> {
     }
 
     /// Adds a word on its carriage returns, and that it may have been cut off.
-    #[tactic(auto, using(crate::proofs::lemmas::Extended::extended))]
+    #[tactic(auto, unfolding(crate::specs::Format::Signs::end_signs))]
     fn add_ends(&self, text: &mut String) -> Result<(), AllocError>
-        ensures { OnOk result (Extends (string_bytes text.old) (string_bytes text.new)) }
+        ensures { OnOk result (string_bytes text.new ≡ string_bytes text.old
+            ++ end_signs (refused_line self.now)) }
     {
         add_returns(text, self.line.bytes)?;
         add_cut_off(text, &self.line, self.kind)
@@ -560,21 +764,23 @@ impl Refused<'_> {
         limits: &Limits,
         stage: Option<Stage>,
     ) -> Result<(), AllocError>
-        ensures { OnOk result (ExplainsLine (refused_line self.now) (string_bytes text.old)
-            (string_bytes text.new)) }
+        ensures { OnOk result (ExplainsLine limits.now stage (refused_line self.now)
+            (string_bytes text.old) (string_bytes text.new)) }
     {
         let again = line_again(self.line.bytes);
         let cut = again.cut();
         let cell = cut.cell(self.refusal.field);
         self.add_head(text, cell)?;
-        self.add_wanted(alloc, text, limits, stage, &cut)?;
+        self.add_wanted(alloc, text, limits, stage, cell)?;
         self.add_level(text)?;
         self.add_signs(text)
     }
 }
 
 /// The kind of the headers of transactions of a type.
-fn header_of(ty: TransactionType) -> Kind {
+fn header_of(ty: TransactionType) -> Kind
+    ensures { result ≡ header_kind ty }
+{
     match ty {
         TransactionType::Agreement => Kind::Agr,
         TransactionType::NewWork => Kind::Nwr,
@@ -583,24 +789,55 @@ fn header_of(ty: TransactionType) -> Kind {
     }
 }
 
-/// Adds a word on a carriage return that isn't part of the line's end.
-#[tactic(auto, using(crate::proofs::lemmas::Extended::extended))]
-fn add_returns(text: &mut String, bytes: &[u8]) -> Result<(), AllocError>
-    ensures { OnOk result (Extends (string_bytes text.old) (string_bytes text.new)) }
+/// Whether a record of the kind is the header of a transaction of the type.
+fn is_header_of(ty: TransactionType, kind: Kind) -> bool
+    ensures { result ≡ is_header_of ty (Symbol.Plain kind) }
 {
-    let inner = match bytes {
-        [inner @ .., _] => inner,
-        [] => bytes,
-    };
-    match inner.iter().position(|byte| *byte == b'\r') {
-        Some(at) => {
-            let number = at as u64 + 1;
-            add_label(text, "note")?;
-            writeln!(
-                text,
-                "byte {number} of the line is a carriage return without a line feed: lines end with LF, or with CR and LF"
-            )
-        }
+    match (ty, kind) {
+        (TransactionType::Agreement, Kind::Agr) => true,
+        (TransactionType::NewWork, Kind::Nwr) => true,
+        (TransactionType::RevisedWork, Kind::Rev) => true,
+        (TransactionType::Acknowledgement, Kind::Ack) => true,
+        _ => false,
+    }
+}
+
+/// Adds what may come at a stage, if that is known.
+fn add_coming_at(alloc: Global, text: &mut String, stage: Option<Stage>) -> Result<(), AllocError>
+    ensures { OnOk result (SaysComing stage (string_bytes text.old) (string_bytes text.new)) }
+{
+    match stage {
+        Some(stage) => add_coming(alloc, text, stage),
+        None => Ok(()),
+    }
+}
+
+/// Adds that a byte of a line is a carriage return, from 1.
+#[tactic(auto, unfolding(crate::specs::Format::Signs::return_line))]
+fn add_return_line(text: &mut String, number: usize) -> Result<(), AllocError>
+    ensures { OnOk result (string_bytes text.new ≡ string_bytes text.old ++ return_line number) }
+{
+    add_label(text, "note")?;
+    writeln!(
+        text,
+        "byte {number} of the line is a carriage return without a line feed: lines end with LF, or with CR and LF"
+    )
+}
+
+/// The first carriage return, from 0.
+fn first_return(bytes: &[u8]) -> Option<usize>
+    ensures value { result ≡ position (λ b. b == 13) bytes.now }
+    ensures within { IfSome result (λ at. at < length bytes.now) }
+{
+    bytes.iter().position(|byte| *byte == b'\r')
+}
+
+/// Adds a word on a carriage return that isn't part of the line's end.
+fn add_returns(text: &mut String, bytes: &[u8]) -> Result<(), AllocError>
+    ensures { OnOk result (string_bytes text.new ≡ string_bytes text.old ++ return_words bytes.now) }
+{
+    match first_return(&bytes[..bytes.len().saturating_sub(1)]) {
+        Some(at) => add_return_line(text, at + 1),
         None => Ok(()),
     }
 }

@@ -1,7 +1,9 @@
 //! Which records may come, in words.
 
-ghost use Rattle.std.specs.Prelude.{string_bytes, OnOk};
-ghost use Rattle.cwr_causes.specs.Format.Texts.{Extends};
+ghost use Rattle.std.specs.Prelude.{◌≡◌, ◌++◌, ◌||◌, true, codes, string_bytes, OnOk, IfOk};
+ghost use Rattle.std.specs.List.{list_any};
+ghost use Rattle.cwr_causes.specs.Format.ComingTexts.{carried_line, carried_words, coming_words, is_carried_symbol, is_listed, one_listed, separator, symbol_words, symbols_words};
+ghost use Rattle.cwr_causes.specs.Steps.Coming.{TellsComing};
 
 use crate::expected::letters_of;
 use crate::next_symbols::coming;
@@ -12,9 +14,8 @@ use std::alloc::{AllocError, Global};
 use std::fmt::Write;
 
 /// Adds a symbol as an order of records names it.
-#[tactic(auto, using(crate::proofs::lemmas::Extended::extended))]
 fn add_symbol(text: &mut String, symbol: Symbol) -> Result<(), AllocError>
-    ensures { OnOk result (Extends (string_bytes text.old) (string_bytes text.new)) }
+    ensures { OnOk result (string_bytes text.new ≡ string_bytes text.old ++ symbol_words symbol) }
 {
     match symbol {
         Symbol::Plain(kind) => text.push_str(letters_of(kind)),
@@ -24,7 +25,9 @@ fn add_symbol(text: &mut String, symbol: Symbol) -> Result<(), AllocError>
 }
 
 /// Whether the symbol is that of a record that is carried as text.
-fn is_carried_symbol(symbol: Symbol) -> bool {
+fn is_carried_symbol(symbol: Symbol) -> bool
+    ensures { result ≡ is_carried_symbol symbol }
+{
     match symbol {
         Symbol::Plain(kind) => is_carried(kind),
         _ => false,
@@ -32,25 +35,32 @@ fn is_carried_symbol(symbol: Symbol) -> bool {
 }
 
 /// Adds what stands between two symbols, where one was added before.
-#[tactic(auto, using(crate::proofs::lemmas::Extended::extended))]
 fn add_separator(text: &mut String, follows: bool) -> Result<(), AllocError>
-    ensures { OnOk result (Extends (string_bytes text.old) (string_bytes text.new)) }
+    ensures { OnOk result (string_bytes text.new ≡ string_bytes text.old ++ separator follows) }
 {
     if follows { text.push_str(", ") } else { Ok(()) }
 }
 
+/// Whether the symbol is one of those that are asked for: of those carried as text, or of the others.
+fn is_listed(symbol: Symbol, carried: bool) -> bool
+    ensures { result ≡ is_listed carried symbol }
+{
+    is_carried_symbol(symbol) == carried
+}
+
 /// Adds the symbol, if it is one of those carried as text, or one of the others, that are asked for. The answer is whether one was
 /// added so far.
-#[tactic(auto, using(crate::proofs::lemmas::Extended::extended))]
 fn add_listed_symbol(
     text: &mut String,
     symbol: Symbol,
     carried: bool,
     follows: bool,
 ) -> Result<bool, AllocError>
-    ensures { OnOk result (Extends (string_bytes text.old) (string_bytes text.new)) }
+    ensures text { OnOk result (string_bytes text.new ≡ string_bytes text.old
+        ++ one_listed (is_listed carried symbol) follows symbol) }
+    ensures follows { IfOk result (λ listed. listed ≡ (follows || is_listed carried symbol)) }
 {
-    if is_carried_symbol(symbol) != carried {
+    if !is_listed(symbol, carried) {
         return Ok(follows);
     }
     add_separator(text, follows)?;
@@ -58,38 +68,67 @@ fn add_listed_symbol(
     Ok(true)
 }
 
+/// Ends the line.
+fn add_line_end(text: &mut String) -> Result<(), AllocError>
+    ensures { OnOk result (string_bytes text.new ≡ string_bytes text.old ++ codes "\n") }
+{
+    text.push('\n')
+}
+
 /// Adds those of the symbols that are carried as text, or the others.
-#[tactic(auto, using(crate::proofs::lemmas::Extended::extended))]
 fn add_symbols(text: &mut String, symbols: &[Symbol], carried: bool) -> Result<(), AllocError>
-    ensures { OnOk result (Extends (string_bytes text.old) (string_bytes text.new)) }
+    ensures { OnOk result (string_bytes text.new ≡ string_bytes text.old
+        ++ symbols_words carried symbols.now) }
 {
     let mut follows = false;
     for symbol in symbols {
         follows = add_listed_symbol(text, *symbol, carried, follows)?;
     }
-    text.push('\n')
+    add_line_end(text)
 }
 
-/// Adds those of the symbols that are carried as text, on a line of their own, if there are some.
-#[tactic(auto, using(crate::proofs::lemmas::Extended::extended))]
-fn add_carried(text: &mut String, symbols: &[Symbol]) -> Result<(), AllocError>
-    ensures { OnOk result (Extends (string_bytes text.old) (string_bytes text.new)) }
+/// Whether some of the symbols are carried as text.
+fn has_carried(symbols: &[Symbol]) -> bool
+    ensures { result ≡ list_any is_carried_symbol symbols.now }
 {
-    if !symbols.iter().any(|symbol| is_carried_symbol(*symbol)) {
-        return Ok(());
-    }
+    symbols.iter().any(|symbol| is_carried_symbol(*symbol))
+}
+
+/// Adds those of the symbols that are carried as text, on a line of their own.
+#[tactic(auto, unfolding(crate::specs::Format::ComingTexts::carried_line))]
+fn add_carried_line(text: &mut String, symbols: &[Symbol]) -> Result<(), AllocError>
+    ensures { OnOk result (string_bytes text.new ≡ string_bytes text.old ++ carried_line symbols.now) }
+{
     add_label(text, "")?;
     text.push_str("or, carried as text, ")?;
     add_symbols(text, symbols, true)
 }
 
+/// Adds the same, if there are some.
+fn add_carried(text: &mut String, symbols: &[Symbol]) -> Result<(), AllocError>
+    ensures { OnOk result (string_bytes text.new ≡ string_bytes text.old ++ carried_words symbols.now) }
+{
+    if has_carried(symbols) {
+        add_carried_line(text, symbols)
+    } else {
+        Ok(())
+    }
+}
+
+/// Adds the lines that say that these may come.
+#[tactic(auto, unfolding(crate::specs::Format::ComingTexts::coming_words))]
+fn add_all(text: &mut String, symbols: &[Symbol]) -> Result<(), AllocError>
+    ensures { OnOk result (string_bytes text.new ≡ string_bytes text.old ++ coming_words symbols.now) }
+{
+    add_label(text, "expected")?;
+    add_symbols(text, symbols, false)?;
+    add_carried(text, symbols)
+}
+
 /// Adds what may come at a stage.
-#[tactic(auto, using(crate::proofs::lemmas::Extended::extended))]
 pub(crate) fn add_coming(alloc: Global, text: &mut String, stage: Stage) -> Result<(), AllocError>
-    ensures { OnOk result (Extends (string_bytes text.old) (string_bytes text.new)) }
+    ensures { OnOk result (TellsComing stage (string_bytes text.old) (string_bytes text.new)) }
 {
     let symbols = coming(alloc, stage)?;
-    add_label(text, "expected")?;
-    add_symbols(text, symbols.as_slice(), false)?;
-    add_carried(text, symbols.as_slice())
+    add_all(text, symbols.as_slice())
 }

@@ -2,8 +2,7 @@
 
 ghost use Rattle.std.specs.Prelude.{◌≡◌, ◌++◌, string_bytes, OnOk};
 ghost use Rattle.cwr_causes.specs.Format.Refusals.{first_kind};
-ghost use Rattle.cwr_causes.specs.Format.Texts.{Extends};
-ghost use Rattle.cwr_causes.specs.Format.TruncatedTexts.{end_words, last_words};
+ghost use Rattle.cwr_causes.specs.Format.TruncatedTexts.{cut_off_line, cut_off_words, end_words, last_cut_off_words, last_words, whole_width};
 ghost use Rattle.cwr_causes.specs.Steps.Refused.{ExplainsEnd};
 
 use crate::coming_words::add_coming;
@@ -15,28 +14,44 @@ use cwr_fields::{Kind, width};
 use std::alloc::{AllocError, Global};
 use std::fmt::Write;
 
-/// Adds that a last line may have been cut off.
-#[tactic(auto, using(crate::proofs::lemmas::Extended::extended))]
-pub(crate) fn add_cut_off(
-    text: &mut String,
-    line: &LineAtEnd<'_>,
-    kind: Option<Kind>,
-) -> Result<(), AllocError>
-    ensures { OnOk result (Extends (string_bytes text.old) (string_bytes text.new)) }
+/// How many bytes a whole line of the kind has, or its letters where it names none.
+fn whole_width(kind: Option<Kind>) -> usize
+    ensures { result ≡ whole_width kind }
 {
-    let whole = match kind {
+    match kind {
         Some(kind) => width(kind),
         None => 3,
-    };
-    let count = line.bytes.len();
-    if line.ended || count >= whole {
-        return Ok(());
     }
+}
+
+/// Adds that a last line has no line end, and so many bytes of so many.
+#[tactic(auto, unfolding(crate::specs::Format::TruncatedTexts::cut_off_line))]
+fn add_cut_off_line(text: &mut String, count: usize, whole: usize) -> Result<(), AllocError>
+    ensures { OnOk result (string_bytes text.new ≡ string_bytes text.old ++ cut_off_line count whole) }
+{
     add_label(text, "note")?;
     writeln!(
         text,
         "the last line has no line end and {count} of {whole} bytes: the file may have been cut off"
     )
+}
+
+/// Adds the same of a line that may have been cut off.
+pub(crate) fn add_cut_off(
+    text: &mut String,
+    line: &LineAtEnd<'_>,
+    kind: Option<Kind>,
+) -> Result<(), AllocError>
+    ensures { OnOk result (string_bytes text.new ≡ string_bytes text.old
+        ++ cut_off_words line.now.bytes.now line.now.ended kind) }
+{
+    let whole = whole_width(kind);
+    let count = line.bytes.len();
+    if line.ended || whole <= count {
+        Ok(())
+    } else {
+        add_cut_off_line(text, count, whole)
+    }
 }
 
 /// The kind of a line.
@@ -87,24 +102,23 @@ fn add_last(
 }
 
 /// Adds that the last line may have been cut off, where there is one.
-#[tactic(auto, using(crate::proofs::lemmas::Extended::extended))]
 fn add_last_cut_off(
     text: &mut String,
     records: u32,
     line: &LineAtEnd<'_>,
     kind: Option<Kind>,
 ) -> Result<(), AllocError>
-    ensures { OnOk result (Extends (string_bytes text.old) (string_bytes text.new)) }
+    ensures { OnOk result (string_bytes text.new ≡ string_bytes text.old
+        ++ last_cut_off_words records line.now.bytes.now line.now.ended kind) }
 {
-    if records > 0 {
-        add_cut_off(text, line, kind)
-    } else {
+    if records == 0 {
         Ok(())
+    } else {
+        add_cut_off(text, line, kind)
     }
 }
 
 /// Adds what is said of an input that ends too early.
-#[tactic(auto, using(crate::proofs::lemmas::Extended::truncated_said))]
 pub fn add_truncated(
     alloc: Global,
     text: &mut String,

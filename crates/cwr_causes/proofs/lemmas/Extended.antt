@@ -5,10 +5,14 @@ use Rattle.cwr_causes.specs.Format.Texts.{Extends}
 use Rattle.cwr_decode.specs.declared.readings.LastRead.{LastRead}
 use Rattle.cwr_decode.specs.Steps.LastReads.{bytes_read}
 use Rattle.cwr_causes.specs.declared.lines_at_end.LineAtEnd.{LineAtEnd}
-use Rattle.cwr_causes.specs.Format.TruncatedTexts.{end_words}
+use Rattle.cwr_causes.specs.Format.ComingTexts.{coming_words}
+use Rattle.cwr_causes.specs.Format.TruncatedTexts.{end_words, last_cut_off_words}
+use Rattle.cwr_causes.specs.Steps.Coming.{TellsComing}
 use Rattle.cwr_causes.specs.Steps.LinesAtEnd.{IsLineAtEnd}
-use Rattle.cwr_causes.specs.Steps.Refused.{ExplainsEnd}
-use Rattle.cwr_causes.specs.Format.Refusals.{RefusedLine, SaysRefusal, first_kind, head_words, refused_level_words}
+use Rattle.cwr_causes.specs.Steps.Refused.{ExplainsEnd, SaysRefusal, SaysSigns, SaysWanted}
+use Rattle.cwr_shape.specs.declared.limits.Limits.{Limits}
+use Rattle.cwr_shape.specs.declared.stages.Stage.{Stage}
+use Rattle.cwr_causes.specs.Format.Refusals.{RefusedLine, first_kind, head_words, refused_level_words}
 
 pub extends_none : (a b : List ℕ) → b ≡ a → Extends a b
 extends_none a b e = ([], e ∙ sym (append-nil a))
@@ -22,27 +26,40 @@ extends_on a b c p q = (p.0 ++ q.0, q.1 ∙ ap (λ xs. xs ++ q.0) p.1 ∙ append
 pub extends_more : (a b c m : List ℕ) → Extends a b → c ≡ b ++ m → Extends a c
 extends_more a b c m p e = extends_on a b c p (m, e)
 
+-- three parts, one after another
+pub three_said : (old a b new p q r : List ℕ) → a ≡ old ++ p → b ≡ a ++ q → new ≡ b ++ r → new ≡ old ++ ((p ++ q) ++ r)
+three_said old a b new p q r first second third =
+    third
+    ∙ ap (λ xs. xs ++ r) (second ∙ ap (λ xs. xs ++ q) first ∙ append_assoc old p q)
+    ∙ append_assoc old (p ++ q) r
+
 -- what is said of a refusal, part by part
-pub refusal_said : (r : RefusedLine) (cell : Option (List ℕ)) (old a b c d : List ℕ) → a ≡ old ++ head_words r cell → Extends a b
-    → c ≡ b ++ refused_level_words r → Extends c d → SaysRefusal r cell old d
-refusal_said r cell old a b c d head more level signs =
+pub refusal_said : (limits : Limits) (stage : Option Stage) (r : RefusedLine) (cell : Option (List ℕ)) (old a b c d : List ℕ)
+    → a ≡ old ++ head_words r cell → SaysWanted limits stage r cell a b → c ≡ b ++ refused_level_words r → SaysSigns r c d
+    → SaysRefusal limits stage r cell old d
+refusal_said limits stage r cell old a b c d head wanted level signs =
     record {
-      expected = more.0;
-      signs = signs.0;
-      said =
-          signs.1
-          ∙ ap (λ xs. xs ++ signs.0) (level ∙ ap (λ xs. xs ++ refused_level_words r) (more.1 ∙ ap (λ xs. xs ++ more.0) head));
+      wanted = b;
+      says = subst (λ xs. SaysWanted limits stage r cell xs b) head wanted;
+      signs = subst (λ xs. SaysSigns r xs d) level signs;
     }
 
 -- what is said of an end that comes too early, part by part
 pub truncated_said : (name : List ℕ) (records : ℕ) (last : LastRead) (line : LineAtEnd) (old a b c : List ℕ)
     → IsLineAtEnd last.bytes line → a ≡ old ++ end_words name (first_kind line.bytes.now) records (bytes_read last.bytes)
-    → Extends a b → Extends b c → ExplainsEnd name records last old c
-truncated_said name records last line old a b c is said coming cut =
+    → TellsComing last.stage a b
+    → c ≡ b ++ last_cut_off_words records line.bytes.now line.ended (first_kind line.bytes.now)
+    → ExplainsEnd name records last old c
+truncated_said name records last line old a b c is end coming cut =
     record {
       line = line;
       is_last = is;
-      more = subst (λ xs. Extends xs c) said (extends_on a b c coming cut);
+      symbols = coming.0;
+      may_come = coming.1;
+      said =
+          cut
+          ∙ ap (λ xs. xs ++ last_cut_off_words records line.bytes.now line.ended (first_kind line.bytes.now))
+          (coming.2 ∙ ap (λ xs. xs ++ coming_words coming.0) end);
     }
 
 -- what follows where a call succeeds

@@ -3,6 +3,8 @@ use Rattle.std.proofs.Common.{◌≡◌, ℕ, Bool, List, Bor, option_map, subst
 use Rattle.std.specs.Prelude.{Option, Some, None, IfSome}
 use Rattle.cwr_fields.specs.declared.kinds.Kind.{Kind}
 use Rattle.cwr_judge.specs.declared.refusals.Refusal.{Refusal}
+use Rattle.cwr_shape.specs.declared.limits.Limits.{Limits}
+use Rattle.cwr_shape.specs.declared.stages.Stage.{Stage}
 use Rattle.cwr_causes.specs.declared.ahead.Ahead.{Ahead}
 use Rattle.cwr_causes.specs.declared.beyond.Beyond.{Beyond}
 use Rattle.cwr_causes.specs.declared.lines_at_end.LineAtEnd.{LineAtEnd}
@@ -24,15 +26,15 @@ line_with name refusal line before this_kind is_too_long ahead =
       ahead = ahead;
     }
 
-pub of_last : (name : List ℕ) (refusal : Refusal) (line : LineAtEnd) (before : Option (List ℕ)) (beyond : Beyond)
+pub of_last : (limits : Limits) (stage : Option Stage) (name : List ℕ) (refusal : Refusal) (line : LineAtEnd) (before : Option (List ℕ)) (beyond : Beyond)
     (this_kind : Option Kind) (long : Bool) (ahead : Option Ahead) (old new : List ℕ) → this_kind ≡ first_kind line.bytes.now
     → long ≡ goes_on beyond → ahead ≡ ahead_in beyond
-    → ExplainsLine (line_with name refusal line before this_kind long ahead) old new
-    → ExplainsLine (last_refused name refusal line before beyond) old new
-of_last name refusal line before beyond this_kind long ahead old new k l a h =
-    subst (λ x. ExplainsLine (line_with name refusal line before (first_kind line.bytes.now) (goes_on beyond) x) old new) a
-    (subst (λ x. ExplainsLine (line_with name refusal line before (first_kind line.bytes.now) x ahead) old new) l
-    (subst (λ x. ExplainsLine (line_with name refusal line before x long ahead) old new) k h))
+    → ExplainsLine limits stage (line_with name refusal line before this_kind long ahead) old new
+    → ExplainsLine limits stage (last_refused name refusal line before beyond) old new
+of_last limits stage name refusal line before beyond this_kind long ahead old new k l a h =
+    subst (λ x. ExplainsLine limits stage (line_with name refusal line before (first_kind line.bytes.now) (goes_on beyond) x) old new) a
+    (subst (λ x. ExplainsLine limits stage (line_with name refusal line before (first_kind line.bytes.now) x ahead) old new) l
+    (subst (λ x. ExplainsLine limits stage (line_with name refusal line before x long ahead) old new) k h))
 
 pub seen_before : (P : List ℕ → Type 0) (before : Option (Bor (List ℕ))) → IfSome before (λ b. P b.now)
     → IfSome (option_map (λ b. b.now) before) P

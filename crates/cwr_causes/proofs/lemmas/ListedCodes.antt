@@ -1,5 +1,5 @@
 -- The codes of a list of members are those of the members.
-use Rattle.std.proofs.Common.{◌≡◌, List, [], ◌∷◌, ◌++◌, ℕ, refl, sym, ◌∙◌, ap, Bor}
+use Rattle.std.proofs.Common.{◌≡◌, List, [], ◌∷◌, ◌++◌, ℕ, refl, ◌∙◌, ap, Bor}
 use Rattle.std.specs.Prelude.{flat_map, map}
 use Rattle.cwr_fields.specs.Format.Members.{coded}
 use Rattle.cwr_fields.specs.Steps.Members.{listed}

@@ -1,6 +1,6 @@
 -- What is said of a refused line: where it stands, which field, what stands there, what that points to, and what may stand there.
-use Rattle.std.specs.Prelude.{◌≡◌, ℕ, ◌+◌, ◌-◌, ◌^◌, ◌==◌, min, Bool, true, false, not, List, [], ◌∷◌, ◌++◌, codes, decimal}
-use Rattle.std.specs.Prelude.{length, drop, Option, None, Some, position, if◌then◌else◌}
+use Rattle.std.specs.Prelude.{ℕ, ◌+◌, ◌-◌, ◌^◌, ◌==◌, ◌||◌, nat_lt, min, Bool, not, List, [], ◌∷◌, ◌++◌, codes}
+use Rattle.std.specs.Prelude.{decimal, length, drop, Option, None, Some, position, if◌then◌else◌}
 use Rattle.std.specs.List.{concat}
 use Rattle.std.specs.Option.{option_and_then, unwrap_or}
 use Rattle.cwr_fields.specs.declared.kinds.Kind.{Kind}
@@ -14,7 +14,7 @@ use Rattle.cwr_notes.specs.Format.FindingNotes.{level_words}
 use Rattle.cwr_causes.specs.declared.ahead.Ahead.{Ahead}
 use Rattle.cwr_causes.specs.Format.Texts.{beginning_words, cell_words, label_words}
 use Rattle.cwr_causes.specs.Format.Sequences.{capped_number}
-use Rattle.cwr_causes.specs.Format.WrongNumbers.{WrongValue, points_words}
+use Rattle.cwr_causes.specs.Format.WrongNumbers.{points_words}
 
 -- A refused line: the name of its input, where and why it is refused, its bytes before its line feed, whether that was read, how many
 -- bytes were read before it, the line before where all of that is held, its kind, whether it is longer than a line may be, and how
@@ -64,6 +64,10 @@ shown_of None reason excess = shown_without_field reason excess
 abbrev pub shown : RefusedLine → ℕ × ℕ
 shown r = shown_of (refused_field r) r.refusal.reason (excess_at r)
 
+-- the line without the carriage return of its end
+abbrev pub without_return : RefusedLine → List ℕ
+without_return r = if r.is_too_long then r.bytes else without_cr r.bytes
+
 -- a number that is shown: at most the largest one of 64 bits
 abbrev pub up_to_largest : ℕ → ℕ
 up_to_largest n = min n (2 ^ 64 - 1)
@@ -85,12 +89,32 @@ unfoldable pub range_of_file_words : ℕ → ℕ → ℕ → List ℕ
 range_of_file_words start width offset =
     range_words start width ++ byte_of_file_words (up_to_largest (offset + up_to_largest (start + 1)))
 
+-- after which byte of it the line ends, from 1
+unfoldable pub end_byte_words : ℕ → List ℕ
+end_byte_words count = codes ", which ends after byte " ++ decimal count
+
+-- which bytes of the line, where that ends before them, and which byte of the file its last one is: so many bytes has the line, after
+-- so many of the file
+unfoldable pub range_beyond_words : ℕ → ℕ → ℕ → ℕ → List ℕ
+range_beyond_words start width count offset =
+    (range_words start width ++ end_byte_words count) ++ byte_of_file_words (up_to_largest (offset + count))
+
+-- the first byte that is shown stands in the line, or the line is empty
+abbrev pub is_in_line : RefusedLine → Bool
+is_in_line r = r.is_too_long || ((shown r).0 == 0 || nat_lt (shown r).0 (length (without_return r)))
+
+-- which bytes are shown
+abbrev pub place_words : RefusedLine → List ℕ
+place_words r =
+    if is_in_line r then range_of_file_words (shown r).0 (shown r).1 r.offset
+    else range_beyond_words (shown r).0 (shown r).1 (length (without_return r)) r.offset
+
 -- the line that says where
 unfoldable pub where_words : RefusedLine → List ℕ
 where_words r =
     concat
     (label_words (codes "where") ∷ r.name ∷ codes ", line " ∷ decimal r.refusal.rec ∷ codes ", " ∷ [])
-    ++ range_of_file_words (shown r).0 (shown r).1 r.offset
+    ++ place_words r
 
 -- ---- the field, and what stands there
 
@@ -107,10 +131,6 @@ field_name None f = codes "record type\n"
 -- the line that names the field
 unfoldable pub field_words : RefusedLine → List ℕ
 field_words r = label_words (codes "field") ++ field_name r.kind (refused_field r)
-
--- the line without the carriage return of its end
-abbrev pub without_return : RefusedLine → List ℕ
-without_return r = if r.is_too_long then r.bytes else without_cr r.bytes
 
 -- what stands in the cell of the field, or in its place
 abbrev pub content_words : RefusedLine → Option (List ℕ) → List ℕ
@@ -157,10 +177,3 @@ refused_level_words r = concat (label_words (codes "level") ∷ level_words r.re
 -- where and in which field the line is refused, what stands there, and what a wrong number points to
 unfoldable pub head_words : RefusedLine → Option (List ℕ) → List ℕ
 head_words r cell = where_words r ++ field_words r ++ found_words r cell ++ number_points_words r cell
-
--- The text goes on with what is said of the refusal of the line, whose refused field holds that cell: that, what is expected, the
--- level, and what else the line shows.
-pub record SaysRefusal (r : RefusedLine) (cell : Option (List ℕ)) (old new : List ℕ) : Type 0 where
-  pub expected : List ℕ
-  pub signs : List ℕ
-  pub said : new ≡ (((old ++ head_words r cell) ++ expected) ++ refused_level_words r) ++ signs

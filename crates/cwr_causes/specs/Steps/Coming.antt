@@ -1,5 +1,5 @@
 -- Which symbols may come.
-use Rattle.std.specs.Prelude.{◌↔◌, List, [], ◌∷◌, ◌++◌, Contains}
+use Rattle.std.specs.Prelude.{◌≡◌, ◌↔◌, ℕ, List, [], ◌∷◌, ◌++◌, Contains}
 use Rattle.std.specs.List.{flat_map}
 use Rattle.cwr_fields.specs.declared.codes.Role.TheVariants as roles
 use Rattle.cwr_fields.specs.declared.codes.TransactionType.TheVariants as types
@@ -12,6 +12,7 @@ use Rattle.cwr_shape.specs.declared.stages.Stage.{Stage}
 use Rattle.cwr_shape.specs.Format.Outlines.{Continues}
 use Rattle.cwr_shape.specs.Format.AnyTransmission.{Any}
 use Rattle.cwr_shape.specs.Steps.Left.{StandsAt}
+use Rattle.cwr_causes.specs.Format.ComingTexts.{coming_words}
 
 -- after records that stand at the stage the symbol may come
 abbrev pub ComesAt : Stage → Symbol → Type 0
@@ -30,6 +31,10 @@ HaveCome stage asked found =
 -- these symbols were asked more
 abbrev pub Asks : Stage → List Symbol → List Symbol → List Symbol → Type 0
 Asks stage symbols old new = (asked : List Symbol) → HaveCome stage asked old → HaveCome stage (asked ++ symbols) new
+
+-- the text goes on with which records may come at the stage
+abbrev pub TellsComing : Stage → List ℕ → List ℕ → Type 0
+TellsComing stage old new = (symbols : List Symbol) × AreComing stage symbols × (new ≡ old ++ coming_words symbols)
 
 -- the symbols that a record of the kind may have, unless it ends a group or the transmission
 abbrev pub inner_symbols : Kind → List Symbol

@@ -12,12 +12,21 @@ use Rattle.cwr_causes.specs.declared.ahead.Ahead.{Ahead}
 use Rattle.cwr_causes.specs.declared.beyond.Beyond.{Beyond}
 use Rattle.cwr_causes.specs.declared.beyond.Beyond.TheVariants as beyonds
 use Rattle.cwr_causes.specs.declared.lines_at_end.LineAtEnd.{LineAtEnd}
-use Rattle.cwr_causes.specs.Format.Texts.{Extends}
-use Rattle.cwr_causes.specs.Format.TruncatedTexts.{end_words}
+use Rattle.cwr_fields.specs.Format.Layouts.{FieldLayout}
+use Rattle.cwr_shape.specs.declared.limits.Limits.{Limits}
+use Rattle.cwr_shape.specs.declared.reasons.Reason.{Reason}
+use Rattle.cwr_shape.specs.declared.reasons.Reason.TheVariants as reasons
+use Rattle.cwr_shape.specs.declared.stages.Stage.{Stage}
+use Rattle.cwr_shape.specs.declared.symbols.Symbol.{Symbol}
+use Rattle.cwr_causes.specs.Format.ComingTexts.{coming_words}
+use Rattle.cwr_causes.specs.Format.TruncatedTexts.{end_words, last_cut_off_words}
+use Rattle.cwr_causes.specs.Steps.Coming.{AreComing, TellsComing}
 use Rattle.cwr_causes.specs.Steps.LinesAtEnd.{EndsInLine, EndsWithLine, IsLineAtEnd}
 use Rattle.cwr_decode.specs.Steps.LastReads.{HoldsLast}
 use Rattle.cwr_causes.specs.declared.causes.Refused.{Refused}
-use Rattle.cwr_causes.specs.Format.Refusals.{RefusedLine, SaysRefusal, first_kind}
+use Rattle.cwr_causes.specs.Format.Refusals.{RefusedLine, first_kind, head_words, refused_field, refused_level_words}
+use Rattle.cwr_causes.specs.Format.Signs.{end_signs}
+use Rattle.cwr_causes.specs.Format.Wanted.{cell_expected_words, end_expected_words, limit_words, number_expected_words, order_words}
 
 abbrev pub refused_line : Refused → RefusedLine
 refused_line r =
@@ -39,9 +48,44 @@ HasCell r cell =
     length r.bytes ≤ longest_line → IsFalse (list_any is_lf r.bytes)
     → cell ≡ held_cell (record { bytes = r.bytes; ended = Line }) r.refusal.field
 
--- the text goes on with what is said of the refusal of the line
-abbrev pub ExplainsLine : RefusedLine → List ℕ → List ℕ → Type 0
-ExplainsLine r old new = (cell : Option (List ℕ)) × HasCell r cell × SaysRefusal r cell old new
+-- the text goes on with which records may come at the stage, if that is known
+abbrev pub SaysComing : Option Stage → List ℕ → List ℕ → Type 0
+SaysComing None old new = new ≡ old
+SaysComing (Some stage) old new = TellsComing stage old new
+
+-- the text goes on with what may stand there, by the reason and the field
+abbrev pub SaysExpected : Limits → Option Stage → RefusedLine → Option (List ℕ) → Reason → Option (ℕ × FieldLayout) → List ℕ → List ℕ
+    → Type 0
+SaysExpected limits stage r cell reasons.UnknownKind f old new = SaysComing stage old new
+SaysExpected limits stage r cell reasons.Misplaced f old new = SaysComing stage old new
+SaysExpected limits stage r cell (reasons.Cell fault) (Some f) old new = new ≡ old ++ cell_expected_words r f.1 fault cell
+SaysExpected limits stage r cell (reasons.Cell fault) None old new = new ≡ old
+SaysExpected limits stage r cell (reasons.Number expected) f old new = new ≡ old ++ number_expected_words r expected
+SaysExpected limits stage r cell (reasons.Limit limit) f old new = new ≡ old ++ limit_words limits limit
+SaysExpected limits stage r cell reasons.Excess f old new = new ≡ old ++ end_expected_words r
+
+-- the text goes on with what a misplaced line points to, and with what may stand there
+abbrev pub SaysWanted : Limits → Option Stage → RefusedLine → Option (List ℕ) → List ℕ → List ℕ → Type 0
+SaysWanted limits stage r cell old new =
+    SaysExpected limits stage r cell r.refusal.reason (refused_field r)
+    (old ++ order_words stage r r.refusal.reason r.kind) new
+
+-- the text goes on with some notes, and with those on the line's end
+abbrev pub SaysSigns : RefusedLine → List ℕ → List ℕ → Type 0
+SaysSigns r old new = (notes : List ℕ) × (new ≡ (old ++ notes) ++ end_signs r)
+
+-- The text goes on with what is said of the refusal of the line, whose refused field holds that cell, where the records before have
+-- come to that stage: where it is and what stands there, what may stand there, the level, and what else the line shows.
+pub record SaysRefusal (limits : Limits) (stage : Option Stage) (r : RefusedLine) (cell : Option (List ℕ)) (old new : List ℕ) : Type 0
+  where
+    pub wanted : List ℕ
+    pub says : SaysWanted limits stage r cell (old ++ head_words r cell) wanted
+    pub signs : SaysSigns r (wanted ++ refused_level_words r) new
+
+-- the same, with the cell that the line has there
+abbrev pub ExplainsLine : Limits → Option Stage → RefusedLine → List ℕ → List ℕ → Type 0
+ExplainsLine limits stage r old new =
+    (cell : Option (List ℕ)) × HasCell r cell × SaysRefusal limits stage r cell old new
 
 -- the line is that with which the bytes that were read end, and the line before it, where that is known, is the one before
 abbrev pub IsLineBefore : LastBytes → Option (List ℕ) → Type 0
@@ -89,16 +133,22 @@ fault_line name fault line before is_too_long =
     }
 
 -- the text goes on with what is said of the refusal of the line with which the bytes end that were read
-pub record ExplainsRefusal (name : List ℕ) (refusal : Refusal) (last : LastBytes) (beyond : Beyond) (old new : List ℕ) : Type 0
-  where
-    pub line : LineAtEnd
-    pub is_last : IsLineAtEnd last line
-    pub before : Option (List ℕ)
-    pub is_before : IsLineBefore last before
-    pub explains : ExplainsLine (last_refused name refusal line before beyond) old new
+pub record ExplainsRefusal (limits : Limits) (name : List ℕ) (refusal : Refusal) (last : LastRead) (beyond : Beyond)
+    (old new : List ℕ) : Type 0 where
+  pub line : LineAtEnd
+  pub is_last : IsLineAtEnd last.bytes line
+  pub before : Option (List ℕ)
+  pub is_before : IsLineBefore last.bytes before
+  pub explains : ExplainsLine limits (Some last.stage) (last_refused name refusal line before beyond) old new
 
--- the text goes on with where the input ends, after the last line that was read, and with what might come
+-- the text goes on with where the input ends, after the last line that was read, with the records that may come, and with that the
+-- line may have been cut off
 pub record ExplainsEnd (name : List ℕ) (records : ℕ) (last : LastRead) (old new : List ℕ) : Type 0 where
   pub line : LineAtEnd
   pub is_last : IsLineAtEnd last.bytes line
-  pub more : Extends (old ++ end_words name (first_kind line.bytes.now) records (bytes_read last.bytes)) new
+  pub symbols : List Symbol
+  pub may_come : AreComing last.stage symbols
+  pub said :
+      new
+      ≡ ((old ++ end_words name (first_kind line.bytes.now) records (bytes_read last.bytes)) ++ coming_words symbols)
+      ++ last_cut_off_words records line.bytes.now line.ended (first_kind line.bytes.now)

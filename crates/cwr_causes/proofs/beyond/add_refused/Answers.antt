@@ -1,4 +1,4 @@
-use Rattle.std.proofs.Common.{true}
+use Rattle.std.proofs.Common.{Some, true}
 use Rattle.cwr_causes.specs.Steps.LinesAtEnd.{EndsInLine}
 use Rattle.cwr_causes.proofs.lemmas.Extended.{on_ok}
 use Rattle.cwr_causes.proofs.lemmas.LastRefused.{of_last, seen_before}
@@ -15,7 +15,7 @@ returns c =
           λ read front line held ends. seen_before (EndsInLine front true) c.line_before.result
           (c.line_before.ensures read front line held ends);
       explains =
-          of_last c.args.name.now c.args.refusal.now c.line_at_end-line.result _ c.args.beyond _ _ _ _ _ c.kind_of.ensures
+          of_last c.args.limits.now (Some c.args.last.now.stage) c.args.name.now c.args.refusal.now c.line_at_end-line.result _ c.args.beyond _ _ _ _ _ c.kind_of.ensures
           c.goes_on.ensures c.ahead.ensures h;
     })
     c.add.ensures

@@ -1,8 +1,8 @@
-use Rattle.std.proofs.Common.{ℕ, List, [], ◌∷◌, ◌++◌, sym, ap, subst, ◌∙◌, arith, take, take-suc, add-one, append-nil}
+use Rattle.std.proofs.Common.{ℕ, List, ◌++◌, sym, ap, subst, ◌∙◌, arith, take, take-suc, add-one, append-nil}
 use Rattle.std.proofs.Common.{append_assoc}
 use Rattle.std.proofs.lemmas.List.{take_all}
 use Rattle.cwr_shape.specs.declared.symbols.Symbol.{Symbol}
-use Rattle.cwr_causes.specs.Steps.Coming.{Asks, ComesAt, HaveCome}
+use Rattle.cwr_causes.specs.Steps.Coming.{ComesAt, HaveCome}
 use Rattle.cwr_causes.proofs.lemmas.ComingSymbols.{on_err}
 use Rattle.cwr_causes.proofs.next_symbols.ask_each.Goals as goal
 

@@ -1,5 +1,4 @@
-use Rattle.std.proofs.Common.{List, ◌++◌, take}
-use Rattle.cwr_shape.specs.declared.symbols.Symbol.{Symbol}
+use Rattle.std.proofs.Common.{take}
 use Rattle.cwr_causes.specs.Steps.Coming.{Asks}
 use Rattle.cwr_causes.proofs.next_symbols.ask_each.Given as goal
 

@@ -1,10 +1,8 @@
-use Rattle.std.proofs.Common.{◌≡◌, List, [], ◌∷◌, ◌++◌, OnOk, OnErr, Result, refl, sym, ap, subst, append-nil}
-use Rattle.std.specs.Prelude.{◌≢◌}
+use Rattle.std.proofs.Common.{List, OnOk, sym, subst}
 use Rattle.cwr_fields.specs.declared.kinds.Kind.{Kind}
-use Rattle.cwr_fields.specs.declared.kinds.Kind.TheVariants as kinds
 use Rattle.cwr_shape.specs.declared.symbols.Symbol.{Symbol}
 use Rattle.cwr_shape.specs.declared.symbols.Symbol.TheVariants.{Plain}
-use Rattle.cwr_causes.specs.Steps.Coming.{Asks, ComesAt, HaveCome, inner_symbols}
+use Rattle.cwr_causes.specs.Steps.Coming.{Asks, inner_symbols}
 use Rattle.cwr_causes.proofs.lemmas.ComingSymbols.{asks_none, one_symbol, some_comes}
 use Rattle.cwr_causes.proofs.next_symbols.ask_kind.Goals as goal
 

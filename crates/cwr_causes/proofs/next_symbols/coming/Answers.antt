@@ -1,11 +1,11 @@
-use Rattle.std.proofs.Common.{◌≡◌, ℕ, List, [], ◌∷◌, ◌++◌, sym, ap, subst, ◌∙◌, arith, take, take-suc, add-one, append-nil}
+use Rattle.std.proofs.Common.{◌≡◌, ℕ, List, ◌++◌, sym, ap, subst, ◌∙◌, arith, take, take-suc, add-one, append-nil}
 use Rattle.std.specs.List.{flat_map}
 use Rattle.std.proofs.lemmas.List.{take_all}
 use Rattle.std.proofs.lemmas.Grind.{flat_map-append}
 use Rattle.cwr_fields.specs.declared.kinds.Kind.{Kind}
 use Rattle.cwr_fields.specs.Format.Kinds.{all_kinds}
 use Rattle.cwr_shape.specs.declared.symbols.Symbol.{Symbol}
-use Rattle.cwr_causes.specs.Steps.Coming.{ComesAt, HaveCome, inner_symbols}
+use Rattle.cwr_causes.specs.Steps.Coming.{HaveCome, inner_symbols}
 use Rattle.cwr_causes.proofs.lemmas.ComingSymbols.{all_come, on_err}
 use Rattle.cwr_causes.proofs.next_symbols.coming.Goals as goal
 

@@ -1,0 +1,94 @@
+-- What a run over a text in memory has written to an empty writer.
+use Rattle.std.proofs.Common.{◌≡◌, ℕ, Bool, List, [], ◌++◌, Option, Some, None, sym, ap, subst, ◌∙◌, false}
+use Rattle.std.specs.Prelude.{Result, Ok, Err, IfOk, IfSome}
+use Rattle.std.specs.Io.KnownBytes.{Appends}
+use Rattle.cwr_shape.specs.declared.limits.Limits.{Limits}
+use Rattle.cwr_tools.specs.declared.verdicts.Verdict.{Verdict}
+use Rattle.cwr_tools.specs.declared.verdicts.Verdict.TheVariants.{Good, Refused, Truncated}
+use Rattle.cwr_tools.specs.declared.verdicts.ToolFault.{ToolFault}
+use Rattle.cwr_tools.specs.Format.Reports.{ItemLines, lines_checked, lines_of_explained, text_on}
+use Rattle.cwr_tools.specs.Format.Verdicts.{IsVerdictOn, JudgesText}
+use Rattle.cwr_tools.specs.Steps.Reports.{Reports}
+use Rattle.cwr_tools.specs.Format.Verdicts.{IsAnswerAfter}
+use Rattle.cwr_explain.specs.Steps.Explained.{Explains}
+use Rattle.cwr_lint.specs.Format.Wanted.{wanting}
+use Rattle.cwr_lint.specs.Steps.Lints.{Lints, Tells}
+use Rattle.cwr_calls.specs.Steps.Reported.{IsExplainedOn, IsJudged, IsLintOn, IsTextOn, IsWritten}
+
+-- the verdict is on the text
+pub judged_on : (limits : Limits) (before : Option (List ℕ)) (text : List ℕ) (result : Result Verdict ToolFault)
+    → before ≡ Some text → JudgesText limits before result → IsJudged limits text result
+judged_on limits before text (Ok verdict) e h = subst (λ (b : Option (List ℕ)). IfSome b (λ t. IsVerdictOn limits t verdict)) e h
+judged_on limits before text (Err fault) e h = tt
+
+-- to an empty writer just the text is written
+alone : (old new : Option (List ℕ)) (report text : List ℕ) → old ≡ Some [] → new ≡ Some report → Appends old new text
+    → report ≡ text
+alone old new report text none has a =
+    subst (λ (n : Option (List ℕ)). Appends (Some []) n text) has (subst (λ (o : Option (List ℕ)). Appends o new text) none a)
+
+pub text_on_items : {W : Type 0} (of : ItemLines) (limits : Limits) (before after : Option (List ℕ)) (text report : List ℕ)
+    (contents : W → Option (List ℕ)) (old new : W) (result : Result Verdict ToolFault)
+    → before ≡ Some text → contents old ≡ Some [] → contents new ≡ Some report
+    → Reports of limits before after contents old new result → IsWritten (IsTextOn of limits text report) result
+text_on_items of limits before after text report contents old new (Ok verdict) e none has h =
+    let there = subst (λ (b : Option (List ℕ)). Reports of limits b after contents old new (Ok verdict)) e h in
+    (there.0, after, there.1, alone (contents old) (contents new) report (text_on of there.0 verdict) none has there.2)
+text_on_items of limits before after text report contents old new (Err fault) e none has h = tt
+
+pub text_reported : {W : Type 0} (of : ItemLines) (limits : Limits) (before after : Option (List ℕ)) (text report : List ℕ)
+    (contents : W → Option (List ℕ)) (old new : W) (result : Result Verdict ToolFault)
+    → Reports of limits before after contents old new result → before ≡ Some text → contents old ≡ Some []
+    → contents new ≡ Some report → IsWritten (IsTextOn of limits text report) result
+text_reported of limits before after text report contents old new result h e none has =
+    text_on_items of limits before after text report contents old new result e none has h
+
+-- words that follow a text
+followed : (old mid new : Option (List ℕ)) (report text words : List ℕ) → old ≡ Some [] → new ≡ Some report → Appends old mid text
+    → Appends mid new words → report ≡ text ++ words
+followed old None new report text words none has a b = absurd (subst (λ (o : Option (List ℕ)). Appends o None text) none a)
+followed old (Some m) new report text words none has a b =
+    let front : m ≡ text = subst (λ (o : Option (List ℕ)). Appends o (Some m) text) none a in
+    let whole : report ≡ m ++ words = subst (λ (n : Option (List ℕ)). Appends (Some m) n words) has b in
+    whole ∙ ap (λ (l : List ℕ). l ++ words) front
+
+pub explained_on_items : {W : Type 0} (limits : Limits) (before after : Option (List ℕ)) (text report : List ℕ)
+    (contents : W → Option (List ℕ)) (old new : W) (result : Result Verdict ToolFault)
+    → before ≡ Some text → contents old ≡ Some [] → contents new ≡ Some report
+    → Explains limits before after contents old new result → IsWritten (IsExplainedOn limits text report) result
+explained_on_items limits before after text report contents old new (Err fault) e none has h = tt
+explained_on_items {W = W} limits before after text report contents old new (Ok verdict) e none has h =
+    by h.checked h.reported h.answered
+  where
+    by : (checked : Result Verdict ToolFault) → Reports lines_of_explained limits before h.left contents old h.between checked
+        → IsAnswerAfter checked (Ok verdict) → IsExplainedOn limits text report verdict
+    by (Ok v) r same =
+        let there =
+        subst (λ (b : Option (List ℕ)). Reports lines_of_explained limits b h.left contents old h.between (Ok v)) e r in
+        let it : IsExplainedOn limits text report v
+        = (
+          there.0,
+          h.left,
+          h.words,
+          there.1,
+          followed (contents old) (contents h.between) (contents new) report
+              (text_on lines_of_explained there.0 v) h.words none has there.2 h.written,
+        ) in
+        subst (IsExplainedOn limits text report) (sym same) it
+    by (Err f) r same = absurd (cc same)
+
+pub lint_on_items : {W : Type 0} (explained : Bool) (limits : Limits) (before after : Option (List ℕ)) (text report : List ℕ)
+    (contents : W → Option (List ℕ)) (old new : W) (result : Result Verdict ToolFault)
+    → Lints (wanting explained false) limits before after contents old new result → before ≡ Some text → contents old ≡ Some []
+    → contents new ≡ Some report → IfOk result (Tells (wanting explained false) limits before after contents old new)
+    → IsWritten (IsLintOn (lines_checked explained) limits text report) result
+lint_on_items explained limits before after text report contents old new (Err fault) l e none has h = tt
+lint_on_items explained limits before after text report contents old new (Ok (Good groups transactions records)) l e none has h =
+    text_on_items (lines_checked explained) limits before after text report contents old new
+    (Ok (Good groups transactions records)) e none has h
+lint_on_items explained limits before after text report contents old new (Ok (Truncated records)) l e none has h =
+    text_on_items (lines_checked explained) limits before after text report contents old new (Ok (Truncated records)) e none has h
+lint_on_items explained limits before after text report contents old new (Ok (Refused refusal)) l e none has h =
+    let there =
+    subst (λ (b : Option (List ℕ)). Tells (wanting explained false) limits b after contents old new (Refused refusal)) e h in
+    (there.given, there.left, there.text, there.stopped, alone (contents old) (contents new) report _ none has there.written)

@@ -1,0 +1,9 @@
+use Rattle.std.proofs.Common.{[], ◌∷◌}
+use Rattle.std.proofs.lemmas.Result.{on_ok_weaker}
+use Rattle.cwr_calls.proofs.lemmas.WrittenRecords.{added}
+use Rattle.cwr_calls.proofs.writing.put_head.Goals as goal
+
+pub returns : goal.returns
+returns g c =
+    on_ok_weaker c.encoded.result (added g.W.Target.contents g.W.Target.failures (c.args.value.now ∷ []) c.group.result
+    c.args.encoder.now c.group.new.self c.group.ensures.adds c.group.ensures.limits) c.encoded.ensures

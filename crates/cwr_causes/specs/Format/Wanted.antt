@@ -1,0 +1,167 @@
+-- What may stand in the place of what was found, in words, and what a misplaced line points to.
+use Rattle.std.specs.Prelude.{ℕ, ◌+◌, ◌-◌, ◌^◌, ◌==◌, ◌&&◌, not, Bool, true, false, List, [], ◌∷◌, ◌++◌, codes, decimal, position}
+use Rattle.std.specs.Prelude.{slice_index, Option, None, Some, if◌then◌else◌}
+use Rattle.std.specs.List.{concat}
+use Rattle.std.specs.Str.{bytes_eq}
+use Rattle.std.specs.Fmt.{format_spec, styled_decimal}
+use Rattle.cwr_fields.specs.declared.cell_types.CellFault.{CellFault}
+use Rattle.cwr_fields.specs.declared.cell_types.CellFault.TheVariants as cell_faults
+use Rattle.cwr_fields.specs.declared.codes.TransactionType.{TransactionType}
+use Rattle.cwr_fields.specs.declared.codes.TransactionType.TheVariants.{Acknowledgement}
+use Rattle.cwr_fields.specs.declared.kinds.Kind.{Kind}
+use Rattle.cwr_fields.specs.Format.Bytes.{is_control}
+use Rattle.cwr_fields.specs.Format.Kinds.{letters}
+use Rattle.cwr_fields.specs.Format.Layouts.{FieldLayout, line_width}
+use Rattle.cwr_shape.specs.declared.limits.LimitKind.{LimitKind}
+use Rattle.cwr_shape.specs.declared.limits.LimitKind.TheVariants as limit_kinds
+use Rattle.cwr_shape.specs.declared.limits.Limits.{Limits}
+use Rattle.cwr_shape.specs.declared.reasons.Reason.{Reason}
+use Rattle.cwr_shape.specs.declared.reasons.Reason.TheVariants as reasons
+use Rattle.cwr_shape.specs.declared.stages.Stage.{Stage}
+use Rattle.cwr_shape.specs.declared.stages.Stage.TheVariants.{Within}
+use Rattle.cwr_shape.specs.declared.stages.TransactionStep.{TransactionStep}
+use Rattle.cwr_shape.specs.declared.stages.TransactionStep.TheVariants.{InGroup}
+use Rattle.cwr_shape.specs.declared.symbols.Symbol.TheVariants.{Plain}
+use Rattle.cwr_shape.specs.Format.NextSymbols.{header_kind, is_header_of}
+use Rattle.cwr_shape.specs.Format.ReasonTexts.{limit_text}
+use Rattle.cwr_causes.specs.Format.Texts.{hex_words, label_words}
+use Rattle.cwr_causes.specs.Format.Expected.{counted_words, type_words}
+use Rattle.cwr_causes.specs.Format.Refusals.{RefusedLine, refused_field}
+use Rattle.cwr_causes.specs.Format.WrongNumbers.{is_header}
+
+-- ---- what may stand in a cell
+
+-- which byte of a cell is a control byte, from 1
+unfoldable pub control_place : ℕ → List ℕ
+control_place number = concat (codes "; byte " ∷ decimal number ∷ codes " of the cell is the control byte " ∷ [])
+
+-- the same, and that byte
+unfoldable pub control_line : ℕ → ℕ → List ℕ
+control_line number byte = (control_place number ++ hex_words byte) ++ codes " (hex)"
+
+abbrev pub control_at : List ℕ → Option ℕ → List ℕ
+control_at cell None = []
+control_at cell (Some at) = control_line (at + 1) (slice_index cell at)
+
+-- the first control byte of a cell
+abbrev pub control_words : Option (List ℕ) → List ℕ
+control_words None = []
+control_words (Some cell) = control_at cell (position is_control cell)
+
+-- the same where a control byte is its fault
+abbrev pub fault_words : CellFault → Option (List ℕ) → List ℕ
+fault_words cell_faults.Control cell = control_words cell
+fault_words fault cell = []
+
+-- what a number counts, where it is one of the file's own
+abbrev pub rule_words : Bool → Option Kind → ℕ → List ℕ
+rule_words true (Some this_kind) j = codes ": " ++ counted_words this_kind j
+rule_words derived this_kind j = []
+
+-- what may stand in the cell of the field
+unfoldable pub cell_expected_words : RefusedLine → FieldLayout → CellFault → Option (List ℕ) → List ℕ
+cell_expected_words r f fault cell =
+    concat
+    (label_words (codes "expected") ∷ type_words f.width f.ty ∷ rule_words f.derived r.kind r.refusal.field
+    ∷ fault_words fault cell ∷ codes "\n" ∷ [])
+
+-- ---- the number that belongs there
+
+-- a number in the width of its field
+abbrev pub number_in_width : ℕ → ℕ → List ℕ
+number_in_width width n =
+    if width == 5 then styled_decimal (format_spec 32 0 4 5 (2 ^ 64 - 1)) n
+    else (if width == 8 then styled_decimal (format_spec 32 0 4 8 (2 ^ 64 - 1)) n else decimal n)
+
+-- a number that belongs in the field, and what it counts
+unfoldable pub counted_number : Kind → ℕ → ℕ → ℕ → List ℕ
+counted_number this_kind j width n =
+    concat
+    (number_in_width width n ∷ codes ": " ∷ counted_words this_kind j ∷ codes "; write it only if no record is missing" ∷ [])
+
+abbrev pub number_of_field : Option Kind → Option (ℕ × FieldLayout) → ℕ → ℕ → List ℕ
+number_of_field (Some this_kind) (Some f) j n = counted_number this_kind j f.1.width n
+number_of_field this_kind f j n = []
+
+-- the number that belongs there
+unfoldable pub number_expected_words : RefusedLine → ℕ → List ℕ
+number_expected_words r n =
+    concat
+    (label_words (codes "expected") ∷ number_of_field r.kind (refused_field r) r.refusal.field n ∷ codes "\n" ∷ [])
+
+-- ---- a limit
+
+-- what a limit is
+abbrev pub most_words : Limits → LimitKind → List ℕ
+most_words limits limit_kinds.Records = concat (codes "at most " ∷ decimal limits.records ∷ codes " records in the file" ∷ [])
+most_words limits limit_kinds.Groups = concat (codes "at most " ∷ decimal limits.groups ∷ codes " groups in the file" ∷ [])
+most_words limits limit_kinds.Transaction =
+    concat (codes "at most " ∷ decimal limits.transaction ∷ codes " records in a transaction" ∷ [])
+
+-- how it is raised
+unfoldable pub raised_words : List ℕ → List ℕ
+raised_words word =
+    concat
+    (codes "; no file can be finished within that from here. The option --" ∷ word ∷ codes " raises it\n" ∷ [])
+
+unfoldable pub limit_words : Limits → LimitKind → List ℕ
+limit_words limits limit = concat (label_words (codes "expected") ∷ most_words limits limit ∷ raised_words (limit_text limit) ∷ [])
+
+-- ---- the end of a line
+
+-- where its last field ends
+unfoldable pub last_byte_words : ℕ → List ℕ
+last_byte_words last =
+    concat (codes "nothing but spaces after byte " ∷ decimal last ∷ codes " of the line, where its last field ends\n" ∷ [])
+
+abbrev pub end_of_line_words : Bool → Option Kind → List ℕ
+end_of_line_words true this_kind = codes "a line of at most 1024 bytes before its line end\n"
+end_of_line_words false (Some this_kind) = last_byte_words (line_width this_kind)
+end_of_line_words false None = codes "\n"
+
+-- where it may end
+unfoldable pub end_expected_words : RefusedLine → List ℕ
+end_expected_words r = label_words (codes "expected") ++ end_of_line_words r.is_too_long r.kind
+
+-- ---- what a misplaced line points to
+
+-- the same line stands right before it
+abbrev pub stands_twice : Option (List ℕ) → List ℕ → Bool
+stands_twice None line = false
+stands_twice (Some before) line = bytes_eq before line
+
+unfoldable pub twice_words : List ℕ
+twice_words = label_words (codes "points to") ++ codes "the line before it is the same: it stands twice\n"
+
+-- the record may begin the copy in an acknowledgement
+abbrev pub may_be_copy : TransactionType → TransactionStep → Bool
+may_be_copy Acknowledgement InGroup = false
+may_be_copy Acknowledgement step = true
+may_be_copy ty step = false
+
+-- it is the header of another type's transaction than those of the open group
+abbrev pub is_of_another_type : TransactionType → TransactionStep → Kind → Bool
+is_of_another_type ty step this_kind =
+    is_header this_kind && (not (is_header_of ty (Plain this_kind)) && not (may_be_copy ty step))
+
+-- what that points to, by the letters of the kind and of the header that is wanted
+unfoldable pub another_type_line : List ℕ → List ℕ → List ℕ
+another_type_line found wanted =
+    concat
+    (label_words (codes "points to") ∷ codes "the group's GRH says " ∷ wanted
+    ∷ codes " in bytes 4 to 6, and this is the header of a transaction of type " ∷ found
+    ∷ codes ": the type in GRH is wrong, or a GRT and a GRH are missing before this line, or its kind is mistyped\n" ∷ [])
+
+abbrev pub another_type_words : Option Stage → Kind → List ℕ
+another_type_words (Some (Within ty step)) this_kind =
+    if is_of_another_type ty step this_kind then another_type_line (letters this_kind) (letters (header_kind ty)) else []
+another_type_words stage this_kind = []
+
+abbrev pub misplaced_words : Option Stage → RefusedLine → Kind → List ℕ
+misplaced_words stage r this_kind =
+    if stands_twice r.before r.bytes then twice_words else another_type_words stage this_kind
+
+-- what a misplaced line points to
+abbrev pub order_words : Option Stage → RefusedLine → Reason → Option Kind → List ℕ
+order_words stage r reasons.Misplaced (Some this_kind) = misplaced_words stage r this_kind
+order_words stage r reason this_kind = []
