@@ -16,7 +16,11 @@ pub mod ListedSymbols
 pub mod PlainLetters
 -- In a line that ends before it no sequence stands.
 pub mod ShortLines
--- A text that goes on, and goes on again.
-pub mod Extended
+-- What is said part by part.
+pub mod SaidInParts
 -- What is said of the line with which the bytes end that were read.
 pub mod LastRefused
+-- Whether a text is in UTF-8, as a test.
+pub mod Utf8Texts
+-- The first field that shows lost blanks, one field more at a time.
+pub mod FirstSigns

@@ -2,8 +2,10 @@
 pub mod ComingTexts
 pub mod Expected
 pub mod Lookings
+pub mod Openings
 pub mod Refusals
 pub mod Sequences
+pub mod Shifts
 pub mod Signs
 pub mod Texts
 pub mod Trailing

@@ -3,4 +3,5 @@ pub mod Coming
 pub mod Laws
 pub mod LinesAtEnd
 pub mod Refused
+pub mod Shifts
 pub mod Trailing

@@ -157,7 +157,7 @@ pub fn explain_fault(
     stage: Option<Stage>,
 ) -> Result<String, AllocError>
     ensures { IfOk result (λ text. ExplainsLine limits.now stage (fault_line name.now fault.now line.entry
-        (option_map (λ b. b.now) before.entry) is_too_long) [] (string_bytes text)) }
+        (option_map (λ b. b.now) before.entry) is_too_long is_first) [] (string_bytes text)) }
 {
     let mut text = String::new(alloc);
     let refused = Refused {

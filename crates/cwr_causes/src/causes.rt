@@ -6,16 +6,17 @@ ghost use Rattle.cwr_lines.specs.Format.Lines.{without_cr};
 ghost use Rattle.cwr_fields.specs.Format.Layouts.{line_width};
 ghost use Rattle.cwr_shape.specs.declared.symbols.Symbol.{Symbol};
 ghost use Rattle.cwr_shape.specs.Format.NextSymbols.{header_kind, is_header_of};
-ghost use Rattle.cwr_causes.specs.Format.Texts.{Extends, hex_words};
+ghost use Rattle.cwr_causes.specs.Format.Texts.{hex_words};
 ghost use Rattle.cwr_causes.specs.Format.Refusals.{byte_of_file_words, content_words, end_byte_words, end_of_fields, excess_at, field_name, field_words};
 ghost use Rattle.cwr_causes.specs.Format.Refusals.{found_words, head_words, named_field, number_points_words, place_words, range_beyond_words, refused_field};
 ghost use Rattle.cwr_causes.specs.Format.Refusals.{range_words, range_of_file_words, refused_level_words, shown, where_words, without_return};
-ghost use Rattle.cwr_causes.specs.Format.Signs.{end_signs, return_line, return_words};
+ghost use Rattle.cwr_causes.specs.Format.Openings.{note_line, note_words, opening_words};
+ghost use Rattle.cwr_causes.specs.Format.Signs.{end_signs, first_signs, return_line, return_words, shift_signs, signs_words};
 ghost use Rattle.cwr_causes.specs.Format.Wanted.{another_type_line, another_type_words, cell_expected_words, control_line, control_place, control_words, counted_number};
 ghost use Rattle.cwr_causes.specs.Format.Wanted.{end_expected_words, end_of_line_words, fault_words, is_of_another_type, last_byte_words, limit_words};
 ghost use Rattle.cwr_causes.specs.Format.Wanted.{may_be_copy, misplaced_words, most_words, number_expected_words, number_in_width, number_of_field};
 ghost use Rattle.cwr_causes.specs.Format.Wanted.{order_words, raised_words, rule_words, stands_twice, twice_words};
-ghost use Rattle.cwr_causes.specs.Steps.Refused.{ExplainsLine, SaysComing, SaysExpected, SaysSigns, SaysWanted, refused_line};
+ghost use Rattle.cwr_causes.specs.Steps.Refused.{ExplainsLine, SaysComing, SaysExpected, SaysWanted, refused_line};
 
 use crate::ahead::Ahead;
 use crate::coming_words::add_coming;
@@ -661,19 +662,13 @@ impl Refused<'_> {
     }
 
     /// Adds what the line looks like that names no record.
-    #[tactic(auto, using(crate::proofs::lemmas::Extended::extended))]
     fn add_opening(&self, text: &mut String) -> Result<(), AllocError>
-        ensures { OnOk result (Extends (string_bytes text.old) (string_bytes text.new)) }
+        ensures { OnOk result (string_bytes text.new ≡ string_bytes text.old
+            ++ opening_words self.now.refusal.now.reason self.now.line.bytes.now) }
     {
-        if self.refusal.reason != Reason::UnknownKind {
-            return Ok(());
-        }
-        match opening_of(self.line.bytes).words() {
-            Some(words) => {
-                add_label(text, "note")?;
-                writeln!(text, "{words}")
-            }
-            None => Ok(()),
+        match self.refusal.reason {
+            Reason::UnknownKind => add_note_if(text, opening_of(self.line.bytes).words()),
+            _ => Ok(()),
         }
     }
 
@@ -716,9 +711,9 @@ impl Refused<'_> {
     }
 
     /// Adds why the cells may stand elsewhere, where that is said with this fault.
-    #[tactic(auto, using(crate::proofs::lemmas::Extended::extended))]
     fn add_first(&self, text: &mut String) -> Result<(), AllocError>
-        ensures { OnOk result (Extends (string_bytes text.old) (string_bytes text.new)) }
+        ensures { OnOk result (string_bytes text.new ≡ string_bytes text.old
+            ++ shift_signs (refused_line self.now)) }
     {
         if self.is_first && !self.is_too_long {
             add_shift(text, self.kind, self.refusal.field, self.without_return())
@@ -728,18 +723,20 @@ impl Refused<'_> {
     }
 
     /// Adds what its first bytes, and the version that it names, show.
-    #[tactic(auto, using(crate::proofs::lemmas::Extended::extended))]
+    #[tactic(auto, unfolding(crate::specs::Format::Signs::first_signs))]
     fn add_notes(&self, text: &mut String) -> Result<(), AllocError>
-        ensures { OnOk result (Extends (string_bytes text.old) (string_bytes text.new)) }
+        ensures { OnOk result (string_bytes text.new ≡ string_bytes text.old
+            ++ first_signs (refused_line self.now)) }
     {
         self.add_opening(text)?;
         add_version(text, self.kind, self.line.bytes)
     }
 
     /// Adds what else the line shows.
+    #[tactic(auto, unfolding(crate::specs::Format::Signs::signs_words))]
     fn add_signs(&self, text: &mut String) -> Result<(), AllocError>
-        ensures { OnOk result (SaysSigns (refused_line self.now) (string_bytes text.old)
-            (string_bytes text.new)) }
+        ensures { OnOk result (string_bytes text.new ≡ string_bytes text.old
+            ++ signs_words (refused_line self.now)) }
     {
         self.add_notes(text)?;
         self.add_first(text)?;
@@ -808,6 +805,26 @@ fn add_coming_at(alloc: Global, text: &mut String, stage: Option<Stage>) -> Resu
 {
     match stage {
         Some(stage) => add_coming(alloc, text, stage),
+        None => Ok(()),
+    }
+}
+
+/// Adds a note.
+#[tactic(auto, unfolding(crate::specs::Format::Openings::note_line))]
+fn add_note(text: &mut String, words: &str) -> Result<(), AllocError>
+    ensures { OnOk result (string_bytes text.new ≡ string_bytes text.old ++ note_line words.now) }
+{
+    add_label(text, "note")?;
+    writeln!(text, "{words}")
+}
+
+/// Adds a note, if there is one.
+fn add_note_if(text: &mut String, words: Option<&'static str>) -> Result<(), AllocError>
+    ensures { OnOk result (string_bytes text.new ≡ string_bytes text.old
+        ++ note_words (option_map (λ w. w.now) words.entry)) }
+{
+    match words {
+        Some(words) => add_note(text, words),
         None => Ok(()),
     }
 }

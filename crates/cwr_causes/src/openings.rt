@@ -1,5 +1,8 @@
 //! What a line that names no record looks like.
 
+ghost use Rattle.std.specs.Prelude.{◌≡◌, option_map};
+ghost use Rattle.cwr_causes.specs.Format.Openings.{is_empty_line, is_lower_case, is_utf16, opening_of, opening_said};
+
 use cwr_fields::Kind;
 
 /// What a line that names no record looks like.
@@ -21,17 +24,36 @@ pub(crate) enum Opening {
     Other,
 }
 
-/// Whether the bytes begin as a text in UTF-16 does: with its byte order mark, or with a letter of two bytes.
-fn is_utf16(bytes: &[u8]) -> bool {
+/// Whether no byte stands before the line's end.
+fn is_empty_line(bytes: &[u8]) -> bool
+    ensures { result ≡ is_empty_line bytes.now }
+{
     match bytes {
-        [0xff, 0xfe, ..] | [0xfe, 0xff, ..] => true,
-        [0, letter, ..] | [letter, 0, ..] => letter.is_ascii_alphabetic(),
+        [] => true,
+        [byte] => *byte == b'\r',
+        _ => false,
+    }
+}
+
+/// Whether the bytes begin as a text in UTF-16 does: with its byte order mark, or with a letter of two bytes.
+fn is_utf16(bytes: &[u8]) -> bool
+    ensures { result ≡ is_utf16 bytes.now }
+{
+    match bytes {
+        [a, b, ..] => {
+            (*a == 0xff && *b == 0xfe)
+                || (*a == 0xfe && *b == 0xff)
+                || (*a == 0 && b.is_ascii_alphabetic())
+                || (*b == 0 && a.is_ascii_alphabetic())
+        }
         _ => false,
     }
 }
 
 /// Whether the first three bytes name a record once their letters are capital.
-fn is_lower_case(bytes: &[u8]) -> bool {
+fn is_lower_case(bytes: &[u8]) -> bool
+    ensures { result ≡ is_lower_case bytes.now }
+{
     match bytes {
         [a, b, c, ..] => {
             let capitals = [
@@ -46,21 +68,31 @@ fn is_lower_case(bytes: &[u8]) -> bool {
 }
 
 /// What the line looks like.
-pub(crate) fn opening_of(bytes: &[u8]) -> Opening {
-    match bytes {
-        [] | [b'\r'] => Opening::Empty,
-        [0xef, 0xbb, 0xbf, ..] => Opening::ByteOrderMark,
-        [0x1f, 0x8b, ..] => Opening::Gzip,
-        [b'P', b'K', 3, 4, ..] => Opening::Zip,
-        _ if is_utf16(bytes) => Opening::Utf16,
-        _ if is_lower_case(bytes) => Opening::LowerCase,
-        _ => Opening::Other,
+pub(crate) fn opening_of(bytes: &[u8]) -> Opening
+    ensures { result ≡ opening_of bytes.now }
+{
+    if is_empty_line(bytes) {
+        Opening::Empty
+    } else if bytes.starts_with(&[0xef, 0xbb, 0xbf]) {
+        Opening::ByteOrderMark
+    } else if bytes.starts_with(&[0x1f, 0x8b]) {
+        Opening::Gzip
+    } else if bytes.starts_with(b"PK\x03\x04") {
+        Opening::Zip
+    } else if is_utf16(bytes) {
+        Opening::Utf16
+    } else if is_lower_case(bytes) {
+        Opening::LowerCase
+    } else {
+        Opening::Other
     }
 }
 
 impl Opening {
     /// What to say of it.
-    pub(crate) fn words(self) -> Option<&'static str> {
+    pub(crate) fn words(self) -> Option<&'static str>
+        ensures { option_map (λ words. words.now) result ≡ opening_said self }
+    {
         match self {
             Opening::Empty => Some("the line is empty: remove it"),
             Opening::ByteOrderMark => Some(

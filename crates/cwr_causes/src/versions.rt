@@ -1,7 +1,8 @@
 //! Which other version of CWR a line names.
 
-ghost use Rattle.std.specs.Prelude.{string_bytes, OnOk};
-ghost use Rattle.cwr_causes.specs.Format.Texts.{Extends};
+ghost use Rattle.std.specs.Prelude.{◌≡◌, ◌++◌, drop, option_map, string_bytes, Some, OnOk};
+ghost use Rattle.cwr_causes.specs.Format.Openings.{first_version, group_version, header_version, later_version, third_version};
+ghost use Rattle.cwr_causes.specs.Format.Openings.{version_in, version_line, version_words};
 
 use crate::texts::add_label;
 use cwr_fields::Kind;
@@ -11,76 +12,128 @@ use std::fmt::Write;
 /// Where GRH has the version of its transactions: the first byte, from 0.
 const GROUP_VERSION: usize = 11;
 
-/// The versions that GRH may name, and the versions of CWR whose they are.
-static GROUP_VERSIONS: [(&[u8], &str); 4] = [
-    (b"02.00", "2.0"),
-    (b"02.20", "2.2"),
-    (b"03.00", "3.0"),
-    (b"03.10", "3.1"),
-];
-
-/// The versions of CWR that a header names which has more fields than that of 2.1, or other ones.
-static HEADER_VERSIONS: [(&[u8], &str); 3] = [(b"2.2", "2.2"), (b"3.0", "3.0"), (b"3.1", "3.1")];
-
 /// Where a header of 2.2 names its version: the first byte, from 0, after all fields of 2.1.
 const HEADER_VERSION: usize = 101;
 
 /// From where on a header of another version may name it.
 const LATE_IN_HEADER: usize = 59;
 
-/// The version that stands there.
-fn version_at(bytes: &[u8], at: usize, versions: &[(&[u8], &'static str)]) -> Option<&'static str> {
-    let rest = bytes.get(at..)?;
-    for (letters, version) in versions {
-        if rest.starts_with(letters) {
+/// What a line has from a byte on, from 0.
+fn from_byte(bytes: &[u8], at: usize) -> &[u8]
+    ensures { result.now ≡ drop at bytes.now }
+{
+    &bytes[at.min(bytes.len())..]
+}
+
+/// The version of CWR whose transactions have the version with which a text begins.
+fn group_version(text: &[u8]) -> Option<&'static str>
+    ensures { option_map (λ version. version.now) result ≡ group_version text.now }
+{
+    if text.starts_with(b"02.00") {
+        Some("2.0")
+    } else if text.starts_with(b"02.20") {
+        Some("2.2")
+    } else if text.starts_with(b"03.00") {
+        Some("3.0")
+    } else if text.starts_with(b"03.10") {
+        Some("3.1")
+    } else {
+        None
+    }
+}
+
+/// The version of 3.0 and 3.1 with which a text begins.
+fn third_version(text: &[u8]) -> Option<&'static str>
+    ensures { option_map (λ version. version.now) result ≡ third_version text.now }
+{
+    if text.starts_with(b"3.0") {
+        Some("3.0")
+    } else if text.starts_with(b"3.1") {
+        Some("3.1")
+    } else {
+        None
+    }
+}
+
+/// The version of 2.2, 3.0 and 3.1 with which a text begins.
+fn later_version(text: &[u8]) -> Option<&'static str>
+    ensures { option_map (λ version. version.now) result ≡ later_version text.now }
+{
+    if text.starts_with(b"2.2") {
+        Some("2.2")
+    } else {
+        third_version(text)
+    }
+}
+
+/// The first of 3.0 and 3.1 in a text.
+fn first_version(text: &[u8]) -> Option<&'static str>
+    ensures { option_map (λ version. version.now) result ≡ first_version text.now }
+{
+    let mut rest = text;
+    while let [_, behind @ ..] = rest {
+        if let Some(version) = third_version(rest) {
             return Some(version);
         }
+        rest = behind;
     }
     None
 }
 
 /// The version that a header names: at its place in 2.2, or anywhere late in it.
-fn header_version(bytes: &[u8]) -> Option<&'static str> {
-    if let Some(version) = version_at(bytes, HEADER_VERSION, &HEADER_VERSIONS[..]) {
-        return Some(version);
+fn header_version(bytes: &[u8]) -> Option<&'static str>
+    ensures { option_map (λ version. version.now) result ≡ header_version bytes.now }
+{
+    match later_version(from_byte(bytes, HEADER_VERSION)) {
+        Some(version) => Some(version),
+        None => first_version(from_byte(bytes, LATE_IN_HEADER)),
     }
-    for at in LATE_IN_HEADER..bytes.len() {
-        if let Some(version) = version_at(bytes, at, &HEADER_VERSIONS[1..]) {
-            return Some(version);
-        }
-    }
-    None
 }
 
 /// The version of CWR that a line names, where it isn't 2.1.
-fn version_in(kind: Kind, bytes: &[u8]) -> Option<&'static str> {
+fn version_in(kind: Kind, bytes: &[u8]) -> Option<&'static str>
+    ensures { option_map (λ version. version.now) result ≡ version_in kind bytes.now }
+{
     match kind {
         Kind::Hdr => header_version(bytes),
-        Kind::Grh => version_at(bytes, GROUP_VERSION, &GROUP_VERSIONS[..]),
+        Kind::Grh => group_version(from_byte(bytes, GROUP_VERSION)),
         _ => None,
     }
 }
 
+/// Adds that a line is one of that version of CWR.
+#[tactic(auto, unfolding(crate::specs::Format::Openings::version_line))]
+fn add_version_line(text: &mut String, version: &str) -> Result<(), AllocError>
+    ensures { OnOk result (string_bytes text.new ≡ string_bytes text.old ++ version_line version.now) }
+{
+    add_label(text, "note")?;
+    writeln!(
+        text,
+        "the line is one of CWR {version}, by the version that it names: this program reads CWR 2.1"
+    )
+}
+
+/// Adds which other version of CWR a line of the kind names.
+fn add_version_of(text: &mut String, kind: Kind, bytes: &[u8]) -> Result<(), AllocError>
+    ensures { OnOk result (string_bytes text.new ≡ string_bytes text.old
+        ++ version_words (Some kind) bytes.now) }
+{
+    match version_in(kind, bytes) {
+        Some(version) => add_version_line(text, version),
+        None => Ok(()),
+    }
+}
+
 /// Adds which other version of CWR a line names.
-#[tactic(auto, using(crate::proofs::lemmas::Extended::extended))]
 pub(crate) fn add_version(
     text: &mut String,
     kind: Option<Kind>,
     bytes: &[u8],
 ) -> Result<(), AllocError>
-    ensures { OnOk result (Extends (string_bytes text.old) (string_bytes text.new)) }
+    ensures { OnOk result (string_bytes text.new ≡ string_bytes text.old ++ version_words kind bytes.now) }
 {
-    let Some(kind) = kind else {
-        return Ok(());
-    };
-    match version_in(kind, bytes) {
-        Some(version) => {
-            add_label(text, "note")?;
-            writeln!(
-                text,
-                "the line is one of CWR {version}, by the version that it names: this program reads CWR 2.1"
-            )
-        }
+    match kind {
+        Some(kind) => add_version_of(text, kind, bytes),
         None => Ok(()),
     }
 }

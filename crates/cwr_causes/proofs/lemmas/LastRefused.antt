@@ -1,5 +1,5 @@
 -- What is said of the line with which the bytes end that were read.
-use Rattle.std.proofs.Common.{◌≡◌, ℕ, Bool, List, Bor, option_map, subst}
+use Rattle.std.proofs.Common.{◌≡◌, ℕ, Bool, true, List, Bor, option_map, subst}
 use Rattle.std.specs.Prelude.{Option, Some, None, IfSome}
 use Rattle.cwr_fields.specs.declared.kinds.Kind.{Kind}
 use Rattle.cwr_judge.specs.declared.refusals.Refusal.{Refusal}
@@ -24,6 +24,7 @@ line_with name refusal line before this_kind is_too_long ahead =
       kind = this_kind;
       is_too_long = is_too_long;
       ahead = ahead;
+      is_first = true;
     }
 
 pub of_last : (limits : Limits) (stage : Option Stage) (name : List ℕ) (refusal : Refusal) (line : LineAtEnd) (before : Option (List ℕ)) (beyond : Beyond)

@@ -17,8 +17,8 @@ use Rattle.cwr_causes.specs.Format.Sequences.{capped_number}
 use Rattle.cwr_causes.specs.Format.WrongNumbers.{points_words}
 
 -- A refused line: the name of its input, where and why it is refused, its bytes before its line feed, whether that was read, how many
--- bytes were read before it, the line before where all of that is held, its kind, whether it is longer than a line may be, and how
--- the numbers after it go on where they were looked at.
+-- bytes were read before it, the line before where all of that is held, its kind, whether it is longer than a line may be, how the
+-- numbers after it go on where they were looked at, and whether the fault is the first that is explained of it.
 pub record RefusedLine : Type 0 where
   pub name : List ℕ
   pub refusal : Refusal
@@ -29,6 +29,7 @@ pub record RefusedLine : Type 0 where
   pub kind : Option Kind
   pub is_too_long : Bool
   pub ahead : Option Ahead
+  pub is_first : Bool
 
 -- the kind that a line's first three bytes name
 abbrev pub first_kind : List ℕ → Option Kind

@@ -1,8 +1,10 @@
 -- What else a refused line shows, in notes.
-use Rattle.std.specs.Prelude.{ℕ, ◌+◌, ◌-◌, ◌==◌, List, [], ◌∷◌, ◌++◌, codes, decimal, length, position, take, Option, None, Some}
+use Rattle.std.specs.Prelude.{ℕ, ◌+◌, ◌-◌, ◌==◌, ◌&&◌, not, if◌then◌else◌, List, [], ◌∷◌, ◌++◌, codes, decimal, length, position, take, Option, None, Some}
 use Rattle.std.specs.List.{concat}
 use Rattle.cwr_causes.specs.Format.Texts.{label_words}
-use Rattle.cwr_causes.specs.Format.Refusals.{RefusedLine}
+use Rattle.cwr_causes.specs.Format.Openings.{opening_words, version_words}
+use Rattle.cwr_causes.specs.Format.Refusals.{RefusedLine, without_return}
+use Rattle.cwr_causes.specs.Format.Shifts.{shift_words}
 use Rattle.cwr_causes.specs.Format.TruncatedTexts.{cut_off_words}
 
 -- which byte of a line is a carriage return, from 1
@@ -20,6 +22,18 @@ return_at (Some at) = return_line (at + 1)
 abbrev pub return_words : List ℕ → List ℕ
 return_words line = return_at (position (λ b. b == 13) (take (length line - 1) line))
 
+-- what stands first: what its beginning looks like, and which version it names
+unfoldable pub first_signs : RefusedLine → List ℕ
+first_signs r = opening_words r.refusal.reason r.bytes ++ version_words r.kind r.bytes
+
+-- that its cells may stand elsewhere, which is said with the first fault of a line
+abbrev pub shift_signs : RefusedLine → List ℕ
+shift_signs r = if r.is_first && not r.is_too_long then shift_words r.kind r.refusal.field (without_return r) else []
+
 -- what stands last: a carriage return within it, and that it may have been cut off
 unfoldable pub end_signs : RefusedLine → List ℕ
 end_signs r = return_words r.bytes ++ cut_off_words r.bytes r.ended r.kind
+
+-- all notes on the line
+unfoldable pub signs_words : RefusedLine → List ℕ
+signs_words r = first_signs r ++ shift_signs r ++ end_signs r

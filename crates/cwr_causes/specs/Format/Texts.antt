@@ -1,5 +1,5 @@
 -- Bytes as people are shown them, and what begins a line of an explanation.
-use Rattle.std.specs.Prelude.{◌≡◌, ℕ, ◌-◌, ◌^◌, ◌==◌, ◌&&◌, nat_le, true, false, List, [], ◌∷◌, ◌++◌, codes, decimal, length}
+use Rattle.std.specs.Prelude.{ℕ, ◌-◌, ◌^◌, ◌==◌, ◌&&◌, nat_le, true, false, List, [], ◌∷◌, ◌++◌, codes, decimal, length}
 use Rattle.std.specs.Prelude.{take, flat_map, if◌then◌else◌}
 use Rattle.std.specs.List.{concat}
 use Rattle.std.specs.Fmt.{digits, format_spec, padded, padded_integral}
@@ -41,7 +41,3 @@ cell_words cell =
 unfoldable pub beginning_words : List ℕ → List ℕ
 beginning_words bytes =
     if nat_le (length bytes) 24 then quoted_words bytes else quoted_words (take 24 bytes) ++ codes " and more"
-
--- the text goes on after what it was
-abbrev pub Extends : List ℕ → List ℕ → Type 0
-Extends old new = (more : List ℕ) × (new ≡ old ++ more)

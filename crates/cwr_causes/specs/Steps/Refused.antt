@@ -25,7 +25,7 @@ use Rattle.cwr_causes.specs.Steps.LinesAtEnd.{EndsInLine, EndsWithLine, IsLineAt
 use Rattle.cwr_decode.specs.Steps.LastReads.{HoldsLast}
 use Rattle.cwr_causes.specs.declared.causes.Refused.{Refused}
 use Rattle.cwr_causes.specs.Format.Refusals.{RefusedLine, first_kind, head_words, refused_field, refused_level_words}
-use Rattle.cwr_causes.specs.Format.Signs.{end_signs}
+use Rattle.cwr_causes.specs.Format.Signs.{signs_words}
 use Rattle.cwr_causes.specs.Format.Wanted.{cell_expected_words, end_expected_words, limit_words, number_expected_words, order_words}
 
 abbrev pub refused_line : Refused → RefusedLine
@@ -40,6 +40,7 @@ refused_line r =
       kind = r.kind;
       is_too_long = r.is_too_long;
       ahead = r.ahead;
+      is_first = r.is_first;
     }
 
 -- a line that isn't too long has that cell in the refused field
@@ -70,17 +71,13 @@ SaysWanted limits stage r cell old new =
     SaysExpected limits stage r cell r.refusal.reason (refused_field r)
     (old ++ order_words stage r r.refusal.reason r.kind) new
 
--- the text goes on with some notes, and with those on the line's end
-abbrev pub SaysSigns : RefusedLine → List ℕ → List ℕ → Type 0
-SaysSigns r old new = (notes : List ℕ) × (new ≡ (old ++ notes) ++ end_signs r)
-
 -- The text goes on with what is said of the refusal of the line, whose refused field holds that cell, where the records before have
 -- come to that stage: where it is and what stands there, what may stand there, the level, and what else the line shows.
 pub record SaysRefusal (limits : Limits) (stage : Option Stage) (r : RefusedLine) (cell : Option (List ℕ)) (old new : List ℕ) : Type 0
   where
     pub wanted : List ℕ
     pub says : SaysWanted limits stage r cell (old ++ head_words r cell) wanted
-    pub signs : SaysSigns r (wanted ++ refused_level_words r) new
+    pub said : new ≡ (wanted ++ refused_level_words r) ++ signs_words r
 
 -- the same, with the cell that the line has there
 abbrev pub ExplainsLine : Limits → Option Stage → RefusedLine → List ℕ → List ℕ → Type 0
@@ -115,11 +112,12 @@ last_refused name refusal line before beyond =
       kind = first_kind line.bytes.now;
       is_too_long = goes_on beyond;
       ahead = ahead_in beyond;
+      is_first = true;
     }
 
 -- a line with a fault, of which nothing after it was looked at
-abbrev pub fault_line : List ℕ → Refusal → LineAtEnd → Option (List ℕ) → Bool → RefusedLine
-fault_line name fault line before is_too_long =
+abbrev pub fault_line : List ℕ → Refusal → LineAtEnd → Option (List ℕ) → Bool → Bool → RefusedLine
+fault_line name fault line before is_too_long is_first =
     record {
       name = name;
       refusal = fault;
@@ -130,6 +128,7 @@ fault_line name fault line before is_too_long =
       kind = first_kind line.bytes.now;
       is_too_long = is_too_long;
       ahead = None;
+      is_first = is_first;
     }
 
 -- the text goes on with what is said of the refusal of the line with which the bytes end that were read

@@ -1,6 +1,6 @@
 use Rattle.std.proofs.Common.{Some, true}
 use Rattle.cwr_causes.specs.Steps.LinesAtEnd.{EndsInLine}
-use Rattle.cwr_causes.proofs.lemmas.Extended.{on_ok}
+use Rattle.cwr_causes.proofs.lemmas.SaidInParts.{on_ok}
 use Rattle.cwr_causes.proofs.lemmas.LastRefused.{of_last, seen_before}
 use Rattle.cwr_causes.proofs.beyond.add_refused.Goals as goal
 

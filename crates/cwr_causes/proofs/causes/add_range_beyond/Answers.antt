@@ -1,6 +1,6 @@
 use Rattle.std.proofs.Common.{◌++◌, ◌∙◌, ap, string_bytes}
 use Rattle.cwr_causes.specs.Format.Refusals.{byte_of_file_words, range_beyond_words}
-use Rattle.cwr_causes.proofs.lemmas.Extended.{on_ok, three_said}
+use Rattle.cwr_causes.proofs.lemmas.SaidInParts.{on_ok, three_said}
 use Rattle.cwr_causes.proofs.causes.add_range_beyond.Goals as goal
 
 pub returns : goal.returns

@@ -1,7 +1,7 @@
 use Rattle.std.proofs.Common.{List, subst, sym}
 use Rattle.cwr_shape.specs.declared.symbols.Symbol.{Symbol}
 use Rattle.cwr_causes.specs.Steps.Coming.{AreComing}
-use Rattle.cwr_causes.proofs.lemmas.Extended.{on_ok}
+use Rattle.cwr_causes.proofs.lemmas.SaidInParts.{on_ok}
 use Rattle.cwr_causes.proofs.coming_words.add_coming.Goals as goal
 
 pub returns : goal.returns

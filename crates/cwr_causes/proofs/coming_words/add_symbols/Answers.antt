@@ -1,5 +1,5 @@
 use Rattle.std.proofs.Common.{◌∙◌, arith}
-use Rattle.cwr_causes.proofs.lemmas.Extended.{on_ok}
+use Rattle.cwr_causes.proofs.lemmas.SaidInParts.{on_ok}
 use Rattle.cwr_causes.proofs.lemmas.ListedSymbols.{listed_all, listed_on}
 use Rattle.cwr_causes.proofs.coming_words.add_symbols.Goals as goal
 

@@ -1,7 +1,7 @@
 use Rattle.std.proofs.Common.{ℕ, ap, ◌∙◌, option_map}
 use Rattle.cwr_lines.specs.Steps.Held.{HeldLine, held_cell}
 use Rattle.cwr_causes.specs.Steps.Refused.{HasCell, refused_line}
-use Rattle.cwr_causes.proofs.lemmas.Extended.{on_ok, refusal_said}
+use Rattle.cwr_causes.proofs.lemmas.SaidInParts.{on_ok, refusal_said}
 use Rattle.cwr_causes.proofs.causes.Refused.add.Goals as goal
 
 pub returns : goal.returns

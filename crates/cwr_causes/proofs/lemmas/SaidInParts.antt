@@ -1,7 +1,6 @@
--- A text that goes on, and goes on again.
-use Rattle.std.proofs.Common.{◌≡◌, ℕ, List, [], ◌++◌, sym, subst, ◌∙◌, ap, append_assoc, append-nil}
+-- What is said part by part.
+use Rattle.std.proofs.Common.{◌≡◌, ℕ, List, ◌++◌, subst, ◌∙◌, ap, append_assoc}
 use Rattle.std.specs.Prelude.{Option, Result, Ok, Err, OnOk}
-use Rattle.cwr_causes.specs.Format.Texts.{Extends}
 use Rattle.cwr_decode.specs.declared.readings.LastRead.{LastRead}
 use Rattle.cwr_decode.specs.Steps.LastReads.{bytes_read}
 use Rattle.cwr_causes.specs.declared.lines_at_end.LineAtEnd.{LineAtEnd}
@@ -9,22 +8,11 @@ use Rattle.cwr_causes.specs.Format.ComingTexts.{coming_words}
 use Rattle.cwr_causes.specs.Format.TruncatedTexts.{end_words, last_cut_off_words}
 use Rattle.cwr_causes.specs.Steps.Coming.{TellsComing}
 use Rattle.cwr_causes.specs.Steps.LinesAtEnd.{IsLineAtEnd}
-use Rattle.cwr_causes.specs.Steps.Refused.{ExplainsEnd, SaysRefusal, SaysSigns, SaysWanted}
+use Rattle.cwr_causes.specs.Format.Signs.{signs_words}
+use Rattle.cwr_causes.specs.Steps.Refused.{ExplainsEnd, SaysRefusal, SaysWanted}
 use Rattle.cwr_shape.specs.declared.limits.Limits.{Limits}
 use Rattle.cwr_shape.specs.declared.stages.Stage.{Stage}
 use Rattle.cwr_causes.specs.Format.Refusals.{RefusedLine, first_kind, head_words, refused_level_words}
-
-pub extends_none : (a b : List ℕ) → b ≡ a → Extends a b
-extends_none a b e = ([], e ∙ sym (append-nil a))
-
-pub extends_by : (a b m : List ℕ) → b ≡ a ++ m → Extends a b
-extends_by a b m e = (m, e)
-
-pub extends_on : (a b c : List ℕ) → Extends a b → Extends b c → Extends a c
-extends_on a b c p q = (p.0 ++ q.0, q.1 ∙ ap (λ xs. xs ++ q.0) p.1 ∙ append_assoc a p.0 q.0)
-
-pub extends_more : (a b c m : List ℕ) → Extends a b → c ≡ b ++ m → Extends a c
-extends_more a b c m p e = extends_on a b c p (m, e)
 
 -- three parts, one after another
 pub three_said : (old a b new p q r : List ℕ) → a ≡ old ++ p → b ≡ a ++ q → new ≡ b ++ r → new ≡ old ++ ((p ++ q) ++ r)
@@ -35,13 +23,13 @@ three_said old a b new p q r first second third =
 
 -- what is said of a refusal, part by part
 pub refusal_said : (limits : Limits) (stage : Option Stage) (r : RefusedLine) (cell : Option (List ℕ)) (old a b c d : List ℕ)
-    → a ≡ old ++ head_words r cell → SaysWanted limits stage r cell a b → c ≡ b ++ refused_level_words r → SaysSigns r c d
+    → a ≡ old ++ head_words r cell → SaysWanted limits stage r cell a b → c ≡ b ++ refused_level_words r → d ≡ c ++ signs_words r
     → SaysRefusal limits stage r cell old d
 refusal_said limits stage r cell old a b c d head wanted level signs =
     record {
       wanted = b;
       says = subst (λ xs. SaysWanted limits stage r cell xs b) head wanted;
-      signs = subst (λ xs. SaysSigns r xs d) level signs;
+      said = signs ∙ ap (λ xs. xs ++ signs_words r) level;
     }
 
 -- what is said of an end that comes too early, part by part
@@ -66,6 +54,3 @@ truncated_said name records last line old a b c is end coming cut =
 pub on_ok : {X E P Q : Type 0} (result : Result X E) → (P → Q) → OnOk result P → OnOk result Q
 on_ok (Ok x) f p = f p
 on_ok (Err e) f p = tt
-
--- each step by which a text goes on
-pub ruleset extended = (extends_none, extends_by, extends_on, extends_more)

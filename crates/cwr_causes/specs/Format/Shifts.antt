@@ -1,0 +1,129 @@
+-- Why the cells of a refused line may stand elsewhere than in their places.
+use Rattle.std.specs.Prelude.{ℕ, zero, suc, ◌+◌, ◌-◌, ◌==◌, ◌&&◌, ◌||◌, min, nat_eq, nat_le, nat_lt, bit_and, Bool, true, false, List, []}
+use Rattle.std.specs.Prelude.{◌∷◌, ◌++◌, codes, count_by, decimal, drop, length, slice_get, take, Option, None, Some, if◌then◌else◌}
+use Rattle.std.specs.Char.{is_ascii_alphanumeric}
+use Rattle.std.specs.List.{concat, starts_with}
+use Rattle.std.specs.Option.{option_or}
+use Rattle.std.specs.Str.{is_utf8}
+use Rattle.cwr_fields.specs.declared.kinds.Kind.{Kind}
+use Rattle.cwr_fields.specs.Format.Bytes.{trimmed}
+use Rattle.cwr_fields.specs.Format.Kinds.{letters}
+use Rattle.cwr_fields.specs.Format.Layouts.{FieldLayout, field_with_start, layout, line_width}
+use Rattle.cwr_causes.specs.declared.shifts.Sign.{Sign}
+use Rattle.cwr_causes.specs.declared.shifts.Sign.TheVariants.{GoesOn, Gap}
+use Rattle.cwr_causes.specs.Format.Refusals.{up_to_largest}
+use Rattle.cwr_causes.specs.Format.Texts.{label_words}
+
+-- ---- characters of several bytes
+
+-- a byte that continues a character in UTF-8
+abbrev pub continues_character : ℕ → Bool
+continues_character b = bit_and b 192 == 128
+
+-- how many bytes a text in UTF-8 has beyond one for each character; none where it isn't in UTF-8
+abbrev pub bytes_beyond : List ℕ → ℕ
+bytes_beyond line = if is_utf8 line then count_by continues_character line else 0
+
+-- that a line has such characters
+unfoldable pub several_bytes_words : ℕ → List ℕ
+several_bytes_words count =
+    concat
+    (label_words (codes "note") ∷ codes "the line has characters of several bytes (UTF-8), which take " ∷ decimal count
+    ∷ codes " more than one each" ∷ [])
+
+-- what that does to its cells
+abbrev pub shifting_words : Bool → List ℕ
+shifting_words true =
+    codes ": it was filled up by characters, and what stands behind them is shifted; fill it up by bytes\n"
+shifting_words false = codes ": if it was filled up by characters, what stands behind them is shifted\n"
+
+unfoldable pub character_words : Kind → List ℕ → ℕ → List ℕ
+character_words this_kind line count =
+    several_bytes_words count ++ shifting_words (nat_lt (line_width this_kind) (length line))
+
+-- ---- blanks that were lost
+
+-- letters or digits
+abbrev pub are_alphanumeric : Option ℕ → Option ℕ → Bool
+are_alphanumeric (Some a) (Some b) = is_ascii_alphanumeric a && is_ascii_alphanumeric b
+are_alphanumeric a b = false
+
+-- a letter or a digit stands at both sides of where a field ends
+abbrev pub goes_over : List ℕ → ℕ → Bool
+goes_over line end = if end == 0 then false else are_alphanumeric (slice_get line (end - 1)) (slice_get line end)
+
+-- without leading spaces
+abbrev pub without_leading : List ℕ → List ℕ
+without_leading [] = []
+without_leading (b ∷ rest) = if b == 32 then without_leading rest else b ∷ rest
+
+-- three spaces stand side by side
+abbrev pub has_gap : List ℕ → Bool
+has_gap [] = false
+has_gap (b ∷ rest) = starts_with nat_eq (b ∷ rest) (codes "   ") || has_gap rest
+
+-- a cell has text again after a gap of blanks
+abbrev pub has_text_after_gap : List ℕ → Bool
+has_text_after_gap cell = has_gap (trimmed (without_leading cell))
+
+-- where a field ends
+abbrev pub end_of : ℕ → ℕ → ℕ
+end_of start width = up_to_largest (start + width)
+
+-- What a field shows of lost blanks, which starts and ends there: its text goes on over its end, or it has text again after blanks.
+abbrev pub sign_between : List ℕ → ℕ → ℕ → Option Sign
+sign_between line start end =
+    if goes_over line end then Some GoesOn
+    else (if nat_le end (length line) && has_text_after_gap (take (end - start) (drop start line)) then Some Gap else None)
+
+-- the same of one that is so wide; those of fewer than 14 bytes are often filled whole
+abbrev pub sign_in : List ℕ → ℕ → ℕ → Option Sign
+sign_in line start width = if nat_lt width 14 then None else sign_between line start (end_of start width)
+
+-- a field with its place, and what it shows
+abbrev pub with_sign : ℕ × FieldLayout → Option Sign → Option ((f : ℕ × FieldLayout) × Sign)
+with_sign f None = None
+with_sign f (Some sign) = Some (f, sign)
+
+abbrev pub sign_of : List ℕ → Option (ℕ × FieldLayout) → Option ((f : ℕ × FieldLayout) × Sign)
+sign_of line None = None
+sign_of line (Some f) = with_sign f (sign_in line f.0 f.1.width)
+
+-- the first of a kind's first fields, so many, that shows it
+unfoldable pub first_sign : Kind → List ℕ → ℕ → Option ((f : ℕ × FieldLayout) × Sign)
+first_sign this_kind line zero = None
+first_sign this_kind line (suc n) = option_or (first_sign this_kind line n) (sign_of line (field_with_start this_kind (suc n)))
+
+-- the first before the refused one; the last field isn't asked
+abbrev pub field_with_sign : Kind → ℕ → List ℕ → Option ((f : ℕ × FieldLayout) × Sign)
+field_with_sign this_kind refused line = first_sign this_kind line (min (length (layout this_kind) - 1) (refused - 1))
+
+abbrev pub sign_said : Sign → List ℕ
+sign_said GoesOn = codes "goes on over its end"
+sign_said Gap = codes "has text again after blanks"
+
+-- that of a field of that name, which ends with that byte
+unfoldable pub sign_line : List ℕ → List ℕ → List ℕ → ℕ → List ℕ
+sign_line of_kind name said last =
+    concat
+    (label_words (codes "note") ∷ of_kind ∷ codes " " ∷ name ∷ codes " " ∷ said ∷ codes " (byte " ∷ decimal last
+    ∷ codes "), and the line is short: blanks may have been lost before that\n" ∷ [])
+
+abbrev pub sign_words : Kind → Option ((f : ℕ × FieldLayout) × Sign) → List ℕ
+sign_words this_kind None = []
+sign_words this_kind (Some found) =
+    sign_line (letters this_kind) found.0.1.name (sign_said found.1) (end_of found.0.0 found.0.1.width)
+
+-- the same where the line is short
+abbrev pub lost_words : Kind → ℕ → List ℕ → List ℕ
+lost_words this_kind refused line =
+    if nat_le (line_width this_kind) (length line) then [] else sign_words this_kind (field_with_sign this_kind refused line)
+
+-- why the cells of a line of the kind, which is refused at that field, may stand elsewhere
+abbrev pub shift_of : Kind → ℕ → List ℕ → List ℕ
+shift_of this_kind refused line =
+    if bytes_beyond line == 0 then lost_words this_kind refused line else character_words this_kind line (bytes_beyond line)
+
+abbrev pub shift_words : Option Kind → ℕ → List ℕ → List ℕ
+shift_words None refused line = []
+shift_words (Some this_kind) refused line = shift_of this_kind refused line
