@@ -61,10 +61,7 @@ fn judge_line(tally: &mut Tally, line: &LineBuf) -> Result<bool, Refusal>
 {
     let cut = line.cut();
     match judge(tally, &cut) {
-        Ok((symbol, _)) => {
-            tally.step(symbol);
-            Ok(is_trailer(symbol))
-        }
+        Ok((symbol, _)) => Ok(is_trailer(symbol)),
         Err(fault) => Err(Refusal {
             rec: tally.records() + 1,
             field: fault.field,

@@ -1,6 +1,6 @@
 //! Whether a line may come next in a transmission.
 
-ghost use Rattle.std.specs.Prelude.{◌≡◌, ◌≤◌, ◌++◌, ◌∷◌, [], List, length, IsTrue, IsFalse, IsNone, IfSome, IfOk, IfErr, OnOk, Some};
+ghost use Rattle.std.specs.Prelude.{◌≡◌, ◌≤◌, ◌++◌, ◌∷◌, [], List, length, IsTrue, IsFalse, IsNone, IfSome, IfOk, IfErr, OnOk, OnErr, Some};
 ghost use Rattle.std.specs.Option.{ForSome};
 ghost use Rattle.cwr_fields.specs.Format.Bytes.{digits};
 ghost use Rattle.cwr_fields.specs.Format.Cells.{type_width};
@@ -8,9 +8,9 @@ ghost use Rattle.cwr_fields.specs.Format.Layouts.{layout as layout_of};
 ghost use Rattle.cwr_lines.specs.Steps.Held.{held_excess, held_kind, held_record};
 ghost use Rattle.cwr_lines.specs.Format.Records.{IsRecord};
 ghost use Rattle.cwr_shape.specs.declared.symbols.Symbol.{Symbol};
-ghost use Rattle.cwr_shape.specs.Steps.Tallies.{IsAdmitted, IsTallyOf};
+ghost use Rattle.cwr_shape.specs.Steps.Tallies.{IsTallyOf};
 ghost use Rattle.cwr_judge.specs.Steps.Judged.{HasNumberAt, HasNumbers, IsCounted, IsNext, IsOfNone, Lacks, named_symbol, bar_reason, IsGoodText, IsTextFault};
-ghost use Rattle.cwr_judge.specs.Steps.Judged.{FindsFirst, FindsNext, FindsNone, IsNumberFault, IsGoodAt, HasReasonAt, MayComeOf, IsFirstFault};
+ghost use Rattle.cwr_judge.specs.Steps.Judged.{FindsFirst, FindsNext, FindsNone, IsNumberFault, IsGoodAt, HasReasonAt, MayComeOf, IsFirstFault, Counts};
 
 use cwr_fields::{
     Cell, CellType, Kind, Role, SpelledPair, TransactionType, field, fields, fits, spells,
@@ -94,13 +94,15 @@ fn has_numbers(tally: &Tally, line: &CutLine<'_>, kind: Kind) -> bool
     has_number(tally, line, kind, 4)
 }
 
-/// The record of the line and its symbol, where it may come next.
-fn next_record<'a>(tally: &Tally, line: &CutLine<'a>) -> Option<(Symbol, RecordRef<'a>)>
-    ensures some { (xs : List Symbol) → IsTallyOf tally.now xs
-        → IfSome result (λ found. IsNext tally.now.limits xs line.now found.0 found.1) }
-    ensures none { (xs : List Symbol) → IsTallyOf tally.now xs → IsNone result
-        → IsOfNone tally.now.limits xs line.now }
-    ensures admitted { IfSome result (λ found. IsAdmitted tally.now found.0) }
+/// The record of the line and its symbol, where it may come next: it is counted then, and else nothing changes.
+fn next_record<'a>(tally: &mut Tally, line: &CutLine<'a>) -> Option<(Symbol, RecordRef<'a>)>
+    ensures some { (xs : List Symbol) → IsTallyOf tally.old xs
+        → IfSome result (λ found. IsNext tally.old.limits xs line.now found.0 found.1) }
+    ensures none { (xs : List Symbol) → IsTallyOf tally.old xs → IsNone result
+        → IsOfNone tally.old.limits xs line.now }
+    ensures limits { tally.new.limits ≡ tally.old.limits }
+    ensures stands { IfSome result (λ found. Counts tally.old found.0 tally.new) }
+    ensures kept { IsNone result → tally.new ≡ tally.old }
     ensures carried { IfSome result (λ found. (held_record line.now ≡ Some found.1)
         × IsRecord found.1 × IsFalse (held_excess line.now)) }
 {
@@ -114,7 +116,7 @@ fn next_record<'a>(tally: &Tally, line: &CutLine<'a>) -> Option<(Symbol, RecordR
         return None;
     }
     let symbol = symbol_of(&record);
-    match tally.admits(symbol) {
+    match tally.admit(symbol) {
         Ok(()) => Some((symbol, record)),
         Err(_) => None,
     }
@@ -139,7 +141,10 @@ pub fn count_quickly(tally: &mut Tally, line: &CutLine<'_>, expected: &mut Spell
         return false;
     }
     let symbol = symbol_of(&record);
-    tally.admit(symbol)
+    match tally.admit(symbol) {
+        Ok(()) => true,
+        Err(_) => false,
+    }
 }
 
 /// The reason of a bar.
@@ -259,14 +264,20 @@ fn first_fault(tally: &Tally, line: &CutLine<'_>) -> LineFault
     }
 }
 
-/// Whether the line may come next: its record and that record's symbol, or the first field that is wrong.
-pub fn judge<'a>(tally: &Tally, line: &CutLine<'a>) -> Result<(Symbol, RecordRef<'a>), LineFault>
-    ensures ok { FindsNext tally.now line.now result }
-    ensures err { FindsNone tally.now line.now result }
-    ensures admitted { IfOk result (λ found. IsAdmitted tally.now found.0) }
+/// Counts the record of the line, where that may come next: the record and its symbol; or the first field that is wrong, and then
+/// nothing changes.
+pub fn judge<'a>(
+    tally: &mut Tally,
+    line: &CutLine<'a>,
+) -> Result<(Symbol, RecordRef<'a>), LineFault>
+    ensures ok { FindsNext tally.old line.now result }
+    ensures err { FindsNone tally.old line.now result }
+    ensures limits { tally.new.limits ≡ tally.old.limits }
+    ensures stands { IfOk result (λ found. Counts tally.old found.0 tally.new) }
+    ensures kept { OnErr result (tally.new ≡ tally.old) }
     ensures carried { IfOk result (λ found. (held_record line.now ≡ Some found.1) × IsRecord found.1
         × IsFalse (held_excess line.now)) }
-    ensures first { FindsFirst tally.now line.now result }
+    ensures first { FindsFirst tally.old line.now result }
 {
     match next_record(tally, line) {
         Some(found) => Ok(found),

@@ -60,7 +60,9 @@ pub mod StagesPassed
 pub mod SplittingOn
 -- A split at the end of its input, and at a fault.
 pub mod SplitsEnded
--- What a split answers is right of its input, and where that is accepted it stops only where a device or memory failed.
-pub mod AcceptedSplits
+-- The items that a run hands out before a fault are those that the first lines of its text give.
+pub mod ToldItems
+-- What a split and a join do is told by their texts.
+pub mod ToldRuns
 -- The fault of an output's writer tells how many bytes that writer has.
 pub mod WritersCounted

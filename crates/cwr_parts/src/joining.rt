@@ -3,7 +3,7 @@
 ghost use Rattle.std.specs.Prelude.{◌≡◌, ◌<◌, [], true, false, length, OnOk};
 ghost use Rattle.cwr_encode.specs.Steps.Encoders.{is_stopped, encoder_limits};
 ghost use Rattle.cwr_parts.specs.Format.Joins.{CountsJoinWriter, JoinsAccepted};
-ghost use Rattle.cwr_parts.specs.Steps.Joins.{Joins};
+ghost use Rattle.cwr_parts.specs.Format.Told.{JoinsTexts};
 ghost use Rattle.cwr_parts.specs.Steps.Joined.{AddsInput, AddsInputs, CountsAddFault, HasJoined, IsBetweenInputs, reading_fault, joined_writer};
 
 use crate::joined::Joined;
@@ -102,7 +102,8 @@ pub fn join<R: Source, W: Target + Drop>(
     writer: W,
 ) -> (W, Result<JoinReport, JoinFault>)
     requires { 0 < length readers.old }
-    ensures joins { Joins limits R.remaining R.failures W.contents readers.old readers.new writer
+    // What is written of the readers' texts, and what is answered.
+    ensures told { JoinsTexts limits R.remaining R.failures W.contents readers.old readers.new writer
         result.0 result.1 }
     // No failure is passed over: the writer failed only where that is the answer.
     ensures writer_failures { CountsJoinWriter result.1 (W.failures writer) (W.failures result.0) }

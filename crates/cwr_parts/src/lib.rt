@@ -3,10 +3,12 @@
 
 mod joined;
 mod joining;
+mod laws;
 mod outcomes;
 mod split_output;
 mod splitting;
 
 pub use joining::join;
+pub use laws::text_is_split_as_told;
 pub use outcomes::{put_join_outcome, put_split_outcome};
 pub use splitting::split;

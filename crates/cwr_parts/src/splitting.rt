@@ -5,8 +5,8 @@ ghost use Rattle.cwr_values.specs.declared.items.Item.{Item};
 ghost use Rattle.cwr_devices.specs.Format.Outputs.{given_up_with};
 ghost use Rattle.cwr_parts.specs.Steps.SplitOutputs.{open_failures, told_by};
 ghost use Rattle.cwr_parts.specs.Steps.SplitItems.{MayTake, SplitsItems, TakesItem};
-ghost use Rattle.cwr_parts.specs.Format.Splitting.{CountsSplitOutput, CountsSplitReader, CountsSplitWriter, JudgesSplit, SplitsAccepted, TellsWritten};
-ghost use Rattle.cwr_parts.specs.Steps.Splitting.{Splits};
+ghost use Rattle.cwr_parts.specs.Format.Splitting.{CountsSplitOutput, CountsSplitReader, CountsSplitWriter, TellsWritten};
+ghost use Rattle.cwr_parts.specs.Format.Told.{SplitsText};
 ghost use Rattle.cwr_parts.specs.Steps.SplitSteps.{AddsTransaction, EndsGroup, FinishesOutput, GivesUp, MayAddTransaction, MayEndGroup, MayFinish, KeepsLent};
 ghost use Rattle.cwr_parts.specs.Steps.SplitSteps.{MayWrite, OpensOutput, Writes, has_all, is_new, open_outputs};
 ghost use Rattle.cwr_parts.specs.Steps.SplitWriters.{CountsOpen, CountsWritten, had_after};
@@ -283,7 +283,8 @@ pub fn split<R: Source, O: Outputs>(
     outputs: &mut O,
 ) -> Result<SplitReport, ToolFault>
     requires { 0 < n }
-    ensures splits { Splits limits n (R.remaining reader.old) (R.remaining reader.new)
+    // What is handed over of the reader's text, and what is answered.
+    ensures told { SplitsText limits n (R.remaining reader.old) (R.remaining reader.new)
         (O.texts outputs.old) (O.texts outputs.new) result }
     // No failure is passed over: a reader, an output or a writer failed only where that is the answer.
     ensures reader_failures { CountsSplitReader result (R.failures reader.old)
@@ -292,12 +293,8 @@ pub fn split<R: Source, O: Outputs>(
     ensures given_up { CountsSplitWriter result (O.given_up outputs.old) (O.given_up outputs.new) }
     // No writer is lost: each that was given came back, done or given up.
     ensures lent { O.lent outputs.new ≡ O.lent outputs.old }
-    // Where the input isn't accepted, its refusal or its truncation is answered.
-    ensures judged { JudgesSplit limits (R.remaining reader.old) (R.remaining reader.new) result }
     // A writer's fault tells how many bytes that writer had.
     ensures written { IfSome (O.texts outputs.old) (λ _. TellsWritten result (O.had outputs.new)) }
-    ensures accepted { SplitsAccepted limits n (R.remaining reader.old) (R.remaining reader.new)
-        (O.texts outputs.old) (O.texts outputs.new) result }
 {
     let mut splitting = Splitting::new(limits, n);
     match split_items(alloc, limits, reader, &mut splitting, outputs) {

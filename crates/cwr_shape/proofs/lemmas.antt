@@ -56,10 +56,10 @@ pub mod TallyWithOneMore
 pub mod WhatMayCome
 -- What bars all of some symbols is what bars the one of them that needs least.
 pub mod FirstBarsOfKinds
--- The records of the open transaction, as they are counted after its header, begin a transaction.
-pub mod OpenTransactions
 -- What is open at a stage is what the last symbol says.
 pub mod ScopesNamed
+-- The records of the open transaction, as they are counted after its header, stand at the step of the stage.
+pub mod OpenTransactions
 -- Orders of records without carried ones are those that they were before these were taken.
 pub mod UncarriedOrders
 -- A numbering with one record more, and what it has counted of records in whatever order.

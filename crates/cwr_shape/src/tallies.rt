@@ -1,14 +1,14 @@
 //! Where a transmission stands, what was counted of it, and what bars a record.
 
 ghost use Rattle.cwr_shape.specs.Format.Ranges.{AreInRange};
-ghost use Rattle.std.specs.Prelude.{◌≡◌, ◌<◌, List, [], ◌∷◌, ◌++◌, length, count_by, IfSome, IsTrue, IsFalse, OnOk};
+ghost use Rattle.std.specs.Prelude.{◌≡◌, ◌<◌, List, [], ◌∷◌, ◌++◌, length, count_by, OnOk, OnErr};
 ghost use Rattle.cwr_fields.specs.declared.codes.TransactionType.TheVariants.{Acknowledgement};
 ghost use Rattle.cwr_shape.specs.declared.symbols.Symbol.{Symbol};
 ghost use Rattle.cwr_shape.specs.Format.LastSymbols.{is_grh};
 ghost use Rattle.cwr_shape.specs.Format.Numbers.{number_in, IsNumberAt};
 ghost use Rattle.cwr_shape.specs.Format.ExpectedNumbers.{expected_numbers};
 ghost use Rattle.cwr_shape.specs.Steps.Counting.{counts_with, wanted_role, scope_at, stage_type, passed_limit_at, number_inside, HaveRoom};
-ghost use Rattle.cwr_shape.specs.Format.NextSymbols.{header_kind, is_header_of, MayCome, Answers, AnswersKind, transactions_begun, scope_after};
+ghost use Rattle.cwr_shape.specs.Format.NextSymbols.{header_kind, is_header_of, Answers, AnswersKind, transactions_begun, scope_after};
 ghost use Rattle.cwr_shape.specs.Steps.Tallies.{IsTallyOf, IsAdmitted, IsStageOf, KeepsTally};
 
 use crate::limits::{LimitKind, Limits};
@@ -315,13 +315,17 @@ impl Tally {
         Some(u64::from(number))
     }
 
-    /// Whether the record may come next: it is misplaced where no transmission continues so, and else barred by the first
-    /// limit that it passes.
+    /// Counts the next record, where that may come: it is misplaced where no transmission continues so, and else barred by the
+    /// first limit that it passes. A barred one changes nothing. The order of records is asked once.
     #[inline(always)]
-    pub fn admits(&self, symbol: Symbol) -> Result<(), Bar>
-        ensures answer { (xs : List Symbol) → IsTallyOf self.now xs
-            → Answers self.now.limits xs symbol result }
-        ensures admitted { OnOk result (IsAdmitted self.now symbol) }
+    pub fn admit(&mut self, symbol: Symbol) -> Result<(), Bar>
+        ensures answer { (xs : List Symbol) → IsTallyOf self.old xs
+            → Answers self.old.limits xs symbol result }
+        ensures admitted { OnOk result (IsAdmitted self.old symbol) }
+        ensures limits { self.new.limits ≡ self.old.limits }
+        ensures stands { OnOk result ((xs : List Symbol) → IsTallyOf self.old xs
+            → IsTallyOf self.new (xs ++ symbol ∷ [])) }
+        ensures kept { OnErr result (self.new ≡ self.old) }
     {
         let Some(stage) = self.stage.next(symbol) else {
             return Err(Bar::Misplaced);
@@ -329,33 +333,23 @@ impl Tally {
         let counts = self.counts.with(type_at(self.stage), symbol);
         match passed_limit_at(self.limits, stage, &counts) {
             Some(limit) => Err(Bar::Limit(limit)),
-            None => Ok(()),
-        }
-    }
-
-    /// Counts the next record, where that may come: the order of records is asked once, and no other tally is built. A no says
-    /// nothing, and then nothing changes.
-    #[inline(always)]
-    pub fn admit(&mut self, symbol: Symbol) -> bool
-        ensures may_come { IsTrue result → (xs : List Symbol) → IsTallyOf self.old xs
-            → MayCome self.old.limits xs symbol }
-        ensures limits { self.new.limits ≡ self.old.limits }
-        ensures stands { IsTrue result → (xs : List Symbol) → IsTallyOf self.old xs
-            → IsTallyOf self.new (xs ++ symbol ∷ []) }
-        ensures kept { IsFalse result → self.new ≡ self.old }
-    {
-        let Some(stage) = self.stage.next(symbol) else {
-            return false;
-        };
-        let counts = self.counts.with(type_at(self.stage), symbol);
-        match passed_limit_at(self.limits, stage, &counts) {
-            Some(_) => false,
             None => {
                 self.stage = stage;
                 self.counts = counts;
-                true
+                Ok(())
             }
         }
+    }
+
+    /// Whether the record may come next, or what bars it.
+    #[inline(always)]
+    pub fn admits(&self, symbol: Symbol) -> Result<(), Bar>
+        ensures answer { (xs : List Symbol) → IsTallyOf self.now xs
+            → Answers self.now.limits xs symbol result }
+        ensures admitted { OnOk result (IsAdmitted self.now symbol) }
+    {
+        let mut counted = *self;
+        counted.admit(symbol)
     }
 
     /// Whether some record of the kind may come next: else the first bar that one of them gets.

@@ -3,16 +3,16 @@
 ghost use Rattle.std.specs.Prelude.{◌≡◌, ◌↔◌, List, [], ◌∷◌, ◌++◌, length, option_map, slice_get, IsTrue, IsSome, IfSome, IfOk, OnOk, OnErr, Some, Err};
 ghost use Rattle.cwr_lines.specs.Format.Growth.{AsksMemory};
 ghost use Rattle.cwr_shape.specs.Format.Shapes.{BeginsShape};
-ghost use Rattle.cwr_shape.specs.Steps.Left.{StandsAtStep};
 ghost use Rattle.cwr_values.specs.Format.Values.{symbol_of};
 ghost use Rattle.cwr_values.specs.Format.Begun.{HasHeaderOf, IsBegun, IsWholeTransaction, BeginsWithOneMore};
 ghost use Rattle.cwr_values.specs.Format.ValueFaultTexts.{push_fault_text};
+ghost use Rattle.cwr_values.specs.Steps.Begun.{IsStepAfter, IsStepWith};
 
 use crate::symbols::symbol_of;
 use cwr_fields::{Kind, TransactionType};
 use cwr_lines::{RecordList, RecordRef};
 use cwr_shape::{Symbol, TransactionStep};
-use std::alloc::Global;
+use std::alloc::{AllocError, Global};
 use std::error::Error;
 use std::fmt::{self, Display, Formatter, Write};
 use std::marker::Model;
@@ -39,22 +39,22 @@ impl Display for PushFault {
 
 impl Error for PushFault {}
 
-/// The type and the step of a transaction that begins with a record. `None` where none does.
-fn begin(symbol: Symbol) -> Option<(TransactionType, TransactionStep)>
+/// The step of a transaction that begins with a record. `None` where none does.
+fn begin(symbol: Symbol) -> Option<TransactionStep>
     ensures some { IsSome result ↔ BeginsShape (symbol ∷ []) }
-    ensures value { IfSome result (λ p. StandsAtStep p.0 (symbol ∷ []) p.1) }
+    ensures value { IfSome result (IsStepAfter (symbol ∷ [])) }
 {
     if let Some(step) = TransactionStep::first(TransactionType::Agreement, symbol) {
-        return Some((TransactionType::Agreement, step));
+        return Some(step);
     }
     if let Some(step) = TransactionStep::first(TransactionType::NewWork, symbol) {
-        return Some((TransactionType::NewWork, step));
+        return Some(step);
     }
     if let Some(step) = TransactionStep::first(TransactionType::RevisedWork, symbol) {
-        return Some((TransactionType::RevisedWork, step));
+        return Some(step);
     }
     match TransactionStep::first(TransactionType::Acknowledgement, symbol) {
-        Some(step) => Some((TransactionType::Acknowledgement, step)),
+        Some(step) => Some(step),
         None => None,
     }
 }
@@ -63,7 +63,6 @@ fn begin(symbol: Symbol) -> Option<(TransactionType, TransactionStep)>
 /// profile.
 #[derive(Debug, Drop)]
 pub struct Transaction {
-    ty: TransactionType,
     /// The step after its records.
     step: TransactionStep,
     records: RecordList,
@@ -78,7 +77,7 @@ impl Model for Transaction {
 
     ghost view = { λ t. t.records };
 
-    ghost invariant = { λ t. KeepsTransaction t.ty t.step t.records };
+    ghost invariant = { λ t. KeepsTransaction t.step t.records };
 }
 
 impl Transaction {
@@ -88,14 +87,29 @@ impl Transaction {
         ensures misplaced { (result ≡ Err PushFault.Misplaced)
             ↔ ¬ BeginsShape (symbol_of head.entry ∷ []) }
     {
-        let Some((ty, step)) = begin(symbol_of(&head)) else {
+        let Some(step) = begin(symbol_of(&head)) else {
             return Err(PushFault::Misplaced);
         };
-        let mut records = RecordList::new(alloc);
-        match records.push(&head) {
-            Ok(()) => Ok(Transaction { ty, step, records }),
+        match Transaction::begin_at(alloc, head, step) {
+            Ok(begun) => Ok(begun),
             Err(_) => Err(PushFault::Memory),
         }
+    }
+
+    /// The transaction that begins with the record, of which it is known that one does, and which step is after it: the order
+    /// isn't asked. It fails only for want of memory.
+    pub fn begin_at(
+        alloc: Global,
+        head: RecordRef<'_>,
+        step: TransactionStep,
+    ) -> Result<Transaction, AllocError>
+        requires { IsStepWith [] head step }
+        ensures ok { IfOk result (λ t. t ≡ head.entry ∷ []) }
+        ensures memory { OnErr result (AsksMemory [] head.entry) }
+    {
+        let mut records = RecordList::new(alloc);
+        records.push(&head)?;
+        Ok(Transaction { step, records })
     }
 
     /// How many records it has, its header counted.
@@ -129,12 +143,27 @@ impl Transaction {
         let Some(step) = self.step.next(symbol_of(&next)) else {
             return Err(PushFault::Misplaced);
         };
+        match self.push_at(next, step) {
+            Ok(()) => Ok(()),
+            Err(_) => Err(PushFault::Memory),
+        }
+    }
+
+    /// Adds a record at the end, of which it is known that it continues the transaction, and which step is after it: the order
+    /// isn't asked. It fails only where its list asks for memory, and then nothing changes.
+    #[inline(always)]
+    pub fn push_at(&mut self, next: RecordRef<'_>, step: TransactionStep) -> Result<(), AllocError>
+        requires { IsStepWith self.old next step }
+        ensures ok { OnOk result (self.new ≡ self.old ++ next.entry ∷ []) }
+        ensures err { OnErr result (self.new ≡ self.old) }
+        ensures memory { OnErr result (AsksMemory self.old next.entry) }
+    {
         match self.records.push(&next) {
             Ok(()) => {
                 self.step = step;
                 Ok(())
             }
-            Err(_) => Err(PushFault::Memory),
+            Err(fault) => Err(fault),
         }
     }
 

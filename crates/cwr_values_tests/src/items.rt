@@ -14,6 +14,6 @@ fn shown(rt: &(impl Abort + AllocGlobal), item: &Item) -> String {
 fn items_are_shown(rt: HostRuntime) {
     check_equal(&rt, shown(&rt, &Item::Ended).as_str(), "Ended");
     let text = shown(&rt, &Item::Transaction(short_work(&rt, &work(&rt))));
-    let begin = "Transaction(Transaction { ty: NewWork, ";
+    let begin = "Transaction(Transaction { step: Writer, ";
     assert!(rt; text.as_str().starts_with(begin));
 }

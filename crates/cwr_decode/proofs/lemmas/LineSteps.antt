@@ -216,7 +216,7 @@ adds_inside Trl r d new i e = absurd (cc i)
 adds_inside kind r d new i e = e
 
 -- the kind of the record that a line carries is the line's
-carried_kind : (h : HeldLine) (r : RecordValue) → held_record h ≡ Some r → held_kind h ≡ Some r.kind
+pub carried_kind : (h : HeldLine) (r : RecordValue) → held_record h ≡ Some r → held_kind h ≡ Some r.kind
 carried_kind h r e = by (held_kind h) e
   where
     by : (kind : Option Kind) → carried_by kind (held_cells h) ≡ Some r → kind ≡ Some r.kind

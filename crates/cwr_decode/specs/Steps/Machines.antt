@@ -10,9 +10,11 @@ use Rattle.cwr_lines.specs.Format.Growth.{AsksMemory}
 use Rattle.cwr_lines.specs.Format.Records.{RecordValue, IsRecord}
 use Rattle.cwr_lines.specs.Steps.Held.{HeldLine, IsHeld, Takes, held_excess, held_kind, held_record, empty_line}
 use Rattle.cwr_shape.specs.declared.symbols.Symbol.{Symbol}
+use Rattle.cwr_shape.specs.declared.stages.Stage.{Stage}
 use Rattle.cwr_shape.specs.Format.Levels.{level_of}
 use Rattle.cwr_shape.specs.Format.Ranges.{AreInRange}
 use Rattle.cwr_shape.specs.Format.NextSymbols.{scope_after}
+use Rattle.cwr_shape.specs.Steps.Left.{StandsInside}
 use Rattle.cwr_shape.specs.Steps.Tallies.{TallyValue, IsTallyOf}
 use Rattle.cwr_values.specs.declared.items.Item.{Item}
 use Rattle.cwr_values.specs.declared.items.Item.TheVariants as items
@@ -27,7 +29,6 @@ use Rattle.cwr_judge.specs.declared.refusals.Refusal.{Refusal}
 use Rattle.cwr_judge.specs.Steps.Judged.{IsNext, IsOfNone, IsFirstFault}
 use Rattle.cwr_fields.specs.Format.Kinds.{is_in_transaction}
 use Rattle.cwr_values.specs.Format.Values.{symbol_of}
-use Rattle.cwr_values.specs.Format.Begun.{BeginsWithOneMore}
 use Rattle.cwr_judge.specs.Steps.Open.{continues_open, open_of}
 
 -- what a decoder holds: the line that is read or waits, what is counted of the records, and the records of the open
@@ -115,20 +116,27 @@ held_of [] = None
 held_of (r ∷ records) = Some (r ∷ records)
 
 -- the tally is that of some records, and those of their open transaction are held
-pub record HoldsOpen (d : Standing) : Type 0 where
-  pub in_range : AreInRange d.tally.limits
+pub record AreHeld (tally : TallyValue) (kept : Option (List RecordValue)) : Type 0 where
+  pub in_range : AreInRange tally.limits
   pub records : List RecordValue
   pub in_order : AllByRecursion IsRecord records
-  pub counted : IsTallyOf d.tally (map symbol_of records)
-  pub held : d.held ≡ held_of (open_of records)
+  pub counted : IsTallyOf tally (map symbol_of records)
+  pub held : kept ≡ held_of (open_of records)
 
--- a record that stands inside transactions continues the one that is held, or begins one where none is
-abbrev pub FitsHeld : RecordValue → Option (List RecordValue) → Type 0
-FitsHeld r held = is_in_transaction r.kind ≡ true → BeginsWithOneMore (held_list held) r
+abbrev pub HoldsOpen : Standing → Type 0
+HoldsOpen d = AreHeld d.tally d.held
+
+-- the record continues a transaction's records, or begins one where none are, and comes to that stage
+abbrev pub ComesTo : Stage → List RecordValue → RecordValue → Type 0
+ComesTo stage records r = StandsInside stage (map symbol_of records ++ symbol_of r ∷ [])
+
+-- a record that stands inside transactions continues the one that is held, or begins one where none is, and comes to that stage
+abbrev pub FitsHeld : Stage → RecordValue → Option (List RecordValue) → Type 0
+FitsHeld stage r held = is_in_transaction r.kind ≡ true → ComesTo stage (held_list held) r
 
 -- so does the record that waits, if one does
 abbrev pub FitsWaiting : Standing → Type 0
-FitsWaiting d = d.state ≡ Pending → IfSome (held_record d.line) (λ r. FitsHeld r d.held)
+FitsWaiting d = d.state ≡ Pending → IfSome (held_record d.line) (λ r. FitsHeld d.tally.stage r d.held)
 
 -- the open transaction is taken out, unless the next record continues it
 abbrev pub HandsOut : Bool → Option (List RecordValue) → Option (List RecordValue) → Option (List RecordValue) → Type 0

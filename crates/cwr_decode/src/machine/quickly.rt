@@ -2,7 +2,8 @@
 
 ghost use Rattle.std.specs.Prelude.{◌≡◌, ◌≢◌, ◌≤◌, length, take, false, Some, IsNone, IfSome};
 ghost use Rattle.cwr_fields.specs.Format.Kinds.{kind_of};
-ghost use Rattle.cwr_decode.specs.Steps.Machines.{FindsCut, FindsFront, FindsLine, IsReady};
+ghost use Rattle.cwr_decode.specs.Steps.Machines.{AreHeld, FindsCut, FindsFront, FindsLine, HoldsOpen};
+ghost use Rattle.cwr_decode.specs.Steps.Represents.{IsSound};
 ghost use Rattle.cwr_decode.specs.Steps.Calls.{Advances, Fed};
 
 use super::holding::{adds_known, stays_open};
@@ -23,6 +24,7 @@ fn enter_cut(
     expected: &mut SpelledPair,
     cut: &CutLine<'_>,
 ) -> Found
+    requires { AreHeld tally.old held.old }
     ensures { FindsCut result cut.now tally.old held.old tally.new held.new }
 {
     let Some(kind) = cut.kind() else {
@@ -41,7 +43,7 @@ fn enter_cut(
     if !stays_open(&before, tally) {
         return Found::Ends;
     }
-    if !adds_known(transaction, cut.known_record()) {
+    if !adds_known(transaction, cut.known_record(), tally.stage()) {
         *tally = before;
         return Found::Nothing;
     }
@@ -52,7 +54,8 @@ impl Machine {
     /// Judges the line that ended by quick tests. The record of one that ends the open transaction waits.
     #[inline(never)]
     pub(super) fn enter_line(&mut self) -> Found
-        requires { self.old.line.ended ≢ LineEnd.Open }
+        requires ended { self.old.line.ended ≢ LineEnd.Open }
+        requires holds { HoldsOpen self.old }
         ensures { FindsLine result self.old self.new }
     {
         let cut = self.line.cut_looked_through();
@@ -71,6 +74,7 @@ impl Machine {
     fn enter_filled(&mut self, piece: &[u8]) -> (usize, Found)
         requires unended { self.old.line.ended ≡ LineEnd.Open }
         requires empty { length self.old.line.bytes ≡ 0 }
+        requires holds { HoldsOpen self.old }
         ensures { FindsFront result.1 self.old piece.now result.0 self.new }
     {
         let Some(used) = self.line.take_ended(piece) else {
@@ -94,6 +98,7 @@ impl Machine {
         requires unended { self.old.line.ended ≡ LineEnd.Open }
         requires reading { self.old.state ≡ State.Reading }
         requires empty { length self.old.line.bytes ≡ 0 }
+        requires holds { HoldsOpen self.old }
         requires named { kind_of (take 3 piece.now) ≡ Some kind }
         requires three { 3 ≤ length piece.now }
         ensures { FindsFront result.1 self.old piece.now result.0 self.new }
@@ -118,6 +123,7 @@ impl Machine {
     fn enter_front(&mut self, piece: &[u8]) -> (usize, Found)
         requires unended { self.old.line.ended ≡ LineEnd.Open }
         requires reading { self.old.state ≡ State.Reading }
+        requires holds { HoldsOpen self.old }
         ensures { FindsFront result.1 self.old piece.now result.0 self.new }
     {
         if self.line.len() > 0 || piece.len() < 3 {
@@ -156,7 +162,7 @@ impl Machine {
     /// none is answered, what is left of the piece is left to `feed`.
     #[inline(never)]
     pub fn feed_quickly(&mut self, piece: &[u8]) -> (usize, Option<Transaction>)
-        requires ready { IsReady self.old.state self.old.finished self.old.line }
+        requires sound { IsSound self.old }
         requires reading { self.old.state ≡ State.Reading }
         requires fresh { self.old.finished ≡ false }
         ensures some { IfSome result.1 (λ whole. Advances self.old piece.now result.0

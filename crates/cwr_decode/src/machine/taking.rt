@@ -6,7 +6,7 @@ ghost use Rattle.cwr_decode.specs.Steps.Machines.{ClosesLine, HoldsOpen, IsReady
 ghost use Rattle.cwr_decode.specs.Steps.Represents.{IsSound};
 ghost use Rattle.cwr_decode.specs.Steps.Calls.{Advances, TakesEnd};
 
-use super::holding::{add_accepted, hand_out, step_continues_open};
+use super::holding::{add_accepted, hand_out, stays_open};
 use super::{Found, Machine, State};
 use crate::outcomes::{Answer, Outcome};
 use cwr_fields::Kind;
@@ -38,19 +38,20 @@ impl Machine {
         ensures { Judges self.old result self.new }
     {
         let cut = self.line.cut();
-        let (symbol, accepted) = match judge(&self.tally, &cut) {
+        let before = self.tally;
+        let (_, accepted) = match judge(&mut self.tally, &cut) {
             Ok(found) => found,
             Err(fault) => {
                 let kind = cut.kind();
                 return Some(self.refuse(kind, fault));
             }
         };
-        let continues = step_continues_open(&mut self.tally, symbol);
+        let continues = stays_open(&before, &self.tally);
         if let Some(whole) = hand_out(continues, &mut self.held) {
             self.state = State::Pending;
             return Some(Outcome::Item(Item::Transaction(whole)));
         }
-        let outcome = add_accepted(self.alloc, &mut self.held, accepted);
+        let outcome = add_accepted(self.alloc, &mut self.held, accepted, self.tally.stage());
         self.finish_record(outcome)
     }
 

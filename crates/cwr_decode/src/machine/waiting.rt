@@ -13,18 +13,18 @@ impl Machine {
     /// Enters the record that waits, which was judged when its line came.
     fn enter(&mut self) -> Option<Outcome>
         requires carries { HasRecord self.old.line }
-        requires fits { IfSome (held_record self.old.line) (λ r. FitsHeld r self.old.held) }
+        requires fits { IfSome (held_record self.old.line) (λ r. FitsHeld self.old.tally.stage r self.old.held) }
         ensures { EntersHeld (held_record self.old.line) self.old result self.new }
     {
         let accepted = self.line.cut().known_record();
-        let outcome = add_accepted(self.alloc, &mut self.held, accepted);
+        let outcome = add_accepted(self.alloc, &mut self.held, accepted, self.tally.stage());
         self.finish_record(outcome)
     }
 
     /// Enters the record that waits, where it stands inside a transaction and memory is found. Else nothing changes.
     fn begin_waiting(&mut self) -> bool
         requires carries { HasRecord self.old.line }
-        requires fits { IfSome (held_record self.old.line) (λ r. FitsHeld r self.old.held) }
+        requires fits { IfSome (held_record self.old.line) (λ r. FitsHeld self.old.tally.stage r self.old.held) }
         ensures entered { IsTrue result
             → EntersHeld (held_record self.old.line) self.old None self.new }
         ensures kept { IsFalse result → self.new ≡ self.old }
@@ -33,7 +33,7 @@ impl Machine {
         if !is_in_transaction(accepted.kind()) {
             return false;
         }
-        match add(self.alloc, &mut self.held, accepted) {
+        match add(self.alloc, &mut self.held, accepted, self.tally.stage()) {
             Ok(()) => {
                 self.begin_line();
                 true

@@ -150,6 +150,10 @@ IsFirstFault limits xs h field reason = IsFirstBy (held_kind h) limits xs h fiel
 
 -- ---- after any records that are tallied so
 
+-- the symbol is counted
+abbrev pub Counts : TallyValue → Symbol → TallyValue → Type 0
+Counts old s new = (xs : List Symbol) → IsTallyOf old xs → IsTallyOf new (xs ++ s ∷ [])
+
 -- the line is found to be that of a record with its symbol that may come next
 abbrev pub FindsNext : {E : Type 0} → TallyValue → HeldLine → Result (Symbol × RecordValue) E → Type 0
 FindsNext t h result =

@@ -1,5 +1,5 @@
 -- How many bytes the writer of the open output has, and what its fault tells of that.
-use Rattle.std.specs.Prelude.{◌≡◌, List, [], ℕ, Option, Some, None, Result, Ok, Err}
+use Rattle.std.specs.Prelude.{◌≡◌, List, [], ℕ, Option, Some, None, Result, Err}
 use Rattle.cwr_lines.specs.Format.Records.{RecordValue}
 use Rattle.cwr_encode.specs.declared.encoders.Encoder.{Encoder}
 use Rattle.cwr_encode.specs.Steps.Encoders.{Encodes, bytes_written, target_of}

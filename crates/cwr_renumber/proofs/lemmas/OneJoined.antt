@@ -15,7 +15,7 @@ use Rattle.cwr_tools.specs.declared.verdicts.ToolFault.TheVariants as faults
 use Rattle.cwr_parts.specs.Format.Joins.{AreJoined, CountsJoinWriter, IsOfDevice, JoinsAccepted, JoinsAll, TakeInputs}
 use Rattle.cwr_parts.specs.Format.Joins.{join_report}
 use Rattle.cwr_parts.specs.Format.Splits.{join_of}
-use Rattle.cwr_parts.specs.Steps.Joins.{Joins, StopsBy, StopsJoin}
+use Rattle.cwr_parts.specs.Format.Told.{JoinsBefore, JoinsSoFar, JoinsTexts}
 use Rattle.cwr_renumber.specs.Steps.Renumbered.{renumbered_text}
 use Rattle.cwr_renumber.specs.Steps.Renumberings.{CountsWriter, Renumbers, RenumbersAccepted, of_one}
 
@@ -64,13 +64,18 @@ FaultOn limits o (faults.Truncated records) = IfSome o (λ text. IsTruncated lim
 FaultOn limits o faults.Output = ⊥
 FaultOn limits o fault = Unit {0}
 
+-- what is so of a text is so of the bytes that are known, which are that text
+known_text : (o : Option (List ℕ)) (text : List ℕ) (P : List ℕ → Type 0) → IfSome o (λ bytes. bytes ≡ text) → P text → IfSome o P
+known_text None text P e h = tt
+known_text (Some bytes) text P e h = subst P (sym e) h
+
 stops_on : {R W : Type 0} (limits : Limits) (fault : ToolFault) (contents : W → Option (List ℕ)) (inputs : List TransmissionValue)
     (o after : Option (List ℕ)) (later : List R) (before now : W)
-    → StopsBy limits fault contents inputs o after later before now → FaultOn limits o fault
-stops_on limits (faults.Refused refusal) contents inputs None after later before now h = tt
-stops_on limits (faults.Refused refusal) contents inputs (Some text) after later before now h = h.stops.0.right.ends
-stops_on limits (faults.Truncated records) contents inputs None after later before now h = tt
-stops_on limits (faults.Truncated records) contents inputs (Some text) after later before now h = h.stops.0.right.ends
+    → JoinsSoFar limits fault contents inputs o after later before now → FaultOn limits o fault
+stops_on limits (faults.Refused refusal) contents inputs o after later before now h =
+    known_text o h.before_it.text (λ text. IsRefused limits text refusal) h.before_it.known h.before_it.items.0
+stops_on limits (faults.Truncated records) contents inputs o after later before now h =
+    known_text o h.before_it.text (λ text. IsTruncated limits text records) h.before_it.known h.before_it.items.0
 stops_on limits faults.Reader contents inputs o after later before now h = tt
 stops_on limits (faults.Writer written) contents inputs o after later before now h = tt
 stops_on limits faults.Memory contents inputs o after later before now h = tt
@@ -83,7 +88,7 @@ hand_is (x ∷ earlier) hand later old e = absurd (omega (arith, ap length e, le
 
 fault_of_one : {R W : Type 0} (limits : Limits) (remaining : R → Option (List ℕ)) (failures : R → ℕ)
     (contents : W → Option (List ℕ)) (old : R) (after : List R) (before now : W) (stopped : JoinFault)
-    → StopsJoin limits remaining failures contents (old ∷ []) after before now stopped
+    → JoinsBefore limits remaining failures contents (old ∷ []) after before now stopped
     → FaultOn limits (remaining old) stopped.fault
 fault_of_one limits remaining failures contents old after before now stopped h =
     subst (λ (r : _). FaultOn limits (remaining r) stopped.fault) (hand_is h.earlier h.hand h.later old h.before_are)
@@ -109,7 +114,7 @@ fault_of_text limits o contents before now (faults.Limit limit) h = tt
 renumbers_by : {R W : Type 0} (limits : Limits) (remaining : R → Option (List ℕ)) (failures : R → ℕ)
     (contents : W → Option (List ℕ)) (old : R) (after : List R) (before now : W) (o : Option (List ℕ))
     (joined : Result JoinReport JoinFault)
-    → remaining old ≡ option_map renumbered_text o → Joins limits remaining failures contents (old ∷ []) after before now joined
+    → remaining old ≡ option_map renumbered_text o → JoinsTexts limits remaining failures contents (old ∷ []) after before now joined
     → Renumbers limits o contents before now (of_one joined)
 renumbers_by limits remaining failures contents old after before now o (Ok report) same h =
     of_text o (IsWritten limits (contents before) (contents now) report)
@@ -125,11 +130,11 @@ pub renumbers_one : {R W : Type 0} (limits : Limits) (remaining : R → Option (
     (contents : W → Option (List ℕ)) (old : R) (olds after : List R) (before now : W) (o : Option (List ℕ))
     → (joined : Result JoinReport JoinFault) (result : Result JoinReport ToolFault) → olds ≡ old ∷ []
     → remaining old ≡ option_map renumbered_text o → result ≡ of_one joined
-    → Joins limits remaining failures contents olds after before now joined → Renumbers limits o contents before now result
+    → JoinsTexts limits remaining failures contents olds after before now joined → Renumbers limits o contents before now result
 renumbers_one limits remaining failures contents old olds after before now o joined result one same answer h =
     subst (λ (r : Result JoinReport ToolFault). Renumbers limits o contents before now r) (sym answer)
     (renumbers_by limits remaining failures contents old after before now o joined same
-    (subst (λ (rs : List _). Joins limits remaining failures contents rs after before now joined) one h))
+    (subst (λ (rs : List _). JoinsTexts limits remaining failures contents rs after before now joined) one h))
 
 accepted_by : {W : Type 0} (contents : W → Option (List ℕ)) (before now : W) (v : TransmissionValue)
     (joined : Result JoinReport JoinFault)

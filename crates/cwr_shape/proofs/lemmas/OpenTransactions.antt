@@ -1,151 +1,193 @@
--- The records of the open transaction, as they are counted after its header, begin a transaction.
-use Rattle.std.proofs.Common.{◌≡◌, ℕ, ◌+◌, ◌-◌, Bool, true, cond, List, [], ◌∷◌, ◌++◌, length, drop, Option, None, sym, ap, subst}
-use Rattle.std.proofs.Common.{◌∙◌, arith, true≢false, append_assoc, append-nil}
-use Rattle.std.specs.List.{list_all, AllByRecursion, flat_map}
+-- The records of the open transaction, as they are counted after its header, stand at the step of the stage.
+use Rattle.std.proofs.Common.{◌≡◌, ℕ, ◌+◌, ◌-◌, Bool, true, false, cond, List, [], ◌∷◌, ◌++◌, length, drop, Option, Some, None}
+use Rattle.std.proofs.Common.{refl, sym, ap, subst, ◌∙◌, arith, true≢false, append_assoc, append-nil}
+use Rattle.std.specs.Prelude.{IfSome}
+use Rattle.std.specs.List.{list_all}
 use Rattle.std.proofs.lemmas.Bool.{and_parts}
 use Rattle.std.proofs.lemmas.List.{length-append, drop_at}
 use Rattle.cwr_fields.specs.declared.codes.TransactionType.{TransactionType}
-use Rattle.cwr_fields.specs.declared.codes.TransactionType.TheVariants.{Acknowledgement}
 use Rattle.cwr_fields.specs.declared.kinds.Kind.TheVariants as kinds
 use Rattle.cwr_shape.specs.declared.symbols.Symbol.{Symbol}
 use Rattle.cwr_shape.specs.declared.symbols.Symbol.TheVariants.{Plain, Grh}
+use Rattle.cwr_shape.specs.declared.stages.Stage.{Stage}
+use Rattle.cwr_shape.specs.declared.stages.Stage.TheVariants as stages
+use Rattle.cwr_shape.specs.declared.stages.TransactionStep.{TransactionStep}
+use Rattle.cwr_shape.specs.declared.stages.TransactionStep.TheVariants as steps
 use Rattle.cwr_shape.specs.declared.tallies.Counts.{Counts}
-use Rattle.cwr_shape.specs.Format.Shapes.{IsShape, BeginsShape}
-use Rattle.cwr_shape.specs.Format.Outlines.{GroupOutline, group_symbols, symbols_of, IsGroupOutline, IsOutline, Continues}
-use Rattle.cwr_shape.specs.Format.AnyTransmission.{Any}
-use Rattle.cwr_shape.specs.Format.NextSymbols.{type_after, open_type, counts_of, scope_by, scope_after, has_open_transaction}
-use Rattle.cwr_shape.specs.Format.NextSymbols.{open_records}
-use Rattle.cwr_shape.specs.Steps.Counting.{counts_with, counts_with_group, counts_with_header, counts_with_other}
-use Rattle.cwr_shape.proofs.lemmas.OneMore.{last_or-snoc, open_type-snoc, counts-snoc}
+use Rattle.cwr_shape.specs.Format.NextSymbols.{type_after, open_type, counts_of, scope_after, has_open_transaction, open_records}
+use Rattle.cwr_shape.specs.Format.NextSymbols.{after_header}
+use Rattle.cwr_shape.specs.Steps.Counting.{counts_with, counts_with_header, counts_with_other, scope_at}
+use Rattle.cwr_shape.specs.Steps.NextStages.{header_step, step_on, may_end, within, next_or_foot, on_or_next, next_stage}
+use Rattle.cwr_shape.specs.Steps.Left.{StandsAt, StandsAtStep, StandsInside, is_inside}
+use Rattle.cwr_shape.proofs.lemmas.OneMore.{open_type-snoc, counts-snoc}
+use Rattle.cwr_shape.proofs.lemmas.ScopesNamed.{scope_stands}
+use Rattle.cwr_shape.proofs.lemmas.StageRuns.{run, run_first}
+use Rattle.cwr_shape.proofs.lemmas.StageStands.{stands_run}
+use Rattle.cwr_shape.proofs.lemmas.StepPatterns.{first_stands, on_stands, stands_goes}
 use Rattle.cwr_shape.proofs.lemmas.TransactionNumbers.{is_inner, headed_shape, inner_symbol}
-use Rattle.cwr_shape.proofs.lemmas.WithinByFronts.{is_of_transaction, open_records-snoc, group_then}
 
--- ---- what is known of each front
+-- the last of the symbols, as many as are counted after a header and that, stand at the step
+record OpenAt (ty : TransactionType) (step : TransactionStep) (xs : List Symbol) : Type 0 where
+  front : List Symbol
+  head : Symbol
+  rest : List Symbol
+  split : xs ≡ front ++ (head ∷ rest)
+  many : length (after_header xs) ≡ length rest
+  stands : StandsAtStep ty (head ∷ rest) step
 
--- the last so many of the symbols begin a transaction
-abbrev LastBegin : ℕ → List Symbol → Type 0
-LastBegin n xs = BeginsShape (drop (length xs - n) xs)
+-- so do those of the transaction that is open at the stage, if one is
+abbrev IsOpen : List Symbol → Stage → Type 0
+IsOpen xs (stages.Within ty step) = (open_type xs ≡ ty) × (is_inside step ≡ true → OpenAt ty step xs)
+IsOpen xs stage = Unit {0}
 
--- where a transaction is open after some symbols, its records begin one
-abbrev OpenBegins : List Symbol → Type 0
-OpenBegins xs = has_open_transaction (scope_after xs) ≡ true → LastBegin (open_records xs) xs
+-- ---- one more symbol
 
--- the same after a symbol, by what is counted with it
-abbrev BeginsBy : Symbol → Counts → List Symbol → Type 0
-BeginsBy s c xs = is_of_transaction s ≡ true → LastBegin (1 + c.after_header) xs
-
--- counted on from there, after some symbols, over further ones of which the first stands in a group of the type, the open transaction's records always begin one
-abbrev ReportsFault : TransactionType → Counts → List Symbol → List Symbol → Type 0
-ReportsFault ty c before [] = Unit {0}
-ReportsFault ty c before (s ∷ xs) =
-    BeginsBy s (counts_with ty c s) (before ++ s ∷ []) × ReportsFault (type_after ty s) (counts_with ty c s) (before ++ s ∷ []) xs
-
-begins-snoc : (xs : List Symbol) (s : Symbol) → BeginsBy s (counts_with (open_type xs) (counts_of xs) s) (xs ++ s ∷ [])
-    → OpenBegins (xs ++ s ∷ [])
-begins-snoc xs s h is_open =
-    let inside : is_of_transaction s ≡ true =
-    sym (ap (λ (o : Option Symbol). has_open_transaction (scope_by o)) (last_or-snoc None xs s)) ∙ is_open in
-    let more : ℕ = 1 + (counts_with (open_type xs) (counts_of xs) s).after_header in
-    let many : open_records (xs ++ s ∷ []) ≡ more = open_records-snoc xs s ∙ ap (λ (b : Bool). cond b more 0) inside in
-    subst (λ (n : ℕ). LastBegin n (xs ++ s ∷ [])) (sym many) (h inside)
-
--- so its records begin one after each front
-fronts_known : (ys xs rest : List Symbol) → OpenBegins ys → ReportsFault (open_type ys) (counts_of ys) ys (xs ++ rest)
-    → OpenBegins (ys ++ xs)
-fronts_known ys [] rest h k = subst OpenBegins (sym (append-nil ys)) h
-fronts_known ys (s ∷ xs) rest h k =
-    let next : ReportsFault (open_type (ys ++ s ∷ [])) (counts_of (ys ++ s ∷ [])) (ys ++ s ∷ []) (xs ++ rest)
-    = subst (λ (ty : TransactionType). ReportsFault ty (counts_of (ys ++ s ∷ [])) (ys ++ s ∷ []) (xs ++ rest))
-    (sym (open_type-snoc ys s))
-    (subst (λ (c : Counts). ReportsFault (type_after (open_type ys) s) c (ys ++ s ∷ []) (xs ++ rest)) (counts-snoc ys s) k.1) in
-    subst OpenBegins (append_assoc ys (s ∷ []) xs) (fronts_known (ys ++ s ∷ []) xs rest (begins-snoc ys s k.0) next)
-
--- ---- a transaction
-
--- a symbol whose count is known
-step_known : (ty : TransactionType) (b c : Counts) (before : List Symbol) (s : Symbol) (xs : List Symbol) → counts_with ty b s ≡ c
-    → type_after ty s ≡ ty
-    → LastBegin (1 + c.after_header) (before ++ s ∷ []) → ReportsFault ty c (before ++ s ∷ []) xs
-    → ReportsFault ty b before (s ∷ xs)
-step_known ty b c before s xs counts same h k = (
-  λ inside. subst (λ (d : Counts). LastBegin (1 + d.after_header) (before ++ s ∷ [])) (sym counts) h,
-  subst (λ (u : TransactionType). ReportsFault u (counts_with ty b s) (before ++ s ∷ []) xs) (sym same)
-      (subst (λ (d : Counts). ReportsFault ty d (before ++ s ∷ []) xs) (sym counts) k),
-)
-
--- after some symbols, the last so many are what follows them
-last_begin : (ty : TransactionType) (before front rest : List Symbol) (n : ℕ) → n ≡ length front → IsShape ty (front ++ rest)
-    → LastBegin n (before ++ front)
-last_begin ty before front rest n e shape =
-    let start : length before ≡ length (before ++ front) - n = omega (arith, e, length-append before front) in
-    subst BeginsShape (sym (drop_at before front (length (before ++ front) - n) start)) (ty, rest, shape)
-
--- inner records after a front of their transaction
-inner_known : (ty : TransactionType) (c : Counts) (before front xs more : List Symbol) → list_all (is_inner ty) xs ≡ true
-    → 1 + c.after_header ≡ length front → IsShape ty (front ++ xs)
-    → ((d : Counts) (ys : List Symbol) → ReportsFault ty d ys more) → ReportsFault ty c (before ++ front) (xs ++ more)
-inner_known ty c before front [] more h e shape f = f c (before ++ front)
-inner_known ty c before front (s ∷ xs) more h e shape f =
-    let parts = and_parts (is_inner ty s) (list_all (is_inner ty) xs) h in
-    let here = inner_symbol ty c s parts.0 in
-    let longer : (before ++ front) ++ s ∷ [] ≡ before ++ (front ++ s ∷ []) = append_assoc before front (s ∷ []) in
-    let size : 1 + (c.after_header + 1) ≡ length (front ++ s ∷ []) = omega (arith, e, length-append front (s ∷ [])) in
-    let whole : IsShape ty ((front ++ s ∷ []) ++ xs) = subst (IsShape ty) (sym (append_assoc front (s ∷ []) xs)) shape in
-    step_known ty c (counts_with_other c) (before ++ front) s (xs ++ more) here.counts here.same_type
-    (subst (LastBegin (1 + (c.after_header + 1))) (sym longer)
-    (last_begin ty before (front ++ s ∷ []) xs (1 + (c.after_header + 1)) size whole))
-    (subst (λ (ys : List Symbol). ReportsFault ty (counts_with_other c) ys (xs ++ more)) (sym longer)
-    (inner_known ty (counts_with_other c) before (front ++ s ∷ []) xs more parts.1 size whole f))
-
-transaction_known : (ty : TransactionType) (c : Counts) (before xs more : List Symbol) → IsShape ty xs
-    → ((d : Counts) (ys : List Symbol) → ReportsFault ty d ys more) → ReportsFault ty c before (xs ++ more)
-transaction_known ty c before xs more shape f =
-    let h = headed_shape ty xs shape in
-    let whole : IsShape ty ((h.head ∷ []) ++ h.rest) = subst (IsShape ty) h.whole shape in
-    subst (λ (l : List Symbol). ReportsFault ty c before (l ++ more)) (sym h.whole)
-    (step_known ty c (counts_with_header c) before h.head (h.rest ++ more) (h.counts c) h.same_type
-    (last_begin ty before (h.head ∷ []) h.rest (1 + 0) (omega arith) whole)
-    (inner_known ty (counts_with_header c) before (h.head ∷ []) h.rest more h.inner (omega arith) whole f))
-
--- ---- a transmission
-
-transactions_known : (ty : TransactionType) (c : Counts) (before : List Symbol) (ts : List (List Symbol)) (more : List Symbol)
-    → AllByRecursion (IsShape ty) ts
-    → ((d : Counts) (ys : List Symbol) → ReportsFault ty d ys more) → ReportsFault ty c before (flat_map (λ t. t) ts ++ more)
-transactions_known ty c before [] more h f = f c before
-transactions_known ty c before (t ∷ ts) more h f =
-    subst (ReportsFault ty c before) (sym (append_assoc t (flat_map (λ u. u) ts) more))
-    (transaction_known ty c before t (flat_map (λ u. u) ts ++ more) h.0 (λ d ys. transactions_known ty d ys ts more h.1 f))
-
--- after a group's header and its foot no transaction is open
-groups_known : (ty : TransactionType) (c : Counts) (before : List Symbol) (groups : List GroupOutline) (more : List Symbol)
-    → AllByRecursion IsGroupOutline groups
-    → ((u : TransactionType) (d : Counts) (ys : List Symbol) → ReportsFault u d ys more)
-    → ReportsFault ty c before (flat_map group_symbols groups ++ more)
-groups_known ty c before [] more h f = f ty c before
-groups_known ty c before (g ∷ groups) more h f =
-    subst (ReportsFault ty c before) (sym (group_then g (flat_map group_symbols groups) more)) (
-      λ inside. absurd (true≢false (sym inside)),
-      transactions_known g.ty (counts_with_group c) (before ++ Grh g.ty ∷ []) g.transactions
-          (Plain kinds.Grt ∷ (flat_map group_symbols groups ++ more)) h.0.1
-          (λ d ys. (
-            λ inside. absurd (true≢false (sym inside)),
-            groups_known g.ty (counts_with g.ty d (Plain kinds.Grt)) (ys ++ Plain kinds.Grt ∷ []) groups more h.1 f,
-          )),
+-- a header begins one
+by_header : (ty : TransactionType) (xs : List Symbol) (s : Symbol) (to : TransactionStep) → open_type xs ≡ ty
+    → header_step ty s ≡ Some to → IsOpen (xs ++ s ∷ []) (stages.Within ty to)
+by_header ty xs s to same e =
+    let st : StandsAtStep ty (s ∷ []) to =
+    subst (λ (o : Option TransactionStep). IfSome o (StandsAtStep ty (s ∷ []))) e (first_stands ty s (header_step ty s) refl) in
+    let goes = stands_goes ty (s ∷ []) to st in
+    let h = headed_shape ty (s ∷ goes.0) goes.1 in
+    let first : h.head ≡ s = cc h.whole in
+    let counts : counts_with (open_type xs) (counts_of xs) s ≡ counts_with_header (counts_of xs) =
+    ap (λ (t : TransactionType). counts_with t (counts_of xs) s) same
+    ∙ ap (counts_with ty (counts_of xs)) (sym first) ∙ h.counts (counts_of xs) in (
+      open_type-snoc xs s ∙ ap (λ (t : TransactionType). type_after t s) same ∙ ap (type_after ty) (sym first) ∙ h.same_type,
+      λ inside. record {
+        front = xs;
+        head = s;
+        rest = [];
+        split = refl;
+        many = ap (λ (c : Counts). c.after_header) (sym (counts-snoc xs s) ∙ counts);
+        stands = st;
+      },
     )
 
-whole_known : (groups : List GroupOutline) → IsOutline groups → ReportsFault Acknowledgement (counts_of []) [] (symbols_of groups)
-whole_known groups h = (
-  λ inside. absurd (true≢false (sym inside)),
-  groups_known Acknowledgement (counts_with Acknowledgement (counts_of []) (Plain kinds.Hdr)) (Plain kinds.Hdr ∷ []) groups
-      (Plain kinds.Trl ∷ []) h.1
-      (λ u d ys. (λ inside. absurd (true≢false (sym inside)), tt)),
-)
+one_passes : (test : Symbol → Bool) (xs : List Symbol) (s : Symbol) (rest : List Symbol)
+    → list_all test ((xs ++ s ∷ []) ++ rest) ≡ true → test s ≡ true
+one_passes test [] s rest h = (and_parts (test s) (list_all test rest) h).0
+one_passes test (x ∷ xs) s rest h =
+    one_passes test xs s rest (and_parts (test x) (list_all test ((xs ++ s ∷ []) ++ rest)) h).1
 
--- the records of the open transaction begin a transaction
-pub open_begins : (xs : List Symbol) → Continues Any xs → has_open_transaction (scope_after xs) ≡ true
-    → BeginsShape (drop (length xs - open_records xs) xs)
-open_begins xs h is_open =
-    let all : ReportsFault Acknowledgement (counts_of []) [] (xs ++ h.3.0) =
-    subst (ReportsFault Acknowledgement (counts_of []) []) h.3.1 (whole_known h.0 h.1) in
-    fronts_known [] xs h.3.0 (λ inside. absurd (true≢false (sym inside))) all is_open
+-- and one of its records continues it
+by_inner : (ty : TransactionType) (step : TransactionStep) (xs : List Symbol) (s : Symbol) (to : TransactionStep)
+    → open_type xs ≡ ty → OpenAt ty step xs → step_on step s ≡ Some to → IsOpen (xs ++ s ∷ []) (stages.Within ty to)
+by_inner ty step xs s to same o e =
+    let more : List Symbol = o.head ∷ (o.rest ++ s ∷ []) in
+    let st : StandsAtStep ty more to =
+    subst (λ (q : Option TransactionStep). IfSome q (StandsAtStep ty more)) e
+    (on_stands ty (o.head ∷ o.rest) step s (step_on step s) refl o.stands) in
+    let goes = stands_goes ty more to st in
+    let h = headed_shape ty (more ++ goes.0) goes.1 in
+    let after : h.rest ≡ (o.rest ++ s ∷ []) ++ goes.0 = cc h.whole in
+    let inner = one_passes (is_inner ty) o.rest s goes.0 (sym (ap (list_all (is_inner ty)) after) ∙ h.inner) in
+    let here = inner_symbol ty (counts_of xs) s inner in
+    let counts : counts_with (open_type xs) (counts_of xs) s ≡ counts_with_other (counts_of xs) =
+    ap (λ (t : TransactionType). counts_with t (counts_of xs) s) same ∙ here.counts in
+    let many : length (after_header (xs ++ s ∷ [])) ≡ length (after_header xs) + 1 =
+    ap (λ (c : Counts). c.after_header) (sym (counts-snoc xs s) ∙ counts) in (
+      open_type-snoc xs s ∙ ap (λ (t : TransactionType). type_after t s) same ∙ here.same_type,
+      λ inside. record {
+        front = o.front;
+        head = o.head;
+        rest = o.rest ++ s ∷ [];
+        split = ap (λ (l : List Symbol). l ++ s ∷ []) o.split ∙ append_assoc o.front (o.head ∷ o.rest) (s ∷ []);
+        many = omega (arith, many, o.many, length-append o.rest (s ∷ []));
+        stands = st;
+      },
+    )
+
+none_is_some : (to : Stage) → None ≡ Some to → ⊥
+none_is_some to e = cc e
+
+one_stage : (x y : Stage) → Some x ≡ Some y → x ≡ y
+one_stage x y e = cc e
+
+-- the stage at a step is that of some step
+within_to : (ty : TransactionType) (o : Option TransactionStep) (to : Stage) → within ty o ≡ Some to
+    → (step : TransactionStep) × (o ≡ Some step) × (stages.Within ty step ≡ to)
+within_to ty None to e = absurd (none_is_some to e)
+within_to ty (Some step) to e = (step, refl, one_stage (stages.Within ty step) to e)
+
+by_foot : (ty : TransactionType) (xs : List Symbol) (s : Symbol) (to : Stage) → open_type xs ≡ ty → next_or_foot ty s ≡ Some to
+    → IsOpen (xs ++ s ∷ []) to
+by_foot ty xs (Plain kinds.Grt) to same e = subst (IsOpen (xs ++ Plain kinds.Grt ∷ [])) (one_stage stages.Closed to e) tt
+by_foot ty xs s to same e =
+    let w = within_to ty (header_step ty s) to e in subst (IsOpen (xs ++ s ∷ [])) w.2 (by_header ty xs s w.0 same w.1)
+
+on_to : (ty : TransactionType) (step : TransactionStep) (xs : List Symbol) (s : Symbol) (o : Option TransactionStep) (to : Stage)
+    → open_type xs ≡ ty → OpenAt ty step xs → step_on step s ≡ o → on_or_next ty o s ≡ Some to → IsOpen (xs ++ s ∷ []) to
+on_to ty step xs s None to same k on e = by_foot ty xs s to same e
+on_to ty step xs s (Some next) to same k on e =
+    subst (IsOpen (xs ++ s ∷ [])) (one_stage (stages.Within ty next) to e) (by_inner ty step xs s next same k on)
+
+step_to : (ty : TransactionType) (step : TransactionStep) (xs : List Symbol) (s : Symbol) (b : Bool) (to : Stage)
+    → open_type xs ≡ ty → OpenAt ty step xs
+    → cond b (on_or_next ty (step_on step s) s) (within ty (step_on step s)) ≡ Some to → IsOpen (xs ++ s ∷ []) to
+step_to ty step xs s true to same k e = on_to ty step xs s (step_on step s) to same k refl e
+step_to ty step xs s false to same k e =
+    let w = within_to ty (step_on step s) to e in subst (IsOpen (xs ++ s ∷ [])) w.2 (by_inner ty step xs s w.0 same k w.1)
+
+in_group : (ty : TransactionType) (xs : List Symbol) (to : Stage) → Some (stages.Within ty steps.InGroup) ≡ Some to
+    → IsOpen (xs ++ Grh ty ∷ []) to
+in_group ty xs to e =
+    subst (IsOpen (xs ++ Grh ty ∷ [])) (one_stage (stages.Within ty steps.InGroup) to e)
+    (open_type-snoc xs (Grh ty), λ inside. absurd (true≢false (sym inside)))
+
+next_open : (stage : Stage) (xs : List Symbol) (s : Symbol) (to : Stage) → IsOpen xs stage → next_stage stage s ≡ Some to
+    → IsOpen (xs ++ s ∷ []) to
+next_open stages.Start xs (Plain kinds.Hdr) to o e =
+    subst (IsOpen (xs ++ Plain kinds.Hdr ∷ [])) (one_stage stages.Opened to e) tt
+next_open stages.Start xs s to o e = absurd (none_is_some to e)
+next_open stages.Opened xs (Grh ty) to o e = in_group ty xs to e
+next_open stages.Opened xs s to o e = absurd (none_is_some to e)
+next_open (stages.Within ty steps.InGroup) xs s to o e =
+    let w = within_to ty (header_step ty s) to e in subst (IsOpen (xs ++ s ∷ [])) w.2 (by_header ty xs s w.0 o.0 w.1)
+next_open (stages.Within ty step) xs s to o e = step_to ty step xs s (may_end step) to o.0 (o.1 refl) e
+next_open stages.Closed xs (Grh ty) to o e = in_group ty xs to e
+next_open stages.Closed xs (Plain kinds.Trl) to o e =
+    subst (IsOpen (xs ++ Plain kinds.Trl ∷ [])) (one_stage stages.Ended to e) tt
+next_open stages.Closed xs s to o e = absurd (none_is_some to e)
+next_open stages.Ended xs s to o e = absurd (none_is_some to e)
+
+walk_open : (xs front : List Symbol) (stage to : Stage) → IsOpen front stage → run stage xs ≡ Some to → IsOpen (front ++ xs) to
+unfolding run
+walk_open [] front stage to o e =
+    subst (λ (l : List Symbol). IsOpen l to) (sym (append-nil front)) (subst (IsOpen front) (one_stage stage to e) o)
+walk_open (s ∷ xs) front stage to o e =
+    let first = run_first stage s xs to e in
+    subst (λ (l : List Symbol). IsOpen l to) (append_assoc front (s ∷ []) xs)
+    (walk_open xs (front ++ s ∷ []) first.0 to (next_open stage front s first.0 o first.1) first.2)
+
+-- ---- where one is open
+
+open_inside : (ty : TransactionType) (step : TransactionStep) → has_open_transaction (scope_at (stages.Within ty step)) ≡ true
+    → is_inside step ≡ true
+open_inside ty steps.InGroup h = absurd (true≢false (sym h))
+open_inside ty step h = refl
+
+last_stand : (ty : TransactionType) (step : TransactionStep) (xs : List Symbol) → OpenAt ty step xs
+    → has_open_transaction (scope_after xs) ≡ true → StandsAtStep ty (drop (length xs - open_records xs) xs) step
+last_stand ty step xs o is_open =
+    let many : open_records xs ≡ 1 + length o.rest =
+    ap (λ (b : Bool). cond b (1 + length (after_header xs)) 0) is_open ∙ ap (λ (n : ℕ). 1 + n) o.many in
+    let size : length xs ≡ length o.front + length (o.head ∷ o.rest) =
+    ap length o.split ∙ length-append o.front (o.head ∷ o.rest) in
+    let start : length o.front ≡ length xs - open_records xs = omega (arith, many, size) in
+    let last : drop (length xs - open_records xs) xs ≡ o.head ∷ o.rest =
+    ap (drop (length xs - open_records xs)) o.split ∙ drop_at o.front (o.head ∷ o.rest) (length xs - open_records xs) start in
+    subst (λ (l : List Symbol). StandsAtStep ty l step) (sym last) o.stands
+
+stand_at : (stage : Stage) (xs : List Symbol) → IsOpen xs stage → has_open_transaction (scope_at stage) ≡ true
+    → has_open_transaction (scope_after xs) ≡ true → StandsInside stage (drop (length xs - open_records xs) xs)
+stand_at (stages.Within ty step) xs o h is_open = last_stand ty step xs (o.1 (open_inside ty step h)) is_open
+stand_at stage xs o h is_open = absurd (true≢false (sym h))
+
+-- the records of the open transaction stand at the stage's own step
+pub open_stands : (xs : List Symbol) (stage : Stage) → StandsAt xs stage → has_open_transaction (scope_after xs) ≡ true
+    → StandsInside stage (drop (length xs - open_records xs) xs)
+open_stands xs stage st is_open =
+    stand_at stage xs (walk_open xs [] stages.Start stage tt (stands_run xs stage st))
+    (ap has_open_transaction (scope_stands xs stage st) ∙ is_open) is_open

@@ -114,3 +114,8 @@ pub record StandsAtStep (ty : TransactionType) (xs : List Symbol) (step : Transa
   pub inside : IsTrue (is_inside step)
   pub named : stages.Within ty step ≡ stage_after (in_group ty xs)
   pub leaves : (rest : List Symbol) → IsShape ty (xs ++ rest) ↔ Matches (left_of step) rest
+
+-- the symbols begin a transaction of the stage's type, and the stage has come to the step after them
+abbrev pub StandsInside : Stage → List Symbol → Type 0
+StandsInside (stages.Within ty step) xs = StandsAtStep ty xs step
+StandsInside stage xs = ⊥

@@ -1,22 +1,20 @@
 -- What is told of a text says its verdict, and all of a text that begins with a transmission.
-use Rattle.std.proofs.Common.{◌≡◌, ℕ, List, ◌++◌, length, drop, Option, Some, None, ap, ap₂, subst, ◌∙◌}
+use Rattle.std.proofs.Common.{◌≡◌, ℕ, List, length, drop, Option, Some, None, ap, ap₂, subst, ◌∙◌}
 use Rattle.std.specs.Prelude.{Result, Ok, Err, IfOk}
-use Rattle.std.proofs.Math.Seq.{drop-append_seam}
 use Rattle.std.specs.Io.KnownBytes.{Appends}
 use Rattle.cwr_shape.specs.declared.limits.Limits.{Limits}
 use Rattle.cwr_values.specs.declared.items.Item.{Item}
 use Rattle.cwr_values.specs.Format.Values.{TransmissionValue}
-use Rattle.cwr_values.specs.Format.Rows.{canonical_text}
 use Rattle.cwr_judge.specs.Format.Ends.{IsAccepted}
 use Rattle.cwr_judge.specs.Format.Items.{value_items}
-use Rattle.cwr_judge.proofs.lemmas.Accepted.{accepted_once, canonical_accepted}
+use Rattle.cwr_judge.proofs.lemmas.Accepted.{accepted_once}
 use Rattle.cwr_tools.specs.declared.verdicts.Verdict.{Verdict}
 use Rattle.cwr_tools.specs.declared.verdicts.Verdict.TheVariants.{Good, Refused, Truncated}
 use Rattle.cwr_tools.specs.declared.verdicts.ToolFault.{ToolFault}
 use Rattle.cwr_tools.specs.declared.verdicts.ToolFault.TheVariants as faults
 use Rattle.cwr_tools.specs.Format.Texts.{good_verdict}
 use Rattle.cwr_tools.specs.Format.Verdicts.{IsVerdictAfter, IsVerdictOn, JudgesText}
-use Rattle.cwr_tools.specs.Format.Reports.{ItemLines, JudgesAccepted, JudgesCanonical, ReportsText, text_on}
+use Rattle.cwr_tools.specs.Format.Reports.{ItemLines, JudgesAccepted, ReportsText, text_on}
 
 -- the verdict that is told of a text that is accepted is its transmission's, after that one's items
 pub accepted_verdict : (limits : Limits) (text : List ℕ) (verdict : Verdict) (given : List Item) (v : TransmissionValue) (n : ℕ)
@@ -38,17 +36,6 @@ judges_accepted of limits (Some text) after contents old new verdict h = λ v n 
       h.2 v n a,
       subst (Appends (contents old) (contents new)) (ap₂ (λ (items : List Item) (it : Verdict). text_on of items it) is.1 is.0) h.3,
     )
-
-judges_canonical : {W : Type 0} (of : ItemLines) (limits : Limits) (before after : Option (List ℕ))
-    (contents : W → Option (List ℕ)) (old new : W) (verdict : Verdict)
-    → ReportsText of limits before after contents old new (Ok verdict)
-    → JudgesCanonical of limits before after contents old new verdict
-judges_canonical of limits before after contents old new verdict h v more whole within e =
-    let judged : JudgesAccepted of limits (Some (canonical_text v ++ more)) after contents old new verdict
-    = subst (λ (o : Option (List ℕ)). JudgesAccepted of limits o after contents old new verdict) e
-    (judges_accepted of limits before after contents old new verdict h) in
-    let all = judged v (length (canonical_text v)) (canonical_accepted limits v more whole within) in
-    (all.0, all.1 ∙ ap Some (drop-append_seam (canonical_text v) more), all.2)
 
 pub verdict_on : (limits : Limits) (text : List ℕ) (verdict : Verdict) (given : List Item) → IsVerdictAfter limits text verdict given
     → IsVerdictOn limits text verdict
@@ -78,11 +65,3 @@ pub accepted_text : {W : Type 0} (of : ItemLines) (limits : Limits) (before afte
 accepted_text of limits before after contents old new (Ok verdict) h =
     judges_accepted of limits before after contents old new verdict h
 accepted_text of limits before after contents old new (Err fault) h = tt
-
-pub told_canonical_text : {W : Type 0} (of : ItemLines) (limits : Limits) (before after : Option (List ℕ))
-    (contents : W → Option (List ℕ)) (old new : W) (result : Result Verdict ToolFault)
-    → ReportsText of limits before after contents old new result
-    → IfOk result (JudgesCanonical of limits before after contents old new)
-told_canonical_text of limits before after contents old new (Ok verdict) h =
-    judges_canonical of limits before after contents old new verdict h
-told_canonical_text of limits before after contents old new (Err fault) h = tt

@@ -50,7 +50,7 @@ lines_first rows lines text rest each e =
     ∙ take-append_seam lines (raw_lines rest)
 
 -- the items of accepted records are those that the first lines give
-of_lines : (tally : TallyValue) (lines : List (List ℕ)) (records : List RecordValue) (text rest : List ℕ) (given : List Item)
+pub of_lines : (tally : TallyValue) (lines : List (List ℕ)) (records : List RecordValue) (text rest : List ℕ) (given : List Item)
     (count : ℕ) → AreAccepted tally lines records → closed text ≡ text_of lines ++ rest → given ≡ items_so_far records
     → count ≡ length records → AreItemsOfLines text count given
 of_lines tally lines records text rest given count read e items_are counted =
@@ -65,7 +65,7 @@ of_lines tally lines records text rest given count read e items_are counted =
     }
 
 -- the closed text begins with the accepted lines
-closed_begins : (input_ended : Bool) (input rest : List ℕ) (lines : List (List ℕ)) (held : List ℕ)
+pub closed_begins : (input_ended : Bool) (input rest : List ℕ) (lines : List (List ℕ)) (held : List ℕ)
     → IsInput input_ended input (text_of lines ++ held) → (input_ended ≡ true → rest ≡ [])
     → (more : List ℕ) × (closed (input ++ rest) ≡ text_of lines ++ more)
 closed_begins false input rest lines held i none = (
@@ -111,7 +111,7 @@ truncated_items limits text after given records t =
         of_lines t.0.decoder.tally s.through.lines s.through.records text b.0 t.0.given records s.through.read (ap closed c ∙ b.1)
         s.through.given_are s.counted
 
-verdict_after : (limits : Limits) (text : List ℕ) (verdict : Verdict) (after : Option (List ℕ)) (given : List Item)
+pub verdict_after : (limits : Limits) (text : List ℕ) (verdict : Verdict) (after : Option (List ℕ)) (given : List Item)
     → IsRightVerdict limits (Some text) verdict after given → IsVerdictAfter limits text verdict given
 verdict_after limits text (Good groups transactions records) after given t =
     (t.0, length t.1.input, t.1.front.0, t.3, t.2)
@@ -127,12 +127,12 @@ takes_spelling limits text (Truncated records) after given t v n a = absurd (t.0
 
 -- ---- items before a fault
 
-first_read : (limits : Limits) (d : Standing) (before after : Option (List ℕ)) (given : List Item)
+pub first_read : (limits : Limits) (d : Standing) (before after : Option (List ℕ)) (given : List Item)
     → HasRead limits d before after given → AreFirstItems limits given
 first_read limits d before after given h =
     subst (λ (l : Limits). AreFirstItems l given) h.limits_are (first_items d h.input given h.stands)
 
-first_stopped : (limits : Limits) (fault : ReadFault) (before after : Option (List ℕ)) (given : List Item)
+pub first_stopped : (limits : Limits) (fault : ReadFault) (before after : Option (List ℕ)) (given : List Item)
     → StopsAfter limits fault before after given → AreFirstItems limits given
 first_stopped limits fault before after given t =
     subst (AreFirstItems limits) t.1 (first_read limits t.0.decoder before after t.0.given t.0.read)

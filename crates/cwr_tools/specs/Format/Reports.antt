@@ -8,8 +8,7 @@ use Rattle.cwr_lines.specs.Format.Records.{RecordValue}
 use Rattle.cwr_shape.specs.declared.limits.Limits.{Limits}
 use Rattle.cwr_values.specs.declared.items.Item.{Item}
 use Rattle.cwr_values.specs.declared.items.Item.TheVariants.{Transaction}
-use Rattle.cwr_values.specs.Format.Values.{TransmissionValue, IsTransmission, FitsIn}
-use Rattle.cwr_values.specs.Format.Rows.{canonical_text}
+use Rattle.cwr_values.specs.Format.Values.{TransmissionValue}
 use Rattle.cwr_judge.specs.Format.Ends.{IsAccepted}
 use Rattle.cwr_judge.specs.Format.Items.{AreFirstItems, value_items}
 use Rattle.cwr_encode.specs.Format.Finishing.{HasFront}
@@ -118,14 +117,6 @@ JudgesAccepted of limits before after contents old new verdict =
     IfSome before (λ text. (v : TransmissionValue) (n : ℕ) → IsAccepted limits text v n
     → (verdict ≡ good_verdict v) × (after ≡ Some (drop n text))
     × Appends (contents old) (contents new) (text_on of (value_items v) (good_verdict v)))
-
--- so has the canonical text of a transmission within the limits, and what follows it stays unread
-abbrev pub JudgesCanonical : {W : Type 0} → ItemLines → Limits → Option (List ℕ) → Option (List ℕ) → (W → Option (List ℕ)) → W → W
-    → Verdict → Type 0
-JudgesCanonical of limits before after contents old new verdict =
-    (v : TransmissionValue) (more : List ℕ) → IsTransmission v → FitsIn limits v → before ≡ Some (canonical_text v ++ more)
-    → (verdict ≡ good_verdict v) × (after ≡ Some more)
-    × Appends (contents old) (contents new) (text_on of (value_items v) (good_verdict v))
 
 -- words were written after what the writer had
 abbrev pub AddsWords : {W : Type 0} → (W → Option (List ℕ)) → W → W → Type 0

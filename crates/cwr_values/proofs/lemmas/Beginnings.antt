@@ -19,7 +19,7 @@ use Rattle.cwr_shape.proofs.lemmas.HeadFirst.{part_class, head_first}
 use Rattle.cwr_shape.proofs.lemmas.StepPatterns.{stands_goes}
 use Rattle.cwr_values.specs.Format.Values.{symbol_of}
 use Rattle.cwr_values.specs.Format.Begun.{IsBegun, IsWholeTransaction, BeginsWithOneMore}
-use Rattle.cwr_values.specs.Steps.Begun.{KeepsTransaction}
+use Rattle.cwr_values.specs.Steps.Begun.{IsStepAfter, IsStepWith, KeepsTransaction}
 
 -- the type whose header the symbol is
 abbrev pub header_of : Symbol → TransactionType
@@ -62,24 +62,24 @@ goes_in ty xs step s some st = (
     appended (y ∷ ys) t zs = ap (λ (l : List Symbol). y ∷ l) (appended ys t zs)
 
 -- kept records begin a transaction
-pub keeps_begun : (ty : TransactionType) (step : TransactionStep) (kept records : List RecordValue)
-    → KeepsTransaction ty step kept → kept ≡ records → IsBegun records
-keeps_begun ty step kept records k e =
-    let own = stands_goes ty (map symbol_of kept) step k.stands in
-    subst IsBegun e (record { each = k.each; begins = (ty, own.0, own.1) })
+pub keeps_begun : (step : TransactionStep) (kept records : List RecordValue) → KeepsTransaction step kept → kept ≡ records
+    → IsBegun records
+keeps_begun step kept records k e =
+    let own = stands_goes k.stands.0 (map symbol_of kept) step k.stands.1 in
+    subst IsBegun e (record { each = k.each; begins = (k.stands.0, own.0, own.1) })
 
 length_map : (records : List RecordValue) → length (map symbol_of records) ≡ length records
 length_map [] = refl
 length_map (r ∷ records) = omega (arith, length_map records)
 
 -- and are whole where they are one of their own type
-pub whole_in : (ty : TransactionType) (step : TransactionStep) (records : List RecordValue) → KeepsTransaction ty step records
-    → IsShape ty (map symbol_of records) ↔ IsWholeTransaction records
-whole_in ty step records k = (
-  λ shape. (ty, shape),
-  λ w. let own = stands_goes ty (map symbol_of records) step k.stands in
-      let same : ty ≡ w.0 =
-      one_type_by ty w.0 (map symbol_of records) own.0 [] (omega (arith, k.some, length_map records)) own.1
+pub whole_in : (step : TransactionStep) (records : List RecordValue) (k : KeepsTransaction step records)
+    → IsShape k.stands.0 (map symbol_of records) ↔ IsWholeTransaction records
+whole_in step records k = (
+  λ shape. (k.stands.0, shape),
+  λ w. let own = stands_goes k.stands.0 (map symbol_of records) step k.stands.1 in
+      let same : k.stands.0 ≡ w.0 =
+      one_type_by k.stands.0 w.0 (map symbol_of records) own.0 [] (omega (arith, k.some, length_map records)) own.1
       (subst (IsShape w.0) (sym (nil (map symbol_of records))) w.1) in
       subst (λ (t : TransactionType). IsShape t (map symbol_of records)) (sym same) w.1,
 )
@@ -102,16 +102,26 @@ begins_none s a b c d p q r t f g h k (RevisedWork, r0, m) = none_is_some c (Con
 begins_none s a b c d p q r t f g h k (Acknowledgement, r0, m) = none_is_some d (ContinuesIn Acknowledgement (s ∷ [])) t k (r0, m)
 
 -- one more record continues where some transaction begins with it
-pub more_exact : (ty : TransactionType) (step : TransactionStep) (kept records : List RecordValue) (s : Symbol) (r : RecordValue)
-    (o : Option TransactionStep) → KeepsTransaction ty step kept → kept ≡ records → s ≡ symbol_of r
+pub more_exact : (step : TransactionStep) (kept records : List RecordValue) (s : Symbol) (r : RecordValue)
+    (o : Option TransactionStep) → KeepsTransaction step kept → kept ≡ records → s ≡ symbol_of r
     → ((t : TransactionType) (xs : List Symbol) → StandsAtStep t xs step → IsSome o ↔ ContinuesIn t (xs ++ s ∷ [])) → IsSome o
     ↔ BeginsWithOneMore records r
-more_exact ty step kept records s r o k e f t =
-    let own = t ty (map symbol_of kept) k.stands in
-    let all = goes_in ty (map symbol_of kept) step s (omega (arith, k.some, length_map kept)) k.stands in
+more_exact step kept records s r o k e f t =
+    let own = t k.stands.0 (map symbol_of kept) k.stands.1 in
+    let all = goes_in k.stands.0 (map symbol_of kept) step s (omega (arith, k.some, length_map kept)) k.stands.1 in
     let both : IsSome o ↔ BeginsShape (map symbol_of kept ++ s ∷ []) = (λ h. all.0 (own.0 h), λ b. own.1 (all.1 b)) in
     subst (λ (rs : List RecordValue). IsSome o ↔ BeginsWithOneMore rs r) e
     (subst (λ (u : Symbol). IsSome o ↔ BeginsShape (map symbol_of kept ++ u ∷ [])) f both)
+
+-- and the step after it is the one after both
+pub more_stands : (step to : TransactionStep) (kept records : List RecordValue) (s : Symbol) (r : RecordValue)
+    → KeepsTransaction step kept → kept ≡ records → s ≡ symbol_of r
+    → ((t : TransactionType) (xs : List Symbol) → StandsAtStep t xs step → StandsAtStep t (xs ++ s ∷ []) to)
+    → IsStepWith records r to
+more_stands step to kept records s r k e f t =
+    subst (λ (rs : List RecordValue). IsStepWith rs r to) e
+    (subst (λ (u : Symbol). IsStepAfter (map symbol_of kept ++ u ∷ []) to) f
+    (k.stands.0, t k.stands.0 (map symbol_of kept) k.stands.1))
 
 map_more : (records : List RecordValue) (r : RecordValue)
     → map symbol_of (records ++ r ∷ []) ≡ map symbol_of records ++ symbol_of r ∷ []
@@ -128,27 +138,24 @@ longer [] r = omega arith
 longer (x ∷ records) r = omega arith
 
 -- and is kept with the step after it
-pub keeps_more : (ty : TransactionType) (step to : TransactionStep) (kept items : List RecordValue) (s : Symbol) (r : RecordValue)
-    → KeepsTransaction ty step kept → IsRecord r → s ≡ symbol_of r
-    → StandsAtStep ty (map symbol_of kept ++ s ∷ []) to → items ≡ kept ++ r ∷ [] → KeepsTransaction ty to items
-keeps_more ty step to kept items s r k h f st e =
-    let whole : KeepsTransaction ty to (kept ++ r ∷ []) = record {
+pub keeps_more : (to : TransactionStep) (kept records items : List RecordValue) (r : RecordValue) → AllByRecursion IsRecord kept
+    → kept ≡ records → IsRecord r → IsStepWith records r to → items ≡ kept ++ r ∷ [] → KeepsTransaction to items
+keeps_more to kept records items r all f h st e =
+    let own : IsStepWith kept r to = subst (λ (rs : List RecordValue). IsStepWith rs r to) (sym f) st in
+    let whole : KeepsTransaction to (kept ++ r ∷ []) = record {
       some = longer kept r;
-      each = all_more kept r k.each h;
-      stands =
-          subst (λ (xs : List Symbol). StandsAtStep ty xs to)
-          (ap (λ (u : Symbol). map symbol_of kept ++ u ∷ []) f ∙ sym (map_more kept r)) st;
+      each = all_more kept r all h;
+      stands = subst (λ (xs : List Symbol). IsStepAfter xs to) (sym (map_more kept r)) own;
     } in
-    subst (λ (rs : List RecordValue). KeepsTransaction ty to rs) (sym e) whole
+    subst (KeepsTransaction to) (sym e) whole
 
 -- a test of the step is one of the records
-pub complete_exact : (ty : TransactionType) (step : TransactionStep) (kept records : List RecordValue) (b : Bool)
-    → KeepsTransaction ty step kept → kept ≡ records
-    → ((t : TransactionType) (xs : List Symbol) → StandsAtStep t xs step → IsTrue b ↔ IsShape t xs) → IsTrue b
+pub complete_exact : (step : TransactionStep) (kept records : List RecordValue) (b : Bool) → KeepsTransaction step kept
+    → kept ≡ records → ((t : TransactionType) (xs : List Symbol) → StandsAtStep t xs step → IsTrue b ↔ IsShape t xs) → IsTrue b
     ↔ IsWholeTransaction records
-complete_exact ty step kept records b k e t =
-    let own = t ty (map symbol_of kept) k.stands in
-    let all = whole_in ty step kept k in
+complete_exact step kept records b k e t =
+    let own = t k.stands.0 (map symbol_of kept) k.stands.1 in
+    let all = whole_in step kept k in
     subst (λ (rs : List RecordValue). IsTrue b ↔ IsWholeTransaction rs) e (λ h. all.0 (own.0 h), λ w. own.1 (all.1 w))
 
 pub ok_is_refused : (Ok (tt {0}) ≡ Err Misplaced) → ⊥

@@ -9,8 +9,8 @@ pub surely_has_numbers-requires : goal.surely_has_numbers-requires
 surely_has_numbers-requires c =
     known_of c.args.line.now c.in-Some.record c.in-Some.ensures.value ∙ ap Some (sym c.kind.ensures.value)
 
-pub returns-clause-counted : goal.returns-clause-counted
-returns-clause-counted c = λ yes.
+pub returns-in-Ok-clause-counted : goal.returns-in-Ok-clause-counted
+returns-in-Ok-clause-counted c = λ yes.
     let excess = sym c.excess-has_excess.ensures ∙ c.if-has_excess.false in
     record {
       symbol = c.symbol_of-symbol.result;
@@ -22,12 +22,12 @@ returns-clause-counted c = λ yes.
         carried = c.in-Some.ensures.value;
         in_order = c.kind.ensures.fits;
         symbol = sym c.symbol_of-symbol.ensures;
-        may_come = c.admit.ensures.may_come yes xs st;
+        may_come = c.in-Ok.ensures.answer xs st;
         numbers =
             subst (λ (k : Kind). HasNumbers xs c.args.line.now k) c.kind.ensures.value
             (c.surely_has_numbers.ensures xs st c.if-not-surely_has_numbers.false);
         excess = excess;
       };
-      limits = c.admit.ensures.limits;
-      stands = c.admit.ensures.stands yes;
+      limits = c.in-Ok.ensures.limits;
+      stands = c.in-Ok.ensures.stands;
     }

@@ -3,28 +3,28 @@ use Rattle.std.specs.Prelude.{Ok, Err}
 use Rattle.cwr_parts.specs.declared.splitting.Splitting.{Splitting}
 use Rattle.cwr_parts.specs.Steps.SplitSteps.{open_outputs}
 use Rattle.cwr_parts.specs.Steps.Splitting.{Splits}
-use Rattle.cwr_parts.proofs.lemmas.AcceptedSplits.{splits_accepted, splits_judged}
+use Rattle.cwr_parts.proofs.lemmas.ToldRuns.{splits_text}
 use Rattle.cwr_parts.specs.Steps.SplitWriters.{BeganOpen}
 use Rattle.cwr_parts.proofs.lemmas.WritersCounted.{known_is, known_so, known_stopped, told_at_end}
 use Rattle.cwr_parts.proofs.splitting.split.Goals as goal
 
-pub returns-in-Ok-clause-accepted : goal.returns-in-Ok-clause-accepted
-returns-in-Ok-clause-accepted g c =
+pub returns-in-Ok-clause-told : goal.returns-in-Ok-clause-told
+returns-in-Ok-clause-told g c =
     let splits : Splits c.args.limits c.args.n (g.R.Source.remaining c.args.reader.now)
     (g.R.Source.remaining c.split_items.new.reader) (g.O.Outputs.texts c.args.outputs.now)
     (g.O.Outputs.texts c.split_items.new.outputs) (Ok c.split_items.new.splitting.report)
     = search rules in
-    splits_accepted c.args.limits c.args.n (g.R.Source.remaining c.args.reader.now)
+    splits_text c.args.limits c.args.n (g.R.Source.remaining c.args.reader.now)
     (g.R.Source.remaining c.split_items.new.reader) (g.O.Outputs.texts c.args.outputs.now)
     (g.O.Outputs.texts c.split_items.new.outputs) (Ok c.split_items.new.splitting.report) splits
 
-pub returns-in-Err-clause-accepted : goal.returns-in-Err-clause-accepted
-returns-in-Err-clause-accepted g c =
+pub returns-in-Err-clause-told : goal.returns-in-Err-clause-told
+returns-in-Err-clause-told g c =
     let splits : Splits c.args.limits c.args.n (g.R.Source.remaining c.args.reader.now)
     (g.R.Source.remaining c.split_items.new.reader) (g.O.Outputs.texts c.args.outputs.now)
     (g.O.Outputs.texts c.give_up.new.outputs) (Err c.in-Err.fault)
     = search rules in
-    splits_accepted c.args.limits c.args.n (g.R.Source.remaining c.args.reader.now)
+    splits_text c.args.limits c.args.n (g.R.Source.remaining c.args.reader.now)
     (g.R.Source.remaining c.split_items.new.reader) (g.O.Outputs.texts c.args.outputs.now)
     (g.O.Outputs.texts c.give_up.new.outputs) (Err c.in-Err.fault) splits
 
@@ -58,22 +58,3 @@ returns-in-Err-clause-written g c = known_so (g.O.Outputs.texts c.args.outputs.n
     told_at_end g.O.W.Target.contents c.in-Err.fault c.split_items.new.splitting.output
     (g.O.Outputs.had c.split_items.new.outputs) (g.O.Outputs.had c.give_up.new.outputs) told.0 told.1
     (known_is (g.O.Outputs.texts c.split_items.new.outputs) now.0 now.1 c.give_up.ensures.written))
-
-pub returns-in-Ok-clause-judged : goal.returns-in-Ok-clause-judged
-returns-in-Ok-clause-judged g c =
-    let splits : Splits c.args.limits c.args.n (g.R.Source.remaining c.args.reader.now)
-    (g.R.Source.remaining c.split_items.new.reader) (g.O.Outputs.texts c.args.outputs.now)
-    (g.O.Outputs.texts c.split_items.new.outputs) (Ok c.split_items.new.splitting.report)
-    = search rules in
-    splits_judged c.args.limits c.args.n (g.R.Source.remaining c.args.reader.now) (g.R.Source.remaining c.split_items.new.reader)
-    (g.O.Outputs.texts c.args.outputs.now) (g.O.Outputs.texts c.split_items.new.outputs)
-    (Ok c.split_items.new.splitting.report) splits
-
-pub returns-in-Err-clause-judged : goal.returns-in-Err-clause-judged
-returns-in-Err-clause-judged g c =
-    let splits : Splits c.args.limits c.args.n (g.R.Source.remaining c.args.reader.now)
-    (g.R.Source.remaining c.split_items.new.reader) (g.O.Outputs.texts c.args.outputs.now)
-    (g.O.Outputs.texts c.give_up.new.outputs) (Err c.in-Err.fault)
-    = search rules in
-    splits_judged c.args.limits c.args.n (g.R.Source.remaining c.args.reader.now) (g.R.Source.remaining c.split_items.new.reader)
-    (g.O.Outputs.texts c.args.outputs.now) (g.O.Outputs.texts c.give_up.new.outputs) (Err c.in-Err.fault) splits

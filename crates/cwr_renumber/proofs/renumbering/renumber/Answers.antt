@@ -9,7 +9,7 @@ returns-clause-renumbers g c =
     g.W.Target.contents c.new-source.result _ _ c.args.writer c.join-writer.result.0
     (g.R.Source.remaining c.args.reader.now) c.join-writer.result.1 c.of_one.result c.from_mut.ensures.value
     (ap (λ r. left_of c.new-source.result (g.R.Source.remaining r)) c.new-source.ensures.inner ∙ c.new-source.ensures.left)
-    c.of_one.ensures c.join-writer.ensures.joins
+    c.of_one.ensures c.join-writer.ensures.told
 
 pub returns-clause-accepted : goal.returns-clause-accepted
 returns-clause-accepted g c =

@@ -3,9 +3,12 @@ use Rattle.std.specs.Prelude.{IsSomeAnd}
 use Rattle.cwr_values.specs.declared.items.Item.TheVariants as items
 use Rattle.cwr_decode.specs.declared.outcomes.Outcome.TheVariants as outcomes
 use Rattle.cwr_decode.specs.declared.machine.State.TheVariants as states
-use Rattle.cwr_decode.specs.Steps.Machines.{JudgesFront, Standing}
+use Rattle.cwr_decode.specs.Steps.Machines.{HoldsOpen, JudgesFront, Standing}
 use Rattle.cwr_decode.proofs.lemmas.FrontSteps.{front_added, front_ends}
 use Rattle.cwr_decode.proofs.machine.Machine.enter_as.Goals as goal
+
+pub enter_cut-requires : goal.enter_cut-requires
+enter_cut-requires c = subst HoldsOpen (sym c.self.view_is) c.requires.holds
 
 pub returns-in-Added : goal.returns-in-Added
 returns-in-Added c =

@@ -7,7 +7,7 @@ use Rattle.cwr_decode.specs.Steps.Machines.{Standing, Judges, emptied}
 use Rattle.cwr_decode.specs.declared.outcomes.Outcome.TheVariants as outcomes
 use Rattle.cwr_values.specs.declared.items.Item.TheVariants as items
 use Rattle.cwr_decode.proofs.lemmas.AfterBytes.{advanced_line, advanced_open}
-use Rattle.cwr_decode.proofs.lemmas.AfterPiece.{fed_start, fed_on, fed_more, fed_through, rest_smaller}
+use Rattle.cwr_decode.proofs.lemmas.AfterPiece.{fed_start, fed_on, fed_more, fed_sound, fed_through, rest_smaller}
 use Rattle.cwr_decode.proofs.lemmas.FrontSteps.{held_some, of_whole}
 use Rattle.cwr_decode.proofs.lemmas.HeldOpen.{fed_holds}
 use Rattle.cwr_decode.proofs.machine.Machine.feed_lines.Goals as goal
@@ -110,6 +110,25 @@ returns-in-Ends c =
     (rw take_rest at c.take-taken.ensures.takes) c.take-taken.ensures.held c.take-taken.ensures.others
     (λ e. c.in_default-ended.not-Open (c.take-taken.ensures.ended ∙ e))
     (subst (Judges c.take-taken.new.self (Some out)) (sym c.take_whole.ensures.others) judged))
+
+pub enter_line-requires-clause-holds : goal.enter_line-requires-clause-holds
+enter_line-requires-clause-holds c =
+    let none : IsNone c.feed_quickly-front.result.1 =
+    subst (λ (o : Option (List RecordValue)). IsNone o) (sym c.in_default.is) refl in
+    let rest : Fed c.loop-whole.self (drop c.loop-whole.used c.args.piece.now) c.feed_quickly-front.result.0
+    c.feed_quickly-front.new.self =
+    rw take_rest at (c.feed_quickly-front.ensures.none none) in
+    let at =
+    fed_on c.args.self.now c.loop-whole.self c.feed_quickly-front.new.self c.args.piece.now c.loop-whole.used
+    c.feed_quickly-front.result.0 c.loop-whole.invariant rest in
+    let same = c.take-taken.ensures.others in
+    fed_holds c.args.self.now c.feed_quickly-front.new.self c.take-taken.new.self c.args.piece.now
+    (c.loop-whole.used + c.feed_quickly-front.result.0) c.requires.sound.under_way at (ap (λ (d : Standing). d.tally) same)
+    (ap (λ (d : Standing). d.held) same)
+
+pub feed_quickly-front-requires-clause-sound : goal.feed_quickly-front-requires-clause-sound
+feed_quickly-front-requires-clause-sound c =
+    fed_sound c.args.self.now c.loop-whole.self c.args.piece.now c.loop-whole.used c.requires.sound c.loop-whole.invariant
 
 pub take_line-requires-clause-holds : goal.take_line-requires-clause-holds
 take_line-requires-clause-holds c =

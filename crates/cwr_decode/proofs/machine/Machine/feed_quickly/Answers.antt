@@ -1,4 +1,4 @@
-use Rattle.std.proofs.Common.{drop, Some, None, subst, sym}
+use Rattle.std.proofs.Common.{drop, refl, Some, None, subst, sym}
 use Rattle.std.proofs.lemmas.List.{take_rest}
 use Rattle.cwr_decode.specs.declared.machine.Found.TheVariants as founds
 use Rattle.cwr_decode.specs.declared.outcomes.Outcome.TheVariants as outcomes
@@ -6,11 +6,17 @@ use Rattle.cwr_values.specs.declared.items.Item.TheVariants as items
 use Rattle.cwr_decode.specs.Steps.Machines.{JudgesFront, emptied}
 use Rattle.cwr_decode.proofs.lemmas.AfterBytes.{advanced_front}
 use Rattle.cwr_decode.proofs.lemmas.AfterPiece.{fed_start, fed_same, fed_more, fed_through, rest_smaller}
+use Rattle.cwr_decode.proofs.lemmas.HeldOpen.{fed_holds}
 use Rattle.cwr_decode.proofs.lemmas.FrontSteps.{found_as, held_some, of_whole}
 use Rattle.cwr_decode.proofs.machine.Machine.feed_quickly.Goals as goal
 
 pub loop-used-init : goal.loop-used-init
-loop-used-init c = fed_start c.args.self.now c.args.piece.now c.requires.ready c.requires.reading c.requires.fresh
+loop-used-init c = fed_start c.args.self.now c.args.piece.now c.requires.sound.ready c.requires.reading c.requires.fresh
+
+pub enter_front-front-requires-clause-holds : goal.enter_front-front-requires-clause-holds
+enter_front-front-requires-clause-holds c =
+    fed_holds c.args.self.now c.loop-used.self c.loop-used.self c.args.piece.now c.loop-used.used c.requires.sound.under_way
+    c.loop-used.invariant refl refl
 
 pub loop-used-smaller : goal.loop-used-smaller
 loop-used-smaller c =

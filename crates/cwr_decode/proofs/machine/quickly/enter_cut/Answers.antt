@@ -4,6 +4,7 @@ use Rattle.cwr_fields.specs.declared.kinds.Kind.{Kind}
 use Rattle.cwr_lines.specs.Format.Records.{RecordValue, IsRecord}
 use Rattle.cwr_fields.specs.Format.Kinds.{is_in_transaction}
 use Rattle.cwr_decode.specs.Steps.Machines.{HandsOut, Standing, reading, with_tally}
+use Rattle.cwr_decode.proofs.lemmas.HeldOpen.{counted_fits}
 use Rattle.cwr_decode.proofs.lemmas.LineSteps.{added_now, same_record, waits_now}
 use Rattle.cwr_decode.proofs.machine.quickly.enter_cut.Goals as goal
 
@@ -23,6 +24,16 @@ returns-then-not-stays_open c = λ state finished.
     (λ xs st. c.stays_open.ensures xs q.symbol st (q.stands xs st))
     (subst (λ (b : Bool). HandsOut b c.args.held.now (Some c.in-Some-held.transaction) None) (sym c.if-not-stays_open.true)
     (sym c.in-Some-held.is, refl)) refl
+
+pub adds_known-requires : goal.adds_known-requires
+adds_known-requires c =
+    let q = c.count_quickly.ensures.counted c.if-not-count_quickly.false in
+    counted_fits c.args.tally.now c.count_quickly.new.tally c.args.held.now c.args.cut.now c.known_record.result
+    c.in-Some-held.transaction c.stays_open.result c.stage.result c.requires q c.known_record.ensures
+    (subst (λ (q : Option Kind). IsSomeAnd q (λ kind. is_in_transaction kind ≡ true)) (sym c.in-Some.is ∙ c.kind.ensures)
+    (sym c.is_in_transaction.ensures ∙ c.if-not-is_in_transaction.false))
+    (λ xs st. c.stays_open.ensures xs q.symbol st (q.stands xs st)) c.if-not-stays_open.false c.in-Some-held.is
+    c.stage.ensures.value
 
 pub returns : goal.returns
 returns c = λ state finished.
