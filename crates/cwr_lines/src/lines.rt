@@ -12,10 +12,13 @@ ghost use Rattle.cwr_lines.specs.Format.Records.{IsRecord};
 ghost use Rattle.cwr_lines.specs.Steps.Held.{held_record, HeldLine, Takes, IsHeld, empty_line, ended_too_long, held_body, held_kind, held_cell, held_excess};
 ghost use Rattle.cwr_lines.specs.Steps.Held.{filled_as, return_if};
 
+mod pads;
+
 use crate::records::RecordRef;
 use arrayvec::ArrayVec;
 use cwr_fields::{Field, Kind, field, is_in_transaction, is_plain, is_spaces, width};
 use memchr::memchr;
+pub use pads::LinePad;
 use std::marker::Model;
 
 /// The most bytes that a line may have before its line feed, a carriage return counted, by this profile.

@@ -5,7 +5,7 @@ use Rattle.cwr_decode.specs.declared.outcomes.Outcome.TheVariants as outcomes
 use Rattle.cwr_decode.specs.declared.machine.State.TheVariants as states
 use Rattle.cwr_decode.specs.Steps.Machines.{JudgesFront, Standing}
 use Rattle.cwr_decode.proofs.lemmas.FrontSteps.{front_added, front_ends}
-use Rattle.cwr_decode.proofs.machine.Machine.enter_as.Goals as goal
+use Rattle.cwr_decode.proofs.machine.Machine.enter_known.Goals as goal
 
 pub returns-in-Added : goal.returns-in-Added
 returns-in-Added c =
