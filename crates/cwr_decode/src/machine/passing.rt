@@ -17,9 +17,9 @@ use cwr_judge::count_quickly;
 use cwr_lines::{CutLine, LineBuf, LinePad};
 use cwr_shape::Tally;
 
-/// Judges a line by quick tests, where a keeper stands for the records of the open transaction.
-#[inline(always)]
-fn keep_cut<K: Keeper>(
+/// Judges a line by quick tests, where a keeper stands for the records of the open transaction. For each `A` there is an instance
+/// with one caller, into which the compiler puts it: there it knows what that knows of the line.
+fn keep_cut<A, K: Keeper>(
     tally: &mut Tally,
     keeper: &mut K,
     expected: &mut SpelledPair,
@@ -78,9 +78,8 @@ impl Machine {
     }
 
     /// Judges a line by quick tests, where a keeper stands for the records of the open transaction. One that ends a transaction that
-    /// surely is as it should be is held; of any other that ends one nothing is found.
-    #[inline(always)]
-    fn keep_line<K: Keeper>(
+    /// surely is as it should be is held; of any other that ends one nothing is found. `A` is as for `keep_cut`.
+    fn keep_line<A, K: Keeper>(
         &mut self,
         tally: &mut Tally,
         keeper: &mut K,
@@ -91,7 +90,7 @@ impl Machine {
         ensures others { self.new ≡ with_line self.old self.new.line }
         ensures kept { result ≢ Found.Ends → self.new ≡ self.old }
     {
-        let found = keep_cut(tally, keeper, &mut self.expected, cut);
+        let found = keep_cut::<A, K>(tally, keeper, &mut self.expected, cut);
         if let Found::Ends = found {
             if !keeper.is_clean() {
                 return Found::Nothing;
@@ -122,7 +121,7 @@ impl Machine {
             return (0, Found::Nothing);
         };
         let cut = buffer.cut_looked_through();
-        (used, self.keep_line(tally, keeper, &cut))
+        (used, self.keep_line::<(), K>(tally, keeper, &cut))
     }
 
     /// Judges the line that the piece begins with, which is of the kind, by quick tests, where a keeper stands for the records of the
@@ -146,7 +145,7 @@ impl Machine {
         let Some((cut, used)) = CutLine::front_of(T::KIND, piece, pad) else {
             return self.keep_filled(tally, keeper, buffer, piece);
         };
-        (used, self.keep_line(tally, keeper, &cut))
+        (used, self.keep_line::<T, K>(tally, keeper, &cut))
     }
 
     /// Judges the line that the piece begins with as `keep_as`. The kinds of most lines of works have a branch each.

@@ -91,9 +91,9 @@ impl Machine {
     }
 
     /// Judges the line that the piece begins with, which is of the kind, by quick tests, where it stands or filled up, and answers
-    /// how many bytes it takes. It is copied to the line buffer only where it waits.
-    #[inline(always)]
-    fn enter_known(&mut self, kind: Kind, piece: &[u8]) -> (usize, Found)
+    /// how many bytes it takes. It is copied to the line buffer only where it waits. For each `A` there is an instance with one
+    /// caller, into which the compiler puts it: there each width and place is constant where the kind is.
+    fn enter_known<A>(&mut self, kind: Kind, piece: &[u8]) -> (usize, Found)
         requires unended { self.old.line.ended ≡ LineEnd.Open }
         requires reading { self.old.state ≡ State.Reading }
         requires empty { length self.old.line.bytes ≡ 0 }
@@ -115,7 +115,7 @@ impl Machine {
         }
     }
 
-    /// Judges the line that the piece begins with as `enter_known`, where the kind is a type: each width and place is constant.
+    /// Judges the line that the piece begins with as `enter_known`, where the kind is a type.
     fn enter_as<T: OfKind>(&mut self, piece: &[u8]) -> (usize, Found)
         requires unended { self.old.line.ended ≡ LineEnd.Open }
         requires reading { self.old.state ≡ State.Reading }
@@ -124,7 +124,7 @@ impl Machine {
         requires three { 3 ≤ length piece.now }
         ensures { FindsFront result.1 self.old piece.now result.0 self.new }
     {
-        self.enter_known(T::KIND, piece)
+        self.enter_known::<T>(T::KIND, piece)
     }
 
     /// Judges the line that the piece begins with by quick tests, where it stands, and answers how many bytes it takes. Of a
@@ -163,7 +163,7 @@ impl Machine {
             Kind::Nwr => self.enter_as::<Nwr>(piece),
             Kind::Rev => self.enter_as::<Rev>(piece),
             Kind::Ack => self.enter_as::<Ack>(piece),
-            _ => self.enter_known(kind, piece),
+            _ => self.enter_known::<()>(kind, piece),
         }
     }
 

@@ -8,7 +8,7 @@ use Rattle.cwr_decode.proofs.lemmas.FrontSteps.{front_added, front_ends}
 use Rattle.cwr_decode.proofs.machine.Machine.enter_known.Goals as goal
 
 pub returns-in-Added : goal.returns-in-Added
-returns-in-Added c =
+returns-in-Added g c =
     let i = c.self.inside in
     let d : Standing = record { line = i.line; tally = i.tally; held = i.held; state = i.state; finished = i.finished } in
     subst (λ (q : Standing). JudgesFront q c.args.piece.now c.in-Some.used None (record {
@@ -25,7 +25,7 @@ returns-in-Added c =
     c.in-Some.ensures.takes c.in-Some.ensures.held (λ e. cc (sym c.in-Some.ensures.ended ∙ e)) c.in-Added.ensures)
 
 pub returns-in-Ends : goal.returns-in-Ends
-returns-in-Ends c =
+returns-in-Ends g c =
     let i = c.self.inside in
     let d : Standing = record { line = i.line; tally = i.tally; held = i.held; state = i.state; finished = i.finished } in
     subst (λ (q : Standing). IsSomeAnd c.enter_cut.new.held
