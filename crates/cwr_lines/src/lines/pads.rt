@@ -55,8 +55,8 @@ fn copy_lanes(text: &mut [u8], piece: &[u8], at: usize)
     u8x32::from_slice(&piece[at..]).copy_to_slice(&mut text[at..]);
 }
 
-/// Copies the front of a piece, up to its first control byte and perhaps bytes after it, and answers where that stands.
-/// `None` where none of the first bytes is one, one more than so many.
+/// Copies the front of a piece, up to its first control byte and perhaps bytes after it, and answers where that stands. `None`
+/// where it isn't among the first `most + 1` bytes, or not far behind them.
 #[inline(always)]
 fn copy_front(text: &mut [u8], piece: &[u8], most: usize) -> Option<usize>
     requires seen { most + 64 ≤ length piece.now }
@@ -107,7 +107,11 @@ impl<'a> CutLine<'a> {
     /// its first three bytes name, as for `at_front`. `None` of each front but a line in no more than the full width of its
     /// kind, with no control byte, and a while before the piece ends.
     #[inline(always)]
-    fn in_pad(kind: Kind, piece: &[u8], pad: &'a mut LinePad) -> Option<(CutLine<'a>, usize)>
+    pub(super) fn in_pad(
+        kind: Kind,
+        piece: &[u8],
+        pad: &'a mut LinePad,
+    ) -> Option<(CutLine<'a>, usize)>
         requires named { kind_of (take 3 piece.now) ≡ Some kind }
         ensures takes { IfSome result (λ found. Takes empty_line piece.now found.1 found.0) }
         ensures held { IfSome result (λ found. IsHeld found.0) }
@@ -134,26 +138,5 @@ impl<'a> CutLine<'a> {
             plain: true,
         };
         Some((line, count + usize::from(returned) + 1))
-    }
-    /// The line that a piece begins with, and how many bytes it takes with its end: where it stands, or filled up in the pad.
-    /// `kind` is the kind that its first three bytes name, and one that is constant where this is called makes the width and
-    /// the places of all cells constant too. `None` says nothing.
-    #[inline(always)]
-    pub fn front_of(
-        kind: Kind,
-        piece: &'a [u8],
-        pad: &'a mut LinePad,
-    ) -> Option<(CutLine<'a>, usize)>
-        requires named { kind_of (take 3 piece.now) ≡ Some kind }
-        requires three { 3 ≤ length piece.now }
-        ensures takes { IfSome result (λ found. Takes empty_line piece.now found.1 found.0) }
-        ensures held { IfSome result (λ found. IsHeld found.0) }
-        ensures ended { IfSome result (λ found. found.0.ended ≡ LineEnd.Line) }
-        ensures kind { IfSome result (λ found. held_kind found.0 ≡ Some kind) }
-    {
-        match CutLine::at_front(kind, piece) {
-            Some(found) => Some(found),
-            None => CutLine::in_pad(kind, piece, pad),
-        }
     }
 }
