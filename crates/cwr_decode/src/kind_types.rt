@@ -155,3 +155,48 @@ impl OfKind for Rev {
 
     ghost KIND = { Kind.Rev };
 }
+
+/// TER.
+pub(crate) struct Ter;
+
+impl OfKind for Ter {
+    const KIND: Kind = Kind::Ter;
+
+    ghost KIND = { Kind.Ter };
+}
+
+/// IPA.
+pub(crate) struct Ipa;
+
+impl OfKind for Ipa {
+    const KIND: Kind = Kind::Ipa;
+
+    ghost KIND = { Kind.Ipa };
+}
+
+/// MSG.
+pub(crate) struct Msg;
+
+impl OfKind for Msg {
+    const KIND: Kind = Kind::Msg;
+
+    ghost KIND = { Kind.Msg };
+}
+
+/// AGR.
+pub(crate) struct Agr;
+
+impl OfKind for Agr {
+    const KIND: Kind = Kind::Agr;
+
+    ghost KIND = { Kind.Agr };
+}
+
+/// ACK.
+pub(crate) struct Ack;
+
+impl OfKind for Ack {
+    const KIND: Kind = Kind::Ack;
+
+    ghost KIND = { Kind.Ack };
+}

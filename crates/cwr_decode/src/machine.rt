@@ -12,7 +12,7 @@ ghost use Rattle.cwr_decode.specs.Steps.Calls.{Feeds, Finishes};
 use crate::outcomes::{Answer, Outcome};
 use cwr_fields::SpelledPair;
 use cwr_judge::Refusal;
-use cwr_lines::LineBuf;
+use cwr_lines::{LineBuf, LinePad};
 use cwr_shape::{Counts, Limits, Stage, Tally};
 use cwr_values::{Item, Transaction};
 use std::alloc::{AllocError, Global};
@@ -82,6 +82,8 @@ pub struct Machine {
     alloc: Global,
     /// The line that is read, or waits.
     line: LineBuf,
+    /// Room for a line that is judged.
+    pad: LinePad,
     tally: Tally,
     /// The records of the open transaction.
     held: Option<Transaction>,
@@ -111,6 +113,7 @@ impl Machine {
         Machine {
             alloc,
             line: LineBuf::new(),
+            pad: LinePad::new(),
             tally: Tally::new(limits),
             held: None,
             expected: SpelledPair::new(),

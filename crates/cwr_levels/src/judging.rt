@@ -46,6 +46,7 @@ fn is_wrong_iswc(iswc: &[u8]) -> bool
 }
 
 /// Whether the record's work code isn't blank and isn't right.
+#[inline(always)]
 pub(crate) fn has_wrong_iswc(shown: &RecordRef<'_>) -> bool
     ensures { (t : List RecordValue) (k : ℕ) → result ≡ breaks V1 t k shown.now }
 {

@@ -102,7 +102,6 @@ fn share_in(a: u8, b: u8, c: u8, d: u8, e: u8) -> u64
 }
 
 /// The number that the digits of a cell write, and 0 of a blank cell.
-#[inline(always)]
 pub fn number_of(cell: &[u8]) -> u64
     requires { length cell.now ≤ 8 }
     ensures value { result ≡ number_of cell.now }

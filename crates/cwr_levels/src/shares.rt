@@ -32,6 +32,7 @@ impl Shares {
     }
 
     /// The shares of an owner of a work, or of a party to an agreement.
+    #[inline(always)]
     fn of(shown: &RecordRef<'_>) -> Shares
         requires { has_shares shown.now ≡ true }
         ensures { AddUpTo (shown.now ∷ []) result }
@@ -44,6 +45,7 @@ impl Shares {
     }
 
     /// The shares in the three rights, which stand in this field, in the next but one, and in the one two further.
+    #[inline(always)]
     fn from_field(shown: &RecordRef<'_>, first: u8) -> Shares
         requires few { first < 20 }
         requires there { HasSharesFrom shown.now.kind first }
@@ -57,6 +59,7 @@ impl Shares {
     }
 
     /// With those of one more record, where it counts.
+    #[inline(always)]
     pub(crate) fn with(self, shown: &RecordRef<'_>, counts: bool) -> Shares
         requires { counts ≡ true → has_shares shown.now ≡ true }
         ensures { (rs : List RecordValue) → AddUpTo rs self

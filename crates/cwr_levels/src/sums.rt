@@ -235,6 +235,7 @@ impl Sums {
     }
 
     /// Adds one record more of the work, and says whether it does: a no says nothing.
+    #[inline(always)]
     fn add_to_work(&mut self, shown: &RecordRef<'_>) -> bool
         ensures { (rs : List RecordValue) → AreSums self.old rs → IsTrue result
             → AreSums self.new (rs ++ shown.now ∷ []) }
@@ -283,6 +284,7 @@ impl Sums {
     }
 
     /// Adds one record more of the transaction, and says whether it does: a no says nothing.
+    #[inline(always)]
     pub fn add(&mut self, shown: &RecordRef<'_>) -> bool
         ensures { (rs : List RecordValue) → StandFor self.old rs → IsTrue result
             → StandFor self.new (rs ++ shown.now ∷ []) }

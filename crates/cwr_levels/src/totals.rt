@@ -60,6 +60,7 @@ impl TransactionTotals {
     }
 
     /// With one more record, which may count and stands after `sequence` others.
+    #[inline(always)]
     fn with_counted(self, sequence: usize, shown: &RecordRef<'_>) -> TransactionTotals
         requires { sequence + 1 < 2 ^ 64 }
         ensures { (rs : List RecordValue) → length rs ≡ sequence → AreTotals rs self

@@ -52,3 +52,9 @@ pub mod HeldExcess
 pub mod KeptLengths
 -- Numbers are set in the front of a filled line, and what stands behind its last field stays.
 pub mod RenumberedLines
+-- Which of some lanes are control bytes, as the bits of a mask.
+pub mod ControlMasks
+-- The front of a piece that is copied step by step, up to its first control byte.
+pub mod CopiedFronts
+-- A line of a known kind that is filled up in a pad.
+pub mod PaddedLines

@@ -3,3 +3,4 @@ pub mod Carried
 pub mod Held
 pub mod KeptLines
 pub mod Numbered
+pub mod Pads

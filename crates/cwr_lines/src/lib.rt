@@ -13,7 +13,7 @@ mod renumbered_lines;
 
 pub use canonical_lines::CanonicalLine;
 pub use drafts::{Draft, DraftFault, SetFault};
-pub use lines::{CutLine, LONGEST_LINE, LineBuf, LineEnd, Taken};
+pub use lines::{CutLine, LONGEST_LINE, LineBuf, LineEnd, LinePad, Taken};
 pub use record_lists::RecordList;
 pub use records::{Record, RecordRef};
 pub use renumbered_lines::RenumberedLine;

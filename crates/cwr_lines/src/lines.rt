@@ -12,10 +12,13 @@ ghost use Rattle.cwr_lines.specs.Format.Records.{IsRecord};
 ghost use Rattle.cwr_lines.specs.Steps.Held.{held_record, HeldLine, Takes, IsHeld, empty_line, ended_too_long, held_body, held_kind, held_cell, held_excess};
 ghost use Rattle.cwr_lines.specs.Steps.Held.{filled_as, return_if};
 
+mod pads;
+
 use crate::records::RecordRef;
 use arrayvec::ArrayVec;
 use cwr_fields::{Field, Kind, field, is_in_transaction, is_plain, is_spaces, width};
 use memchr::memchr;
+pub use pads::LinePad;
 use std::marker::Model;
 
 /// The most bytes that a line may have before its line feed, a carriage return counted, by this profile.
@@ -365,6 +368,28 @@ impl<'a> CutLine<'a> {
             plain: true,
         };
         Some((line, count + 2))
+    }
+
+    /// The line that a piece begins with, and how many bytes it takes with its end: where it stands, or filled up in the pad.
+    /// `kind` is the kind that its first three bytes name, and one that is constant where this is called makes the width and
+    /// the places of all cells constant too. `None` says nothing.
+    #[inline(always)]
+    pub fn front_of(
+        kind: Kind,
+        piece: &'a [u8],
+        pad: &'a mut LinePad,
+    ) -> Option<(CutLine<'a>, usize)>
+        requires named { kind_of (take 3 piece.now) ≡ Some kind }
+        requires three { 3 ≤ length piece.now }
+        ensures takes { IfSome result (λ found. Takes empty_line piece.now found.1 found.0) }
+        ensures held { IfSome result (λ found. IsHeld found.0) }
+        ensures ended { IfSome result (λ found. found.0.ended ≡ LineEnd.Line) }
+        ensures kind { IfSome result (λ found. held_kind found.0 ≡ Some kind) }
+    {
+        match CutLine::at_front(kind, piece) {
+            Some(found) => Some(found),
+            None => CutLine::in_pad(kind, piece, pad),
+        }
     }
 
     /// The kind that the line's first three bytes name. `None` where they name none.

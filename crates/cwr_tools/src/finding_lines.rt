@@ -159,6 +159,7 @@ impl Keeper for FindingSums {
         self.0.begin(header)
     }
 
+    #[inline(always)]
     fn add(&mut self, next: &RecordRef<'_>) -> bool {
         self.0.add(next)
     }

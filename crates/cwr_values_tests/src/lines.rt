@@ -3,8 +3,8 @@
 ghost use Rattle.std.specs.Prelude.{◌≢◌};
 
 use crate::checks::check_equal;
-use cwr_fields::Kind;
-use cwr_lines::{CutLine, LineBuf, LineEnd};
+use cwr_fields::{Kind, all_kinds, letters, width};
+use cwr_lines::{CutLine, LineBuf, LineEnd, LinePad};
 use std::process::Abort;
 
 /// Takes two pieces: how many bytes of the second are used, how the line ends, and how long it is. `None` where it ends in
@@ -169,5 +169,49 @@ fn sequences_of_lines_inside_transactions(rt: HostRuntime) {
     ];
     for text in texts {
         assert!(rt; line_of(text).cut().sequences().is_none());
+    }
+}
+
+/// How many bytes the line takes that a text begins with, where it is taken before its kind is looked up again.
+fn taken_by_kind(text: &[u8]) -> Option<usize> {
+    if text.len() < 3 {
+        return None;
+    }
+    let kind = Kind::of(&text[..3])?;
+    let mut pad = LinePad::new();
+    match CutLine::front_of(kind, text, &mut pad) {
+        Some((_, used)) => Some(used),
+        None => None,
+    }
+}
+
+/// A line of the kind's letters and of spaces up to a place, where its line end stands, and what follows it.
+fn line_up_to(kind: Kind, at: usize, returned: bool) -> [u8; 2048] {
+    let mut text = [b' '; 2048];
+    for (place, letter) in letters(kind).iter().enumerate() {
+        if place < text.len() {
+            text[place] = *letter;
+        }
+    }
+    let end = if returned { at.saturating_add(1) } else { at };
+    if end < text.len() {
+        text[at] = b'\r';
+        text[end] = b'\n';
+    }
+    text
+}
+
+#[test]
+fn lines_of_each_kind_with_and_without_trailing_spaces(rt: HostRuntime) {
+    for kind in all_kinds() {
+        for at in [3, 12, width(*kind)] {
+            let line = line_up_to(*kind, at, false);
+            check_equal(&rt, taken_by_kind(&line), at.checked_add(1));
+            let line = line_up_to(*kind, at, true);
+            check_equal(&rt, taken_by_kind(&line), at.checked_add(2));
+        }
+        let behind = width(*kind).saturating_add(1);
+        let line = line_up_to(*kind, behind, true);
+        check_equal(&rt, taken_by_kind(&line), None);
     }
 }

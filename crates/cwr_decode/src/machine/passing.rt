@@ -9,16 +9,17 @@ use super::holding::stays_open;
 use super::{Found, Machine, Passed, State};
 use crate::keepers::Keeper;
 use crate::kind_types::{
-    Alt, Com, Ewt, Nwr, OfKind, Opu, Orn, Owr, Per, Pwr, Rec, Rev, Spt, Spu, Swr, Swt, Ver,
+    Ack, Alt, Com, Ewt, Msg, Nwr, OfKind, Opu, Orn, Owr, Per, Pwr, Rec, Rev, Spt, Spu, Swr, Swt,
+    Ver,
 };
 use cwr_fields::{Kind, SpelledPair, is_in_transaction};
 use cwr_judge::count_quickly;
-use cwr_lines::{CutLine, LineBuf};
+use cwr_lines::{CutLine, LineBuf, LinePad};
 use cwr_shape::Tally;
 
-/// Judges a line by quick tests, where a keeper stands for the records of the open transaction.
-#[inline(always)]
-fn keep_cut<K: Keeper>(
+/// Judges a line by quick tests, where a keeper stands for the records of the open transaction. For each `A` there is an instance
+/// with one caller, into which the compiler puts it: there it knows what that knows of the line.
+fn keep_cut<A, K: Keeper>(
     tally: &mut Tally,
     keeper: &mut K,
     expected: &mut SpelledPair,
@@ -77,9 +78,8 @@ impl Machine {
     }
 
     /// Judges a line by quick tests, where a keeper stands for the records of the open transaction. One that ends a transaction that
-    /// surely is as it should be is held; of any other that ends one nothing is found.
-    #[inline(always)]
-    fn keep_line<K: Keeper>(
+    /// surely is as it should be is held; of any other that ends one nothing is found. `A` is as for `keep_cut`.
+    fn keep_line<A, K: Keeper>(
         &mut self,
         tally: &mut Tally,
         keeper: &mut K,
@@ -90,7 +90,7 @@ impl Machine {
         ensures others { self.new ≡ with_line self.old self.new.line }
         ensures kept { result ≢ Found.Ends → self.new ≡ self.old }
     {
-        let found = keep_cut(tally, keeper, &mut self.expected, cut);
+        let found = keep_cut::<A, K>(tally, keeper, &mut self.expected, cut);
         if let Found::Ends = found {
             if !keeper.is_clean() {
                 return Found::Nothing;
@@ -102,7 +102,7 @@ impl Machine {
 
     /// Judges the line that the piece begins with as `keep_as`, filled up in the buffer. Of one that the piece cuts nothing is
     /// found.
-    #[inline(always)]
+    #[inline(never)]
     fn keep_filled<K: Keeper>(
         &mut self,
         tally: &mut Tally,
@@ -121,7 +121,7 @@ impl Machine {
             return (0, Found::Nothing);
         };
         let cut = buffer.cut_looked_through();
-        (used, self.keep_line(tally, keeper, &cut))
+        (used, self.keep_line::<(), K>(tally, keeper, &cut))
     }
 
     /// Judges the line that the piece begins with, which is of the kind, by quick tests, where a keeper stands for the records of the
@@ -130,6 +130,7 @@ impl Machine {
         &mut self,
         tally: &mut Tally,
         keeper: &mut K,
+        pad: &mut LinePad,
         buffer: &mut LineBuf,
         piece: &[u8],
     ) -> (usize, Found)
@@ -141,10 +142,10 @@ impl Machine {
         ensures others { self.new ≡ with_line self.old self.new.line }
         ensures kept { result.1 ≢ Found.Ends → self.new ≡ self.old }
     {
-        let Some((cut, used)) = CutLine::at_front(T::KIND, piece) else {
+        let Some((cut, used)) = CutLine::front_of(T::KIND, piece, pad) else {
             return self.keep_filled(tally, keeper, buffer, piece);
         };
-        (used, self.keep_line(tally, keeper, &cut))
+        (used, self.keep_line::<T, K>(tally, keeper, &cut))
     }
 
     /// Judges the line that the piece begins with as `keep_as`. The kinds of most lines of works have a branch each.
@@ -153,6 +154,7 @@ impl Machine {
         &mut self,
         tally: &mut Tally,
         keeper: &mut K,
+        pad: &mut LinePad,
         buffer: &mut LineBuf,
         piece: &[u8],
     ) -> (usize, Found)
@@ -169,22 +171,24 @@ impl Machine {
             return (0, Found::Nothing);
         };
         match kind {
-            Kind::Spu => self.keep_as::<Spu, K>(tally, keeper, buffer, piece),
-            Kind::Opu => self.keep_as::<Opu, K>(tally, keeper, buffer, piece),
-            Kind::Spt => self.keep_as::<Spt, K>(tally, keeper, buffer, piece),
-            Kind::Swr => self.keep_as::<Swr, K>(tally, keeper, buffer, piece),
-            Kind::Owr => self.keep_as::<Owr, K>(tally, keeper, buffer, piece),
-            Kind::Swt => self.keep_as::<Swt, K>(tally, keeper, buffer, piece),
-            Kind::Pwr => self.keep_as::<Pwr, K>(tally, keeper, buffer, piece),
-            Kind::Alt => self.keep_as::<Alt, K>(tally, keeper, buffer, piece),
-            Kind::Ewt => self.keep_as::<Ewt, K>(tally, keeper, buffer, piece),
-            Kind::Ver => self.keep_as::<Ver, K>(tally, keeper, buffer, piece),
-            Kind::Per => self.keep_as::<Per, K>(tally, keeper, buffer, piece),
-            Kind::Rec => self.keep_as::<Rec, K>(tally, keeper, buffer, piece),
-            Kind::Orn => self.keep_as::<Orn, K>(tally, keeper, buffer, piece),
-            Kind::Com => self.keep_as::<Com, K>(tally, keeper, buffer, piece),
-            Kind::Nwr => self.keep_as::<Nwr, K>(tally, keeper, buffer, piece),
-            Kind::Rev => self.keep_as::<Rev, K>(tally, keeper, buffer, piece),
+            Kind::Spu => self.keep_as::<Spu, K>(tally, keeper, pad, buffer, piece),
+            Kind::Opu => self.keep_as::<Opu, K>(tally, keeper, pad, buffer, piece),
+            Kind::Spt => self.keep_as::<Spt, K>(tally, keeper, pad, buffer, piece),
+            Kind::Swr => self.keep_as::<Swr, K>(tally, keeper, pad, buffer, piece),
+            Kind::Owr => self.keep_as::<Owr, K>(tally, keeper, pad, buffer, piece),
+            Kind::Swt => self.keep_as::<Swt, K>(tally, keeper, pad, buffer, piece),
+            Kind::Pwr => self.keep_as::<Pwr, K>(tally, keeper, pad, buffer, piece),
+            Kind::Alt => self.keep_as::<Alt, K>(tally, keeper, pad, buffer, piece),
+            Kind::Ewt => self.keep_as::<Ewt, K>(tally, keeper, pad, buffer, piece),
+            Kind::Ver => self.keep_as::<Ver, K>(tally, keeper, pad, buffer, piece),
+            Kind::Per => self.keep_as::<Per, K>(tally, keeper, pad, buffer, piece),
+            Kind::Rec => self.keep_as::<Rec, K>(tally, keeper, pad, buffer, piece),
+            Kind::Orn => self.keep_as::<Orn, K>(tally, keeper, pad, buffer, piece),
+            Kind::Com => self.keep_as::<Com, K>(tally, keeper, pad, buffer, piece),
+            Kind::Nwr => self.keep_as::<Nwr, K>(tally, keeper, pad, buffer, piece),
+            Kind::Rev => self.keep_as::<Rev, K>(tally, keeper, pad, buffer, piece),
+            Kind::Ack => self.keep_as::<Ack, K>(tally, keeper, pad, buffer, piece),
+            Kind::Msg => self.keep_as::<Msg, K>(tally, keeper, pad, buffer, piece),
             _ => self.keep_filled(tally, keeper, buffer, piece),
         }
     }
@@ -214,13 +218,14 @@ impl Machine {
         if !self.begins_held(keeper) {
             return passed;
         }
+        let mut pad = LinePad::new();
         let mut buffer = LineBuf::new();
         let mut tally = self.tally;
         let mut fed = 0;
         let mut records = 1;
         'lines: loop {
             let rest = &piece[passed.used + fed..];
-            let (front, found) = self.keep_front(&mut tally, keeper, &mut buffer, rest);
+            let (front, found) = self.keep_front(&mut tally, keeper, &mut pad, &mut buffer, rest);
             match found {
                 Found::Added => {
                     fed += front;

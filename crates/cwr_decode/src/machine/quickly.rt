@@ -8,6 +8,10 @@ ghost use Rattle.cwr_decode.specs.Steps.Calls.{Advances, Fed};
 
 use super::holding::{adds_known, stays_open};
 use super::{Found, Machine, State};
+use crate::kind_types::{
+    Ack, Agr, Alt, Com, Ewt, Ipa, Msg, Nwr, OfKind, Opu, Orn, Owr, Per, Pwr, Rec, Rev, Spt, Spu,
+    Swr, Swt, Ter, Ver,
+};
 use crate::outcomes::Outcome;
 use cwr_fields::{Kind, SpelledPair, is_in_transaction};
 use cwr_judge::count_quickly;
@@ -70,7 +74,7 @@ impl Machine {
 
     /// Judges the line that the piece begins with by quick tests, filled up in the line buffer, and answers how many bytes it
     /// takes. Of one that the piece cuts nothing is found.
-    #[inline(always)]
+    #[inline(never)]
     fn enter_filled(&mut self, piece: &[u8]) -> (usize, Found)
         requires unended { self.old.line.ended ≡ LineEnd.Open }
         requires empty { length self.old.line.bytes ≡ 0 }
@@ -90,11 +94,10 @@ impl Machine {
         }
     }
 
-    /// Judges the line that the piece begins with, which is of the kind, by quick tests, where it stands, and answers how many
-    /// bytes it takes. It is copied only where it waits. A kind that is constant where this is called makes each width and
-    /// place constant too.
-    #[inline(always)]
-    fn enter_as(&mut self, kind: Kind, piece: &[u8]) -> (usize, Found)
+    /// Judges the line that the piece begins with, which is of the kind, by quick tests, where it stands or filled up, and answers
+    /// how many bytes it takes. It is copied to the line buffer only where it waits. For each `A` there is an instance with one
+    /// caller, into which the compiler puts it: there each width and place is constant where the kind is.
+    fn enter_known<A>(&mut self, kind: Kind, piece: &[u8]) -> (usize, Found)
         requires unended { self.old.line.ended ≡ LineEnd.Open }
         requires reading { self.old.state ≡ State.Reading }
         requires empty { length self.old.line.bytes ≡ 0 }
@@ -103,7 +106,7 @@ impl Machine {
         requires three { 3 ≤ length piece.now }
         ensures { FindsFront result.1 self.old piece.now result.0 self.new }
     {
-        let Some((cut, used)) = CutLine::at_front(kind, piece) else {
+        let Some((cut, used)) = CutLine::front_of(kind, piece, &mut self.pad) else {
             return self.enter_filled(piece);
         };
         match enter_cut(&mut self.tally, &mut self.held, &mut self.expected, &cut) {
@@ -115,6 +118,18 @@ impl Machine {
             }
             Found::Nothing => (0, Found::Nothing),
         }
+    }
+
+    /// Judges the line that the piece begins with as `enter_known`, where the kind is a type.
+    fn enter_as<T: OfKind>(&mut self, piece: &[u8]) -> (usize, Found)
+        requires unended { self.old.line.ended ≡ LineEnd.Open }
+        requires reading { self.old.state ≡ State.Reading }
+        requires empty { length self.old.line.bytes ≡ 0 }
+        requires named { kind_of (take 3 piece.now) ≡ Some T.KIND }
+        requires three { 3 ≤ length piece.now }
+        ensures { FindsFront result.1 self.old piece.now result.0 self.new }
+    {
+        self.enter_known::<T>(T::KIND, piece)
     }
 
     /// Judges the line that the piece begins with by quick tests, where it stands, and answers how many bytes it takes. Of a
@@ -133,28 +148,28 @@ impl Machine {
             return (0, Found::Nothing);
         };
         match kind {
-            Kind::Ter => self.enter_as(Kind::Ter, piece),
-            Kind::Ipa => self.enter_as(Kind::Ipa, piece),
-            Kind::Spu => self.enter_as(Kind::Spu, piece),
-            Kind::Opu => self.enter_as(Kind::Opu, piece),
-            Kind::Spt => self.enter_as(Kind::Spt, piece),
-            Kind::Swr => self.enter_as(Kind::Swr, piece),
-            Kind::Owr => self.enter_as(Kind::Owr, piece),
-            Kind::Swt => self.enter_as(Kind::Swt, piece),
-            Kind::Pwr => self.enter_as(Kind::Pwr, piece),
-            Kind::Alt => self.enter_as(Kind::Alt, piece),
-            Kind::Ewt => self.enter_as(Kind::Ewt, piece),
-            Kind::Ver => self.enter_as(Kind::Ver, piece),
-            Kind::Per => self.enter_as(Kind::Per, piece),
-            Kind::Rec => self.enter_as(Kind::Rec, piece),
-            Kind::Orn => self.enter_as(Kind::Orn, piece),
-            Kind::Com => self.enter_as(Kind::Com, piece),
-            Kind::Msg => self.enter_as(Kind::Msg, piece),
-            Kind::Agr => self.enter_as(Kind::Agr, piece),
-            Kind::Nwr => self.enter_as(Kind::Nwr, piece),
-            Kind::Rev => self.enter_as(Kind::Rev, piece),
-            Kind::Ack => self.enter_as(Kind::Ack, piece),
-            _ => self.enter_as(kind, piece),
+            Kind::Ter => self.enter_as::<Ter>(piece),
+            Kind::Ipa => self.enter_as::<Ipa>(piece),
+            Kind::Spu => self.enter_as::<Spu>(piece),
+            Kind::Opu => self.enter_as::<Opu>(piece),
+            Kind::Spt => self.enter_as::<Spt>(piece),
+            Kind::Swr => self.enter_as::<Swr>(piece),
+            Kind::Owr => self.enter_as::<Owr>(piece),
+            Kind::Swt => self.enter_as::<Swt>(piece),
+            Kind::Pwr => self.enter_as::<Pwr>(piece),
+            Kind::Alt => self.enter_as::<Alt>(piece),
+            Kind::Ewt => self.enter_as::<Ewt>(piece),
+            Kind::Ver => self.enter_as::<Ver>(piece),
+            Kind::Per => self.enter_as::<Per>(piece),
+            Kind::Rec => self.enter_as::<Rec>(piece),
+            Kind::Orn => self.enter_as::<Orn>(piece),
+            Kind::Com => self.enter_as::<Com>(piece),
+            Kind::Msg => self.enter_as::<Msg>(piece),
+            Kind::Agr => self.enter_as::<Agr>(piece),
+            Kind::Nwr => self.enter_as::<Nwr>(piece),
+            Kind::Rev => self.enter_as::<Rev>(piece),
+            Kind::Ack => self.enter_as::<Ack>(piece),
+            _ => self.enter_known::<()>(kind, piece),
         }
     }
 

@@ -25,7 +25,7 @@ plain_take (suc n) (b ∷ text) h =
     let p =
     and_parts (nat_lt b 256 && not (is_control b)) (is_plain text) h in ap₂ (λ (x y : Bool). x && y) p.0 (plain_take n text p.1)
 
-plain_drop : (n : ℕ) (text : List ℕ) → is_plain text ≡ true → is_plain (drop n text) ≡ true
+pub plain_drop : (n : ℕ) (text : List ℕ) → is_plain text ≡ true → is_plain (drop n text) ≡ true
 plain_drop zero text h = h
 plain_drop (suc n) [] h = refl
 plain_drop (suc n) (b ∷ text) h = plain_drop n text (and_parts (nat_lt b 256 && not (is_control b)) (is_plain text) h).1

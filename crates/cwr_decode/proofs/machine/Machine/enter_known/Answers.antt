@@ -5,13 +5,13 @@ use Rattle.cwr_decode.specs.declared.outcomes.Outcome.TheVariants as outcomes
 use Rattle.cwr_decode.specs.declared.machine.State.TheVariants as states
 use Rattle.cwr_decode.specs.Steps.Machines.{HoldsOpen, JudgesFront, Standing}
 use Rattle.cwr_decode.proofs.lemmas.FrontSteps.{front_added, front_ends}
-use Rattle.cwr_decode.proofs.machine.Machine.enter_as.Goals as goal
+use Rattle.cwr_decode.proofs.machine.Machine.enter_known.Goals as goal
 
 pub enter_cut-requires : goal.enter_cut-requires
 enter_cut-requires c = subst HoldsOpen (sym c.self.view_is) c.requires.holds
 
 pub returns-in-Added : goal.returns-in-Added
-returns-in-Added c =
+returns-in-Added g c =
     let i = c.self.inside in
     let d : Standing = record { line = i.line; tally = i.tally; held = i.held; state = i.state; finished = i.finished } in
     subst (λ (q : Standing). JudgesFront q c.args.piece.now c.in-Some.used None (record {
@@ -28,7 +28,7 @@ returns-in-Added c =
     c.in-Some.ensures.takes c.in-Some.ensures.held (λ e. cc (sym c.in-Some.ensures.ended ∙ e)) c.in-Added.ensures)
 
 pub returns-in-Ends : goal.returns-in-Ends
-returns-in-Ends c =
+returns-in-Ends g c =
     let i = c.self.inside in
     let d : Standing = record { line = i.line; tally = i.tally; held = i.held; state = i.state; finished = i.finished } in
     subst (λ (q : Standing). IsSomeAnd c.enter_cut.new.held
