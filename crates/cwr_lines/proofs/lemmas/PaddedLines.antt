@@ -1,11 +1,11 @@
 -- A line of a known kind that is filled up in a pad.
-use Rattle.std.proofs.Common.{◌≡◌, ℕ, ◌+◌, ◌-◌, ◌≤◌, ◌<◌, eqb, nat_lt, Bool, true, false, cond, not, ◌&&◌, List, [], ◌∷◌, ◌++◌}
+use Rattle.std.proofs.Common.{◌≡◌, ℕ, ◌-◌, ◌≤◌, ◌<◌, eqb, nat_lt, Bool, true, false, cond, not, ◌&&◌, List, [], ◌∷◌, ◌++◌}
 use Rattle.std.proofs.Common.{length, take, drop, refl, sym, subst, ap, ◌∙◌, arith}
 use Rattle.std.specs.Prelude.{Some}
 use Rattle.std.specs.List.{list_any}
 use Rattle.std.specs.Str.{bytes_eq}
 use Rattle.std.proofs.lemmas.Bool.{and_parts, eqb-true, false_from_ne_true, true≢false}
-use Rattle.std.proofs.lemmas.List.{append-nil, take_more, length-append, length-take, length-take-le, take-take}
+use Rattle.std.proofs.lemmas.List.{append-nil, length-append, length-take, length-take-le, take-take}
 use Rattle.std.proofs.Math.Seq.{take-append_seam}
 use Rattle.cwr_fields.specs.Format.Bytes.{is_control, is_plain, filled}
 use Rattle.cwr_fields.proofs.lemmas.LineFeeds.{NoLf, NoLf-append, NoLf-plain}
@@ -14,7 +14,7 @@ use Rattle.cwr_lines.specs.declared.lines.LineEnd.TheVariants.{Line}
 use Rattle.cwr_fields.specs.Format.Kinds.{kind_of}
 use Rattle.cwr_fields.specs.Format.Layouts.{line_width}
 use Rattle.cwr_lines.specs.Format.Lines.{is_lf, without_cr}
-use Rattle.cwr_lines.specs.Steps.Held.{HeldLine, Takes, IsHeld, IsKept, IsCut, empty_line, held_body, held_kind, line_kept}
+use Rattle.cwr_lines.specs.Steps.Held.{HeldLine, IsHeld, IsKept, IsCut, held_body, held_kind, line_kept}
 use Rattle.cwr_lines.specs.Steps.Held.{return_if}
 use Rattle.cwr_lines.specs.Steps.Pads.{Copies, EndsAt}
 use Rattle.cwr_fields.proofs.lemmas.AllKinds.{line_width_most}
@@ -63,18 +63,6 @@ kept_whole bytes h =
 body_kept : (bytes : List ℕ) (returned : Bool) → is_plain bytes ≡ true → without_cr (bytes ++ return_if returned) ≡ bytes
 body_kept bytes true h = without_cr-added bytes
 body_kept bytes false h = ap without_cr (append-nil bytes) ∙ kept_whole bytes h
-
--- the line with its end
-ended : (piece : List ℕ) (count : ℕ) (returned : Bool) → count < length piece → EndsAt piece count returned
-    → count + cond returned 1 0 + 1 ≤ length piece
-    → (take count piece ++ return_if returned) ++ 10 ∷ [] ≡ take (count + cond returned 1 0 + 1) piece
-ended piece count false h e w =
-    ap (λ (x : List ℕ). x ++ 10 ∷ []) (append-nil (take count piece)) ∙ ap (λ (c : ℕ). take count piece ++ c ∷ []) (sym e)
-    ∙ sym (take_more piece count 0 h) ∙ ap (λ (n : ℕ). take n piece) (omega arith)
-ended piece count true h e w =
-    ap (λ (x : List ℕ). x ++ 10 ∷ [])
-    (ap (λ (c : ℕ). take count piece ++ c ∷ []) (sym e.0) ∙ sym (take_more piece count 0 h))
-    ∙ ap (λ (c : ℕ). take (count + 1) piece ++ c ∷ []) (sym e.1) ∙ sym (take_more piece (count + 1) 0 (omega (arith, w)))
 
 no_feed : (bytes : List ℕ) (returned : Bool) → is_plain bytes ≡ true → NoLf (bytes ++ return_if returned)
 no_feed bytes true h = NoLf-append bytes (13 ∷ []) (NoLf-plain bytes h) refl
@@ -138,11 +126,3 @@ module _ (kind : Kind) (text piece : List ℕ) (width count : ℕ) (returned : B
     (kept k, λ o. absurd cc),
     λ _. ended_plain text count returned (Some kind) Line (kept k) (refl, ap is_plain front ∙ p.plain),
   )
-
-  pub padded_takes : count + cond returned 1 0 + 1 ≤ length piece → Takes empty_line piece (count + cond returned 1 0 + 1) line
-  padded_takes w =
-      record {
-        within = w;
-        text = ap (λ (x : List ℕ). x ++ 10 ∷ []) taken ∙ ended piece count returned p.within p.ends w;
-        stops = omega arith;
-      }
