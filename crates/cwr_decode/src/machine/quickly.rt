@@ -125,6 +125,7 @@ impl Machine {
         requires unended { self.old.line.ended ≡ LineEnd.Open }
         requires reading { self.old.state ≡ State.Reading }
         requires empty { length self.old.line.bytes ≡ 0 }
+        requires holds { HoldsOpen self.old }
         requires named { kind_of (take 3 piece.now) ≡ Some T.KIND }
         requires three { 3 ≤ length piece.now }
         ensures { FindsFront result.1 self.old piece.now result.0 self.new }

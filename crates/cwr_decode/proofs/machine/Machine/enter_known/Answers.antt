@@ -8,7 +8,7 @@ use Rattle.cwr_decode.proofs.lemmas.FrontSteps.{front_added, front_ends}
 use Rattle.cwr_decode.proofs.machine.Machine.enter_known.Goals as goal
 
 pub enter_cut-requires : goal.enter_cut-requires
-enter_cut-requires c = subst HoldsOpen (sym c.self.view_is) c.requires.holds
+enter_cut-requires g c = subst HoldsOpen (sym c.self.view_is) c.requires.holds
 
 pub returns-in-Added : goal.returns-in-Added
 returns-in-Added g c =
