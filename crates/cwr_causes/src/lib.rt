@@ -18,6 +18,7 @@ mod trailing;
 mod trailing_words;
 mod truncated_words;
 mod versions;
+mod wanted;
 mod wrong_numbers;
 
 pub use ahead::Ahead;

@@ -55,21 +55,24 @@ SaysComing None old new = new ≡ old
 SaysComing (Some stage) old new = TellsComing stage old new
 
 -- the text goes on with what may stand there, by the reason and the field
-abbrev pub SaysExpected : Limits → Option Stage → RefusedLine → Option (List ℕ) → Reason → Option (ℕ × FieldLayout) → List ℕ → List ℕ
+abbrev pub SaysOf : Limits → Option Stage → RefusedLine → Option (List ℕ) → Reason → Option (ℕ × FieldLayout) → List ℕ → List ℕ
     → Type 0
-SaysExpected limits stage r cell reasons.UnknownKind f old new = SaysComing stage old new
-SaysExpected limits stage r cell reasons.Misplaced f old new = SaysComing stage old new
-SaysExpected limits stage r cell (reasons.Cell fault) (Some f) old new = new ≡ old ++ cell_expected_words r f.1 fault cell
-SaysExpected limits stage r cell (reasons.Cell fault) None old new = new ≡ old
-SaysExpected limits stage r cell (reasons.Number expected) f old new = new ≡ old ++ number_expected_words r expected
-SaysExpected limits stage r cell (reasons.Limit limit) f old new = new ≡ old ++ limit_words limits limit
-SaysExpected limits stage r cell reasons.Excess f old new = new ≡ old ++ end_expected_words r
+SaysOf limits stage r cell reasons.UnknownKind f old new = SaysComing stage old new
+SaysOf limits stage r cell reasons.Misplaced f old new = SaysComing stage old new
+SaysOf limits stage r cell (reasons.Cell fault) (Some f) old new = new ≡ old ++ cell_expected_words r f.1 fault cell
+SaysOf limits stage r cell (reasons.Cell fault) None old new = new ≡ old
+SaysOf limits stage r cell (reasons.Number expected) f old new = new ≡ old ++ number_expected_words r expected
+SaysOf limits stage r cell (reasons.Limit limit) f old new = new ≡ old ++ limit_words limits limit
+SaysOf limits stage r cell reasons.Excess f old new = new ≡ old ++ end_expected_words r
+
+-- the text goes on with what may stand there
+abbrev pub SaysExpected : Limits → Option Stage → RefusedLine → Option (List ℕ) → List ℕ → List ℕ → Type 0
+SaysExpected limits stage r cell old new = SaysOf limits stage r cell r.refusal.reason (refused_field r) old new
 
 -- the text goes on with what a misplaced line points to, and with what may stand there
 abbrev pub SaysWanted : Limits → Option Stage → RefusedLine → Option (List ℕ) → List ℕ → List ℕ → Type 0
 SaysWanted limits stage r cell old new =
-    SaysExpected limits stage r cell r.refusal.reason (refused_field r)
-    (old ++ order_words stage r r.refusal.reason r.kind) new
+    SaysExpected limits stage r cell (old ++ order_words stage r r.refusal.reason r.kind) new
 
 -- The text goes on with what is said of the refusal of the line, whose refused field holds that cell, where the records before have
 -- come to that stage: where it is and what stands there, what may stand there, the level, and what else the line shows.

@@ -1,6 +1,6 @@
 use Rattle.cwr_causes.specs.Format.Wanted.{control_line}
 use Rattle.cwr_causes.proofs.lemmas.SaidInParts.{on_ok, three_said}
-use Rattle.cwr_causes.proofs.causes.add_control_line.Goals as goal
+use Rattle.cwr_causes.proofs.wanted.add_control_line.Goals as goal
 
 pub returns : goal.returns
 unfolding control_line

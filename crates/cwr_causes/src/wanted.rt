@@ -1,0 +1,294 @@
+//! What may stand in the place of what was found, and what a misplaced line points to, in words.
+
+ghost use Rattle.std.specs.Prelude.{◌≡◌, ◌++◌, true, codes, option_map, string_bytes, Some, OnOk};
+ghost use Rattle.cwr_fields.specs.Format.Layouts.{line_width};
+ghost use Rattle.cwr_shape.specs.declared.symbols.Symbol.{Symbol};
+ghost use Rattle.cwr_shape.specs.Format.NextSymbols.{header_kind, is_header_of};
+ghost use Rattle.cwr_causes.specs.Format.Texts.{hex_words};
+ghost use Rattle.cwr_causes.specs.Format.Wanted.{another_type_line, another_type_words, control_line, control_place, control_words, counted_number};
+ghost use Rattle.cwr_causes.specs.Format.Wanted.{end_of_line_words, fault_words, is_of_another_type, last_byte_words, limit_words, may_be_copy};
+ghost use Rattle.cwr_causes.specs.Format.Wanted.{most_words, number_in_width, raised_words, rule_words, twice_words};
+
+use crate::expected::{letters_of, number_rule};
+use crate::texts::add_label;
+use crate::wrong_numbers::is_header;
+use cwr_fields::{CellFault, Kind, TransactionType, first_control, width};
+use cwr_shape::{LimitKind, Limits, Stage, TransactionStep};
+use std::alloc::AllocError;
+use std::fmt::Write;
+
+/// Adds which byte of a cell is a control byte, from 1.
+#[tactic(auto, unfolding(crate::specs::Format::Wanted::control_place))]
+fn add_control_place(text: &mut String, number: usize) -> Result<(), AllocError>
+    ensures { OnOk result (string_bytes text.new ≡ string_bytes text.old ++ control_place number) }
+{
+    write!(text, "; byte {number} of the cell is the control byte ")
+}
+
+/// Adds a byte in two digits of sixteen.
+fn add_hex(text: &mut String, byte: u8) -> Result<(), AllocError>
+    ensures { OnOk result (string_bytes text.new ≡ string_bytes text.old ++ hex_words byte) }
+{
+    write!(text, "{byte:02X}")
+}
+
+/// Adds that a number was one of sixteen digits.
+fn add_hex_mark(text: &mut String) -> Result<(), AllocError>
+    ensures { OnOk result (string_bytes text.new ≡ string_bytes text.old ++ codes " (hex)") }
+{
+    text.push_str(" (hex)")
+}
+
+/// Adds which byte of a cell is a control byte, from 1, and that.
+fn add_control_line(text: &mut String, number: usize, byte: u8) -> Result<(), AllocError>
+    ensures { OnOk result (string_bytes text.new ≡ string_bytes text.old ++ control_line number byte) }
+{
+    add_control_place(text, number)?;
+    add_hex(text, byte)?;
+    add_hex_mark(text)
+}
+
+/// Adds the first control byte of a cell.
+fn add_control_of(text: &mut String, cell: &[u8]) -> Result<(), AllocError>
+    ensures { OnOk result (string_bytes text.new ≡ string_bytes text.old
+        ++ control_words (Some cell.now)) }
+{
+    match first_control(cell) {
+        Some(at) => add_control_line(text, at + 1, cell[at]),
+        None => Ok(()),
+    }
+}
+
+/// Adds the same, if there is a cell.
+fn add_control(text: &mut String, cell: Option<&[u8]>) -> Result<(), AllocError>
+    ensures { OnOk result (string_bytes text.new ≡ string_bytes text.old
+        ++ control_words (option_map (λ c. c.now) cell.entry)) }
+{
+    match cell {
+        Some(cell) => add_control_of(text, cell),
+        None => Ok(()),
+    }
+}
+
+/// Adds the same where a control byte is the cell's fault.
+pub(crate) fn add_fault(
+    text: &mut String,
+    fault: CellFault,
+    cell: Option<&[u8]>,
+) -> Result<(), AllocError>
+    ensures { OnOk result (string_bytes text.new ≡ string_bytes text.old
+        ++ fault_words fault (option_map (λ c. c.now) cell.entry)) }
+{
+    match fault {
+        CellFault::Control => add_control(text, cell),
+        _ => Ok(()),
+    }
+}
+
+/// Adds a number in the width of its field.
+fn add_number(text: &mut String, width: usize, number: u64) -> Result<(), AllocError>
+    ensures { OnOk result (string_bytes text.new ≡ string_bytes text.old ++ number_in_width width number) }
+{
+    match width {
+        5 => write!(text, "{number:05}"),
+        8 => write!(text, "{number:08}"),
+        _ => write!(text, "{number}"),
+    }
+}
+
+/// Adds what a number of the kind's field counts.
+fn add_rule(text: &mut String, kind: Kind, j: u8) -> Result<(), AllocError>
+    ensures { OnOk result (string_bytes text.new ≡ string_bytes text.old
+        ++ rule_words true (Some kind) j) }
+{
+    let rule = number_rule(kind, j);
+    write!(text, ": {rule}")
+}
+
+/// Adds the same where it is one of the file's own.
+pub(crate) fn add_rule_of(
+    text: &mut String,
+    derived: bool,
+    kind: Option<Kind>,
+    j: u8,
+) -> Result<(), AllocError>
+    ensures { OnOk result (string_bytes text.new ≡ string_bytes text.old ++ rule_words derived kind j) }
+{
+    match (derived, kind) {
+        (true, Some(kind)) => add_rule(text, kind, j),
+        _ => Ok(()),
+    }
+}
+
+/// Adds a number that belongs in the kind's field, and what it counts.
+#[tactic(auto, unfolding(crate::specs::Format::Wanted::counted_number))]
+pub(crate) fn add_counted(
+    text: &mut String,
+    kind: Kind,
+    j: u8,
+    width: usize,
+    number: u64,
+) -> Result<(), AllocError>
+    ensures { OnOk result (string_bytes text.new ≡ string_bytes text.old
+        ++ counted_number kind j width number) }
+{
+    let rule = number_rule(kind, j);
+    add_number(text, width, number)?;
+    write!(text, ": {rule}; write it only if no record is missing")
+}
+
+/// Adds what a limit is.
+fn add_most(text: &mut String, limits: &Limits, limit: LimitKind) -> Result<(), AllocError>
+    ensures { OnOk result (string_bytes text.new ≡ string_bytes text.old ++ most_words limits.now limit) }
+{
+    match limit {
+        LimitKind::Records => {
+            let most = limits.records();
+            write!(text, "at most {most} records in the file")
+        }
+        LimitKind::Groups => {
+            let most = limits.groups();
+            write!(text, "at most {most} groups in the file")
+        }
+        LimitKind::Transaction => {
+            let most = limits.transaction();
+            write!(text, "at most {most} records in a transaction")
+        }
+    }
+}
+
+/// Adds how the limit of that word is raised.
+#[tactic(auto, unfolding(crate::specs::Format::Wanted::raised_words))]
+fn add_raised(text: &mut String, word: &str) -> Result<(), AllocError>
+    ensures { OnOk result (string_bytes text.new ≡ string_bytes text.old ++ raised_words word.now) }
+{
+    writeln!(
+        text,
+        "; no file can be finished within that from here. The option --{word} raises it"
+    )
+}
+
+/// Adds a limit and how it is raised.
+#[tactic(auto, unfolding(crate::specs::Format::Wanted::limit_words))]
+pub(crate) fn add_limit(
+    text: &mut String,
+    limits: &Limits,
+    limit: LimitKind,
+) -> Result<(), AllocError>
+    ensures { OnOk result (string_bytes text.new ≡ string_bytes text.old ++ limit_words limits.now limit) }
+{
+    add_label(text, "expected")?;
+    add_most(text, limits, limit)?;
+    add_raised(text, limit.word())
+}
+
+/// Adds where the last field of a line ends.
+#[tactic(auto, unfolding(crate::specs::Format::Wanted::last_byte_words))]
+fn add_last_byte(text: &mut String, last: usize) -> Result<(), AllocError>
+    ensures { OnOk result (string_bytes text.new ≡ string_bytes text.old ++ last_byte_words last) }
+{
+    writeln!(
+        text,
+        "nothing but spaces after byte {last} of the line, where its last field ends"
+    )
+}
+
+/// Adds where a line may end.
+pub(crate) fn add_end_of_line(
+    text: &mut String,
+    is_too_long: bool,
+    kind: Option<Kind>,
+) -> Result<(), AllocError>
+    ensures { OnOk result (string_bytes text.new ≡ string_bytes text.old
+        ++ end_of_line_words is_too_long kind) }
+{
+    match (is_too_long, kind) {
+        (true, _) => text.push_str("a line of at most 1024 bytes before its line end\n"),
+        (false, Some(kind)) => add_last_byte(text, width(kind)),
+        (false, None) => text.push_str("\n"),
+    }
+}
+
+/// Whether a record that comes at that step of a group of the type may begin the copy in an acknowledgement.
+fn may_be_copy(ty: TransactionType, step: TransactionStep) -> bool
+    ensures { result ≡ may_be_copy ty step }
+{
+    match (ty, step) {
+        (TransactionType::Acknowledgement, TransactionStep::InGroup) => false,
+        (TransactionType::Acknowledgement, _) => true,
+        _ => false,
+    }
+}
+
+/// Whether a record of the kind is the header of another type's transaction than those of the open group.
+fn is_of_another_type(ty: TransactionType, step: TransactionStep, kind: Kind) -> bool
+    ensures { result ≡ is_of_another_type ty step kind }
+{
+    is_header(kind) && !is_header_of(ty, kind) && !may_be_copy(ty, step)
+}
+
+/// Adds what such a record points to, by its letters and by those of the header that is wanted.
+#[tactic(auto, unfolding(crate::specs::Format::Wanted::another_type_line))]
+fn add_another_type_line(text: &mut String, found: &str, wanted: &str) -> Result<(), AllocError>
+    ensures { OnOk result (string_bytes text.new ≡ string_bytes text.old
+        ++ another_type_line found.now wanted.now) }
+{
+    add_label(text, "points to")?;
+    writeln!(
+        text,
+        "the group's GRH says {wanted} in bytes 4 to 6, and this is the header of a transaction of type {found}: the type in GRH is wrong, or a GRT and a GRH are missing before this line, or its kind is mistyped"
+    )
+}
+
+/// Adds the same where the records before have come to that stage, if it is such a record.
+pub(crate) fn add_another_type(
+    text: &mut String,
+    stage: Option<Stage>,
+    kind: Kind,
+) -> Result<(), AllocError>
+    ensures { OnOk result (string_bytes text.new ≡ string_bytes text.old
+        ++ another_type_words stage kind) }
+{
+    let Some(Stage::Within(ty, step)) = stage else {
+        return Ok(());
+    };
+    if is_of_another_type(ty, step, kind) {
+        add_another_type_line(text, letters_of(kind), letters_of(header_of(ty)))
+    } else {
+        Ok(())
+    }
+}
+
+/// Adds that the line stands twice.
+#[tactic(auto, unfolding(crate::specs::Format::Wanted::twice_words))]
+pub(crate) fn add_twice(text: &mut String) -> Result<(), AllocError>
+    ensures { OnOk result (string_bytes text.new ≡ string_bytes text.old ++ twice_words) }
+{
+    add_label(text, "points to")?;
+    text.push_str("the line before it is the same: it stands twice\n")
+}
+
+/// The kind of the headers of transactions of a type.
+fn header_of(ty: TransactionType) -> Kind
+    ensures { result ≡ header_kind ty }
+{
+    match ty {
+        TransactionType::Agreement => Kind::Agr,
+        TransactionType::NewWork => Kind::Nwr,
+        TransactionType::RevisedWork => Kind::Rev,
+        TransactionType::Acknowledgement => Kind::Ack,
+    }
+}
+
+/// Whether a record of the kind is the header of a transaction of the type.
+fn is_header_of(ty: TransactionType, kind: Kind) -> bool
+    ensures { result ≡ is_header_of ty (Symbol.Plain kind) }
+{
+    match (ty, kind) {
+        (TransactionType::Agreement, Kind::Agr) => true,
+        (TransactionType::NewWork, Kind::Nwr) => true,
+        (TransactionType::RevisedWork, Kind::Rev) => true,
+        (TransactionType::Acknowledgement, Kind::Ack) => true,
+        _ => false,
+    }
+}
