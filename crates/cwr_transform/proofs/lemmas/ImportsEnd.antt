@@ -1,5 +1,5 @@
 -- An import ends as its text does.
-use Rattle.std.proofs.Common.{◌≡◌, ℕ, List, Option, Some, None, sym, subst, inl, inr}
+use Rattle.std.proofs.Common.{ℕ, List, Option, Some, None, sym, subst, inl, inr}
 use Rattle.std.specs.Prelude.{Result, Ok, Err}
 use Rattle.cwr_write.specs.declared.writing.Written.{Written}
 use Rattle.cwr_write.specs.declared.writing.WriteFault.{WriteFault}
@@ -7,8 +7,6 @@ use Rattle.cwr_write.specs.declared.writing.WriteFault.TheVariants as write_faul
 use Rattle.cwr_transform.specs.declared.endings.Status.{Status}
 use Rattle.cwr_transform.specs.declared.endings.Status.TheVariants as statuses
 use Rattle.cwr_transform.specs.declared.imports.Import.{Import}
-use Rattle.cwr_files.specs.Format.Faults.{IsUnmade}
-use Rattle.cwr_files.specs.declared.faults.Name.{Name}
 use Rattle.cwr_files.specs.declared.faults.Told.{Told}
 use Rattle.cwr_files.specs.declared.faults.Fault.{Fault}
 use Rattle.cwr_files.specs.declared.faults.Fault.TheVariants as faults

@@ -1,4 +1,4 @@
-use Rattle.std.proofs.Common.{◌≡◌, ◌<◌, length, arith, rules}
+use Rattle.std.proofs.Common.{◌≡◌, ◌<◌, length, arith}
 use Rattle.std.proofs.lemmas.Grind.{common_steps}
 use Rattle.cwr_transform.proofs.lemmas.JoinsEnd.{join_ends}
 use Rattle.cwr_transform.proofs.joins.join_files.Goals as goal
