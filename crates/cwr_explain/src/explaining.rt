@@ -6,7 +6,7 @@ ghost use Rattle.cwr_tools.specs.Format.Reports.{AddsWords, CountsReaderFault, C
 ghost use Rattle.cwr_tools.specs.Format.Watching.{SeesAccepted};
 ghost use Rattle.cwr_causes.specs.Format.Trailing.{CountsRead, IsTrailing, TakesMore};
 ghost use Rattle.cwr_causes.specs.Steps.Trailing.{found_in};
-ghost use Rattle.cwr_explain.specs.Format.Explained.{FindsAfter, ReadsOnly, WritesOnly};
+ghost use Rattle.cwr_explain.specs.Format.Explained.{ExplainsText, FindsAfter, ReadsOnly, WritesOnly};
 ghost use Rattle.cwr_explain.specs.Steps.Explained.{Explains, is_good};
 
 use cwr_causes::{
@@ -156,7 +156,11 @@ pub fn explain<R: Source, W: Target + Drop>(
     reader: &mut R,
     writer: W,
 ) -> (W, Result<Verdict, ToolFault>, Option<Trailing>)
+    // Of any reader, by what was read of it.
     ensures explains { Explains limits (R.remaining reader.old) (R.remaining reader.new) W.contents
+        writer result.0 result.1 }
+    // Of bytes that are known, in the words of the text alone.
+    ensures told { ExplainsText limits (R.remaining reader.old) (R.remaining reader.new) W.contents
         writer result.0 result.1 }
     ensures judged { JudgesText limits (R.remaining reader.old) result.1 }
     // Where the text is accepted, the watch saw the findings in its transmission, and what stands after that was found.

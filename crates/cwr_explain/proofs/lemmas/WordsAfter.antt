@@ -6,12 +6,12 @@ use Rattle.cwr_shape.specs.declared.limits.Limits.{Limits}
 use Rattle.cwr_tools.specs.declared.verdicts.Verdict.{Verdict}
 use Rattle.cwr_tools.specs.declared.verdicts.ToolFault.{ToolFault}
 use Rattle.cwr_tools.specs.declared.verdicts.ToolFault.TheVariants as tool_faults
-use Rattle.cwr_tools.specs.Format.Reports.{AddsWords, CountsReaderFault, CountsWriterFault, JudgesAccepted, lines_of_explained}
+use Rattle.cwr_tools.specs.Format.Reports.{AddsWords, CountsReaderFault, CountsWriterFault, JudgesAccepted, ReportsText, lines_of_explained}
 use Rattle.cwr_tools.specs.Format.Verdicts.{IsAnswerAfter, IsAnswerTo, JudgesText}
 use Rattle.cwr_tools.specs.Steps.Reports.{Reports}
 use Rattle.cwr_causes.specs.declared.trailing.Trailing.{Trailing}
 use Rattle.cwr_causes.specs.Format.Trailing.{IsTrailing, TakesMore}
-use Rattle.cwr_explain.specs.Format.Explained.{FindsAfter}
+use Rattle.cwr_explain.specs.Format.Explained.{ExplainsText, FindsAfter}
 use Rattle.cwr_explain.specs.Steps.Explained.{Explains, is_good}
 
 -- a check and words after it
@@ -24,6 +24,23 @@ explains_after limits before left after contents old between new checked result 
   left = left;
   checked = checked;
   reported = r;
+  words = w.0;
+  written = w.1;
+  more = t.0;
+  taken = t.1;
+  answered = a;
+}
+
+-- the same in the words of the text
+pub told_after : {W : Type 0} (limits : Limits) (before left after : Option (List ℕ)) (contents : W → Option (List ℕ))
+    (old between new : W) (checked result : Result Verdict ToolFault)
+    → ReportsText lines_of_explained limits before left contents old between checked → AddsWords contents between new
+    → TakesMore left after → IsAnswerAfter checked result → ExplainsText limits before after contents old new result
+told_after limits before left after contents old between new checked result r w t a = record {
+  between = between;
+  left = left;
+  checked = checked;
+  told = r;
   words = w.0;
   written = w.1;
   more = t.0;

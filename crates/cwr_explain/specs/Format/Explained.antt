@@ -1,13 +1,31 @@
--- What is found after a verdict, and which faults words after it have.
+-- What is told of a text that is explained, what is found after its verdict, and which faults words after that have.
 use Rattle.std.specs.Prelude.{◌≡◌, ℕ, List, drop, Option, Some, IfSome, IsSomeAnd, Result, Ok, Err}
+use Rattle.std.specs.Io.KnownBytes.{Appends, Consumes}
 use Rattle.cwr_devices.specs.Format.Failures.{one_more_failure}
 use Rattle.cwr_shape.specs.declared.limits.Limits.{Limits}
 use Rattle.cwr_values.specs.Format.Values.{TransmissionValue}
 use Rattle.cwr_judge.specs.Format.Ends.{IsAccepted}
+use Rattle.cwr_tools.specs.declared.verdicts.Verdict.{Verdict}
 use Rattle.cwr_tools.specs.declared.verdicts.ToolFault.{ToolFault}
 use Rattle.cwr_tools.specs.declared.verdicts.ToolFault.TheVariants.{Reader, Writer, Memory}
+use Rattle.cwr_tools.specs.Format.Reports.{ReportsText, lines_of_explained}
+use Rattle.cwr_tools.specs.Format.Verdicts.{IsAnswerAfter}
 use Rattle.cwr_causes.specs.declared.trailing.Trailing.{Trailing}
 use Rattle.cwr_causes.specs.Format.Trailing.{IsTrailing}
+
+-- Where the bytes that are read are known, a check tells of them what it tells of a text, with lines under each finding. Then words
+-- follow; after a fault of the check there are none. More bytes may be taken from the reader.
+pub record ExplainsText {W : Type 0} (limits : Limits) (before after : Option (List ℕ)) (contents : W → Option (List ℕ)) (old new : W)
+    (result : Result Verdict ToolFault) : Type 0 where
+  pub between : W
+  pub left : Option (List ℕ)
+  pub checked : Result Verdict ToolFault
+  pub told : ReportsText lines_of_explained limits before left contents old between checked
+  pub words : List ℕ
+  pub written : Appends (contents between) (contents new) words
+  pub more : List ℕ
+  pub taken : Consumes left after more
+  pub answered : IsAnswerAfter checked result
 
 -- where the text is accepted, what stands after its transmission was found
 abbrev pub FindsAfter : Limits → Option (List ℕ) → Option (List ℕ) → Option Trailing → Type 0

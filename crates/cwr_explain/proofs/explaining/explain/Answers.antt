@@ -6,7 +6,7 @@ use Rattle.cwr_tools.specs.Format.Reports.{JudgesAccepted, lines_of_explained}
 use Rattle.cwr_tools.specs.Format.Verdicts.{IsAnswerAfter, JudgesText}
 use Rattle.cwr_tools.proofs.lemmas.RightReports.{accepted_text, judged_text}
 use Rattle.cwr_causes.proofs.lemmas.TakenPieces.{no_more}
-use Rattle.cwr_explain.proofs.lemmas.WordsAfter.{explains_after, finds_after, judged_after, no_words}
+use Rattle.cwr_explain.proofs.lemmas.WordsAfter.{explains_after, finds_after, judged_after, no_words, told_after}
 use Rattle.cwr_explain.proofs.explaining.explain.Goals as goal
 
 pub returns-in-Err-clause-explains : goal.returns-in-Err-clause-explains
@@ -14,6 +14,13 @@ returns-in-Err-clause-explains g c =
     explains_after c.args.limits _ _ _ g.W.Target.contents c.args.writer c.check_explained-writer.result.0
     c.check_explained-writer.result.0 c.check_explained-writer.result.1 (Err c.in-Err.fault)
     c.check_explained-writer.ensures.reported (no_words g.W.Target.contents c.check_explained-writer.result.0) (no_more _)
+    (subst (λ (r : Result Verdict ToolFault). IsAnswerAfter r (Err c.in-Err.fault)) (sym c.in-Err.is) refl)
+
+pub returns-in-Err-clause-told : goal.returns-in-Err-clause-told
+returns-in-Err-clause-told g c =
+    told_after c.args.limits _ _ _ g.W.Target.contents c.args.writer c.check_explained-writer.result.0
+    c.check_explained-writer.result.0 c.check_explained-writer.result.1 (Err c.in-Err.fault)
+    c.check_explained-writer.ensures.told (no_words g.W.Target.contents c.check_explained-writer.result.0) (no_more _)
     (subst (λ (r : Result Verdict ToolFault). IsAnswerAfter r (Err c.in-Err.fault)) (sym c.in-Err.is) refl)
 
 pub returns-in-Some-clause-found : goal.returns-in-Some-clause-found
