@@ -1,8 +1,8 @@
 //! What a reader has after the line in hand, and a refused line explained.
 
-ghost use Rattle.std.specs.Prelude.{◌≡◌, [], IfOk, OnOk, option_map, string_bytes};
+ghost use Rattle.std.specs.Prelude.{◌≡◌, ◌↔◌, ◌<◌, [], length, IsTrue, IfOk, IfSome, OnOk, option_map, string_bytes};
 ghost use Rattle.std.specs.Option.{is_some};
-ghost use Rattle.cwr_causes.specs.Format.Lookings.{LooksAfterLine, asks_numbers, is_open};
+ghost use Rattle.cwr_causes.specs.Format.Lookings.{LooksAfterLine, TellsMore, asks_numbers, is_open};
 ghost use Rattle.cwr_causes.specs.Format.Trailing.{CountsRead, TakesMore};
 ghost use Rattle.cwr_causes.specs.Steps.Refused.{ExplainsLine, ExplainsRefusal, ahead_in, fault_line, goes_on};
 ghost use Rattle.cwr_causes.specs.Steps.Trailing.{found_in};
@@ -65,6 +65,8 @@ impl Beyond {
 
 /// Whether the reader shows a byte more.
 fn has_more<R: Source>(reader: &mut R) -> Result<bool, DeviceFault>
+    ensures more { IfSome (R.remaining reader.old)
+        (λ left. IfOk result (λ more. IsTrue more ↔ 0 < length left)) }
     ensures taken { TakesMore (R.remaining reader.old) (R.remaining reader.new) }
     ensures failures { CountsRead result (R.failures reader.old) (R.failures reader.new) }
 {
@@ -103,8 +105,9 @@ pub fn look_after_line<R: Source>(
 ) -> Result<Beyond, DeviceFault>
     ensures taken { TakesMore (R.remaining reader.old) (R.remaining reader.new) }
     ensures failures { CountsRead result (R.failures reader.old) (R.failures reader.new) }
-    // Nothing that helps is left unasked.
+    // Nothing that helps is left unasked, and a line that is too long goes on where there is a byte more.
     ensures looks { IfOk result (LooksAfterLine refusal.now line.now) }
+    ensures more { IfSome (R.remaining reader.old) (λ left. IfOk result (TellsMore left)) }
 {
     if is_open(line) {
         return Ok(Beyond::GoesOn(has_more(reader)?));

@@ -10,7 +10,8 @@ ghost use Rattle.cwr_causes.specs.Format.Openings.{note_line, note_words, openin
 ghost use Rattle.cwr_causes.specs.Format.Signs.{end_signs, first_signs, return_line, return_words, shift_signs, signs_words};
 ghost use Rattle.cwr_causes.specs.Format.Wanted.{cell_expected_words, end_expected_words, misplaced_words, number_expected_words, number_of_field};
 ghost use Rattle.cwr_causes.specs.Format.Wanted.{order_words, stands_twice};
-ghost use Rattle.cwr_causes.specs.Steps.Refused.{ExplainsLine, SaysComing, SaysExpected, SaysWanted, refused_line};
+ghost use Rattle.cwr_causes.specs.Steps.Coming.{words_at};
+ghost use Rattle.cwr_causes.specs.Steps.Refused.{ExplainsLine, expected_words, refused_line, wanted_words};
 
 use crate::ahead::Ahead;
 use crate::coming_words::add_coming;
@@ -405,8 +406,8 @@ impl Refused<'_> {
         stage: Option<Stage>,
         cell: Option<&[u8]>,
     ) -> Result<(), AllocError>
-        ensures { OnOk result (SaysExpected limits.now stage (refused_line self.now)
-            (option_map (λ c. c.now) cell.entry) (string_bytes text.old) (string_bytes text.new)) }
+        ensures { OnOk result (string_bytes text.new ≡ string_bytes text.old
+            ++ expected_words limits.now stage (refused_line self.now) (option_map (λ c. c.now) cell.entry)) }
     {
         match (self.refusal.reason, self.refused_field()) {
             (Reason::UnknownKind | Reason::Misplaced, _) => add_coming_at(alloc, text, stage),
@@ -452,6 +453,7 @@ impl Refused<'_> {
     }
 
     /// Adds what a misplaced line points to, and what may stand there.
+    #[tactic(auto, unfolding(crate::specs::Steps::Refused::wanted_words))]
     fn add_wanted(
         &self,
         alloc: Global,
@@ -460,8 +462,8 @@ impl Refused<'_> {
         stage: Option<Stage>,
         cell: Option<&[u8]>,
     ) -> Result<(), AllocError>
-        ensures { OnOk result (SaysWanted limits.now stage (refused_line self.now)
-            (option_map (λ c. c.now) cell.entry) (string_bytes text.old) (string_bytes text.new)) }
+        ensures { OnOk result (string_bytes text.new ≡ string_bytes text.old
+            ++ wanted_words limits.now stage (refused_line self.now) (option_map (λ c. c.now) cell.entry)) }
     {
         self.add_order(text, stage)?;
         self.add_expected(alloc, text, limits, stage, cell)
@@ -533,7 +535,7 @@ impl Refused<'_> {
 
 /// Adds what may come at a stage, if that is known.
 fn add_coming_at(alloc: Global, text: &mut String, stage: Option<Stage>) -> Result<(), AllocError>
-    ensures { OnOk result (SaysComing stage (string_bytes text.old) (string_bytes text.new)) }
+    ensures { OnOk result (string_bytes text.new ≡ string_bytes text.old ++ words_at stage) }
 {
     match stage {
         Some(stage) => add_coming(alloc, text, stage),

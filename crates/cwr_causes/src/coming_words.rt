@@ -3,7 +3,7 @@
 ghost use Rattle.std.specs.Prelude.{◌≡◌, ◌++◌, ◌||◌, true, codes, string_bytes, OnOk, IfOk};
 ghost use Rattle.std.specs.List.{list_any};
 ghost use Rattle.cwr_causes.specs.Format.ComingTexts.{carried_line, carried_words, coming_words, is_carried_symbol, is_listed, one_listed, separator, symbol_words, symbols_words};
-ghost use Rattle.cwr_causes.specs.Steps.Coming.{TellsComing};
+ghost use Rattle.cwr_causes.specs.Steps.Coming.{coming_at};
 
 use crate::expected::letters_of;
 use crate::next_symbols::coming;
@@ -127,7 +127,7 @@ fn add_all(text: &mut String, symbols: &[Symbol]) -> Result<(), AllocError>
 
 /// Adds what may come at a stage.
 pub(crate) fn add_coming(alloc: Global, text: &mut String, stage: Stage) -> Result<(), AllocError>
-    ensures { OnOk result (TellsComing stage (string_bytes text.old) (string_bytes text.new)) }
+    ensures { OnOk result (string_bytes text.new ≡ string_bytes text.old ++ coming_words (coming_at stage)) }
 {
     let symbols = coming(alloc, stage)?;
     add_all(text, symbols.as_slice())

@@ -1,13 +1,14 @@
 //! Checking a transmission, and explaining what was found.
 
-ghost use Rattle.std.specs.Prelude.{◌≡◌, true, IfOk, IsSomeAnd, OnOk};
+ghost use Rattle.std.specs.Prelude.{◌≡◌, true, string_bytes, IfOk, IsSomeAnd, OnOk};
+ghost use Rattle.std.specs.Io.KnownBytes.{Appends};
 ghost use Rattle.cwr_tools.specs.Format.Verdicts.{IsAnswerTo, JudgesText};
 ghost use Rattle.cwr_tools.specs.Format.Reports.{AddsWords, CountsReaderFault, CountsWriterFault};
 ghost use Rattle.cwr_tools.specs.Format.Watching.{SeesAccepted};
 ghost use Rattle.cwr_causes.specs.Format.Trailing.{CountsRead, IsTrailing, TakesMore};
 ghost use Rattle.cwr_causes.specs.Steps.Trailing.{found_in};
 ghost use Rattle.cwr_explain.specs.Format.Explained.{ExplainsText, FindsAfter, ReadsOnly, WritesOnly};
-ghost use Rattle.cwr_explain.specs.Steps.Explained.{Explains, is_good};
+ghost use Rattle.cwr_explain.specs.Steps.Explained.{AddsExplanation, Explains, Looks, SaysVerdict, is_good};
 
 use cwr_causes::{
     Beyond, Trailing, add_refused, add_trailing, add_truncated, line_at_end, look_after_line,
@@ -27,6 +28,8 @@ fn look_beyond<R: Source>(
 ) -> Result<Beyond, DeviceFault>
     ensures found { is_good verdict.now ≡ true → IfOk result (λ beyond. IsSomeAnd (found_in beyond)
         (IsTrailing (R.remaining reader.old) (R.remaining reader.new))) }
+    // Nothing that helps is left unasked.
+    ensures looks { IfOk result (Looks verdict.now last.now) }
     ensures taken { TakesMore (R.remaining reader.old) (R.remaining reader.new) }
     ensures failures { CountsRead result (R.failures reader.old) (R.failures reader.new) }
 {
@@ -46,7 +49,10 @@ fn explanation(
     verdict: &Verdict,
     last: &LastRead,
     beyond: Beyond,
-) -> Result<String, AllocError> {
+) -> Result<String, AllocError>
+    ensures { IfOk result (λ text. SaysVerdict limits.now name.now verdict.now last.now beyond
+        (string_bytes text)) }
+{
     let mut text = String::new(alloc);
     match verdict {
         Verdict::Good { .. } => {
@@ -64,6 +70,7 @@ fn explanation(
 
 /// Writes a text, and has the writer hand it on.
 fn write_text<W: Target>(writer: W, text: &str) -> (W, Result<(), ToolFault>)
+    ensures text { OnOk result.1 (Appends (W.contents writer) (W.contents result.0) text.now) }
     ensures words { AddsWords W.contents writer result.0 }
     ensures failures { WritesOnly result.1 (W.failures writer) (W.failures result.0) }
     ensures handed_on { OnOk result.1 (W.handed_on result.0 ≡ true) }
@@ -97,6 +104,9 @@ fn explained<R: Source>(
 ) -> Result<(String, Beyond), ToolFault>
     ensures found { is_good verdict.now ≡ true → IfOk result (λ p. IsSomeAnd (found_in p.1)
         (IsTrailing (R.remaining reader.old) (R.remaining reader.new))) }
+    ensures looks { IfOk result (λ p. Looks verdict.now last.now p.1) }
+    ensures says { IfOk result (λ p. SaysVerdict limits.now name.now verdict.now last.now p.1
+        (string_bytes p.0)) }
     ensures taken { TakesMore (R.remaining reader.old) (R.remaining reader.new) }
     ensures failures { ReadsOnly result (R.failures reader.old) (R.failures reader.new) }
 {
@@ -122,6 +132,8 @@ fn add_explanation<R: Source, W: Target>(
 ) -> (W, Result<Verdict, ToolFault>, Option<Trailing>)
     ensures found { is_good verdict ≡ true → OnOk result.1
         (IsSomeAnd result.2 (IsTrailing (R.remaining reader.old) (R.remaining reader.new))) }
+    ensures says { IfOk result.1
+        (AddsExplanation W.contents limits.now name.now last.now writer result.0) }
     ensures words { AddsWords W.contents writer result.0 }
     ensures taken { TakesMore (R.remaining reader.old) (R.remaining reader.new) }
     ensures answered { IsAnswerTo verdict result.1 }
@@ -156,8 +168,8 @@ pub fn explain<R: Source, W: Target + Drop>(
     reader: &mut R,
     writer: W,
 ) -> (W, Result<Verdict, ToolFault>, Option<Trailing>)
-    // Of any reader, by what was read of it.
-    ensures explains { Explains limits (R.remaining reader.old) (R.remaining reader.new) W.contents
+    // Of any reader, by what was read of it: what is written, and that its last words are those on the verdict.
+    ensures explains { Explains limits name.now (R.remaining reader.old) (R.remaining reader.new) W.contents
         writer result.0 result.1 }
     // Of bytes that are known, in the words of the text alone.
     ensures told { ExplainsText limits (R.remaining reader.old) (R.remaining reader.new) W.contents

@@ -26,7 +26,7 @@ abbrev pub TellsUpTo : {W : Type 0} → Telling → Limits → Option (List ℕ)
 TellsUpTo tellings.Findings limits before after contents old new outcome =
     Reports lines_of_findings limits before after contents old new outcome
 TellsUpTo (tellings.Explained name) limits before after contents old new outcome =
-    Explains limits before after contents old new outcome
+    Explains limits name.now before after contents old new outcome
 TellsUpTo (tellings.Faults name advised) limits before after contents old new outcome =
     Lints (wanting (is_some name) advised) limits before after contents old new outcome
     × IfOk outcome (Tells (wanting (is_some name) advised) limits before after contents old new)

@@ -52,12 +52,12 @@ followed old (Some m) new report text words none has a b =
     let whole : report ≡ m ++ words = subst (λ (n : Option (List ℕ)). Appends (Some m) n words) has b in
     whole ∙ ap (λ (l : List ℕ). l ++ words) front
 
-pub explained_on_items : {W : Type 0} (limits : Limits) (before after : Option (List ℕ)) (text report : List ℕ)
+pub explained_on_items : {W : Type 0} (limits : Limits) (name : List ℕ) (before after : Option (List ℕ)) (text report : List ℕ)
     (contents : W → Option (List ℕ)) (old new : W) (result : Result Verdict ToolFault)
     → before ≡ Some text → contents old ≡ Some [] → contents new ≡ Some report
-    → Explains limits before after contents old new result → IsWritten (IsExplainedOn limits text report) result
-explained_on_items limits before after text report contents old new (Err fault) e none has h = tt
-explained_on_items {W = W} limits before after text report contents old new (Ok verdict) e none has h =
+    → Explains limits name before after contents old new result → IsWritten (IsExplainedOn limits text report) result
+explained_on_items limits name before after text report contents old new (Err fault) e none has h = tt
+explained_on_items {W = W} limits name before after text report contents old new (Ok verdict) e none has h =
     by h.checked h.reported h.answered
   where
     by : (checked : Result Verdict ToolFault) → Reports lines_of_explained limits before h.left contents old h.between checked

@@ -1,15 +1,15 @@
 -- What is said part by part.
-use Rattle.std.proofs.Common.{◌≡◌, ℕ, List, ◌++◌, subst, ◌∙◌, ap, append_assoc}
+use Rattle.std.proofs.Common.{◌≡◌, ℕ, List, [], ◌++◌, sym, ◌∙◌, ap, append_assoc, append-nil}
 use Rattle.std.specs.Prelude.{Option, Result, Ok, Err, OnOk}
 use Rattle.cwr_decode.specs.declared.readings.LastRead.{LastRead}
 use Rattle.cwr_decode.specs.Steps.LastReads.{bytes_read}
 use Rattle.cwr_causes.specs.declared.lines_at_end.LineAtEnd.{LineAtEnd}
 use Rattle.cwr_causes.specs.Format.ComingTexts.{coming_words}
 use Rattle.cwr_causes.specs.Format.TruncatedTexts.{end_words, last_cut_off_words}
-use Rattle.cwr_causes.specs.Steps.Coming.{TellsComing}
+use Rattle.cwr_causes.specs.Steps.Coming.{coming_at}
 use Rattle.cwr_causes.specs.Steps.LinesAtEnd.{IsLineAtEnd}
 use Rattle.cwr_causes.specs.Format.Signs.{signs_words}
-use Rattle.cwr_causes.specs.Steps.Refused.{ExplainsEnd, SaysRefusal, SaysWanted}
+use Rattle.cwr_causes.specs.Steps.Refused.{ExplainsEnd, refusal_words, truncation_words, wanted_words}
 use Rattle.cwr_shape.specs.declared.limits.Limits.{Limits}
 use Rattle.cwr_shape.specs.declared.stages.Stage.{Stage}
 use Rattle.cwr_causes.specs.Format.Refusals.{RefusedLine, first_kind, head_words, refused_level_words}
@@ -21,33 +21,34 @@ three_said old a b new p q r first second third =
     ∙ ap (λ xs. xs ++ r) (second ∙ ap (λ xs. xs ++ q) first ∙ append_assoc old p q)
     ∙ append_assoc old (p ++ q) r
 
+-- one part, and then the others
+said_more : (old a new p rest : List ℕ) → a ≡ old ++ p → new ≡ a ++ rest → new ≡ old ++ (p ++ rest)
+said_more old a new p rest first others = others ∙ ap (λ xs. xs ++ rest) first ∙ append_assoc old p rest
+
+-- the last part
+said_last : (old new p : List ℕ) → new ≡ old ++ p → new ≡ old ++ (p ++ [])
+said_last old new p h = h ∙ ap (λ xs. old ++ xs) (sym (append-nil p))
+
 -- what is said of a refusal, part by part
 pub refusal_said : (limits : Limits) (stage : Option Stage) (r : RefusedLine) (cell : Option (List ℕ)) (old a b c d : List ℕ)
-    → a ≡ old ++ head_words r cell → SaysWanted limits stage r cell a b → c ≡ b ++ refused_level_words r → d ≡ c ++ signs_words r
-    → SaysRefusal limits stage r cell old d
+    → a ≡ old ++ head_words r cell → b ≡ a ++ wanted_words limits stage r cell → c ≡ b ++ refused_level_words r
+    → d ≡ c ++ signs_words r → d ≡ old ++ refusal_words limits stage r cell
+unfolding refusal_words
 refusal_said limits stage r cell old a b c d head wanted level signs =
-    record {
-      wanted = b;
-      says = subst (λ xs. SaysWanted limits stage r cell xs b) head wanted;
-      said = signs ∙ ap (λ xs. xs ++ signs_words r) level;
-    }
+    said_more old a d _ _ head (said_more a b d _ _ wanted (said_more b c d _ _ level (said_last c d _ signs)))
 
 -- what is said of an end that comes too early, part by part
 pub truncated_said : (name : List ℕ) (records : ℕ) (last : LastRead) (line : LineAtEnd) (old a b c : List ℕ)
     → IsLineAtEnd last.bytes line → a ≡ old ++ end_words name (first_kind line.bytes.now) records (bytes_read last.bytes)
-    → TellsComing last.stage a b
+    → b ≡ a ++ coming_words (coming_at last.stage)
     → c ≡ b ++ last_cut_off_words records line.bytes.now line.ended (first_kind line.bytes.now)
     → ExplainsEnd name records last old c
+unfolding truncation_words
 truncated_said name records last line old a b c is end coming cut =
     record {
       line = line;
       is_last = is;
-      symbols = coming.0;
-      may_come = coming.1;
-      said =
-          cut
-          ∙ ap (λ xs. xs ++ last_cut_off_words records line.bytes.now line.ended (first_kind line.bytes.now))
-          (coming.2 ∙ ap (λ xs. xs ++ coming_words coming.0) end);
+      said = said_more old a c _ _ end (said_more a b c _ _ coming (said_last b c _ cut));
     }
 
 -- what follows where a call succeeds

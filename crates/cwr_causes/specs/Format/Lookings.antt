@@ -1,5 +1,5 @@
 -- What is looked at after a refused line.
-use Rattle.std.specs.Prelude.{ℕ, ◌==◌, ◌&&◌, Bool, true, false, not, List, length, Option, None, Some, if◌then◌else◌}
+use Rattle.std.specs.Prelude.{◌↔◌, ℕ, ◌<◌, ◌==◌, ◌&&◌, Bool, true, false, not, IsTrue, List, length, Option, None, Some, if◌then◌else◌}
 use Rattle.std.specs.Option.{is_some, option_and_then}
 use Rattle.cwr_fields.specs.declared.kinds.Kind.{Kind}
 use Rattle.cwr_fields.specs.declared.kinds.Kind.TheVariants.{Hdr, Grh, Grt, Trl, Agr, Nwr, Rev, Ack}
@@ -61,3 +61,8 @@ IsAnswer open_line asks beyond = ⊥
 -- so it is of a refused line
 abbrev pub LooksAfterLine : Refusal → LineAtEnd → Beyond → Type 0
 LooksAfterLine refusal line beyond = IsAnswer (is_open line) (asks_numbers refusal line) beyond
+
+-- a line goes on just where bytes are left
+abbrev pub TellsMore : List ℕ → Beyond → Type 0
+TellsMore left (beyonds.GoesOn more) = IsTrue more ↔ 0 < length left
+TellsMore left beyond = Unit {0}

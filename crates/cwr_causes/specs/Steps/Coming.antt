@@ -1,6 +1,6 @@
 -- Which symbols may come.
-use Rattle.std.specs.Prelude.{◌≡◌, ◌↔◌, ℕ, List, [], ◌∷◌, ◌++◌, Contains}
-use Rattle.std.specs.List.{flat_map}
+use Rattle.std.specs.Prelude.{◌↔◌, ℕ, Bool, List, [], ◌∷◌, ◌++◌, Contains, Option, None, Some, is_some}
+use Rattle.std.specs.List.{filter, flat_map}
 use Rattle.cwr_fields.specs.declared.codes.Role.TheVariants as roles
 use Rattle.cwr_fields.specs.declared.codes.TransactionType.TheVariants as types
 use Rattle.cwr_fields.specs.declared.kinds.Kind.{Kind}
@@ -12,6 +12,7 @@ use Rattle.cwr_shape.specs.declared.stages.Stage.{Stage}
 use Rattle.cwr_shape.specs.Format.Outlines.{Continues}
 use Rattle.cwr_shape.specs.Format.AnyTransmission.{Any}
 use Rattle.cwr_shape.specs.Steps.Left.{StandsAt}
+use Rattle.cwr_shape.specs.Steps.NextStages.{next_stage}
 use Rattle.cwr_causes.specs.Format.ComingTexts.{coming_words}
 
 -- after records that stand at the stage the symbol may come
@@ -22,19 +23,6 @@ ComesAt stage symbol = (xs : List Symbol) → StandsAt xs stage → Continues An
 abbrev pub AreComing : Stage → List Symbol → Type 0
 AreComing stage symbols =
     (xs : List Symbol) → StandsAt xs stage → (s : Symbol) → Contains symbols s ↔ Continues Any (xs ++ s ∷ [])
-
--- of the symbols that were asked the ones that may come were found
-abbrev pub HaveCome : Stage → List Symbol → List Symbol → Type 0
-HaveCome stage asked found =
-    (xs : List Symbol) → StandsAt xs stage → (s : Symbol) → Contains found s ↔ (Contains asked s × Continues Any (xs ++ s ∷ []))
-
--- these symbols were asked more
-abbrev pub Asks : Stage → List Symbol → List Symbol → List Symbol → Type 0
-Asks stage symbols old new = (asked : List Symbol) → HaveCome stage asked old → HaveCome stage (asked ++ symbols) new
-
--- the text goes on with which records may come at the stage
-abbrev pub TellsComing : Stage → List ℕ → List ℕ → Type 0
-TellsComing stage old new = (symbols : List Symbol) × AreComing stage symbols × (new ≡ old ++ coming_words symbols)
 
 -- the symbols that a record of the kind may have, unless it ends a group or the transmission
 abbrev pub inner_symbols : Kind → List Symbol
@@ -48,3 +36,16 @@ inner_symbols this_kind = Plain this_kind ∷ []
 -- each symbol, in the order in which a transmission has them
 abbrev pub all_symbols : List Symbol
 all_symbols = flat_map inner_symbols all_kinds ++ Plain kinds.Grt ∷ Plain kinds.Trl ∷ []
+
+-- the order of records goes on so from the stage
+abbrev pub comes : Stage → Symbol → Bool
+comes stage symbol = is_some (next_stage stage symbol)
+
+-- those that may come at the stage, in that order
+unfoldable pub coming_at : Stage → List Symbol
+coming_at stage = filter (comes stage) all_symbols
+
+-- which records may come at the stage, in words, if it is known
+abbrev pub words_at : Option Stage → List ℕ
+words_at None = []
+words_at (Some stage) = coming_words (coming_at stage)

@@ -1,6 +1,6 @@
 -- A refused line as it is kept.
-use Rattle.std.specs.Prelude.{◌≡◌, ℕ, ◌≤◌, ◌++◌, Bool, true, false, List, length, IsFalse, IfSome, Option, None, Some, option_map}
-use Rattle.std.specs.List.{list_any}
+use Rattle.std.specs.Prelude.{◌≡◌, ℕ, ◌≤◌, Bool, true, false, List, [], ◌∷◌, ◌++◌, length, IsFalse, IfSome, Option, None, Some, option_map}
+use Rattle.std.specs.List.{concat, list_any}
 use Rattle.cwr_lines.specs.Format.Lines.{is_lf, longest_line}
 use Rattle.cwr_lines.specs.declared.lines.LineEnd.TheVariants.{Line}
 use Rattle.cwr_lines.specs.Steps.Held.{held_cell}
@@ -17,10 +17,9 @@ use Rattle.cwr_shape.specs.declared.limits.Limits.{Limits}
 use Rattle.cwr_shape.specs.declared.reasons.Reason.{Reason}
 use Rattle.cwr_shape.specs.declared.reasons.Reason.TheVariants as reasons
 use Rattle.cwr_shape.specs.declared.stages.Stage.{Stage}
-use Rattle.cwr_shape.specs.declared.symbols.Symbol.{Symbol}
 use Rattle.cwr_causes.specs.Format.ComingTexts.{coming_words}
 use Rattle.cwr_causes.specs.Format.TruncatedTexts.{end_words, last_cut_off_words}
-use Rattle.cwr_causes.specs.Steps.Coming.{AreComing, TellsComing}
+use Rattle.cwr_causes.specs.Steps.Coming.{coming_at, words_at}
 use Rattle.cwr_causes.specs.Steps.LinesAtEnd.{EndsInLine, EndsWithLine, IsLineAtEnd}
 use Rattle.cwr_decode.specs.Steps.LastReads.{HoldsLast}
 use Rattle.cwr_causes.specs.declared.causes.Refused.{Refused}
@@ -49,43 +48,34 @@ HasCell r cell =
     length r.bytes ≤ longest_line → IsFalse (list_any is_lf r.bytes)
     → cell ≡ held_cell (record { bytes = r.bytes; ended = Line }) r.refusal.field
 
--- the text goes on with which records may come at the stage, if that is known
-abbrev pub SaysComing : Option Stage → List ℕ → List ℕ → Type 0
-SaysComing None old new = new ≡ old
-SaysComing (Some stage) old new = TellsComing stage old new
+-- what may stand there, by the reason and the field, where the records before have come to that stage
+abbrev pub expected_by : Limits → Option Stage → RefusedLine → Option (List ℕ) → Reason → Option (ℕ × FieldLayout) → List ℕ
+expected_by limits stage r cell reasons.UnknownKind f = words_at stage
+expected_by limits stage r cell reasons.Misplaced f = words_at stage
+expected_by limits stage r cell (reasons.Cell fault) (Some f) = cell_expected_words r f.1 fault cell
+expected_by limits stage r cell (reasons.Cell fault) None = []
+expected_by limits stage r cell (reasons.Number expected) f = number_expected_words r expected
+expected_by limits stage r cell (reasons.Limit limit) f = limit_words limits limit
+expected_by limits stage r cell reasons.Excess f = end_expected_words r
 
--- the text goes on with what may stand there, by the reason and the field
-abbrev pub SaysOf : Limits → Option Stage → RefusedLine → Option (List ℕ) → Reason → Option (ℕ × FieldLayout) → List ℕ → List ℕ
-    → Type 0
-SaysOf limits stage r cell reasons.UnknownKind f old new = SaysComing stage old new
-SaysOf limits stage r cell reasons.Misplaced f old new = SaysComing stage old new
-SaysOf limits stage r cell (reasons.Cell fault) (Some f) old new = new ≡ old ++ cell_expected_words r f.1 fault cell
-SaysOf limits stage r cell (reasons.Cell fault) None old new = new ≡ old
-SaysOf limits stage r cell (reasons.Number expected) f old new = new ≡ old ++ number_expected_words r expected
-SaysOf limits stage r cell (reasons.Limit limit) f old new = new ≡ old ++ limit_words limits limit
-SaysOf limits stage r cell reasons.Excess f old new = new ≡ old ++ end_expected_words r
+-- what may stand in the refused field
+abbrev pub expected_words : Limits → Option Stage → RefusedLine → Option (List ℕ) → List ℕ
+expected_words limits stage r cell = expected_by limits stage r cell r.refusal.reason (refused_field r)
 
--- the text goes on with what may stand there
-abbrev pub SaysExpected : Limits → Option Stage → RefusedLine → Option (List ℕ) → List ℕ → List ℕ → Type 0
-SaysExpected limits stage r cell old new = SaysOf limits stage r cell r.refusal.reason (refused_field r) old new
+-- what a misplaced line points to, and what may stand there
+unfoldable pub wanted_words : Limits → Option Stage → RefusedLine → Option (List ℕ) → List ℕ
+wanted_words limits stage r cell = order_words stage r r.refusal.reason r.kind ++ expected_words limits stage r cell
 
--- the text goes on with what a misplaced line points to, and with what may stand there
-abbrev pub SaysWanted : Limits → Option Stage → RefusedLine → Option (List ℕ) → List ℕ → List ℕ → Type 0
-SaysWanted limits stage r cell old new =
-    SaysExpected limits stage r cell (old ++ order_words stage r r.refusal.reason r.kind) new
+-- What is said of the refusal of the line, whose refused field holds that cell, where the records before have come to that stage:
+-- where it is and what stands there, what a misplaced line points to, what may stand there, the level, and what else the line shows.
+unfoldable pub refusal_words : Limits → Option Stage → RefusedLine → Option (List ℕ) → List ℕ
+refusal_words limits stage r cell =
+    concat (head_words r cell ∷ wanted_words limits stage r cell ∷ refused_level_words r ∷ signs_words r ∷ [])
 
--- The text goes on with what is said of the refusal of the line, whose refused field holds that cell, where the records before have
--- come to that stage: where it is and what stands there, what may stand there, the level, and what else the line shows.
-pub record SaysRefusal (limits : Limits) (stage : Option Stage) (r : RefusedLine) (cell : Option (List ℕ)) (old new : List ℕ) : Type 0
-  where
-    pub wanted : List ℕ
-    pub says : SaysWanted limits stage r cell (old ++ head_words r cell) wanted
-    pub said : new ≡ (wanted ++ refused_level_words r) ++ signs_words r
-
--- the same, with the cell that the line has there
+-- the text goes on with that, for the cell that the line has there
 abbrev pub ExplainsLine : Limits → Option Stage → RefusedLine → List ℕ → List ℕ → Type 0
 ExplainsLine limits stage r old new =
-    (cell : Option (List ℕ)) × HasCell r cell × SaysRefusal limits stage r cell old new
+    (cell : Option (List ℕ)) × HasCell r cell × (new ≡ old ++ refusal_words limits stage r cell)
 
 -- the line is that with which the bytes that were read end, and the line before it, where that is known, is the one before
 abbrev pub IsLineBefore : LastBytes → Option (List ℕ) → Type 0
@@ -143,14 +133,16 @@ pub record ExplainsRefusal (limits : Limits) (name : List ℕ) (refusal : Refusa
   pub is_before : IsLineBefore last.bytes before
   pub explains : ExplainsLine limits (Some last.stage) (last_refused name refusal line before beyond) old new
 
--- the text goes on with where the input ends, after the last line that was read, with the records that may come, and with that the
--- line may have been cut off
+-- What is said of an input that ends too early, after that line: where it ends, the records that may come, and that the line may have
+-- been cut off.
+unfoldable pub truncation_words : List ℕ → ℕ → LastRead → LineAtEnd → List ℕ
+truncation_words name records last line =
+    concat
+    (end_words name (first_kind line.bytes.now) records (bytes_read last.bytes) ∷ coming_words (coming_at last.stage)
+    ∷ last_cut_off_words records line.bytes.now line.ended (first_kind line.bytes.now) ∷ [])
+
+-- the text goes on with that, after the last line that was read
 pub record ExplainsEnd (name : List ℕ) (records : ℕ) (last : LastRead) (old new : List ℕ) : Type 0 where
   pub line : LineAtEnd
   pub is_last : IsLineAtEnd last.bytes line
-  pub symbols : List Symbol
-  pub may_come : AreComing last.stage symbols
-  pub said :
-      new
-      ≡ ((old ++ end_words name (first_kind line.bytes.now) records (bytes_read last.bytes)) ++ coming_words symbols)
-      ++ last_cut_off_words records line.bytes.now line.ended (first_kind line.bytes.now)
+  pub said : new ≡ old ++ truncation_words name records last line

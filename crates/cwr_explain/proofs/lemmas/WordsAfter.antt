@@ -1,7 +1,8 @@
 -- A check, and what is written and found after it.
-use Rattle.std.proofs.Common.{◌≡◌, ℕ, true, List, [], Option, Some, None, sym, ap, subst}
-use Rattle.std.specs.Prelude.{IsSomeAnd, OnOk, Result, Ok, Err}
+use Rattle.std.proofs.Common.{◌≡◌, ℕ, true, List, [], Option, Some, None, refl, sym, ap, subst}
+use Rattle.std.specs.Prelude.{IfOk, IsSomeAnd, OnOk, Result, Ok, Err}
 use Rattle.std.proofs.KnownBytes.{Appends-nil}
+use Rattle.cwr_decode.specs.declared.readings.LastRead.{LastRead}
 use Rattle.cwr_shape.specs.declared.limits.Limits.{Limits}
 use Rattle.cwr_tools.specs.declared.verdicts.Verdict.{Verdict}
 use Rattle.cwr_tools.specs.declared.verdicts.ToolFault.{ToolFault}
@@ -9,17 +10,29 @@ use Rattle.cwr_tools.specs.declared.verdicts.ToolFault.TheVariants as tool_fault
 use Rattle.cwr_tools.specs.Format.Reports.{AddsWords, CountsReaderFault, CountsWriterFault, JudgesAccepted, ReportsText, lines_of_explained}
 use Rattle.cwr_tools.specs.Format.Verdicts.{IsAnswerAfter, IsAnswerTo, JudgesText}
 use Rattle.cwr_tools.specs.Steps.Reports.{Reports}
+use Rattle.cwr_tools.specs.Steps.Verdicts.{IsReadLast}
 use Rattle.cwr_causes.specs.declared.trailing.Trailing.{Trailing}
 use Rattle.cwr_causes.specs.Format.Trailing.{IsTrailing, TakesMore}
+use Rattle.cwr_causes.proofs.lemmas.TakenPieces.{no_more}
 use Rattle.cwr_explain.specs.Format.Explained.{ExplainsText, FindsAfter}
-use Rattle.cwr_explain.specs.Steps.Explained.{Explains, is_good}
+use Rattle.cwr_explain.specs.Steps.Explained.{AddsExplanation, Explains, ExplainsRun, is_good}
+
+-- no words
+pub no_words : {W : Type 0} (contents : W → Option (List ℕ)) (writer : W) → AddsWords contents writer writer
+no_words contents writer = ([], Appends-nil (contents writer))
+
+-- an answer to a verdict is one after it
+answer_after : (checked : Result Verdict ToolFault) (verdict : Verdict) (result : Result Verdict ToolFault) → checked ≡ Ok verdict
+    → IsAnswerTo verdict result → IsAnswerAfter checked result
+answer_after checked verdict result same a = subst (λ (c : Result Verdict ToolFault). IsAnswerAfter c result) (sym same) a
 
 -- a check and words after it
-pub explains_after : {W : Type 0} (limits : Limits) (before left after : Option (List ℕ)) (contents : W → Option (List ℕ))
+explains_with : {W : Type 0} (limits : Limits) (name : List ℕ) (before left after : Option (List ℕ)) (contents : W → Option (List ℕ))
     (old between new : W) (checked result : Result Verdict ToolFault)
-    → Reports lines_of_explained limits before left contents old between checked → AddsWords contents between new
-    → TakesMore left after → IsAnswerAfter checked result → Explains limits before after contents old new result
-explains_after limits before left after contents old between new checked result r w t a = record {
+    → Reports lines_of_explained limits before left contents old between checked → (w : AddsWords contents between new)
+    → TakesMore left after → IsAnswerAfter checked result → IfOk result (ExplainsRun limits name before left w.0)
+    → Explains limits name before after contents old new result
+explains_with limits name before left after contents old between new checked result r w t a s = record {
   between = between;
   left = left;
   checked = checked;
@@ -29,7 +42,48 @@ explains_after limits before left after contents old between new checked result 
   more = t.0;
   taken = t.1;
   answered = a;
+  says = s;
 }
+
+-- a check that failed, after which there are no words
+pub explains_fault : {W : Type 0} (limits : Limits) (name : List ℕ) (before left : Option (List ℕ)) (contents : W → Option (List ℕ))
+    (old new : W) (checked : Result Verdict ToolFault) (fault : ToolFault)
+    → Reports lines_of_explained limits before left contents old new checked → checked ≡ Err fault
+    → Explains limits name before left contents old new (Err fault)
+explains_fault limits name before left contents old new checked fault r same =
+    explains_with limits name before left left contents old new new checked (Err fault) r (no_words contents new) (no_more left)
+    (subst (λ (c : Result Verdict ToolFault). IsAnswerAfter c (Err fault)) (sym same) refl) tt
+
+-- a check, and the words on its verdict
+pub explains_after : {W : Type 0} (limits : Limits) (name : List ℕ) (before left after : Option (List ℕ))
+    (contents : W → Option (List ℕ)) (old between new : W) (checked : Result Verdict ToolFault) (verdict : Verdict) (last : LastRead)
+    (result : Result Verdict ToolFault) → Reports lines_of_explained limits before left contents old between checked
+    → checked ≡ Ok verdict → IsReadLast limits before left verdict last → IsAnswerTo verdict result
+    → AddsWords contents between new → IfOk result (AddsExplanation contents limits name last between new) → TakesMore left after
+    → Explains limits name before after contents old new result
+explains_after limits name before left after contents old between new checked verdict last (Ok other) r same read a w s t =
+    explains_with limits name before left after contents old between new checked (Ok other) r (s.0, s.1) t
+    (answer_after checked verdict (Ok other) same a)
+    (last, subst (λ (v : Verdict). IsReadLast limits before left v last) (sym a) read, s.2)
+explains_after limits name before left after contents old between new checked verdict last (Err fault) r same read a w s t =
+    explains_with limits name before left after contents old between new checked (Err fault) r w t
+    (answer_after checked verdict (Err fault) same a) tt
+
+-- what was read last, where a verdict came
+pub read_last : (limits : Limits) (before left : Option (List ℕ)) (checked : Result Verdict ToolFault) (found : Option LastRead)
+    (verdict : Verdict) (last : LastRead) → IfOk checked (λ v. IsSomeAnd found (IsReadLast limits before left v))
+    → checked ≡ Ok verdict → found ≡ Some last → IsReadLast limits before left verdict last
+read_last limits before left checked found verdict last h same is =
+    subst (λ (o : Option LastRead). IsSomeAnd o (IsReadLast limits before left verdict)) is
+    (subst (λ (c : Result Verdict ToolFault). IfOk c (λ v. IsSomeAnd found (IsReadLast limits before left v))) same h)
+
+-- something was
+pub none_read : (limits : Limits) (before left : Option (List ℕ)) (checked : Result Verdict ToolFault) (found : Option LastRead)
+    (verdict : Verdict) → IfOk checked (λ v. IsSomeAnd found (IsReadLast limits before left v)) → checked ≡ Ok verdict
+    → found ≡ None → ⊥
+none_read limits before left checked found verdict h same is =
+    subst (λ (o : Option LastRead). IsSomeAnd o (IsReadLast limits before left verdict)) is
+    (subst (λ (c : Result Verdict ToolFault). IfOk c (λ v. IsSomeAnd found (IsReadLast limits before left v))) same h)
 
 -- the same in the words of the text
 pub told_after : {W : Type 0} (limits : Limits) (before left after : Option (List ℕ)) (contents : W → Option (List ℕ))
@@ -47,9 +101,6 @@ told_after limits before left after contents old between new checked result r w 
   taken = t.1;
   answered = a;
 }
-
-pub no_words : {W : Type 0} (contents : W → Option (List ℕ)) (writer : W) → AddsWords contents writer writer
-no_words contents writer = ([], Appends-nil (contents writer))
 
 -- failures that are counted after none were
 pub counts_reader : (result : Result Verdict ToolFault) (old mid new : ℕ) → mid ≡ old → CountsReaderFault result mid new
