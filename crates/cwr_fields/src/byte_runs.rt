@@ -4,6 +4,7 @@ ghost use Rattle.std.specs.Prelude.{◌≡◌, ◌↔◌, ◌≤◌, ◌<◌, �
 ghost use Rattle.cwr_fields.specs.Format.Bytes.{is_spaces, is_control, has_control, are_digits, number_of, trimmed, digits};
 
 use crate::lanes::{LANES, has_control_in_lanes};
+use crate::spelled::are_same;
 
 /// Whether every byte is a space.
 #[inline(always)]
@@ -147,11 +148,26 @@ pub fn first_control(text: &[u8]) -> Option<usize>
     }
 }
 
+/// The text without eight spaces at its end, as often as they stand there.
+#[inline(always)]
+fn without_eights(text: &[u8]) -> &[u8]
+    ensures { trimmed result.now ≡ trimmed text.now }
+{
+    let mut rest = text;
+    while let Some((front, last)) = rest.split_last_chunk::<8>() {
+        if !are_same(last, b"        ") {
+            break;
+        }
+        rest = front;
+    }
+    rest
+}
+
 /// The text without its trailing spaces.
 pub fn trimmed(text: &[u8]) -> &[u8]
     ensures { result.now ≡ trimmed text.now }
 {
-    let mut rest = text;
+    let mut rest = without_eights(text);
     while let [front @ .., last] = rest {
         if *last != b' ' {
             break;

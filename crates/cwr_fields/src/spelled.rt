@@ -48,7 +48,7 @@ fn next_digits(text: [u8; 8], number: u64) -> [u8; 8]
 
 /// Whether two texts of eight bytes are the same, by one comparison.
 #[inline(always)]
-fn are_same(cell: &[u8], text: &[u8]) -> bool
+pub(crate) fn are_same(cell: &[u8], text: &[u8]) -> bool
     requires cell { length cell.now ≡ 8 }
     requires text { length text.now ≡ 8 }
     ensures { IsTrue result → cell.now ≡ text.now }

@@ -14,3 +14,5 @@ pub mod OthersListed
 pub mod OwnedShares
 -- What is put under a finding, one text after another.
 pub mod NotesPut
+-- The line of a cell, put part by part, and the numbers of fields digit by digit.
+pub mod CellLines

@@ -1,12 +1,12 @@
 //! The lines of a record: its number and kind, and the cells that aren't blank.
 
-ghost use Rattle.std.specs.Prelude.{◌≡◌, ◌+◌, ◌≤◌, [], ◌++◌, length, decimal};
+ghost use Rattle.std.specs.Prelude.{◌≡◌, ◌+◌, ◌≤◌, [], ◌++◌, codes, length, decimal};
 ghost use Rattle.cwr_fields.specs.Steps.Views.{field_view};
 ghost use Rattle.cwr_notes.specs.Format.RecordTexts.{cell_line, cell_lines, head_line, record_lines};
 ghost use Rattle.cwr_notes.specs.Steps.FieldLines.{field_line};
 
 use arrayvec::ArrayVec;
-use cwr_fields::{Field, Kind, field, fields, is_spaces, letters, trimmed};
+use cwr_fields::{Field, Kind, field, fields, letters, trimmed};
 use cwr_lines::RecordRef;
 use itoa::Buffer;
 use std::marker::Model;
@@ -43,6 +43,33 @@ pub(crate) fn push_number(text: &mut Text, number: u64)
     push(text, Buffer::new().format(number).as_bytes());
 }
 
+/// Appends two spaces, the number of a field and a space.
+#[inline(always)]
+fn push_field_number(text: &mut Text, j: u8)
+    requires { length text.old.items + 6 ≤ LONGEST }
+    ensures value { text.new.items ≡ text.old.items ++ (codes "  " ++ decimal j ++ codes " ") }
+    ensures len { length text.new.items ≤ length text.old.items + 6 }
+{
+    if j < 10 {
+        push(text, &[b' ', b' ', b'0' + j, b' ']);
+    } else if j < 100 {
+        push(text, &[b' ', b' ', b'0' + j / 10, b'0' + j % 10, b' ']);
+    } else {
+        let tens = j / 10;
+        push(
+            text,
+            &[
+                b' ',
+                b' ',
+                b'0' + tens / 10,
+                b'0' + tens % 10,
+                b'0' + j % 10,
+                b' ',
+            ],
+        );
+    }
+}
+
 /// Appends the line of a cell under its field's number and name, unless the cell is blank.
 #[inline(always)]
 fn push_cell(text: &mut Text, j: u8, place: &Field, cell: &[u8])
@@ -52,15 +79,14 @@ fn push_cell(text: &mut Text, j: u8, place: &Field, cell: &[u8])
     ensures len { length text.new.items
         ≤ length text.old.items + length place.now.name.now + length cell.now + 26 }
 {
-    if is_spaces(cell) {
+    let shown = trimmed(cell);
+    if shown.is_empty() {
         return;
     }
-    push(text, b"  ");
-    push_number(text, j.into());
-    push(text, b" ");
+    push_field_number(text, j);
     push(text, place.name.as_bytes());
     push(text, b": ");
-    push(text, trimmed(cell));
+    push(text, shown);
     push(text, b"\n");
 }
 

@@ -27,13 +27,13 @@ Looks (Refused refusal) last beyond = (line : LineAtEnd) × IsLineAtEnd last.byt
 Looks (Truncated records) last beyond = beyond ≡ Unasked
 
 -- what is said of what stands after a transmission
-abbrev pub after_words : List ℕ → Option Trailing → List ℕ
-after_words name None = []
-after_words name (Some found) = trailing_words name found
+abbrev pub words_if_found : List ℕ → Option Trailing → List ℕ
+words_if_found name None = []
+words_if_found name (Some found) = trailing_words name found
 
 -- What is said of a verdict, by what was read last and by what was looked at after it.
 abbrev pub SaysVerdict : Limits → List ℕ → Verdict → LastRead → Beyond → List ℕ → Type 0
-SaysVerdict limits name (Good groups transactions records) last beyond words = words ≡ after_words name (found_in beyond)
+SaysVerdict limits name (Good groups transactions records) last beyond words = words ≡ words_if_found name (found_in beyond)
 SaysVerdict limits name (Refused refusal) last beyond words = ExplainsRefusal limits name refusal last beyond [] words
 SaysVerdict limits name (Truncated records) last beyond words = ExplainsEnd name records last [] words
 

@@ -1,9 +1,9 @@
 -- Trailing spaces, from the end of a text.
-use Rattle.std.proofs.lemmas.List.{take_more, take_all}
-use Rattle.std.proofs.Common.{◌≡◌, ◌≢◌, ℕ, ◌+◌, ◌-◌, ◌<◌, ◌≤◌, length, take, get_or, sym, false, eqb, List, [], ◌∷◌, ◌++◌, refl}
+use Rattle.std.proofs.lemmas.List.{take_more, take_all, take-append-drop}
+use Rattle.std.proofs.Common.{◌≡◌, ◌≢◌, ℕ, zero, suc, ◌+◌, ◌-◌, ◌<◌, ◌≤◌, length, take, drop, get_or, replicate, sym, true, false, Bool, ◌&&◌, ◌==◌, if◌then◌else◌, eqb, List, [], ◌∷◌, ◌++◌, refl}
 use Rattle.std.proofs.Common.{ap, ◌∙◌, arith}
 use Rattle.std.proofs.lemmas.Bool.{ne_eqb}
-use Rattle.cwr_fields.specs.Format.Bytes.{trimmed, before_trimmed}
+use Rattle.cwr_fields.specs.Format.Bytes.{trimmed, before_trimmed, is_spaces}
 
 -- a space at the end goes
 pub trimmed-space : (text : List ℕ) → trimmed (text ++ 32 ∷ []) ≡ trimmed text
@@ -47,3 +47,45 @@ pub trimmed-none : (text : List ℕ) → length text < 1 → text ≡ trimmed te
 unfolding trimmed
 trimmed-none [] h = refl
 trimmed-none (b ∷ text) h = absurd (omega arith)
+
+-- spaces alone are trimmed away
+all_trimmed : (n : ℕ) → trimmed (replicate n 32) ≡ []
+unfolding trimmed
+all_trimmed zero = refl
+all_trimmed (suc n) = ap (before_trimmed 32) (all_trimmed n)
+
+trimmed-spaces : (text : List ℕ) (n : ℕ) → trimmed (text ++ replicate n 32) ≡ trimmed text
+unfolding trimmed
+trimmed-spaces [] n = all_trimmed n
+trimmed-spaces (b ∷ text) n = ap (before_trimmed b) (trimmed-spaces text n)
+
+-- eight spaces at the end go
+pub trimmed-eight : (text front last : List ℕ) → front ≡ take (length text - 8) text → last ≡ drop (length text - 8) text
+    → last ≡ replicate 8 32 → trimmed front ≡ trimmed text
+trimmed-eight text front last before after spaces =
+    sym (trimmed-spaces front 8)
+    ∙ ap (λ (xs : List ℕ). trimmed (front ++ xs)) (sym spaces ∙ after)
+    ∙ ap (λ (xs : List ℕ). trimmed (xs ++ drop (length text - 8) text)) before
+    ∙ ap trimmed (take-append-drop (length text - 8) text)
+
+-- a text with a byte isn't empty
+some : (b : ℕ) (text : List ℕ) → (length (b ∷ text) == 0) ≡ false
+some b text = ne_eqb (length (b ∷ text)) 0 (λ e. omega (arith, e))
+
+-- a text of spaces alone is one of which trimming leaves nothing
+pub blank_when_trimmed : (text : List ℕ) → is_spaces text ≡ (length (trimmed text) == 0)
+unfolding trimmed
+blank_when_trimmed [] = refl
+blank_when_trimmed (b ∷ text) = by (trimmed text) (blank_when_trimmed text)
+  where
+    by : (rest : List ℕ) → is_spaces text ≡ (length rest == 0) → is_spaces (b ∷ text) ≡ (length (before_trimmed b rest) == 0)
+    by [] e = one (b == 32) refl e
+      where
+        one : (c : Bool) → (b == 32) ≡ c → is_spaces text ≡ true → (c && is_spaces text) ≡ (length (if c then [] else b ∷ []) == 0)
+        one true is e = e
+        one false is e = sym (some b [])
+    by (c ∷ rest) e = ap (λ (x : Bool). (b == 32) && x) (e ∙ some c rest) ∙ never (b == 32) ∙ sym (some b (c ∷ rest))
+      where
+        never : (x : Bool) → (x && false) ≡ false
+        never true = refl
+        never false = refl
