@@ -54,7 +54,7 @@ pub enum TransactionStep {
     Writer,
     /// After OWR, or a PWR of it.
     OtherWriter,
-    /// After ALT, EWT, VER, PER, REC, ORN or COM.
+    /// After a record that may stand after the writers.
     Tail,
 }
 

@@ -1,11 +1,12 @@
 -- What the definitions compute on the worked examples: lengths, lines, items, and splits and joins.
 use Rattle.std.proofs.Common.{◌≡◌, ℕ, true, false, List, [], ◌∷◌, ◌++◌, length, map, replicate, refl, take, drop, Some, None}
 use Rattle.std.specs.Prelude.{codes, slice_index_or}
-use Rattle.std.specs.List.{flat_map}
+use Rattle.std.specs.List.{filter, flat_map}
 use Rattle.std.specs.Fmt.{digits as plain_digits}
 use Rattle.cwr_fields.specs.Format.Bytes.{digits, filled, trimmed}
+use Rattle.cwr_fields.specs.declared.kinds.Kind.{Kind}
 use Rattle.cwr_fields.specs.declared.kinds.Kind.TheVariants as kinds
-use Rattle.cwr_fields.specs.Format.Kinds.{all_kinds}
+use Rattle.cwr_fields.specs.Format.Kinds.{all_kinds, is_carried}
 use Rattle.cwr_fields.specs.Format.Layouts.{line_width, layout}
 use Rattle.cwr_lines.specs.Format.Records.{full_line, record_of, field_number}
 use Rattle.cwr_lines.specs.Format.Lines.{raw_lines, closed, line_kind, line_cells, has_bad_excess}
@@ -23,16 +24,32 @@ use Rattle.cwr_tools.specs.Format.Texts.{check_text, check_lines, show_text, sho
 use Rattle.cwr_parts.specs.Format.Splits.{split_of, join_of}
 use Rattle.cwr_tools_tests.proofs.Samples
 
--- the widths of the kinds, from HDR to XRF
-widths : map line_width all_kinds ≡ 101 ∷ 28 ∷ 37 ∷ 24 ∷ 121 ∷ 24 ∷ 153 ∷ 260 ∷ 260 ∷ 183 ∷ 183 ∷ 58 ∷ 180 ∷ 180 ∷ 52 ∷ 110 ∷ 83
-    ∷ 364 ∷ 364 ∷ 118 ∷ 266 ∷ 301 ∷ 308 ∷ 159 ∷ 185 ∷ 719 ∷ 719 ∷ 719 ∷ 719 ∷ 719 ∷ 719 ∷ 719 ∷ 719 ∷ 719 ∷ 719 ∷ 719 ∷ 719 ∷ 719
-    ∷ 719 ∷ 719 ∷ []
+-- kinds with layouts of their own
+abbrev laid_out : List Kind
+laid_out =
+    kinds.Hdr ∷ kinds.Grh ∷ kinds.Grt ∷ kinds.Trl ∷ kinds.Agr ∷ kinds.Ter ∷ kinds.Ipa ∷ kinds.Nwr ∷ kinds.Rev ∷ kinds.Spu ∷ kinds.Opu
+    ∷ kinds.Spt ∷ kinds.Swr ∷ kinds.Owr ∷ kinds.Swt ∷ kinds.Pwr ∷ kinds.Alt ∷ kinds.Ewt ∷ kinds.Ver ∷ kinds.Per ∷ kinds.Rec
+    ∷ kinds.Orn ∷ kinds.Com ∷ kinds.Ack ∷ kinds.Msg ∷ []
+
+-- the kinds that are carried as text
+abbrev carried : List Kind
+carried = filter is_carried all_kinds
+
+-- their widths
+widths : map line_width laid_out ≡ 101 ∷ 28 ∷ 37 ∷ 24 ∷ 121 ∷ 24 ∷ 153 ∷ 260 ∷ 260 ∷ 183 ∷ 183 ∷ 58 ∷ 180 ∷ 180 ∷ 52 ∷ 110 ∷ 83
+    ∷ 364 ∷ 364 ∷ 118 ∷ 266 ∷ 301 ∷ 308 ∷ 159 ∷ 185 ∷ []
 widths = refl
 
--- how many fields the kinds have
-field_counts : map (λ kind. length (layout kind)) all_kinds ≡ 9 ∷ 6 ∷ 6 ∷ 4 ∷ 19 ∷ 5 ∷ 15 ∷ 28 ∷ 28 ∷ 25 ∷ 25 ∷ 12 ∷ 23 ∷ 23 ∷ 11
-    ∷ 8 ∷ 6 ∷ 16 ∷ 16 ∷ 7 ∷ 15 ∷ 16 ∷ 15 ∷ 13 ∷ 9 ∷ 4 ∷ 4 ∷ 4 ∷ 4 ∷ 4 ∷ 4 ∷ 4 ∷ 4 ∷ 4 ∷ 4 ∷ 4 ∷ 4 ∷ 4 ∷ 4 ∷ 4 ∷ []
+carried_widths : map line_width carried ≡ replicate (length carried) 719
+carried_widths = refl
+
+-- how many fields they have
+field_counts : map (λ kind. length (layout kind)) laid_out ≡ 9 ∷ 6 ∷ 6 ∷ 4 ∷ 19 ∷ 5 ∷ 15 ∷ 28 ∷ 28 ∷ 25 ∷ 25 ∷ 12 ∷ 23 ∷ 23 ∷ 11
+    ∷ 8 ∷ 6 ∷ 16 ∷ 16 ∷ 7 ∷ 15 ∷ 16 ∷ 15 ∷ 13 ∷ 9 ∷ []
 field_counts = refl
+
+carried_field_counts : map (λ kind. length (layout kind)) carried ≡ replicate (length carried) 4
+carried_field_counts = refl
 
 -- ---- one acknowledgement
 
