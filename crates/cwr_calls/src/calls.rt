@@ -203,10 +203,7 @@ pub fn blank_record(kind: &[u8], line: &mut [u8]) -> usize
     ensures { TellsBlank kind.now line.old line.new result }
 {
     match Kind::of(kind) {
-        Some(kind) => match blank_line(kind) {
-            Some(blank) => copy_out(blank.as_slice(), line),
-            None => 0,
-        },
+        Some(kind) => copy_out(blank_line(kind).as_slice(), line),
         None => 0,
     }
 }

@@ -1,6 +1,6 @@
 //! Which texts a cell may hold where these can be counted up, and the line of a record in which nothing was set.
 
-ghost use Rattle.std.specs.Prelude.{◌≡◌, ◌++◌, replicate, IfSome, IsSomeAnd};
+ghost use Rattle.std.specs.Prelude.{◌≡◌, ◌+◌, ◌≤◌, ◌++◌, length, replicate, IfSome, IsSomeAnd};
 ghost use Rattle.cwr_fields.specs.Format.Bytes.{filled};
 ghost use Rattle.cwr_fields.specs.Format.Cells.{Allows};
 ghost use Rattle.cwr_lines.specs.Format.Carried.{carried_at};
@@ -108,32 +108,28 @@ pub(crate) fn put_code(kind: Kind, j: u8, i: u32, room: &mut [u8]) -> usize
     }
 }
 
-/// Appends spaces. `None` where there is no room for them.
-fn push_spaces(line: &mut ArrayVec<u8, LONGEST_LINE>, count: usize) -> Option<()>
-    ensures { IfSome result (λ _. line.new.items ≡ line.old.items ++ replicate count 32) }
+/// Appends spaces.
+fn push_spaces(line: &mut ArrayVec<u8, LONGEST_LINE>, count: usize)
+    requires { length line.old.items + count ≤ LONGEST_LINE }
+    ensures { line.new.items ≡ line.old.items ++ replicate count 32 }
 {
     for _ in 0..count {
-        if line.try_push(b' ').is_err() {
-            return None;
-        }
+        let _fits = line.try_push(b' ');
     }
-    Some(())
 }
 
-/// Appends bytes. `None` where there is no room for them.
-fn push_bytes(line: &mut ArrayVec<u8, LONGEST_LINE>, bytes: &[u8]) -> Option<()>
-    ensures { IfSome result (λ _. line.new.items ≡ line.old.items ++ bytes.now) }
+/// Appends bytes.
+fn push_bytes(line: &mut ArrayVec<u8, LONGEST_LINE>, bytes: &[u8])
+    requires { length line.old.items + length bytes.now ≤ LONGEST_LINE }
+    ensures { line.new.items ≡ line.old.items ++ bytes.now }
 {
-    match line.try_extend_from_slice(bytes) {
-        Ok(()) => Some(()),
-        Err(_) => None,
-    }
+    let _fits = line.try_extend_from_slice(bytes);
 }
 
-/// Appends a cell of the field in which nothing was set. `None` where there is no room for it.
-fn push_blank(line: &mut ArrayVec<u8, LONGEST_LINE>, place: &Field) -> Option<()>
-    ensures { IfSome result
-        (λ _. line.new.items ≡ line.old.items ++ blank_cell place.now.ty place.now.width) }
+/// Appends a cell of the field in which nothing was set.
+fn push_blank(line: &mut ArrayVec<u8, LONGEST_LINE>, place: &Field)
+    requires { length line.old.items + length (blank_cell place.now.ty place.now.width) ≤ LONGEST_LINE }
+    ensures { line.new.items ≡ line.old.items ++ blank_cell place.now.ty place.now.width }
 {
     match place.ty {
         CellType::Constant(word) => push_bytes(line, word.text()),
@@ -142,14 +138,16 @@ fn push_blank(line: &mut ArrayVec<u8, LONGEST_LINE>, place: &Field) -> Option<()
 }
 
 /// The line of a record of the kind in which nothing was set, in full width. No kind is wider than a line may be.
-pub(crate) fn blank_line(kind: Kind) -> Option<ArrayVec<u8, LONGEST_LINE>>
-    ensures { IfSome result (λ line. line.items ≡ blank_line kind) }
+pub(crate) fn blank_line(kind: Kind) -> ArrayVec<u8, LONGEST_LINE>
+    ensures { result.items ≡ blank_line kind }
 {
     let mut line = ArrayVec::new();
-    push_bytes(&mut line, letters(kind))?;
+    push_bytes(&mut line, letters(kind));
     for i in 1..fields(kind) {
-        let place = field(kind, i + 1)?;
-        push_blank(&mut line, &place)?;
+        match field(kind, i + 1) {
+            Some(place) => push_blank(&mut line, &place),
+            None => unreachable!(),
+        }
     }
-    Some(line)
+    line
 }

@@ -1,19 +1,15 @@
 -- The numbers of the items that were read, and their records.
-use Rattle.std.proofs.Common.{◌≡◌, ℕ, ◌+◌, ◌≤◌, Bool, cond, List, [], ◌∷◌, ◌++◌, length, map, refl, sym, ap, ap₂, subst, ◌∙◌}
+use Rattle.std.proofs.Common.{◌≡◌, ℕ, ◌+◌, ◌≤◌, Bool, cond, List, [], ◌∷◌, ◌++◌, length, refl, sym, ap, subst, ◌∙◌}
 use Rattle.std.proofs.Common.{arith}
 use Rattle.std.specs.Prelude.{Option, count_by, sum_by}
-use Rattle.std.specs.List.{flat_map}
 use Rattle.std.proofs.lemmas.List.{length-append}
-use Rattle.std.proofs.lemmas.List.Folds.{flat_map-map}
 use Rattle.std.proofs.lemmas.List.Sums.{count_by-le-length, sum_by-append}
-use Rattle.std.proofs.lemmas.Grind.{flat_map-append}
-use Rattle.cwr_lines.specs.Format.Records.{RecordValue}
 use Rattle.cwr_shape.specs.declared.limits.Limits.{Limits}
 use Rattle.cwr_values.specs.declared.items.Item.{Item}
 use Rattle.cwr_values.specs.declared.items.Item.TheVariants as items
 use Rattle.cwr_values.specs.Format.Values.{GroupValue, TransmissionValue}
-use Rattle.cwr_values.specs.Format.Rows.{records_of, records_of_group, rows, trailer}
-use Rattle.cwr_judge.specs.Format.Items.{group_items, is_transaction, item_records, opens_group, records_in, value_items}
+use Rattle.cwr_values.specs.Format.Rows.{rows}
+use Rattle.cwr_judge.specs.Format.Items.{is_transaction, item_records, opens_group, records_in, value_items}
 use Rattle.cwr_decode.specs.Steps.Machines.{Standing}
 use Rattle.cwr_decode.specs.Steps.Runs.{IsReadingOn}
 use Rattle.cwr_decode.proofs.lemmas.CountedItems.{all_given, bounded, groups_given, transactions_given}

@@ -55,10 +55,10 @@ TellsKind i room name count =
 abbrev pub blank_line : Kind → List ℕ
 blank_line kind = letters kind ++ concat (map (λ f. blank_cell f.ty f.width) (fields_after_type kind))
 
--- that line in the room, where the letters name the kind; or 0, and then nothing changes
+-- that line in the room, where the letters name the kind; else 0, and then nothing changes
 abbrev pub TellsBlank : List ℕ → List ℕ → List ℕ → ℕ → Type 0
 TellsBlank kind room line count =
-    ((count ≡ 0) × (line ≡ room))
+    ((kind_of kind ≡ None) × (count ≡ 0) × (line ≡ room))
     ⊎ ((k : Kind) × (kind_of kind ≡ Some k) × CopiesOut (blank_line k) room line count)
 
 -- the text, filled up with spaces, is a cell of field j, which isn't computed

@@ -1,10 +1,7 @@
-use Rattle.std.proofs.Common.{List, Option, None, Some, true, inr, rules, subst}
+use Rattle.std.proofs.Common.{None, Some, true, inr, rules, subst}
 use Rattle.std.specs.Io.KnownBytes.{prepend_known}
 use Rattle.cwr_devices.specs.Steps.Counted.{ahead_of}
-use Rattle.std.specs.Prelude.{Ok, Result}
 use Rattle.cwr_shape.specs.declared.limits.Limits.{Limits}
-use Rattle.cwr_tools.specs.declared.verdicts.Verdict.{Verdict}
-use Rattle.cwr_tools.specs.declared.verdicts.ToolFault.{ToolFault}
 use Rattle.cwr_tools.specs.Format.Reports.{lines_of_findings}
 use Rattle.cwr_tools.specs.Format.Verdicts.{IsVerdictOn}
 use Rattle.cwr_tools.proofs.lemmas.RightReports.{judged_text}
