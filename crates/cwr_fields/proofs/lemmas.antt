@@ -26,6 +26,8 @@ pub mod DigitsWritten
 pub mod ClearLanes
 -- What is found in parts of a text that overlap.
 pub mod Covers
+-- What is seen in lanes of which the lesser or the greater are kept, and in those that are marked.
+pub mod SeenInLanes
 -- The first element of a text that passes a test, where the first elements don't.
 pub mod FirstFound
 -- Texts that quick tests find to be cells of their types.

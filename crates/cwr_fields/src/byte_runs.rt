@@ -3,7 +3,7 @@
 ghost use Rattle.std.specs.Prelude.{◌≡◌, ◌↔◌, ◌≤◌, ◌<◌, ◌^◌, IsSome, IfSome, IsTrue, length, position, take, drop, ◌+◌, ◌++◌};
 ghost use Rattle.cwr_fields.specs.Format.Bytes.{is_spaces, is_control, has_control, are_digits, number_of, trimmed, digits};
 
-use crate::lanes::{LANES, has_control_in_lanes};
+use crate::lanes::{LANES, SeenLanes, has_control_in_lanes};
 use crate::spelled::are_same;
 
 /// Whether every byte is a space.
@@ -26,21 +26,21 @@ fn has_control_one_by_one(text: &[u8]) -> bool
     found
 }
 
-/// Whether some byte of a text that fills the lanes is a control byte. It goes over all bytes without a branch; its last
-/// step overlaps the one before it.
+/// Whether some byte of a text that fills the lanes is a control byte. It goes over all bytes without a branch, and asks them
+/// at once; its first step, at the end of the text, overlaps the last one.
 #[inline(always)]
 fn has_control_by_lanes(text: &[u8]) -> bool
     requires { 32 ≤ length text.now }
     ensures { result ≡ has_control text.now }
 {
     let last = text.len() - LANES;
-    let mut found = false;
+    let mut seen = SeenLanes::of(text, last);
     let mut at = 0;
     while at < last {
-        found |= has_control_in_lanes(text, at);
+        seen = seen.with(text, at);
         at += LANES;
     }
-    found | has_control_in_lanes(text, last)
+    seen.has_control()
 }
 
 /// Whether some byte is a control byte: one of 0 to 31, or 127.
@@ -163,11 +163,39 @@ fn without_eights(text: &[u8]) -> &[u8]
     rest
 }
 
-/// The text without its trailing spaces.
+/// The text without four spaces at its end, where they stand there.
+#[inline(always)]
+fn without_four(text: &[u8]) -> &[u8]
+    ensures { trimmed result.now ≡ trimmed text.now }
+{
+    let Some((front, last)) = text.split_last_chunk::<4>() else {
+        return text;
+    };
+    if u32::from_le_bytes(*last) != 0x2020_2020 {
+        return text;
+    }
+    front
+}
+
+/// The text without two spaces at its end, where they stand there.
+#[inline(always)]
+fn without_two(text: &[u8]) -> &[u8]
+    ensures { trimmed result.now ≡ trimmed text.now }
+{
+    let Some((front, last)) = text.split_last_chunk::<2>() else {
+        return text;
+    };
+    if u16::from_le_bytes(*last) != 0x2020 {
+        return text;
+    }
+    front
+}
+
+/// The text without its trailing spaces. They are looked for eight at a time, then four, two and one.
 pub fn trimmed(text: &[u8]) -> &[u8]
     ensures { result.now ≡ trimmed text.now }
 {
-    let mut rest = without_eights(text);
+    let mut rest = without_two(without_four(without_eights(text)));
     while let [front @ .., last] = rest {
         if *last != b' ' {
             break;

@@ -66,7 +66,7 @@ impl Spelled {
     {
         Spelled {
             number: 0,
-            text: eight_digits(0),
+            text: one_digit(0),
         }
     }
 

@@ -1,7 +1,9 @@
 -- Trailing spaces, from the end of a text.
-use Rattle.std.proofs.lemmas.List.{take_more, take_all, take-append-drop}
+use Rattle.std.specs.Int.{from_le_bytes, to_le_bytes}
+use Rattle.std.proofs.lemmas.List.{take_more, take_all, take-append-drop, get_or-drop, length-drop}
+use Rattle.std.proofs.lemmas.Nat.{le_bytes_2, le_bytes_4}
 use Rattle.std.proofs.Common.{◌≡◌, ◌≢◌, ℕ, zero, suc, ◌+◌, ◌-◌, ◌<◌, ◌≤◌, length, take, drop, get_or, replicate, sym, true, false, Bool, ◌&&◌, ◌==◌, if◌then◌else◌, eqb, List, [], ◌∷◌, ◌++◌, refl}
-use Rattle.std.proofs.Common.{ap, ◌∙◌, arith}
+use Rattle.std.proofs.Common.{ap, ◌∙◌, arith, Fits, w8, w16, w32}
 use Rattle.std.proofs.lemmas.Bool.{ne_eqb}
 use Rattle.cwr_fields.specs.Format.Bytes.{trimmed, before_trimmed, is_spaces}
 
@@ -59,14 +61,42 @@ unfolding trimmed
 trimmed-spaces [] n = all_trimmed n
 trimmed-spaces (b ∷ text) n = ap (before_trimmed b) (trimmed-spaces text n)
 
--- eight spaces at the end go
-pub trimmed-eight : (text front last : List ℕ) → front ≡ take (length text - 8) text → last ≡ drop (length text - 8) text
-    → last ≡ replicate 8 32 → trimmed front ≡ trimmed text
-trimmed-eight text front last before after spaces =
-    sym (trimmed-spaces front 8)
+-- some spaces at the end go
+pub trimmed-many : (n : ℕ) (text front last : List ℕ) → front ≡ take (length text - n) text → last ≡ drop (length text - n) text
+    → last ≡ replicate n 32 → trimmed front ≡ trimmed text
+trimmed-many n text front last before after spaces =
+    sym (trimmed-spaces front n)
     ∙ ap (λ (xs : List ℕ). trimmed (front ++ xs)) (sym spaces ∙ after)
-    ∙ ap (λ (xs : List ℕ). trimmed (xs ++ drop (length text - 8) text)) before
-    ∙ ap trimmed (take-append-drop (length text - 8) text)
+    ∙ ap (λ (xs : List ℕ). trimmed (xs ++ drop (length text - n) text)) before
+    ∙ ap trimmed (take-append-drop (length text - n) text)
+
+-- what stands at the end of a text, in so many bytes
+bytes_at_end : (n : ℕ) (text last : List ℕ) → ((i : ℕ) → Fits w8 (get_or text i 0)) → last ≡ drop (length text - n) text
+    → (i : ℕ) → get_or last i 0 < 256
+bytes_at_end n text last fits after i =
+    let at : get_or last i 0 ≡ get_or text (length text - n + i) 0 =
+    ap (λ (l : List ℕ). get_or l i 0) after ∙ get_or-drop (length text - n) text i 0 in
+    omega (arith, at, (fits (length text - n + i)).fits)
+
+long_at_end : (n : ℕ) (text last : List ℕ) → n ≤ length text → last ≡ drop (length text - n) text → length last ≡ n
+long_at_end n text last h after = omega (arith, ap length after, length-drop (length text - n) text, h)
+
+-- four bytes that are the number of four spaces, and two
+pub trimmed-four : (text front last : List ℕ) (number : ℕ) → 4 ≤ length text → ((i : ℕ) → Fits w8 (get_or text i 0))
+    → front ≡ take (length text - 4) text → last ≡ drop (length text - 4) text → number ≡ from_le_bytes w32 last
+    → number ≡ 538976288 → trimmed front ≡ trimmed text
+trimmed-four text front last number long fits before after is blank =
+    trimmed-many 4 text front last before after
+    (sym (le_bytes_4 last number (long_at_end 4 text last long after) (bytes_at_end 4 text last fits after) is)
+    ∙ ap (to_le_bytes w32) blank)
+
+pub trimmed-two : (text front last : List ℕ) (number : ℕ) → 2 ≤ length text → ((i : ℕ) → Fits w8 (get_or text i 0))
+    → front ≡ take (length text - 2) text → last ≡ drop (length text - 2) text → number ≡ from_le_bytes w16 last
+    → number ≡ 8224 → trimmed front ≡ trimmed text
+trimmed-two text front last number long fits before after is blank =
+    trimmed-many 2 text front last before after
+    (sym (le_bytes_2 last number (long_at_end 2 text last long after) (bytes_at_end 2 text last fits after) is)
+    ∙ ap (to_le_bytes w16) blank)
 
 -- a text with a byte isn't empty
 some : (b : ℕ) (text : List ℕ) → (length (b ∷ text) == 0) ≡ false

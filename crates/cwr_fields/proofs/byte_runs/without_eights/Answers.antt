@@ -1,9 +1,9 @@
 use Rattle.std.proofs.Common.{◌∙◌}
-use Rattle.cwr_fields.proofs.lemmas.Trims.{trimmed-eight}
+use Rattle.cwr_fields.proofs.lemmas.Trims.{trimmed-many}
 use Rattle.cwr_fields.proofs.byte_runs.without_eights.Goals as goal
 
 pub loop-front-preserved : goal.loop-front-preserved
 loop-front-preserved c =
-    trimmed-eight c.loop-front.rest.now c.in-Some.front.now c.in-Some.last.now c.in-Some.ensures.cases.0
+    trimmed-many 8 c.loop-front.rest.now c.in-Some.front.now c.in-Some.last.now c.in-Some.ensures.cases.0
     c.in-Some.ensures.cases.1 (c.are_same.ensures c.if-not-are_same.false)
     ∙ c.loop-front.invariant
