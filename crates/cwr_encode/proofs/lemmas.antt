@@ -1,5 +1,3 @@
--- What is counted of some records with a whole transaction after them.
-pub mod CountedOn
 -- The canonical text of a transaction's rows: its records are numbered on.
 pub mod TransactionTexts
 -- What is put, row by row, of a transaction.
@@ -14,8 +12,6 @@ pub mod Groups
 pub mod Ready
 -- Within which limits a transmission continues by a whole transaction of the open group's type: by sums.
 pub mod Reaching
--- The records of a transaction are counted one after another.
-pub mod CountedAll
 -- What the stage tells of the open group.
 pub mod OpenTypes
 -- What a call knows that adds a whole transaction.

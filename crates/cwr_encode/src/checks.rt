@@ -1,19 +1,17 @@
-//! What an encoder asks of a transaction before it takes it, and how it counts its records.
+//! What an encoder asks of a transaction before it takes it.
 
-ghost use Rattle.std.specs.Prelude.{◌≡◌, ◌↔◌, ◌≤◌, List, [], ◌∷◌, ◌++◌, map, length, IsTrue};
+ghost use Rattle.std.specs.Prelude.{◌≡◌, ◌↔◌, List, [], ◌∷◌, ◌++◌, IsTrue};
 ghost use Rattle.cwr_fields.specs.declared.kinds.Kind.TheVariants.{Grt};
 ghost use Rattle.cwr_shape.specs.declared.symbols.Symbol.{Symbol};
 ghost use Rattle.cwr_shape.specs.declared.symbols.Symbol.TheVariants.{Plain};
 ghost use Rattle.cwr_shape.specs.Format.AnyTransmission.{Any};
 ghost use Rattle.cwr_shape.specs.Steps.Left.{StandsAt};
-ghost use Rattle.cwr_shape.specs.Format.Outlines.{IsWithin, Continues};
-ghost use Rattle.cwr_shape.specs.Steps.Tallies.{KeepsTally, IsTallyOf};
-ghost use Rattle.cwr_values.specs.Format.Values.{symbol_of as symbol_by_cells};
+ghost use Rattle.cwr_shape.specs.Format.Outlines.{Continues};
+ghost use Rattle.cwr_shape.specs.Steps.Tallies.{KeepsTally};
 ghost use Rattle.cwr_encode.specs.Steps.Encoders.{passed_with};
 
 use cwr_fields::Kind;
 use cwr_shape::{LimitKind, Stage, Symbol, Tally};
-use cwr_values::{Transaction, symbol_of};
 
 /// Whether a group may end at the stage.
 pub(crate) fn group_may_end(stage: Stage) -> bool
@@ -36,21 +34,5 @@ pub(crate) fn limit_passed(tally: &Tally, records: usize) -> Option<LimitKind>
         Some(LimitKind::Transaction)
     } else {
         None
-    }
-}
-
-/// Counts the records of a transaction with which some transmission within the limits continues.
-pub(crate) fn count_all(tally: &mut Tally, transaction: &Transaction)
-    requires few { length transaction.now ≤ 999999 }
-    requires may_come { (xs : List Symbol) × IsTallyOf tally.old xs
-        × Continues (IsWithin tally.old.limits) (xs ++ map symbol_by_cells transaction.now) }
-    ensures limits { tally.new.limits ≡ tally.old.limits }
-    ensures stands { (xs : List Symbol) → IsTallyOf tally.old xs
-        → IsTallyOf tally.new (xs ++ map symbol_by_cells transaction.now) }
-{
-    let mut i = 0;
-    while let Some(shown) = transaction.record(i) {
-        tally.step(symbol_of(&shown));
-        i += 1;
     }
 }

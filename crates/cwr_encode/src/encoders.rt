@@ -18,7 +18,7 @@ ghost use Rattle.cwr_encode.specs.Format.EncodeFaultTexts.{encode_fault_text};
 ghost use Rattle.cwr_encode.specs.Format.Finishing.{JudgesEnd};
 ghost use Rattle.cwr_encode.specs.Steps.Finishing.{Finishes};
 
-use crate::checks::{count_all, group_may_end, limit_passed};
+use crate::checks::{group_may_end, limit_passed};
 use crate::rows::{put_row, put_transaction};
 use cwr_devices::{Sink, Target};
 use cwr_fields::{Kind, TransactionType};
@@ -270,7 +270,8 @@ impl<W: Target> Encoder<W> {
             return Err(EncodeFault::Limit(limit));
         }
         let number = self.number(transaction.kind(), 2);
-        count_all(&mut self.tally, transaction);
+        let records = transaction.len() as u32;
+        self.tally.step_over(ty, records, transaction.step());
         self.put_all(transaction, number)
     }
 

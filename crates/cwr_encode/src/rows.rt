@@ -26,8 +26,8 @@ pub(crate) fn put_row<W: Target>(
     sink.put(line.as_slice())
 }
 
-/// Puts the canonical text of a whole transaction, which has that number in its group.
-pub(crate) fn put_transaction<W: Target>(
+/// Puts the canonical text of a whole transaction, which has that number in its group, line by line.
+fn put_lines<W: Target>(
     sink: &mut Sink<W>,
     line: &mut CanonicalLine,
     transaction: &Transaction,
@@ -45,4 +45,23 @@ pub(crate) fn put_transaction<W: Target>(
         i += 1;
     }
     Ok(())
+}
+
+/// Puts the canonical text of a whole transaction, which has that number in its group: at once where just that is kept.
+pub(crate) fn put_transaction<W: Target>(
+    sink: &mut Sink<W>,
+    line: &mut CanonicalLine,
+    transaction: &Transaction,
+    number: u64,
+) -> Result<(), SinkFault>
+    requires unfailed { has_failed sink.old ≡ false }
+    requires few { length transaction.now ≤ 999999 }
+    ensures puts { Puts W.contents W.failures (text_from number 0 transaction.now) result sink.old
+        sink.new }
+    ensures fault { IfErr result (λ f. f.written ≡ written_of sink.new) }
+{
+    match transaction.numbered_text(number) {
+        Some(text) => sink.put(text),
+        None => put_lines(sink, line, transaction, number),
+    }
 }

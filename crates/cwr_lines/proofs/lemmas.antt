@@ -36,6 +36,8 @@ pub mod NumberedLines
 pub mod DigitsInZeros
 -- Records that are kept in one text stay as they are where a line is added at its end.
 pub mod KeptRecords
+-- The text of kept lines that are the canonical ones of their records is the canonical text of these.
+pub mod NumberedKept
 -- The cells of a whole line at the places of its kind's table.
 pub mod CellsAtStarts
 -- A line that ended has no control byte where what was taken of it has none: it was filled up with spaces.

@@ -3,4 +3,5 @@ pub mod Carried
 pub mod Held
 pub mod KeptLines
 pub mod Numbered
+pub mod NumberedTexts
 pub mod Pads

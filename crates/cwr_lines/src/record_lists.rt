@@ -1,16 +1,18 @@
 //! Records that are kept one after another.
 
-ghost use Rattle.std.specs.Prelude.{◌≡◌, ◌+◌, ◌≤◌, [], ◌∷◌, ◌++◌, length, slice_get, vec_len, vec_capacity, OnOk, OnErr};
+ghost use Rattle.std.specs.Prelude.{◌≡◌, ◌+◌, ◌≤◌, [], ◌∷◌, ◌++◌, length, slice_get, vec_len, vec_capacity, IfSome, IsTrue, OnOk, OnErr};
 ghost use Rattle.std.specs.List.{AllByRecursion};
 ghost use Rattle.cwr_fields.specs.Format.Growth.{Outgrows};
 ghost use Rattle.cwr_fields.specs.Steps.Growth.{IsRoom};
 ghost use Rattle.cwr_lines.specs.Format.Growth.{AsksMemory};
 ghost use Rattle.cwr_fields.specs.Format.Layouts.{line_width};
-ghost use Rattle.cwr_lines.specs.Format.Records.{IsRecord};
-ghost use Rattle.cwr_lines.specs.Steps.KeptLines.{line_at};
+ghost use Rattle.cwr_lines.specs.Format.Records.{IsRecord, full_line, row_of};
+ghost use Rattle.cwr_lines.specs.Steps.Carried.{record_in};
+ghost use Rattle.cwr_lines.specs.Steps.KeptLines.{AreNumbered, IsKeptLine, line_at};
+ghost use Rattle.cwr_lines.specs.Steps.NumberedTexts.{text_from};
 
 use crate::records::RecordRef;
-use cwr_fields::{Kind, make_room, width};
+use cwr_fields::{Kind, SpelledPair, is_in_transaction, letters, make_room, width};
 use std::alloc::{AllocError, Global};
 use std::fmt::{self, Debug};
 use std::marker::Model;
@@ -37,19 +39,22 @@ const FIRST_BYTES: usize = 2048;
 /// Of how many lines the starts have room from the first record on.
 const FIRST_STARTS: usize = 16;
 
-/// Adds a line at the end of the text, which has room for so many bytes. It fails where memory was refused, and then the
-/// text is as it was.
+/// Adds a line, and CR and LF, at the end of the text, which has room for so many bytes. It fails where memory was refused,
+/// and then the text is as it was.
 #[inline(always)]
 fn add_line(text: &mut Vec<u8>, room: &mut usize, line: &[u8]) -> Result<(), AllocError>
     requires { IsRoom 2048 room.old (vec_len text.old) (vec_capacity text.old) }
-    ensures ok { OnOk result (text.new.items ≡ text.old.items ++ line.now) }
+    ensures ok { OnOk result (text.new.items ≡ text.old.items ++ (line.now ++ 13 ∷ 10 ∷ [])) }
     ensures err { OnErr result (text.new.items ≡ text.old.items) }
     ensures room { IsRoom 2048 room.new (vec_len text.new) (vec_capacity text.new) }
     ensures asks { OnErr result
-        (Outgrows 2048 (length text.old.items) (length text.old.items + length line.now)) }
+        (Outgrows 2048 (length text.old.items) (length text.old.items + (length line.now + 2))) }
 {
-    *room = make_room(text, *room, FIRST_BYTES, line.len())?;
-    text.extend_from_slice(line)
+    *room = make_room(text, *room, FIRST_BYTES, line.len() + 2)?;
+    text.extend_from_slice(line)?;
+    text.push_reserved(b'\r');
+    text.push_reserved(b'\n');
+    Ok(())
 }
 
 /// Makes room for the start of one line more in a list that has room for so many. It fails where memory was refused, and then the list
@@ -68,7 +73,48 @@ fn make_start(starts: &mut Vec<LineStart>, room: &mut usize) -> Result<(), Alloc
     Ok(())
 }
 
-/// Records in order, in one buffer of bytes: the whole line of each, and a list of where they begin.
+/// Whether a whole line of the kind is the canonical one of its record, with these numbers. A no says nothing.
+#[inline(always)]
+fn is_numbered(
+    kind: Kind,
+    line: &[u8],
+    expected: &mut SpelledPair,
+    transaction: u64,
+    place: u64,
+) -> bool
+    requires { length line.now ≡ line_width kind }
+    ensures { IsTrue result → line.now
+        ≡ full_line (row_of (transaction ∷ place ∷ []) (record_in kind line.now)) }
+{
+    if !is_in_transaction(kind) {
+        return false;
+    }
+    if letters(kind) != &line[..3] {
+        return false;
+    }
+    expected.are_in(&line[3..19], transaction, place)
+}
+
+/// Whether the lines at these starts are the canonical ones of their records, with the transaction's number and with theirs, from 0. A
+/// no says nothing.
+fn are_numbered(text: &[u8], starts: &[LineStart], transaction: u64) -> bool
+    requires { AllByRecursion (IsKeptLine text.now) starts.now }
+    ensures { IsTrue result → AreNumbered transaction 0 text.now starts.now }
+{
+    let mut expected = SpelledPair::new();
+    let mut i = 0;
+    while i < starts.len() {
+        let line = starts[i];
+        let whole = line_at(text, line);
+        if !is_numbered(line.kind, whole, &mut expected, transaction, i as u64) {
+            return false;
+        }
+        i += 1;
+    }
+    true
+}
+
+/// Records in order, in one buffer of bytes: the whole line of each with its line end, and a list of where they begin.
 #[derive(Drop)]
 pub struct RecordList {
     text: Vec<u8>,
@@ -125,6 +171,19 @@ impl RecordList {
         match self.starts.get(i) {
             Some(line) => Some(RecordRef::of_line(line.kind, line_at(self.text.as_slice(), *line))),
             None => None,
+        }
+    }
+
+    /// The canonical text of the records as those of a transaction with that number in its group, where just that is kept: nothing
+    /// is copied. `None` says nothing.
+    pub fn numbered_text(&self, transaction: u64) -> Option<&[u8]>
+        ensures { IfSome result (λ text. text.now ≡ text_from transaction 0 self.now) }
+    {
+        let text = self.text.as_slice();
+        if are_numbered(text, self.starts.as_slice(), transaction) {
+            Some(text)
+        } else {
+            None
         }
     }
 

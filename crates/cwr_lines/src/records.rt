@@ -163,8 +163,19 @@ impl<'a> RecordRef<'a> {
         ensures value { option_map (λ cell. cell.now) result ≡ record_cell self.now j }
         ensures fits { IsRecord self.now }
     {
-        let place = carried_field(self.kind, j)?;
-        Some(part(self.line, place))
+        self.cell_of(self.kind, j)
+    }
+
+    /// The same cell, where the record's kind is given: so a caller that asks for many cells reads it once.
+    #[inline(always)]
+    pub fn cell_of(&self, kind: Kind, j: u8) -> Option<&'a [u8]>
+        requires { kind ≡ self.now.kind }
+        ensures value { option_map (λ cell. cell.now) result ≡ record_cell self.now j }
+        ensures fits { IsRecord self.now }
+    {
+        let line = self.line;
+        let place = carried_field(kind, j)?;
+        Some(part(line, place))
     }
 
     /// The cell of field `j`, from 1, as a value of a cell type. `None` where the record has no cell of field `j`, and

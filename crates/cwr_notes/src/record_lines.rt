@@ -90,17 +90,18 @@ fn push_cell(text: &mut Text, j: u8, place: &Field, cell: &[u8])
     push(text, b"\n");
 }
 
-/// Appends the line of the cell that the record carries in field `j`, if it carries one.
+/// Appends the line of the cell that the record, which is of the kind, carries in field `j`, if it carries one.
 #[inline(always)]
-fn push_field(text: &mut Text, shown: &RecordRef<'_>, j: u8)
-    requires { length text.old.items + LONGEST_CELL_LINE ≤ LONGEST }
+fn push_field(text: &mut Text, kind: Kind, shown: &RecordRef<'_>, j: u8)
+    requires room { length text.old.items + LONGEST_CELL_LINE ≤ LONGEST }
+    requires of { kind ≡ shown.now.kind }
     ensures value { text.new.items ≡ text.old.items ++ field_line shown.now j }
     ensures len { length text.new.items ≤ length text.old.items + LONGEST_CELL_LINE }
 {
-    let Some(cell) = shown.cell(j) else {
+    let Some(cell) = shown.cell_of(kind, j) else {
         return;
     };
-    let Some(place) = field(shown.kind(), j) else {
+    let Some(place) = field(kind, j) else {
         return;
     };
     push_cell(text, j, &place, cell);
@@ -112,8 +113,9 @@ fn push_cells(text: &mut Text, shown: &RecordRef<'_>)
     requires { length text.old.items ≤ LONGEST_HEAD }
     ensures { text.new.items ≡ text.old.items ++ cell_lines shown.now }
 {
-    for before in 0..fields(shown.kind()) {
-        push_field(text, shown, before + 1);
+    let kind = shown.kind();
+    for before in 0..fields(kind) {
+        push_field(text, kind, shown, before + 1);
     }
 }
 

@@ -67,3 +67,7 @@ pub mod NumberingsKept
 -- After symbols with which a transmission within the limits begins, each symbol and each kind of record may come, or
 -- something bars it.
 pub mod EachAnswered
+-- What is counted of some records with a whole transaction after them.
+pub mod CountedOn
+-- What a tally counts of a whole transaction at once, and the stage that this comes to.
+pub mod WholeSteps

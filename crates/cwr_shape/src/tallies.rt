@@ -1,15 +1,15 @@
 //! Where a transmission stands, what was counted of it, and what bars a record.
 
 ghost use Rattle.cwr_shape.specs.Format.Ranges.{AreInRange};
-ghost use Rattle.std.specs.Prelude.{◌≡◌, ◌<◌, List, [], ◌∷◌, ◌++◌, length, count_by, OnOk, OnErr};
+ghost use Rattle.std.specs.Prelude.{◌≡◌, ◌+◌, ◌<◌, ◌≤◌, List, [], ◌∷◌, ◌++◌, length, count_by, OnOk, OnErr};
 ghost use Rattle.cwr_fields.specs.declared.codes.TransactionType.TheVariants.{Acknowledgement};
 ghost use Rattle.cwr_shape.specs.declared.symbols.Symbol.{Symbol};
 ghost use Rattle.cwr_shape.specs.Format.LastSymbols.{is_grh};
 ghost use Rattle.cwr_shape.specs.Format.Numbers.{number_in, IsNumberAt};
 ghost use Rattle.cwr_shape.specs.Format.ExpectedNumbers.{expected_numbers};
-ghost use Rattle.cwr_shape.specs.Steps.Counting.{counts_with, wanted_role, scope_at, stage_type, passed_limit_at, number_inside, HaveRoom};
+ghost use Rattle.cwr_shape.specs.Steps.Counting.{counts_with, counts_with_transaction, wanted_role, scope_at, stage_type, passed_limit_at, number_inside, HaveRoom};
 ghost use Rattle.cwr_shape.specs.Format.NextSymbols.{header_kind, is_header_of, Answers, AnswersKind, transactions_begun, scope_after};
-ghost use Rattle.cwr_shape.specs.Steps.Tallies.{IsTallyOf, IsAdmitted, IsStageOf, KeepsTally};
+ghost use Rattle.cwr_shape.specs.Steps.Tallies.{IsTallyOf, IsAdmitted, IsStageOf, KeepsTally, MayComeWhole};
 
 use crate::limits::{LimitKind, Limits};
 use crate::stages::{Stage, TransactionStep};
@@ -95,6 +95,22 @@ impl Counts {
             };
         }
         one_more
+    }
+
+    /// With a whole transaction more of so many records.
+    fn with_transaction(self, records: u32) -> Counts
+        requires room { HaveRoom self }
+        requires few { records ≤ 99999999 }
+        ensures { result ≡ counts_with_transaction self records }
+    {
+        Counts {
+            records: self.records + records,
+            transactions: self.transactions + 1,
+            in_group: self.in_group + 1,
+            after_grh: self.after_grh + records,
+            after_header: records.saturating_sub(1),
+            ..self
+        }
     }
 
     /// The number in field `j` of the next record, which is of the kind and stands in a group of the type. `None` where
@@ -376,5 +392,19 @@ impl Tally {
         if let Some(stage) = self.stage.next(symbol) {
             self.stage = stage;
         }
+    }
+
+    /// Counts the records of a whole transaction of the open group's type, which may come: so many, of which the last comes to the
+    /// step.
+    pub fn step_over(&mut self, ty: TransactionType, records: u32, step: TransactionStep)
+        requires may_come { (xs whole : List Symbol) × IsTallyOf self.old xs
+            × MayComeWhole self.old ty records step xs whole }
+        requires fits { self.old.counts.records + records ≤ self.old.limits.records }
+        ensures limits { self.new.limits ≡ self.old.limits }
+        ensures stands { (xs whole : List Symbol) → IsTallyOf self.old xs
+            → MayComeWhole self.old ty records step xs whole → IsTallyOf self.new (xs ++ whole) }
+    {
+        self.counts = self.counts.with_transaction(records);
+        self.stage = Stage::Within(ty, step);
     }
 }

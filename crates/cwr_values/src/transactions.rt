@@ -1,7 +1,8 @@
 //! Transactions as values.
 
-ghost use Rattle.std.specs.Prelude.{◌≡◌, ◌↔◌, List, [], ◌∷◌, ◌++◌, length, option_map, slice_get, IsTrue, IsSome, IfSome, IfOk, OnOk, OnErr, Some, Err};
+ghost use Rattle.std.specs.Prelude.{◌≡◌, ◌↔◌, List, [], ◌∷◌, ◌++◌, length, map, option_map, slice_get, IsTrue, IsSome, IfSome, IfOk, OnOk, OnErr, Some, Err};
 ghost use Rattle.cwr_lines.specs.Format.Growth.{AsksMemory};
+ghost use Rattle.cwr_lines.specs.Steps.NumberedTexts.{text_from};
 ghost use Rattle.cwr_shape.specs.Format.Shapes.{BeginsShape};
 ghost use Rattle.cwr_values.specs.Format.Values.{symbol_of};
 ghost use Rattle.cwr_values.specs.Format.Begun.{HasHeaderOf, IsBegun, IsWholeTransaction, BeginsWithOneMore};
@@ -130,6 +131,13 @@ impl Transaction {
         self.records.record(i)
     }
 
+    /// Its canonical text, where it has that number in its group and just that is kept: nothing is copied. `None` says nothing.
+    pub fn numbered_text(&self, number: u64) -> Option<&[u8]>
+        ensures { IfSome result (λ text. text.now ≡ text_from number 0 self.now) }
+    {
+        self.records.numbered_text(number)
+    }
+
     /// Adds a record at the end. It is refused as misplaced exactly where no transaction continues so, and for want of
     /// memory only where its list asks for some. A refused one changes nothing.
     #[inline(always)]
@@ -189,6 +197,13 @@ impl Transaction {
                 | (TransactionType::RevisedWork, Kind::Rev)
                 | (TransactionType::Acknowledgement, Kind::Ack)
         )
+    }
+
+    /// The step after its records.
+    pub fn step(&self) -> TransactionStep
+        ensures { IsStepAfter (map symbol_of self.now) result }
+    {
+        self.step
     }
 
     /// Whether its records are a whole transaction.

@@ -27,7 +27,7 @@ use Rattle.cwr_shape.proofs.lemmas.LimitsByNeeds.{records_reach, groups_reach, t
 use Rattle.cwr_shape.proofs.lemmas.LimitsByNeeds.{open_named, KeptSoFar, kept_within, to_start}
 use Rattle.cwr_encode.specs.Format.Encoders.{reached, IsInGroup, IsBetween}
 use Rattle.cwr_encode.proofs.lemmas.Comes.{Ending, ending_at, least_transaction}
-use Rattle.cwr_encode.proofs.lemmas.CountedOn.{counted_after_transaction}
+use Rattle.cwr_shape.proofs.lemmas.CountedOn.{counted_after_transaction}
 use Rattle.cwr_encode.proofs.lemmas.Ready.{takes}
 
 at_most : (b : Bool) (n limit : ℕ) → n ≤ limit → cond b n 0 ≤ limit

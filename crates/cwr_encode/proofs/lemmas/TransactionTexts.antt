@@ -18,7 +18,7 @@ use Rattle.cwr_values.specs.Format.Rows.{canonical_line}
 use Rattle.cwr_values.specs.Format.Begins.{numbers_after, rows_after}
 use Rattle.cwr_values.proofs.lemmas.RowAt.{kind_of_symbol}
 use Rattle.cwr_encode.specs.Steps.Texts.{text_from}
-use Rattle.cwr_encode.proofs.lemmas.CountedOn.{Inside, inside_header, inside_more}
+use Rattle.cwr_shape.proofs.lemmas.CountedOn.{Inside, inside_header, inside_more}
 
 -- with one more record
 pub text-snoc : (j k : ℕ) (rs : List RecordValue) (i : ℕ) (r : RecordValue) → slice_get rs i ≡ Some r

@@ -25,6 +25,9 @@ use Rattle.cwr_values.specs.Format.Begun.{IsBegun, HasHeaderOf, IsWholeTransacti
 use Rattle.cwr_values.specs.Format.Begins.{numbers_after}
 use Rattle.cwr_values.proofs.lemmas.Grouping.{of_type}
 use Rattle.cwr_values.proofs.lemmas.RowAt.{kind_of_symbol}
+use Rattle.cwr_shape.specs.declared.stages.TransactionStep.{TransactionStep}
+use Rattle.cwr_shape.specs.Steps.Tallies.{MayComeWhole}
+use Rattle.cwr_values.specs.Steps.Begun.{IsStepAfter}
 use Rattle.cwr_encode.specs.declared.encoders.Encoder.{Encoder}
 use Rattle.cwr_encode.specs.declared.encoders.EncodeFault.{EncodeFault}
 use Rattle.cwr_encode.specs.declared.encoders.EncodeFault.TheVariants.{Limit, WrongKind}
@@ -121,6 +124,23 @@ pub few_records : (tally : TallyValue) (t : List RecordValue) (o : Option LimitK
     → o ≡ passed_with tally (length t) → o ≡ None → length t ≤ 999999
 few_records tally t o kept e f =
     let h = passed_as tally (length t) o None e f in omega (arith, h.1, kept.counts.in_range.most_transaction)
+
+-- its records may come at once
+pub comes_whole : (tally : TallyValue) (xs : List Symbol) (ty : TransactionType) (t : List RecordValue) (o : Option LimitKind)
+    (n : ℕ) (step : TransactionStep) → IsTallyOf tally xs → TakesTransactions ty xs → Whole ty t
+    → o ≡ passed_with tally (length t) → o ≡ None → n ≡ length t → IsStepAfter (map symbol_of t) step
+    → MayComeWhole tally ty n step xs (map symbol_of t)
+comes_whole tally xs ty t o n step st ready w e f many ends = record {
+  same_type = ready.same_type;
+  shape = w.shape;
+  long = long t ∙ sym many;
+  ends = ends;
+  within = comes_within tally xs ty t o st ready w e f;
+}
+
+pub fits_whole : (tally : TallyValue) (t : List RecordValue) (o : Option LimitKind) (n : ℕ)
+    → o ≡ passed_with tally (length t) → o ≡ None → n ≡ length t → tally.counts.records + n ≤ tally.limits.records
+fits_whole tally t o n e f many = let h = passed_as tally (length t) o None e f in omega (arith, h.0, many)
 
 -- ---- its number
 

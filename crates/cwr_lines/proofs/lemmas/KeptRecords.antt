@@ -1,11 +1,12 @@
 -- Records that are kept in one text stay as they are where a line is added at its end.
 use Rattle.std.proofs.Common.{◌≡◌, ℕ, zero, suc, ◌+◌, ◌≤◌, false, ltb-false, List, [], ◌∷◌, ◌++◌, length, take, drop, None, inl}
-use Rattle.std.proofs.Common.{inr, refl, sym, ap, subst, ◌∙◌, arith}
+use Rattle.std.proofs.Common.{inr, refl, sym, ap, ap₂, subst, ◌∙◌, arith}
 use Rattle.std.specs.Prelude.{slice_get, nat_lt}
-use Rattle.std.specs.List.{AllByRecursion}
-use Rattle.std.proofs.lemmas.List.{map-append, length-map, length-append, length-drop, drop-append-le, take-append-le}
+use Rattle.std.specs.List.{AllByRecursion, flat_map}
+use Rattle.std.proofs.lemmas.List.{append-nil, map-append, length-map, length-append, length-drop, drop-append-le, take-append-le}
+use Rattle.std.proofs.lemmas.List.Concat.{flat_map-append}
 use Rattle.std.proofs.lemmas.List.Sums.{sum_by-append}
-use Rattle.std.proofs.Math.Seq.{drop-append_seam, take-length}
+use Rattle.std.proofs.Math.Seq.{drop-append_seam, take-append_seam}
 use Rattle.cwr_fields.specs.Format.Growth.{Outgrows}
 use Rattle.cwr_fields.specs.declared.kinds.Kind.{Kind}
 use Rattle.cwr_lines.specs.declared.record_lists.LineStart.{LineStart}
@@ -13,7 +14,7 @@ use Rattle.cwr_lines.specs.Format.Growth.{lines_width, AsksMemory}
 use Rattle.cwr_fields.specs.Format.Layouts.{line_width}
 use Rattle.cwr_lines.specs.Format.Records.{RecordValue, IsRecord}
 use Rattle.cwr_lines.specs.Steps.Carried.{record_in}
-use Rattle.cwr_lines.specs.Steps.KeptLines.{IsKeptLine, KeepsLines, kept_records, line_at, record_at}
+use Rattle.cwr_lines.specs.Steps.KeptLines.{IsKeptLine, KeepsLines, ended_line_at, kept_records, line_at, record_at}
 
 -- each of them is in order
 all_in_order : (text : List ℕ) (starts : List LineStart) → AllByRecursion (IsKeptLine text) starts
@@ -51,24 +52,34 @@ records_stay text more (p ∷ starts) h = ap2 (record_stays text more p h.0.with
     ap2 : {r s : RecordValue} {rs ss : List RecordValue} → r ≡ s → rs ≡ ss → r ∷ rs ≡ s ∷ ss
     ap2 e f = cc (e, f)
 
+lines_stay : (text more : List ℕ) (starts : List LineStart) → AllByRecursion (IsKeptLine text) starts
+    → flat_map (ended_line_at (text ++ more)) starts ≡ flat_map (ended_line_at text) starts
+lines_stay text more [] h = refl
+lines_stay text more (p ∷ starts) h =
+    ap₂ (λ (x y : List ℕ). (x ++ 13 ∷ 10 ∷ []) ++ y) (line_stays text more p h.0.within) (lines_stay text more starts h.1)
+
 -- ---- a line more
+
+-- a line with its end
+abbrev ended : List ℕ → List ℕ
+ended line = line ++ 13 ∷ 10 ∷ []
 
 -- the line that was added stands at the end
 last_line : (text line : List ℕ) (p : LineStart) → p.start ≡ length text → length line ≡ line_width p.kind
-    → line_at (text ++ line) p ≡ line
+    → line_at (text ++ ended line) p ≡ line
 last_line text line p at whole =
-    ap (λ (n : ℕ). take (line_width p.kind) (drop n (text ++ line))) at
-    ∙ ap (take (line_width p.kind)) (drop-append_seam text line)
-    ∙ ap (λ (n : ℕ). take n line) (sym whole) ∙ take-length line
+    ap (λ (n : ℕ). take (line_width p.kind) (drop n (text ++ ended line))) at
+    ∙ ap (take (line_width p.kind)) (drop-append_seam text (ended line))
+    ∙ ap (λ (n : ℕ). take n (ended line)) (sym whole) ∙ take-append_seam line (13 ∷ 10 ∷ [])
 
 last_record : (text line : List ℕ) (p : LineStart) (r : RecordValue) → p.start ≡ length text → length line ≡ line_width p.kind
-    → r ≡ record_in p.kind line → record_at (text ++ line) p ≡ r
+    → r ≡ record_in p.kind line → record_at (text ++ ended line) p ≡ r
 last_record text line p r at whole e = ap (record_in p.kind) (last_line text line p at whole) ∙ sym e
 
 last_kept : (text line : List ℕ) (p : LineStart) (r : RecordValue) → p.start ≡ length text → length line ≡ line_width p.kind
-    → r ≡ record_in p.kind line → IsRecord r → IsKeptLine (text ++ line) p
+    → r ≡ record_in p.kind line → IsRecord r → IsKeptLine (text ++ ended line) p
 last_kept text line p r at whole e good = record {
-  within = omega (arith, at, whole, length-append text line);
+  within = omega (arith, at, whole, length-append text (ended line), length-append line (13 ∷ 10 ∷ []));
   fits = subst IsRecord (sym (last_record text line p r at whole e)) good;
 }
 
@@ -81,19 +92,28 @@ and_last text (q ∷ starts) p h k = (h.0, and_last text starts p h.1 k)
 kept_with : (text line : List ℕ) (starts : List LineStart) (p : LineStart) (r : RecordValue)
     → AllByRecursion (IsKeptLine text) starts → p.start ≡ length text → length line ≡ line_width p.kind
     → r ≡ record_in p.kind line → IsRecord r
-    → AllByRecursion (IsKeptLine (text ++ line)) (starts ++ p ∷ [])
+    → AllByRecursion (IsKeptLine (text ++ ended line)) (starts ++ p ∷ [])
 kept_with text line starts p r h at whole e good =
-    and_last (text ++ line) starts p (all_stay text line starts h) (last_kept text line p r at whole e good)
+    and_last (text ++ ended line) starts p (all_stay text (ended line) starts h) (last_kept text line p r at whole e good)
 
 -- and it is one record more
 records_with : (text line : List ℕ) (starts : List LineStart) (p : LineStart) (r : RecordValue)
     → AllByRecursion (IsKeptLine text) starts → p.start ≡ length text → length line ≡ line_width p.kind
     → r ≡ record_in p.kind line
-    → kept_records (text ++ line) (starts ++ p ∷ []) ≡ kept_records text starts ++ r ∷ []
+    → kept_records (text ++ ended line) (starts ++ p ∷ []) ≡ kept_records text starts ++ r ∷ []
 records_with text line starts p r h at whole e =
-    map-append (record_at (text ++ line)) starts (p ∷ [])
-    ∙ ap (λ (l : List RecordValue). l ++ record_at (text ++ line) p ∷ []) (records_stay text line starts h)
+    map-append (record_at (text ++ ended line)) starts (p ∷ [])
+    ∙ ap (λ (l : List RecordValue). l ++ record_at (text ++ ended line) p ∷ []) (records_stay text (ended line) starts h)
     ∙ ap (λ (s : RecordValue). kept_records text starts ++ s ∷ []) (last_record text line p r at whole e)
+
+-- and the text is one line longer
+joined_with : (text line : List ℕ) (starts : List LineStart) (p : LineStart) → AllByRecursion (IsKeptLine text) starts
+    → text ≡ flat_map (ended_line_at text) starts → p.start ≡ length text → length line ≡ line_width p.kind
+    → text ++ ended line ≡ flat_map (ended_line_at (text ++ ended line)) (starts ++ p ∷ [])
+joined_with text line starts p h e at whole =
+    ap₂ (λ (x y : List ℕ). x ++ y) (e ∙ sym (lines_stay text (ended line) starts h))
+    (ap ended (sym (last_line text line p at whole)) ∙ sym (append-nil (ended_line_at (text ++ ended line) p)))
+    ∙ sym (flat_map-append (ended_line_at (text ++ ended line)) starts (p ∷ []))
 
 -- ---- the list as it is shown
 
@@ -118,28 +138,41 @@ none_there text starts items records i h same e =
 pub shows_more : (text line added : List ℕ) (starts more : List LineStart) (p : LineStart) (old : List RecordValue)
     (r : RecordValue)
     → KeepsLines text starts → kept_records text starts ≡ old → p.start ≡ length text → length line ≡ line_width p.kind
-    → r ≡ record_in p.kind line → added ≡ text ++ line → more ≡ starts ++ p ∷ [] → kept_records added more ≡ old ++ r ∷ []
+    → r ≡ record_in p.kind line → added ≡ text ++ ended line → more ≡ starts ++ p ∷ [] → kept_records added more ≡ old ++ r ∷ []
 shows_more text line added starts more p old r h e at whole carries a b =
-    ap (λ (t : List ℕ). kept_records t more) a ∙ ap (kept_records (text ++ line)) b
+    ap (λ (t : List ℕ). kept_records t more) a ∙ ap (kept_records (text ++ ended line)) b
     ∙ records_with text line starts p r h.each at whole carries ∙ ap (λ (l : List RecordValue). l ++ r ∷ []) e
 
 -- its line is as wide as its kind says
-width_more : (old : List RecordValue) (r : RecordValue) → lines_width (old ++ r ∷ []) ≡ lines_width old + line_width r.kind
-width_more old r = omega (arith, sum_by-append (λ (s : RecordValue). line_width s.kind) old (r ∷ []))
+width_more : (old : List RecordValue) (r : RecordValue) → lines_width (old ++ r ∷ []) ≡ lines_width old + (line_width r.kind + 2)
+width_more old r = omega (arith, sum_by-append (λ (s : RecordValue). line_width s.kind + 2) old (r ∷ []))
 
 pub keeps_more : (text line added : List ℕ) (starts more : List LineStart) (p : LineStart) (r : RecordValue)
     → KeepsLines text starts
     → p.start ≡ length text → length line ≡ line_width p.kind → r ≡ record_in p.kind line → IsRecord r
-    → added ≡ text ++ line → more ≡ starts ++ p ∷ [] → KeepsLines added more
+    → added ≡ text ++ ended line → more ≡ starts ++ p ∷ [] → KeepsLines added more
 keeps_more text line added starts more p r h at whole carries good a b = record {
   each = subst (λ (t : List ℕ). AllByRecursion (IsKeptLine t) more) (sym a)
-      (subst (AllByRecursion (IsKeptLine (text ++ line))) (sym b) (kept_with text line starts p r h.each at whole carries good));
+      (subst (AllByRecursion (IsKeptLine (text ++ ended line))) (sym b)
+      (kept_with text line starts p r h.each at whole carries good));
   whole =
       let wide : line_width r.kind ≡ line_width p.kind = ap (λ (s : RecordValue). line_width s.kind) carries in
-      let after : lines_width (kept_records added more) ≡ lines_width (kept_records text starts) + line_width r.kind =
+      let after : lines_width (kept_records added more) ≡ lines_width (kept_records text starts) + (line_width r.kind + 2) =
       ap lines_width (shows_more text line added starts more p (kept_records text starts) r h refl at whole carries a b)
       ∙ width_more (kept_records text starts) r in
-      omega (arith, ap length a, length-append text line, h.whole, whole, wide, after);
+      omega (
+        arith,
+        ap length a,
+        length-append text (ended line),
+        length-append line (13 ∷ 10 ∷ []),
+        h.whole,
+        whole,
+        wide,
+        after,
+      );
+  joined = subst (λ (t : List ℕ). t ≡ flat_map (ended_line_at t) more) (sym a)
+      (subst (λ (l : List LineStart). text ++ ended line ≡ flat_map (ended_line_at (text ++ ended line)) l) (sym b)
+      (joined_with text line starts p h.each h.joined at whole));
 }
 
 -- ---- when it asks for memory
@@ -147,12 +180,12 @@ keeps_more text line added starts more p r h at whole carries good a b = record 
 -- for a line
 pub asks_for_line : (text line : List ℕ) (starts : List LineStart) (old : List RecordValue) (r : RecordValue) (kind : Kind)
     → KeepsLines text starts → kept_records text starts ≡ old → length line ≡ line_width kind → kind ≡ r.kind
-    → Outgrows 2048 (length text) (length text + length line) → AsksMemory old r
+    → Outgrows 2048 (length text) (length text + (length line + 2)) → AsksMemory old r
 asks_for_line text line starts old r kind h e whole same asks =
     let before : length text ≡ lines_width old = h.whole ∙ ap lines_width e in
     let more : length line ≡ line_width r.kind = whole ∙ ap line_width same in
-    inl (subst (λ (n : ℕ). Outgrows 2048 (lines_width old) (lines_width old + n)) more
-    (subst (λ (n : ℕ). Outgrows 2048 n (n + length line)) before asks))
+    inl (subst (λ (n : ℕ). Outgrows 2048 (lines_width old) (lines_width old + (n + 2))) more
+    (subst (λ (n : ℕ). Outgrows 2048 n (n + (length line + 2))) before asks))
 
 -- for a place
 pub asks_for_place : (text : List ℕ) (starts : List LineStart) (old : List RecordValue) (r : RecordValue)

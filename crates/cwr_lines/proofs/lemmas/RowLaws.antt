@@ -11,13 +11,13 @@ use Rattle.cwr_fields.specs.Format.Bytes.{digits, trimmed}
 use Rattle.cwr_fields.proofs.lemmas.Digits.{length-digits}
 use Rattle.cwr_fields.proofs.lemmas.LineFeeds.{NoLf, NoLf-append, NoLf-digits, NoLf-Allows}
 use Rattle.cwr_fields.specs.declared.kinds.Kind.{Kind}
-use Rattle.cwr_fields.specs.Format.Kinds.{letters, kind_of}
+use Rattle.cwr_fields.specs.Format.Kinds.{letters}
 use Rattle.cwr_fields.specs.Format.Layouts.{FieldLayout, layout, fields_after_type, total_width, line_width}
 use Rattle.cwr_lines.specs.Format.Records.{RecordValue, IsCellOf, IsRecord, Row, IsRow, rest_if, row_cells, row_of, full_line}
 use Rattle.cwr_lines.specs.Format.Records.{record_of}
 use Rattle.cwr_lines.specs.Format.Lines.{without_cr, IsLineOf}
 use Rattle.cwr_fields.proofs.lemmas.TrimmedTexts.{same_from_trimmed}
-use Rattle.cwr_fields.proofs.lemmas.AllKinds.{kind_of-letters, length-letters, NoLf-letters, line_width_most, trimmed-letters}
+use Rattle.cwr_fields.proofs.lemmas.AllKinds.{length-letters, NoLf-letters, line_width_most, trimmed-letters}
 use Rattle.cwr_fields.proofs.lemmas.AllKinds.{letters-injective}
 
 -- a text in a field, in its width and without line feed

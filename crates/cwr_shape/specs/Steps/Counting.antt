@@ -67,6 +67,17 @@ counts_with_other c = record {
   after_header = c.after_header + 1;
 }
 
+-- with a whole transaction of so many records
+abbrev pub counts_with_transaction : Counts → ℕ → Counts
+counts_with_transaction c n = record {
+  records = c.records + n;
+  groups = c.groups;
+  transactions = c.transactions + 1;
+  in_group = c.in_group + 1;
+  after_grh = c.after_grh + n;
+  after_header = n - 1;
+}
+
 -- with one more record, in a group of the type
 abbrev pub counts_with : TransactionType → Counts → Symbol → Counts
 counts_with ty c (symbols.Grh t) = counts_with_group c

@@ -1,13 +1,16 @@
 -- What a tally keeps: limits, stage and counts, and of which symbols these are.
-use Rattle.std.specs.Prelude.{◌≡◌, ◌≤◌, List}
+use Rattle.std.specs.Prelude.{◌≡◌, ℕ, ◌≤◌, List, ◌++◌, length}
+use Rattle.cwr_fields.specs.declared.codes.TransactionType.{TransactionType}
 use Rattle.cwr_shape.specs.declared.symbols.Symbol.{Symbol}
 use Rattle.cwr_shape.specs.declared.stages.Stage.{Stage}
+use Rattle.cwr_shape.specs.declared.stages.TransactionStep.{TransactionStep}
 use Rattle.cwr_shape.specs.declared.tallies.Counts.{Counts}
 use Rattle.cwr_shape.specs.Format.Ranges.{LimitValues, AreInRange}
 use Rattle.cwr_shape.specs.Format.Outlines.{IsWithin, Continues}
-use Rattle.cwr_shape.specs.Steps.Left.{StandsAt}
+use Rattle.cwr_shape.specs.Format.Shapes.{IsShape}
+use Rattle.cwr_shape.specs.Steps.Left.{StandsAt, StandsAtStep}
 use Rattle.cwr_shape.specs.Steps.Stages.{stage_after}
-use Rattle.cwr_shape.specs.Format.NextSymbols.{counts_of, MayCome}
+use Rattle.cwr_shape.specs.Format.NextSymbols.{counts_of, open_type, MayCome}
 
 -- the limits, how far the records have come, and what was counted of them
 pub record TallyValue : Type 0 where
@@ -43,3 +46,12 @@ pub record KeepsTally (t : TallyValue) : Type 0 where
 -- that is the stage after any records that are tallied so
 abbrev pub IsStageOf : TallyValue → Stage → Type 0
 IsStageOf t stage = (xs : List Symbol) → IsTallyOf t xs → stage ≡ stage_after xs
+
+-- after the symbols a whole transaction of the open group's type may come, of so many records, the last of which comes to the step
+pub record MayComeWhole (t : TallyValue) (ty : TransactionType) (records : ℕ) (step : TransactionStep) (xs whole : List Symbol) :
+    Type 0 where
+  pub same_type : open_type xs ≡ ty
+  pub shape : IsShape ty whole
+  pub long : length whole ≡ records
+  pub ends : (of : TransactionType) × StandsAtStep of whole step
+  pub within : Continues (IsWithin t.limits) (xs ++ whole)

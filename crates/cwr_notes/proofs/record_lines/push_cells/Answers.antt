@@ -6,15 +6,15 @@ use Rattle.cwr_fields.proofs.lemmas.AllKinds.{few_fields}
 use Rattle.cwr_notes.proofs.lemmas.CellsOfFields.{lines_before, lines_more, lines_whole}
 use Rattle.cwr_notes.proofs.record_lines.push_cells.Goals as goal
 
-pub push_field-requires : goal.push_field-requires
-push_field-requires c =
-    let fields : c.fields-before-end.result ≡ length (layout c.kind.result) = c.fields-before-end.ensures in
-    omega (arith, c.loop-before.invariant.len, c.loop-before-test.true, few_fields c.kind.result, fields)
+pub push_field-requires-clause-room : goal.push_field-requires-clause-room
+push_field-requires-clause-room c =
+    let fields : c.fields-before-end.result ≡ length (layout c.kind-kind.result) = c.fields-before-end.ensures in
+    omega (arith, c.loop-before.invariant.len, c.loop-before-test.true, few_fields c.kind-kind.result, fields)
 
 pub loop-before-preserved : goal.loop-before-preserved
 loop-before-preserved c =
     let fields : c.fields-before-end.result ≡ length (layout c.args.shown.now.kind) =
-    c.fields-before-end.ensures ∙ ap (λ (kind : Kind). length (layout kind)) c.kind.ensures.value in
+    c.fields-before-end.ensures ∙ ap (λ (kind : Kind). length (layout kind)) c.kind-kind.ensures.value in
     let within : c.loop-before.before < length (layout c.args.shown.now.kind) = omega (arith, c.loop-before-test.true, fields) in
     record {
       lines =
@@ -29,7 +29,7 @@ loop-before-preserved c =
 pub returns : goal.returns
 returns c =
     let fields : c.fields-before-end.result ≡ length (layout c.args.shown.now.kind) =
-    c.fields-before-end.ensures ∙ ap (λ (kind : Kind). length (layout kind)) c.kind.ensures.value in
+    c.fields-before-end.ensures ∙ ap (λ (kind : Kind). length (layout kind)) c.kind-kind.ensures.value in
     let all : length (layout c.args.shown.now.kind) ≤ c.loop-before.before = omega (arith, c.loop-before-test.false, fields) in
     c.loop-before.invariant.lines
     ∙ ap (λ (l : List ℕ). c.args.text.now.items ++ l) (lines_whole c.args.shown.now c.loop-before.before all)

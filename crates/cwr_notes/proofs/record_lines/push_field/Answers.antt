@@ -10,7 +10,7 @@ pub returns-in_default-field-clause-value : goal.returns-in_default-field-clause
 returns-in_default-field-clause-value c =
     let place : None ≡ field_with_start c.args.shown.now.kind c.args.j
     = sym (ap (option_map field_view) c.in_default-field.is) ∙ c.field.ensures
-    ∙ ap (λ (kind : Kind). field_with_start kind c.args.j) c.kind.ensures.value in
+    ∙ ap (λ (kind : Kind). field_with_start kind c.args.j) c.requires.of in
     sym (ap (λ (l : List ℕ). c.args.text.now.items ++ l) (field_line-none c.args.shown.now c.args.j place)
     ∙ append-nil c.args.text.now.items)
 
@@ -18,9 +18,9 @@ pub push_cell-requires : goal.push_cell-requires
 push_cell-requires c =
     let place : Some (field_view c.in-Some-field.place) ≡ field_with_start c.args.shown.now.kind c.args.j
     = sym (ap (option_map field_view) c.in-Some-field.is) ∙ c.field.ensures
-    ∙ ap (λ (kind : Kind). field_with_start kind c.args.j) c.kind.ensures.value in
+    ∙ ap (λ (kind : Kind). field_with_start kind c.args.j) c.requires.of in
     let short : length c.in-Some-field.place.name.now + length c.in-Some.cell.now ≤ 720
-    = short_line c.args.shown.now c.args.j (field_view c.in-Some-field.place) c.in-Some.cell.now c.kind.ensures.fits
+    = short_line c.args.shown.now c.args.j (field_view c.in-Some-field.place) c.in-Some.cell.now c.cell_of.ensures.fits
     c.in-Some.ensures.value place in
     omega (arith, short)
 
@@ -28,7 +28,7 @@ pub returns-clause-value : goal.returns-clause-value
 returns-clause-value c =
     let place : Some (field_view c.in-Some-field.place) ≡ field_with_start c.args.shown.now.kind c.args.j
     = sym (ap (option_map field_view) c.in-Some-field.is) ∙ c.field.ensures
-    ∙ ap (λ (kind : Kind). field_with_start kind c.args.j) c.kind.ensures.value in
+    ∙ ap (λ (kind : Kind). field_with_start kind c.args.j) c.requires.of in
     c.push_cell.ensures.value
     ∙ ap (λ (l : List ℕ). c.args.text.now.items ++ l) (sym (field_line-some c.args.shown.now c.args.j
     (field_view c.in-Some-field.place) c.in-Some.cell.now c.in-Some.ensures.value place))
@@ -37,8 +37,8 @@ pub returns-clause-len : goal.returns-clause-len
 returns-clause-len c =
     let place : Some (field_view c.in-Some-field.place) ≡ field_with_start c.args.shown.now.kind c.args.j
     = sym (ap (option_map field_view) c.in-Some-field.is) ∙ c.field.ensures
-    ∙ ap (λ (kind : Kind). field_with_start kind c.args.j) c.kind.ensures.value in
+    ∙ ap (λ (kind : Kind). field_with_start kind c.args.j) c.requires.of in
     let short : length c.in-Some-field.place.name.now + length c.in-Some.cell.now ≤ 720
-    = short_line c.args.shown.now c.args.j (field_view c.in-Some-field.place) c.in-Some.cell.now c.kind.ensures.fits
+    = short_line c.args.shown.now c.args.j (field_view c.in-Some-field.place) c.in-Some.cell.now c.cell_of.ensures.fits
     c.in-Some.ensures.value place in
     omega (arith, short, c.push_cell.ensures.len)

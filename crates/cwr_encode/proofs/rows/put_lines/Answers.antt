@@ -1,6 +1,6 @@
 use Rattle.std.proofs.Common.{◌∙◌, arith}
 use Rattle.cwr_encode.proofs.lemmas.PutRows.{found_within, row_more, rows_refused, rows_whole}
-use Rattle.cwr_encode.proofs.rows.put_transaction.Goals as goal
+use Rattle.cwr_encode.proofs.rows.put_lines.Goals as goal
 
 pub returns-in_err-put_row-clause-puts : goal.returns-in_err-put_row-clause-puts
 returns-in_err-put_row-clause-puts g c =
