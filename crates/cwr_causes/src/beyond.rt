@@ -107,7 +107,7 @@ pub fn look_after_line<R: Source>(
     ensures failures { CountsRead result (R.failures reader.old) (R.failures reader.new) }
     // Nothing that helps is left unasked, and a line that is too long goes on where there is a byte more.
     ensures looks { IfOk result (LooksAfterLine refusal.now line.now) }
-    ensures more { IfSome (R.remaining reader.old) (λ left. IfOk result (TellsMore left)) }
+    ensures more { IfOk result (TellsMore (R.remaining reader.old)) }
 {
     if is_open(line) {
         return Ok(Beyond::GoesOn(has_more(reader)?));

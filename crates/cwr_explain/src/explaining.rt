@@ -6,7 +6,6 @@ ghost use Rattle.cwr_tools.specs.Format.Verdicts.{IsAnswerTo, JudgesText};
 ghost use Rattle.cwr_tools.specs.Format.Reports.{AddsWords, CountsReaderFault, CountsWriterFault};
 ghost use Rattle.cwr_tools.specs.Format.Watching.{SeesAccepted};
 ghost use Rattle.cwr_causes.specs.Format.Trailing.{CountsRead, IsTrailing, TakesMore};
-ghost use Rattle.cwr_causes.specs.Steps.Trailing.{found_in};
 ghost use Rattle.cwr_explain.specs.Format.Explained.{ExplainsText, FindsAfter, ReadsOnly, WritesOnly};
 ghost use Rattle.cwr_explain.specs.Steps.Explained.{AddsExplanation, Explains, Looks, SaysVerdict, is_good};
 
@@ -26,10 +25,9 @@ fn look_beyond<R: Source>(
     verdict: &Verdict,
     last: &LastRead,
 ) -> Result<Beyond, DeviceFault>
-    ensures found { is_good verdict.now ≡ true → IfOk result (λ beyond. IsSomeAnd (found_in beyond)
-        (IsTrailing (R.remaining reader.old) (R.remaining reader.new))) }
-    // Nothing that helps is left unasked.
-    ensures looks { IfOk result (Looks verdict.now last.now) }
+    // Nothing that helps is left unasked, and what is found is what the reader has there.
+    ensures looks { IfOk result
+        (Looks verdict.now last.now (R.remaining reader.old) (R.remaining reader.new)) }
     ensures taken { TakesMore (R.remaining reader.old) (R.remaining reader.new) }
     ensures failures { CountsRead result (R.failures reader.old) (R.failures reader.new) }
 {
@@ -102,9 +100,8 @@ fn explained<R: Source>(
     verdict: &Verdict,
     last: &LastRead,
 ) -> Result<(String, Beyond), ToolFault>
-    ensures found { is_good verdict.now ≡ true → IfOk result (λ p. IsSomeAnd (found_in p.1)
-        (IsTrailing (R.remaining reader.old) (R.remaining reader.new))) }
-    ensures looks { IfOk result (λ p. Looks verdict.now last.now p.1) }
+    ensures looks { IfOk result
+        (λ p. Looks verdict.now last.now (R.remaining reader.old) (R.remaining reader.new) p.1) }
     ensures says { IfOk result (λ p. SaysVerdict limits.now name.now verdict.now last.now p.1
         (string_bytes p.0)) }
     ensures taken { TakesMore (R.remaining reader.old) (R.remaining reader.new) }
@@ -132,8 +129,8 @@ fn add_explanation<R: Source, W: Target>(
 ) -> (W, Result<Verdict, ToolFault>, Option<Trailing>)
     ensures found { is_good verdict ≡ true → OnOk result.1
         (IsSomeAnd result.2 (IsTrailing (R.remaining reader.old) (R.remaining reader.new))) }
-    ensures says { IfOk result.1
-        (AddsExplanation W.contents limits.now name.now last.now writer result.0) }
+    ensures says { IfOk result.1 (AddsExplanation W.contents limits.now name.now last.now
+        (R.remaining reader.old) (R.remaining reader.new) writer result.0) }
     ensures words { AddsWords W.contents writer result.0 }
     ensures taken { TakesMore (R.remaining reader.old) (R.remaining reader.new) }
     ensures answered { IsAnswerTo verdict result.1 }
@@ -168,12 +165,13 @@ pub fn explain<R: Source, W: Target + Drop>(
     reader: &mut R,
     writer: W,
 ) -> (W, Result<Verdict, ToolFault>, Option<Trailing>)
-    // Of any reader, by what was read of it: what is written, and that its last words are those on the verdict.
+    // Of any reader, by what was read of it: what is written, and that its last words are those on
+    // the verdict and on what the reader has after it.
     ensures explains { Explains limits name.now (R.remaining reader.old) (R.remaining reader.new) W.contents
         writer result.0 result.1 }
     // Of bytes that are known, in the words of the text alone.
-    ensures told { ExplainsText limits (R.remaining reader.old) (R.remaining reader.new) W.contents
-        writer result.0 result.1 }
+    ensures told { ExplainsText limits name.now (R.remaining reader.old) (R.remaining reader.new)
+        W.contents writer result.0 result.1 }
     ensures judged { JudgesText limits (R.remaining reader.old) result.1 }
     // Where the text is accepted, the watch saw the findings in its transmission, and what stands after that was found.
     ensures seen { OnOk result.1 (SeesAccepted limits (R.remaining reader.old) watch.old watch.new) }

@@ -1,5 +1,5 @@
 -- What is told of a text that is explained, what is found after its verdict, and which faults words after that have.
-use Rattle.std.specs.Prelude.{◌≡◌, ℕ, List, drop, Option, Some, IfSome, IsSomeAnd, Result, Ok, Err}
+use Rattle.std.specs.Prelude.{◌≡◌, ℕ, List, drop, Option, Some, IfSome, IsSomeAnd, OnOk, Result, Ok, Err}
 use Rattle.std.specs.Io.KnownBytes.{Appends, Consumes}
 use Rattle.cwr_devices.specs.Format.Failures.{one_more_failure}
 use Rattle.cwr_shape.specs.declared.limits.Limits.{Limits}
@@ -12,11 +12,19 @@ use Rattle.cwr_tools.specs.Format.Reports.{ReportsText, lines_of_explained}
 use Rattle.cwr_tools.specs.Format.Verdicts.{IsAnswerAfter}
 use Rattle.cwr_causes.specs.declared.trailing.Trailing.{Trailing}
 use Rattle.cwr_causes.specs.Format.Trailing.{IsTrailing}
+use Rattle.cwr_causes.specs.Format.TrailingTexts.{trailing_words}
+
+-- where the text is accepted, the words are those on what stands after its transmission
+abbrev pub SaysAfter : Limits → List ℕ → Option (List ℕ) → Option (List ℕ) → List ℕ → Type 0
+SaysAfter limits name before after words =
+    IfSome before (λ text. (v : TransmissionValue) (n : ℕ) → IsAccepted limits text v n
+    → (found : Trailing) × IsTrailing (Some (drop n text)) after found × (words ≡ trailing_words name found))
 
 -- Where the bytes that are read are known, a check tells of them what it tells of a text, with lines under each finding. Then words
--- follow; after a fault of the check there are none. More bytes may be taken from the reader.
-pub record ExplainsText {W : Type 0} (limits : Limits) (before after : Option (List ℕ)) (contents : W → Option (List ℕ)) (old new : W)
-    (result : Result Verdict ToolFault) : Type 0 where
+-- follow, after a transmission those on what stands there; after a fault of the check there are none. More bytes may be taken from
+-- the reader.
+pub record ExplainsText {W : Type 0} (limits : Limits) (name : List ℕ) (before after : Option (List ℕ)) (contents : W → Option (List ℕ))
+    (old new : W) (result : Result Verdict ToolFault) : Type 0 where
   pub between : W
   pub left : Option (List ℕ)
   pub checked : Result Verdict ToolFault
@@ -26,6 +34,7 @@ pub record ExplainsText {W : Type 0} (limits : Limits) (before after : Option (L
   pub more : List ℕ
   pub taken : Consumes left after more
   pub answered : IsAnswerAfter checked result
+  pub says : OnOk result (SaysAfter limits name before after words)
 
 -- where the text is accepted, what stands after its transmission was found
 abbrev pub FindsAfter : Limits → Option (List ℕ) → Option (List ℕ) → Option Trailing → Type 0

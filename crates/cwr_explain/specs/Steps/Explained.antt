@@ -1,5 +1,5 @@
 -- What an explained check has written and taken.
-use Rattle.std.specs.Prelude.{◌≡◌, ℕ, Bool, true, false, List, [], Option, None, Some, IfOk, IsSome, Result}
+use Rattle.std.specs.Prelude.{◌≡◌, ℕ, Bool, true, false, List, [], Option, None, Some, IfOk, IsSomeAnd, Result}
 use Rattle.std.specs.Io.KnownBytes.{Appends, Consumes}
 use Rattle.cwr_decode.specs.declared.readings.LastRead.{LastRead}
 use Rattle.cwr_shape.specs.declared.limits.Limits.{Limits}
@@ -14,17 +14,20 @@ use Rattle.cwr_causes.specs.declared.beyond.Beyond.{Beyond}
 use Rattle.cwr_causes.specs.declared.beyond.Beyond.TheVariants.{Unasked}
 use Rattle.cwr_causes.specs.declared.lines_at_end.LineAtEnd.{LineAtEnd}
 use Rattle.cwr_causes.specs.declared.trailing.Trailing.{Trailing}
-use Rattle.cwr_causes.specs.Format.Lookings.{LooksAfterLine}
+use Rattle.cwr_causes.specs.Format.Lookings.{LooksAfterLine, TellsMore}
+use Rattle.cwr_causes.specs.Format.Trailing.{IsTrailing}
 use Rattle.cwr_causes.specs.Format.TrailingTexts.{trailing_words}
 use Rattle.cwr_causes.specs.Steps.LinesAtEnd.{IsLineAtEnd}
 use Rattle.cwr_causes.specs.Steps.Refused.{ExplainsEnd, ExplainsRefusal}
 use Rattle.cwr_causes.specs.Steps.Trailing.{found_in}
 
--- What is looked at after a verdict: of a transmission what stands after it, of a refusal what helps with its line, and else nothing.
-abbrev pub Looks : Verdict → LastRead → Beyond → Type 0
-Looks (Good groups transactions records) last beyond = IsSome (found_in beyond)
-Looks (Refused refusal) last beyond = (line : LineAtEnd) × IsLineAtEnd last.bytes line × LooksAfterLine refusal line beyond
-Looks (Truncated records) last beyond = beyond ≡ Unasked
+-- What is looked at after a verdict, and what is found there, where the reader had that left before and has this after it: of a
+-- transmission all that stands after it, of a refusal what helps with its line. After any other verdict nothing is looked at or taken.
+abbrev pub Looks : Verdict → LastRead → Option (List ℕ) → Option (List ℕ) → Beyond → Type 0
+Looks (Good groups transactions records) last left after beyond = IsSomeAnd (found_in beyond) (IsTrailing left after)
+Looks (Refused refusal) last left after beyond =
+    (line : LineAtEnd) × IsLineAtEnd last.bytes line × LooksAfterLine refusal line beyond × TellsMore left beyond
+Looks (Truncated records) last left after beyond = (beyond ≡ Unasked) × (after ≡ left)
 
 -- what is said of what stands after a transmission
 abbrev pub words_if_found : List ℕ → Option Trailing → List ℕ
@@ -37,23 +40,25 @@ SaysVerdict limits name (Good groups transactions records) last beyond words = w
 SaysVerdict limits name (Refused refusal) last beyond words = ExplainsRefusal limits name refusal last beyond [] words
 SaysVerdict limits name (Truncated records) last beyond words = ExplainsEnd name records last [] words
 
--- the words say that of the verdict, where this is what was read last
-abbrev pub ExplainsLast : Limits → List ℕ → Verdict → LastRead → List ℕ → Type 0
-ExplainsLast limits name verdict last words = (beyond : Beyond) × Looks verdict last beyond × SaysVerdict limits name verdict last beyond words
+-- the words say that of the verdict, where this is what was read last, and the reader had that left and has this after the look
+abbrev pub ExplainsLast : Limits → List ℕ → Verdict → LastRead → Option (List ℕ) → Option (List ℕ) → List ℕ → Type 0
+ExplainsLast limits name verdict last left after words =
+    (beyond : Beyond) × Looks verdict last left after beyond × SaysVerdict limits name verdict last beyond words
 
 -- they say that of the verdict on bytes that were read
-abbrev pub ExplainsRun : Limits → List ℕ → Option (List ℕ) → Option (List ℕ) → List ℕ → Verdict → Type 0
-ExplainsRun limits name before left words verdict =
-    (last : LastRead) × IsReadLast limits before left verdict last × ExplainsLast limits name verdict last words
+abbrev pub ExplainsRun : Limits → List ℕ → Option (List ℕ) → Option (List ℕ) → Option (List ℕ) → List ℕ → Verdict → Type 0
+ExplainsRun limits name before left after words verdict =
+    (last : LastRead) × IsReadLast limits before left verdict last × ExplainsLast limits name verdict last left after words
 
 -- such words were added
-abbrev pub AddsExplanation : {W : Type 0} → (W → Option (List ℕ)) → Limits → List ℕ → LastRead → W → W → Verdict → Type 0
-AddsExplanation contents limits name last old new verdict =
-    (words : List ℕ) × Appends (contents old) (contents new) words × ExplainsLast limits name verdict last words
+abbrev pub AddsExplanation : {W : Type 0} → (W → Option (List ℕ)) → Limits → List ℕ → LastRead → Option (List ℕ) → Option (List ℕ)
+    → W → W → Verdict → Type 0
+AddsExplanation contents limits name last left after old new verdict =
+    (words : List ℕ) × Appends (contents old) (contents new) words × ExplainsLast limits name verdict last left after words
 
 -- First a check is made, and what it writes is written: the text on the findings and the verdict, with all that is said of a
--- check of these bytes. Then words follow it, which explain the verdict; after a fault of the check there are none. More bytes may be
--- taken from the reader.
+-- check of these bytes. Then words follow it, which explain the verdict by what was read last and by what the reader has after it;
+-- after a fault of the check there are none. More bytes may be taken from the reader.
 pub record Explains {W : Type 0} (limits : Limits) (name : List ℕ) (before after : Option (List ℕ)) (contents : W → Option (List ℕ))
     (old new : W) (result : Result Verdict ToolFault) : Type 0 where
   pub between : W
@@ -65,7 +70,7 @@ pub record Explains {W : Type 0} (limits : Limits) (name : List ℕ) (before aft
   pub more : List ℕ
   pub taken : Consumes left after more
   pub answered : IsAnswerAfter checked result
-  pub says : IfOk result (ExplainsRun limits name before left words)
+  pub says : IfOk result (ExplainsRun limits name before left after words)
 
 -- the verdict is that on a transmission
 abbrev pub is_good : Verdict → Bool

@@ -1,12 +1,12 @@
-use Rattle.std.proofs.Common.{refl, subst, sym}
-use Rattle.std.specs.Prelude.{IfOk, Result, Err}
+use Rattle.std.proofs.Common.{subst}
+use Rattle.std.specs.Prelude.{IfOk, Result}
 use Rattle.cwr_tools.specs.declared.verdicts.Verdict.{Verdict}
 use Rattle.cwr_tools.specs.declared.verdicts.ToolFault.{ToolFault}
 use Rattle.cwr_tools.specs.Format.Reports.{JudgesAccepted, lines_of_explained}
-use Rattle.cwr_tools.specs.Format.Verdicts.{IsAnswerAfter, JudgesText}
+use Rattle.cwr_tools.specs.Format.Verdicts.{JudgesText}
 use Rattle.cwr_tools.proofs.lemmas.RightReports.{accepted_text, judged_text}
-use Rattle.cwr_causes.proofs.lemmas.TakenPieces.{no_more}
-use Rattle.cwr_explain.proofs.lemmas.WordsAfter.{explains_after, explains_fault, finds_after, judged_after, no_words, none_read, read_last, told_after}
+use Rattle.cwr_explain.proofs.lemmas.WordsAfter.{explains_after, explains_fault, finds_after, judged_after, none_read, read_last, told_after}
+use Rattle.cwr_explain.proofs.lemmas.WordsAfter.{told_fault}
 use Rattle.cwr_explain.proofs.explaining.explain.Goals as goal
 
 pub returns-in-Err-clause-explains : goal.returns-in-Err-clause-explains
@@ -31,10 +31,20 @@ returns-in-None-clause-explains g c =
 
 pub returns-in-Err-clause-told : goal.returns-in-Err-clause-told
 returns-in-Err-clause-told g c =
-    told_after c.args.limits _ _ _ g.W.Target.contents c.args.writer c.check_explained-writer.result.0
-    c.check_explained-writer.result.0 c.check_explained-writer.result.1 (Err c.in-Err.fault)
-    c.check_explained-writer.ensures.told (no_words g.W.Target.contents c.check_explained-writer.result.0) (no_more _)
-    (subst (λ (r : Result Verdict ToolFault). IsAnswerAfter r (Err c.in-Err.fault)) (sym c.in-Err.is) refl)
+    told_fault c.args.limits _ _ _ g.W.Target.contents c.args.writer c.check_explained-writer.result.0
+    c.check_explained-writer.result.1 c.in-Err.fault c.check_explained-writer.ensures.told c.in-Err.is
+
+pub returns-in-Some-clause-told : goal.returns-in-Some-clause-told
+returns-in-Some-clause-told g c =
+    told_after c.args.limits _ _ _ _ g.W.Target.contents c.args.writer c.check_explained-writer.result.0 _
+    c.check_explained-writer.result.1 c.in-Ok.verdict c.in-Some.last c.add_explanation.result.1
+    c.check_explained-writer.ensures.told c.in-Ok.is c.add_explanation.ensures.answered c.add_explanation.ensures.words
+    c.add_explanation.ensures.says c.add_explanation.ensures.taken
+
+pub returns-in-None-clause-told : goal.returns-in-None-clause-told
+returns-in-None-clause-told g c =
+    absurd (none_read c.args.limits _ _ c.check_explained-writer.result.1 c.check_explained-writer.result.2 c.in-Ok.verdict
+    c.check_explained-writer.ensures.last c.in-Ok.is c.in-None.is)
 
 pub returns-in-Some-clause-found : goal.returns-in-Some-clause-found
 returns-in-Some-clause-found g c =
