@@ -30,6 +30,8 @@ pub mod OwnLines
 pub mod ShownUtf8
 -- Why members are data of no record: what is told of them is so.
 pub mod RecordReasons
+-- What is written where a run over lines stops.
+pub mod LeftWritten
 -- How a run over lines ends, and what it has then written.
 pub mod RunsEnded
 -- An item is taken exactly where with it some transmission within the limits begins.

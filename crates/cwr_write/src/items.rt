@@ -13,7 +13,8 @@ ghost use Rattle.cwr_encode.specs.Steps.Encoders.{AddsRecords, OfEncoded, encode
 ghost use Rattle.cwr_write.specs.Format.AloneKinds.{IsAlone};
 ghost use Rattle.cwr_write.specs.Steps.Members.{IsDataAt, IsKinded, IsOnlyAt, SaysAt};
 ghost use Rattle.cwr_write.specs.Format.Faults.{IsAmong, IsItemReason, IsListReason, IsOfData, NoItem};
-ghost use Rattle.cwr_write.specs.Steps.Taking.{IsFaultOf, IsLine, IsOfList, IsOwn, JudgesGiven, OnLine, given_records};
+ghost use Rattle.cwr_write.specs.Format.Imports.{given_records};
+ghost use Rattle.cwr_write.specs.Steps.Taking.{IsFaultOf, IsLine, IsOfList, IsOwn, JudgesGiven, OnLine};
 
 use crate::hints::lack_of;
 use crate::records::{MemberList, of_record, record_of, says};

@@ -1,17 +1,17 @@
 //! From lines of JSON to a transmission.
 
-ghost use Rattle.std.specs.Prelude.{◌≡◌, ◌≢◌, ◌<◌, ◌^◌, ◌-◌, IfOk, IfSome, OnErr, OnOk, ℕ, List, [], length, map, Option, true, false};
+ghost use Rattle.std.specs.Prelude.{◌≡◌, ◌≢◌, ◌<◌, ◌^◌, ◌-◌, IfErr, IfOk, IfSome, OnErr, OnOk, ℕ, List, [], length, map, Option, true, false};
 ghost use Rattle.cwr_fields.specs.declared.kinds.Kind.TheVariants.{Trl};
 ghost use Rattle.cwr_shape.specs.declared.symbols.Symbol.TheVariants.{Plain};
 ghost use Rattle.cwr_shape.specs.Format.NextSymbols.{MayCome};
 ghost use Rattle.cwr_values.specs.Format.Values.{FitsIn, IsTransmission, TransmissionValue, symbol_of};
 ghost use Rattle.cwr_encode.specs.Steps.Encoders.{AddsRecords, Encodes, OfEncoded, encoder_limits, is_stopped, target_of};
 ghost use Rattle.cwr_encode.specs.Steps.Finishing.{FinishesWriting};
-ghost use Rattle.cwr_write.specs.Format.Imports.{CountsReaderFault, CountsWriterFault, SaysItem, WritesWhole};
+ghost use Rattle.cwr_write.specs.Format.Imports.{CountsReaderFault, CountsWriterFault, SaysItem, WritesWhole, given_records};
 ghost use Rattle.cwr_write.specs.Format.Faults.{IsOfLine, IsPlaceReason, IsReason, JudgesTrailer, reached_with};
-ghost use Rattle.cwr_write.specs.Format.Endings.{EndsAtLine, WritesWhatIsSaid};
-ghost use Rattle.cwr_write.specs.Steps.Taking.{EndsLines, EndsWith, FinishesLines, IsFinishFault, IsNoWriter, IsRunFaultOf, IsUnreadFault, JudgesNext};
-ghost use Rattle.cwr_write.specs.Steps.Taking.{NoReader, Stands, TakesLine, TakesLines, given_records};
+ghost use Rattle.cwr_write.specs.Format.Endings.{EndsAtLine, LeavesAfter, WritesWhatIsSaid};
+ghost use Rattle.cwr_write.specs.Steps.Taking.{EndsLines, EndsWith, FinishesLines, IsCutShort, IsFinishFault, IsNoWriter, IsRunFaultOf, IsUnreadFault, JudgesNext};
+ghost use Rattle.cwr_write.specs.Steps.Taking.{NoReader, Stands, TakesLine, TakesLines};
 
 use crate::items::{ItemFault, encode_fault, item_in, write_item};
 use crate::lines::{ReadFault, is_blank, next_line};
@@ -230,6 +230,8 @@ fn take_lines<R: Source, W: Target>(
     ensures limits { encoder_limits encoder.new ≡ encoder_limits encoder.old }
     ensures ends { IfSome (R.remaining reader.old) (λ text. length text < 2 ^ 64 - 1
         → EndsLines encoding (encoder_limits encoder.old) most text result) }
+    ensures leaves { IfErr result (LeavesAfter encoding (encoder_limits encoder.old)
+        (R.remaining reader.old) W.contents (target_of encoder.old) (target_of encoder.new)) }
 {
     let mut line: Vec<u8> = Vec::new(alloc);
     let mut scratch: Scratch = Scratch::new(alloc);
@@ -276,6 +278,9 @@ pub fn write<R: Source, W: Target>(
     // Nothing else is refused: lines that are data of a transmission within the limits are taken, and it is written.
     ensures takes { IfSome (R.remaining reader.old) (λ text. WritesWhatIsSaid limits encoding most text
         W.contents writer result.0 result.1) }
+    // Where no transmission is written, the items of the lines before are, and no TRL; or their first bytes, so many as are told.
+    ensures leaves { IfErr result.1 (LeavesAfter encoding limits (R.remaining reader.old)
+        W.contents writer result.0) }
     // All that was written was handed on.
     ensures handed_on { OnOk result.1 (W.handed_on result.0 ≡ true) }
 {
@@ -293,6 +298,7 @@ fn finish<W: Target>(encoder: Encoder<W>, lines: u64) -> (W, Result<Written, Wri
         (λ w. FinishesWriting W.contents W.failures encoder result.0 (Ok w.bytes)) }
     ensures failures { CountsWriterFault result.1 (W.failures (target_of encoder))
         (W.failures result.0) }
+    ensures cut { IsCutShort W.contents W.failures encoder result.0 result.1 }
     ensures unread { NoReader result.1 }
     ensures ended { OfEncoded W.contents encoder (λ records.
         MayCome (encoder_limits encoder) (map symbol_of records) (Plain Trl)

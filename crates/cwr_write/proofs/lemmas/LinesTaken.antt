@@ -23,7 +23,8 @@ use Rattle.cwr_write.specs.declared.refusals.LineFault.{LineFault}
 use Rattle.cwr_write.specs.declared.refusals.Why.{Why}
 use Rattle.cwr_write.specs.declared.refusals.Why.TheVariants.{TooLong}
 use Rattle.cwr_write.specs.Format.Faults.{IsOfLine, IsReason, IsReasonOf, reached_after}
-use Rattle.cwr_write.specs.Format.Endings.{AreShort, AreTaken, EndsEarly, EndsWell, SaysTransmission, StopsAtLine, said_lines}
+use Rattle.cwr_write.specs.Format.Endings.{AreShort, AreTaken, EndsEarly, EndsWell, SaysFirst, SaysTransmission, StopsAtLine}
+use Rattle.cwr_write.specs.Format.Endings.{said_lines}
 use Rattle.cwr_write.specs.Steps.Taking.{SaidSoFar}
 use Rattle.cwr_write.proofs.lemmas.ItemsInOrder.{AreOwn, next_type, own_first, own_heads, own_value, same_item}
 use Rattle.cwr_write.proofs.lemmas.TakenItems.{value_ends}
@@ -447,6 +448,29 @@ stops_line enc limits most n why (Some text) mid after line items h t b f none r
       stops = none_with enc limits most h.lines line items h.each f b none;
       reason = reason;
     }
+
+-- the first lines that were taken, and what follows them
+pub said_first : (enc : Encoding) (most n : ℕ) (left mid : Option (List ℕ)) (items : List Item)
+    → IfSome left (λ text. SaidSoFar enc most n text mid items) → IfSome left (λ text. SaysFirst enc text n items)
+said_first enc most n None mid items h = tt
+said_first enc most n (Some text) mid items h =
+    let c = lines_of h.rest in
+    record { lines = h.lines; rest = c.lines; are = h.with_rest c.lines c.are; number = h.number; each = h.each }
+
+-- all lines are the first ones
+pub all_first : (enc : Encoding) (left : Option (List ℕ)) (items : List Item) → IfSome left (λ text. SaysItems enc text items)
+    → IfSome left (λ text. (n : ℕ) × SaysFirst enc text n items)
+all_first enc None items h = tt
+all_first enc (Some text) items h = (
+  length h.lines,
+  record {
+    lines = h.lines;
+    rest = [];
+    are = subst (λ (l : List (List ℕ)). AreLines l text) (sym (append-nil h.lines)) h.are;
+    number = refl;
+    each = h.each;
+  },
+)
 
 -- ---- the end of the input
 

@@ -40,9 +40,11 @@ use Rattle.cwr_encode.proofs.lemmas.NoMistakes.{no_mistake_foot, no_mistake_grou
 use Rattle.cwr_encode.proofs.lemmas.Reaching.{reaches}
 use Rattle.cwr_write.specs.declared.writing.Reached.{Reached}
 use Rattle.cwr_write.specs.declared.writing.Reached.TheVariants as reached_to
-use Rattle.cwr_write.specs.Steps.Taking.{IsNoWriter, JudgesGiven, JudgesNext, Stands, StandsWhole, given_in, given_records}
+use Rattle.cwr_write.specs.Format.Imports.{given_in, given_records}
+use Rattle.cwr_write.specs.Steps.Taking.{IsNoWriter, JudgesGiven, JudgesNext, Stands, StandsWhole}
 use Rattle.cwr_write.specs.Format.Faults.{JudgesItem, JudgesTrailer, reached_after, reached_with}
-use Rattle.cwr_write.proofs.lemmas.ItemsInOrder.{AreOwn, IsOwnItem, begins_plain, begins_transaction, last_type, next_type, own_first}
+use Rattle.cwr_write.proofs.lemmas.ItemsInOrder.{AreOwn, IsOwnItem, begins_plain, begins_transaction, last_type, next_type}
+use Rattle.cwr_write.proofs.lemmas.ItemsInOrder.{own_first}
 use Rattle.cwr_write.proofs.lemmas.ItemsInOrder.{own_next, records_in_value, records_more, type_is}
 use Rattle.std.proofs.lemmas.Grind.{flat_map-append}
 
@@ -196,7 +198,8 @@ accepted_call contents start items item old new x before first is same after jud
         record {
           in_order = a.in_order;
           within = subst
-              (λ (l : LimitValues). Continues (IsWithin l) (map symbol_of (records_in items ++ item_records i))) same a.counted.within;
+              (λ (l : LimitValues). Continues (IsWithin l) (map symbol_of (records_in items ++ item_records i))) same
+              a.counted.within;
         }
 
     by : (i : Item) → (i ≡ Ended → ⊥) → Encodes contents start (records_in items ++ given_records i) new
@@ -227,6 +230,15 @@ given_judged limits items item answer same is judged =
     by (GroupClosed r) is j = j
     by Ended is j = absurd (is refl)
 
+-- the writer fails with an item that is taken
+judged_well : (limits : LimitValues) (item : Item) (xs : List Symbol) (written : ℕ)
+    → JudgesGiven limits item xs (Err (encode_faults.Writer written)) → JudgesGiven limits item xs (Ok tt)
+judged_well limits (Opened r) xs written j = j
+judged_well limits (GroupOpened r) xs written j = j
+judged_well limits (Transaction t) xs written j = j
+judged_well limits (GroupClosed r) xs written j = j
+judged_well limits Ended xs written j = j
+
 pub next_given : {W : Type 0} (contents : W → Option (List ℕ)) (failures : W → ℕ) (start : Option (List ℕ)) (items : List Item)
     (at : Reached) (item : Item) (old new : Encoder W) (answer : Result (Unit {0}) EncodeFault) → Stands contents start items at
     old → at ≢ reached_to.End
@@ -240,7 +252,16 @@ next_given contents failures start items at item old new (Ok x) s on is adds sam
     (subst (λ (l : List RecordValue). Encodes contents start (l ++ given_records item) new) e
     (adds.0 start (given_in items) s.encodes))
     (subst (λ (l : List RecordValue). JudgesGiven (encoder_limits old) item (map symbol_of l) (Ok x)) e judged)
-next_given contents failures start items at item old new (Err (encode_faults.Writer written)) s on is adds same judged = tt
+next_given contents failures start items at item old new (Err (encode_faults.Writer written)) s on is adds same judged =
+    let e : given_in items ≡ records_in items = sym (s.given.begun on) in (
+      is,
+      accepted_call contents start items item old new tt
+          (subst (λ (l : List RecordValue). Encodes contents start l old) e s.encodes) s.first is same
+          (subst (λ (l : List RecordValue). Encodes contents start (l ++ given_records item) new) e
+          (adds.0 start (given_in items) s.encodes))
+          (subst (λ (l : List RecordValue). JudgesGiven (encoder_limits old) item (map symbol_of l) (Ok tt)) e
+          (judged_well (encoder_limits old) item (map symbol_of (given_in items)) written judged)),
+    )
 next_given contents failures start items at item old new (Err encode_faults.OutOfOrder) s on is adds same judged = (
   (λ f. taken_call contents start items at item old (Err encode_faults.OutOfOrder) s on is judged f),
   given_judged (encoder_limits old) items item (Err encode_faults.OutOfOrder) (s.given.begun on) is judged,
@@ -446,7 +467,7 @@ next_trailer {W = W} contents start items at item e answer s is ok err judged ow
     by (Err encode_faults.WrongKind) ok err j own = absurd j
     by (Err encode_faults.Incomplete) ok err j own = (refused err, told (Err encode_faults.Incomplete) j)
     by (Err (encode_faults.Limit limit)) ok err j own = absurd j
-    by (Err (encode_faults.Writer written)) ok err j own = tt
+    by (Err (encode_faults.Writer written)) ok err j own = absurd own
 
 pub next_after_end : {W : Type 0} (contents : W → Option (List ℕ)) (start : Option (List ℕ)) (items : List Item) (at : Reached)
     (item : Item) (e : Encoder W) → Stands contents start items at e → at ≡ reached_to.End

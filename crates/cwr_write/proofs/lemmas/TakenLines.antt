@@ -41,7 +41,8 @@ use Rattle.json.specs.Json.{document}
 use Rattle.json.specs.declared.value.Value.{Value}
 use Rattle.json.specs.Value.{value_view}
 use Rattle.cwr_json.specs.Format.Forms.{IsItemData}
-use Rattle.cwr_write.specs.Format.Imports.{CountsReaderFault, CountsWriterFault, SaysItem, SaysItems, WritesWhole}
+use Rattle.cwr_write.specs.Format.Imports.{CountsReaderFault, CountsWriterFault, SaysItem, SaysItems, WritesWhole, given_in}
+use Rattle.cwr_write.specs.Format.Imports.{given_records}
 use Rattle.cwr_write.specs.declared.refusals.LineFault.{LineFault}
 use Rattle.cwr_write.specs.declared.refusals.Why.{Why}
 use Rattle.cwr_write.specs.declared.refusals.Why.TheVariants as whys
@@ -52,8 +53,8 @@ use Rattle.cwr_write.specs.Format.Faults.{IsOfLine, IsItem, IsItemReason, IsOfDa
 use Rattle.cwr_write.specs.Format.Faults.{SaysNone, reached_with}
 use Rattle.cwr_write.specs.Steps.Taking.{CountsReading, EndsWith, FinishesLines, Goes, HaveGiven, IsFaultOf, IsFinishFault}
 use Rattle.cwr_write.specs.Steps.Taking.{IsLine, IsNoWriter, IsOther, IsOwn, IsOwnRun, OnLine, IsRefusedAt, IsRunFaultOf}
-use Rattle.cwr_write.specs.Steps.Taking.{IsUnreadFault, JudgesNext, NoReader, Stands, StandsWith, TakesLine, TakesLines, given_in}
-use Rattle.cwr_write.specs.Steps.Taking.{given_records}
+use Rattle.cwr_write.specs.Steps.Taking.{IsUnreadFault, JudgesNext, NoReader, Stands, StandsWith, TakesLine, TakesLines}
+use Rattle.cwr_write.specs.Steps.Taking.{IsCutShort}
 use Rattle.cwr_write.proofs.lemmas.ItemsInOrder.{IsOwnItem, begins_none, kinded_heads, last_type, own_heads, own_next, same_item}
 use Rattle.cwr_write.proofs.lemmas.LinesTaken.{says_once, value_once}
 use Rattle.cwr_write.proofs.lemmas.TakenItems.{reached-snoc-item, stands_whole}
@@ -146,6 +147,21 @@ finish_counts contents failures e writer lines (encode_faults.Limit limit) told 
 finish_counts contents failures e writer lines (encode_faults.Writer written) told h f =
     subst (λ (w : WriteFault). CountsWriterFault {A = Written} (Err w) (failures (target_of e)) (failures writer)) (sym f) h.0
 
+-- after a fault of the writer the first bytes of the transmission are written
+pub finish_cut : {W : Type 0} (contents : W → Option (List ℕ)) (failures : W → ℕ) (e : Encoder W) (writer : W) (lines : ℕ)
+    (fault : EncodeFault) (told : WriteFault) → FinishesWriting contents failures e writer (Err fault)
+    → IsFinishFault lines fault told → IsCutShort contents failures e writer (Err told)
+finish_cut contents failures e writer lines (encode_faults.Writer written) told h f =
+    subst (λ (w : WriteFault). IsCutShort contents failures e writer (Err w)) (sym f) h
+finish_cut contents failures e writer lines encode_faults.OutOfOrder told h f =
+    subst (λ (w : WriteFault). IsCutShort contents failures e writer (Err w)) (sym f) tt
+finish_cut contents failures e writer lines encode_faults.WrongKind told h f =
+    subst (λ (w : WriteFault). IsCutShort contents failures e writer (Err w)) (sym f) tt
+finish_cut contents failures e writer lines encode_faults.Incomplete told h f =
+    subst (λ (w : WriteFault). IsCutShort contents failures e writer (Err w)) (sym f) tt
+finish_cut contents failures e writer lines (encode_faults.Limit limit) told h f =
+    subst (λ (w : WriteFault). IsCutShort contents failures e writer (Err w)) (sym f) tt
+
 pub finish_unread : (lines : ℕ) (fault : EncodeFault) (told : WriteFault) → IsFinishFault lines fault told
     → NoReader {A = Written} (Err told)
 finish_unread lines (encode_faults.Writer written) told f = subst (λ (w : WriteFault). NoReader {A = Written} (Err w)) (sym f) tt
@@ -185,25 +201,26 @@ of_why : (limits : LimitValues) (items : List Item) (item : Item) (why other : W
 of_why limits items item why other e h = subst (IsPlaceReason limits items item) (sym e) h
 
 pub taken_fault : {W : Type 0} (item : Item) (before : Reached) (contents : W → Option (List ℕ)) (failures : W → ℕ)
-    (added : List RecordValue) (fault : EncodeFault) (told : ItemFault) (old new : Encoder W) → AddsRecords contents failures
-    added (Err fault) old new
+    (fault : EncodeFault) (told : ItemFault) (old new : Encoder W)
+    → AddsRecords contents failures (given_records item) (Err fault) old new
     → Judged contents item before old (Err fault) → IsFaultOf fault told
     → TakesLine (λ i. i ≡ item) (PlaceOf item) before contents failures (Err told) old new
-taken_fault item before contents failures added encode_faults.OutOfOrder (item_faults.Line t) old new h j f =
+taken_fault item before contents failures encode_faults.OutOfOrder (item_faults.Line t) old new h j f =
     place_fault item before contents failures t old new h f.0
     (λ start items s. let p = j start items s in (p.0, of_why (encoder_limits old) items item t.why whys.OutOfOrder f.1 p.1))
-taken_fault item before contents failures added encode_faults.WrongKind (item_faults.Line t) old new h j f =
+taken_fault item before contents failures encode_faults.WrongKind (item_faults.Line t) old new h j f =
     place_fault item before contents failures t old new h f.0
     (λ start items s. let p = j start items s in (p.0, of_why (encoder_limits old) items item t.why whys.WrongKind f.1 p.1))
-taken_fault item before contents failures added encode_faults.Incomplete (item_faults.Line t) old new h j f =
+taken_fault item before contents failures encode_faults.Incomplete (item_faults.Line t) old new h j f =
     place_fault item before contents failures t old new h f.0 (λ start items s. let p =
     j start items s in (p.0, of_why (encoder_limits old) items item t.why (whys.Incomplete f.1.0) f.1.1 p.1))
-taken_fault item before contents failures added (encode_faults.Limit limit) (item_faults.Line t) old new h j f =
+taken_fault item before contents failures (encode_faults.Limit limit) (item_faults.Line t) old new h j f =
     place_fault item before contents failures t old new h f.0 (λ start items s. let p =
     j start items s in (p.0, of_why (encoder_limits old) items item t.why (whys.Limit limit) f.1 p.1))
-taken_fault {W = W} item before contents failures added (encode_faults.Writer written) told old new h j f =
-    subst (λ (t : ItemFault). TakesLine (λ i. i ≡ item) (PlaceOf item) before contents failures (Err t) old new) (sym f) h.3
-taken_fault item before contents failures added fault told old new h j f = absurd f
+taken_fault {W = W} item before contents failures (encode_faults.Writer written) told old new h j f =
+    subst (λ (t : ItemFault). TakesLine (λ i. i ≡ item) (PlaceOf item) before contents failures (Err t) old new) (sym f)
+    (h.3, (item, refl, h.0, h.2, j))
+taken_fault item before contents failures fault told old new h j f = absurd f
 
 -- a run that stops
 pub stops_other : {W : Type 0} (enc : Encoding) (left : Option (List ℕ)) (contents : W → Option (List ℕ)) (failures : W → ℕ)
@@ -279,7 +296,7 @@ stops_at {W = W} enc n is reason before left contents failures item_faults.Memor
     stops_other enc left contents failures told old new (own_other told (memory_own told t))
     (ap (λ (e : Encoder W). failures (target_of e)) h ∙ same)
 stops_at {W = W} enc n is reason before left contents failures (item_faults.Writer written) told old mid new h t same =
-    subst (λ (f : WriteFault). TakesLines enc left contents failures (Err f) old new) (sym t) (h ∙ ap one_more_failure same)
+    subst (λ (f : WriteFault). TakesLines enc left contents failures (Err f) old new) (sym t) (h.0 ∙ ap one_more_failure same)
 
 pub reads_none : {A : Type 0} (answer : Result A WriteFault) (old new : ℕ) → NoReader answer → new ≡ old
     → CountsReaderFault answer old new
@@ -417,7 +434,9 @@ taken_result {W = W} enc line value before contents failures item (Err (item_fau
           (t.2 start items s).1,
     )
 taken_result enc line value before contents failures item (Err item_faults.Memory) old new utf8 text says kinded t = t
-taken_result enc line value before contents failures item (Err (item_faults.Writer written)) old new utf8 text says kinded t = t
+taken_result enc line value before contents failures item (Err (item_faults.Writer written)) old new utf8 text says kinded t =
+    let own : SaysItem enc line item = record { value = value_view value; utf8 = utf8; text = text; says = says } in
+    (t.0, (t.1.0, subst (SaysItem enc line) (sym t.1.1) own, t.1.2, t.1.3, t.1.4))
 
 own_is_item : (ty : TransactionType) (i : Item) → IsOwnItem ty i → IsItem i
 own_is_item ty (Opened r) h = h

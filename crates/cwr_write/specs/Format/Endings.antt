@@ -1,17 +1,20 @@
 -- How a run over lines of JSON ends: all lines are taken, or up to which line no transmission continues.
-use Rattle.std.specs.Prelude.{◌≡◌, ℕ, ◌+◌, ◌-◌, ◌^◌, ◌<◌, ◌≤◌, not, List, [], ◌∷◌, ◌++◌, length, Option, Result, Ok, Err}
+use Rattle.std.specs.Prelude.{◌≡◌, ℕ, ◌+◌, ◌-◌, ◌^◌, ◌<◌, ◌≤◌, not, List, [], ◌∷◌, ◌++◌, length, IfSome, Option, Result, Ok}
+use Rattle.std.specs.Prelude.{Err}
+use Rattle.std.specs.Io.KnownBytes.{Appends}
 use Rattle.std.specs.List.{AllZip, AllByRecursion, filter}
 use Rattle.cwr_shape.specs.Format.Ranges.{LimitValues}
 use Rattle.cwr_shape.specs.declared.limits.Limits.{Limits}
 use Rattle.cwr_values.specs.Format.Values.{TransmissionValue, IsTransmission, FitsIn}
 use Rattle.cwr_values.specs.Format.Rows.{canonical_text}
 use Rattle.cwr_values.specs.declared.items.Item.{Item}
-use Rattle.cwr_judge.specs.Format.Items.{AreFirstItems, value_items}
-use Rattle.cwr_encode.specs.Format.Finishing.{HasAll}
+use Rattle.cwr_judge.specs.Format.Items.{AreFirstItems, records_in, value_items}
+use Rattle.cwr_encode.specs.Format.Encoders.{part_of}
+use Rattle.cwr_encode.specs.Format.Finishing.{HasAll, HasFront}
 use Rattle.cwr_json.specs.declared.encodings.Encoding.{Encoding}
 use Rattle.cwr_write.specs.Format.Faults.{IsReason}
 use Rattle.cwr_write.specs.declared.refusals.LineFault.{LineFault}
-use Rattle.cwr_write.specs.Format.Imports.{AreLines, SaysItem, is_blank_line}
+use Rattle.cwr_write.specs.Format.Imports.{AreLines, SaysItem, given_in, is_blank_line}
 use Rattle.cwr_write.specs.declared.writing.Written.{Written}
 use Rattle.cwr_write.specs.declared.writing.WriteFault.{WriteFault}
 use Rattle.cwr_write.specs.declared.writing.WriteFault.TheVariants.{Refused, Early, Reader, Writer, Memory}
@@ -92,3 +95,39 @@ abbrev pub WritesWhatIsSaid : {W : Type 0} → Limits → Encoding → ℕ → L
 WritesWhatIsSaid limits enc most text contents old new result =
     length text < 2 ^ 64 - 1 → (v : TransmissionValue) → IsTransmission v → FitsIn limits v → SaysTransmission enc most text v
     → WritesTransmission contents old new v result
+
+-- ---- what is written where no transmission is
+
+-- the text's first n lines but for the blank ones are data of the items, one by one
+pub record SaysFirst (enc : Encoding) (text : List ℕ) (n : ℕ) (items : List Item) : Type 0 where
+  pub lines : List (List ℕ)
+  pub rest : List (List ℕ)
+  pub are : AreLines (lines ++ rest) text
+  pub number : n ≡ length lines
+  pub each : AllZip (SaysItem enc) (said_lines lines) items
+
+-- After what the writer had, all that the first n lines give is written, and no TRL: the canonical text of the records of their
+-- items, with which some transmission within the limits begins.
+pub record LeavesLines {W : Type 0} (enc : Encoding) (limits : LimitValues) (left : Option (List ℕ))
+    (contents : W → Option (List ℕ)) (old new : W) (n : ℕ) : Type 0 where
+  pub items : List Item
+  pub said : IfSome left (λ text. SaysFirst enc text n items)
+  pub first : AreFirstItems limits items
+  pub written : Appends (contents old) (contents new) (part_of (given_in items))
+
+-- So many of the first bytes of such a text are written, where it may end with TRL.
+pub record LeavesBytes {W : Type 0} (enc : Encoding) (limits : LimitValues) (left : Option (List ℕ))
+    (contents : W → Option (List ℕ)) (old new : W) (written : ℕ) : Type 0 where
+  pub items : List Item
+  pub said : IfSome left (λ text. (n : ℕ) × SaysFirst enc text n items)
+  pub first : AreFirstItems limits items
+  pub front : HasFront contents (contents old) new (part_of (records_in items)) written
+
+-- What is written: of the lines before the refused one, of all lines where the input ends early, or of some lines where the reader or
+-- memory failed; and where the writer did, so many bytes as are told.
+abbrev pub LeavesAfter : {W : Type 0} → Encoding → LimitValues → Option (List ℕ) → (W → Option (List ℕ)) → W → W → WriteFault
+    → Type 0
+LeavesAfter enc limits left contents old new (Refused r) = LeavesLines enc limits left contents old new (r.line - 1)
+LeavesAfter enc limits left contents old new (Early n) = LeavesLines enc limits left contents old new n
+LeavesAfter enc limits left contents old new (Writer written) = LeavesBytes enc limits left contents old new written
+LeavesAfter enc limits left contents old new fault = (n : ℕ) × LeavesLines enc limits left contents old new n

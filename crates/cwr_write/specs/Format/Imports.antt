@@ -1,7 +1,7 @@
 -- What a run writes from lines of JSON.
 use Rattle.std.specs.Prelude.{◌≡◌, ◌⊎◌, ℕ, ◌==◌, ◌<◌, ◌||◌, Bool, not, IsFalse, List, [], ◌∷◌, ◌++◌, length, Option, Some, IfSome}
 use Rattle.std.specs.Prelude.{Result, Err}
-use Rattle.std.specs.List.{AllZip, filter, list_all, list_any}
+use Rattle.std.specs.List.{AllZip, filter, flat_map, list_all, list_any}
 use Rattle.std.specs.Str.{IsUtf8}
 use Rattle.json.specs.Json.{Json, document}
 use Rattle.cwr_devices.specs.Format.Failures.{one_more_failure}
@@ -9,9 +9,11 @@ use Rattle.cwr_shape.specs.Format.Ranges.{LimitValues}
 use Rattle.cwr_values.specs.Format.Values.{TransmissionValue, IsTransmission, FitsIn}
 use Rattle.cwr_values.specs.Format.Rows.{canonical_text, records_of}
 use Rattle.cwr_values.specs.declared.items.Item.{Item}
+use Rattle.cwr_values.specs.declared.items.Item.TheVariants.{Opened, GroupOpened, Transaction, GroupClosed, Ended}
 use Rattle.cwr_judge.specs.Format.Items.{item_records, records_in}
 use Rattle.cwr_json.specs.declared.encodings.Encoding.{Encoding}
 use Rattle.cwr_json.specs.Format.Forms.{IsItemData}
+use Rattle.cwr_lines.specs.Format.Records.{RecordValue}
 use Rattle.cwr_lines.specs.Format.Lines.{is_lf}
 use Rattle.cwr_encode.specs.Format.Finishing.{HasAll}
 use Rattle.cwr_write.specs.declared.writing.WriteFault.{WriteFault}
@@ -27,6 +29,17 @@ pub record SaysItem (enc : Encoding) (line : List ℕ) (i : Item) : Type 0 where
   pub utf8 : IsUtf8 line
   pub text : document line ≡ Some value
   pub says : IsItemData enc value (item_records i)
+
+-- the records that an item gives; TRL follows from them
+abbrev pub given_records : Item → List RecordValue
+given_records (Opened r) = r ∷ []
+given_records (GroupOpened r) = r ∷ []
+given_records (Transaction t) = t
+given_records (GroupClosed r) = r ∷ []
+given_records Ended = []
+
+abbrev pub given_in : List Item → List RecordValue
+given_in items = flat_map given_records items
 
 -- the lines of a text: each ends with a line feed, but the last one may end with the text
 unfoldable pub AreLines : List (List ℕ) → List ℕ → Type 0

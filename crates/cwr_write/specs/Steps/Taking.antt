@@ -1,7 +1,7 @@
 -- What taking a line does to an encoder.
 use Rattle.std.specs.Prelude.{◌≡◌, ◌≢◌, ◌⊎◌, ℕ, false, not, List, [], ◌∷◌, ◌++◌, length, Option, None, Some, IfSome, Result, Ok}
 use Rattle.std.specs.Prelude.{Err}
-use Rattle.std.specs.List.{AllZip, filter, flat_map}
+use Rattle.std.specs.List.{AllZip, filter}
 use Rattle.json.specs.Json.{Json}
 use Rattle.cwr_devices.specs.Format.Failures.{one_more_failure}
 use Rattle.cwr_lines.specs.Format.Records.{RecordValue}
@@ -11,7 +11,8 @@ use Rattle.cwr_encode.specs.declared.encoders.Encoder.{Encoder}
 use Rattle.cwr_encode.specs.declared.encoders.EncodeFault.{EncodeFault}
 use Rattle.cwr_encode.specs.declared.encoders.EncodeFault.TheVariants as encode_faults
 use Rattle.cwr_encode.specs.Format.Encoders.{JudgesFoot, JudgesGroup, JudgesOpening, JudgesTransaction}
-use Rattle.cwr_encode.specs.Steps.Encoders.{Encodes, RepresentsMore, encoder_limits, is_stopped, target_of}
+use Rattle.cwr_encode.specs.Steps.Encoders.{Encodes, RepresentsMore, bytes_written, encoder_limits, is_stopped, target_of}
+use Rattle.cwr_encode.specs.Steps.Finishing.{FinishesWriting}
 use Rattle.cwr_shape.specs.declared.symbols.Symbol.{Symbol}
 use Rattle.cwr_shape.specs.Format.Ranges.{LimitValues}
 use Rattle.cwr_values.specs.Format.Values.{TransmissionValue, IsTransmission, FitsIn}
@@ -27,7 +28,7 @@ use Rattle.cwr_write.specs.declared.items.ItemFault.TheVariants as item_faults
 use Rattle.cwr_values.specs.Format.Rows.{trailer}
 use Rattle.cwr_judge.specs.Format.Items.{AreFirstItems, records_in, value_items}
 use Rattle.cwr_write.specs.Format.Endings.{AreShort, EndsEarly, EndsWell, StopsAtLine}
-use Rattle.cwr_write.specs.Format.Imports.{AreLines, SaysItem, SaysItems, is_blank_line}
+use Rattle.cwr_write.specs.Format.Imports.{AreLines, SaysItem, SaysItems, given_in, given_records, is_blank_line}
 use Rattle.cwr_write.specs.declared.writing.Reached.{Reached}
 use Rattle.cwr_write.specs.declared.writing.Reached.TheVariants as reached_to
 use Rattle.cwr_write.specs.declared.lines.ReadFault.{ReadFault}
@@ -35,14 +36,6 @@ use Rattle.cwr_write.specs.declared.lines.ReadFault.TheVariants as read_faults
 use Rattle.cwr_write.specs.declared.writing.Written.{Written}
 use Rattle.cwr_write.specs.declared.writing.WriteFault.{WriteFault}
 use Rattle.cwr_write.specs.declared.writing.WriteFault.TheVariants as write_faults
-
--- the records of an item that an encoder is given; TRL it makes itself
-abbrev pub given_records : Item → List RecordValue
-given_records (Opened r) = r ∷ []
-given_records (GroupOpened r) = r ∷ []
-given_records (Transaction t) = t
-given_records (GroupClosed r) = r ∷ []
-given_records Ended = []
 
 -- the answer isn't that the writer failed
 abbrev pub IsNoWriter : {A : Type 0} → Result A EncodeFault → Type 0
@@ -89,10 +82,6 @@ abbrev pub Goes : Reached → Item → Reached → Type 0
 Goes before Ended after = (before ≢ reached_to.End) × (after ≡ reached_to.End)
 Goes before item after = (before ≢ reached_to.End) × (after ≢ reached_to.End)
 
--- the records of items that an encoder is given
-abbrev pub given_in : List Item → List RecordValue
-given_in items = flat_map given_records items
-
 -- just TRL is left for the encoder to make, where its line was taken
 pub record HaveGiven (items : List Item) (reached : Reached) : Type 0 where
   pub ended : reached ≡ reached_to.End → records_in items ≡ given_in items ++ trailer ∷ []
@@ -115,10 +104,11 @@ JudgesGiven limits (GroupClosed r) xs answer = JudgesFoot limits r xs answer
 JudgesGiven limits Ended xs answer = Unit {0}
 
 -- The answer for an item after others: it is taken where some transmission within the limits begins so, and else refused, for
--- that reason. The writer may fail.
+-- that reason. The writer may fail with one that is taken, and not with TRL.
 abbrev pub JudgesNext : LimitValues → List Item → Item → Result (Unit {0}) EncodeFault → Type 0
 JudgesNext limits items item (Ok x) = AreFirstItems limits (items ++ item ∷ [])
-JudgesNext limits items item (Err (encode_faults.Writer written)) = Unit {0}
+JudgesNext limits items item (Err (encode_faults.Writer written)) =
+    (item ≢ Ended) × AreFirstItems limits (items ++ item ∷ [])
 JudgesNext limits items item (Err fault) =
     (¬ AreFirstItems limits (items ++ item ∷ [])) × JudgesItem limits items item (Err fault)
 
@@ -134,8 +124,14 @@ NoneBegins contents is before e =
     (start : Option (List ℕ)) (items : List Item) → Stands contents start items before e → (i : Item) → is i
     → ¬ AreFirstItems (encoder_limits e) (items ++ i ∷ [])
 
+-- the item isn't TRL, and with it after what the encoder stands for some transmission begins
+abbrev pub IsTakenNext : {W : Type 0} → (W → Option (List ℕ)) → Item → Reached → Encoder W → Type 0
+IsTakenNext contents item before e =
+    (start : Option (List ℕ)) (items : List Item) → Stands contents start items before e
+    → (item ≢ Ended) × AreFirstItems (encoder_limits e) (items ++ item ∷ [])
+
 -- An item more of which this is so is accepted. Or nothing is changed, since none such continues a transmission, for such a reason, or
--- for want of memory. Or the writer failed.
+-- for want of memory. Or the writer failed with an item more that is accepted, once so many bytes were written.
 abbrev pub TakesLine : {W : Type 0} → (Item → Type 0) → (LimitValues → List Item → LineFault → Type 0) → Reached
     → (W → Option (List ℕ)) → (W → ℕ) → Result Reached ItemFault → Encoder W → Encoder W → Type 0
 TakesLine is reason before contents failures (Ok after) old new =
@@ -143,7 +139,9 @@ TakesLine is reason before contents failures (Ok after) old new =
     × (is_stopped new ≡ false) × (failures (target_of new) ≡ failures (target_of old))
     × StandsWith contents item before after old new
 TakesLine is reason before contents failures (Err (item_faults.Writer written)) old new =
-    failures (target_of new) ≡ one_more_failure (failures (target_of old))
+    (failures (target_of new) ≡ one_more_failure (failures (target_of old)))
+    × ((item : Item) × is item × RepresentsMore contents (given_records item) old new × (written ≡ bytes_written new)
+    × IsTakenNext contents item before old)
 TakesLine is reason before contents failures (Err (item_faults.Line fault)) old new =
     (new ≡ old) × NoneBegins contents is before old
     × ((start : Option (List ℕ)) (items : List Item) → Stands contents start items before old
@@ -198,6 +196,12 @@ abbrev pub FinishesLines : ℕ → Result Written WriteFault → Type 0
 FinishesLines lines (Ok w) = w.lines ≡ lines
 FinishesLines lines (Err (write_faults.Writer written)) = Unit {0}
 FinishesLines lines (Err fault) = ⊥
+
+-- where the writer failed as the transmission ended, the first bytes of its canonical text are written, so many
+abbrev pub IsCutShort : {W : Type 0} → (W → Option (List ℕ)) → (W → ℕ) → Encoder W → W → Result Written WriteFault → Type 0
+IsCutShort contents failures e writer (Err (write_faults.Writer written)) =
+    FinishesWriting contents failures e writer (Err (encode_faults.Writer written))
+IsCutShort contents failures e writer answer = Unit {0}
 
 -- the fault isn't that the writer failed
 abbrev pub IsOther : WriteFault → Type 0

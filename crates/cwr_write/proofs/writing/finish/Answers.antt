@@ -7,7 +7,7 @@ use Rattle.cwr_encode.specs.Format.Finishing.{JudgesEnd}
 use Rattle.cwr_encode.specs.Steps.Encoders.{encoder_limits}
 use Rattle.cwr_encode.specs.Steps.Finishing.{FinishesWriting}
 use Rattle.std.proofs.Common.{ℕ}
-use Rattle.cwr_write.proofs.lemmas.TakenLines.{finish_counts, finish_ended, finish_unread}
+use Rattle.cwr_write.proofs.lemmas.TakenLines.{finish_counts, finish_cut, finish_ended, finish_unread}
 use Rattle.cwr_write.proofs.writing.finish.Goals as goal
 
 pub returns-in-Err-clause-ended : goal.returns-in-Err-clause-ended
@@ -20,6 +20,13 @@ returns-in-Err-clause-ended g c = λ start records e comes.
 pub returns-in-Err-clause-failures : goal.returns-in-Err-clause-failures
 returns-in-Err-clause-failures g c =
     finish_counts g.W.Target.contents g.W.Target.failures c.args.encoder c.finish-writer.result.0 c.args.lines c.in-Err.fault
+    c.finish_fault.result
+    (subst (λ (r : Result ℕ EncodeFault). FinishesWriting g.W.Target.contents g.W.Target.failures c.args.encoder
+    c.finish-writer.result.0 r) c.in-Err.is (c.finish-writer.ensures.finishes c.requires)) c.finish_fault.ensures
+
+pub returns-in-Err-clause-cut : goal.returns-in-Err-clause-cut
+returns-in-Err-clause-cut g c =
+    finish_cut g.W.Target.contents g.W.Target.failures c.args.encoder c.finish-writer.result.0 c.args.lines c.in-Err.fault
     c.finish_fault.result
     (subst (λ (r : Result ℕ EncodeFault). FinishesWriting g.W.Target.contents g.W.Target.failures c.args.encoder
     c.finish-writer.result.0 r) c.in-Err.is (c.finish-writer.ensures.finishes c.requires)) c.finish_fault.ensures

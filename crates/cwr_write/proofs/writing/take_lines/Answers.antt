@@ -1,17 +1,18 @@
-use Rattle.std.proofs.Common.{ℕ, List, [], ◌∷◌, ◌++◌, Option, refl, sym, ap, subst, ◌∙◌, arith}
-use Rattle.std.specs.Prelude.{Err}
+use Rattle.std.proofs.Common.{◌≡◌, ℕ, List, [], ◌∷◌, ◌++◌, Option, refl, sym, ap, subst, ◌∙◌, arith}
+use Rattle.std.specs.Prelude.{◌+◌, Err, IfErr}
 use Rattle.cwr_write.specs.declared.writing.WriteFault.TheVariants as write_faults
 use Rattle.cwr_lines.specs.Format.Records.{RecordValue}
 use Rattle.cwr_shape.specs.Format.Ranges.{LimitValues}
-use Rattle.cwr_encode.specs.Steps.Encoders.{RepresentsMore, encoder_limits}
+use Rattle.cwr_encode.specs.Steps.Encoders.{RepresentsMore, encoder_limits, target_of}
+use Rattle.cwr_write.specs.Format.Endings.{LeavesAfter}
 use Rattle.cwr_write.specs.Format.Faults.{IsReason}
-use Rattle.cwr_write.specs.Format.Imports.{SaysItem, is_blank_line}
+use Rattle.cwr_write.specs.Format.Imports.{SaysItem, given_in, given_records, is_blank_line}
 use Rattle.cwr_write.specs.Steps.Lines.{TakesLineOf}
-use Rattle.cwr_write.proofs.lemmas.LinesTaken.{said_all, said_blank, said_item, said_none, stops_line, stops_long}
+use Rattle.cwr_write.proofs.lemmas.LeftWritten.{left_ended, left_stopped, left_unread, lines_left}
+use Rattle.cwr_write.proofs.lemmas.LinesTaken.{said_all, said_blank, said_first, said_item, said_none, stops_line, stops_long}
 use Rattle.cwr_write.proofs.lemmas.RunsEnded.{RunEnds, run_full, run_over, run_stopped, run_unread}
 use Rattle.cwr_write.proofs.lemmas.TakenLines.{ReasonOf, ends_lines, ends_read, given_one_more, reads_stopped, reads_unread}
 use Rattle.cwr_write.proofs.lemmas.TakenLines.{represents_both, represents_none, stands_none, stops_at, stops_unread}
-use Rattle.cwr_write.specs.Steps.Taking.{given_in, given_records}
 use Rattle.cwr_write.proofs.writing.take_lines.Goals as goal
 
 pub returns-in-Err-clause-takes : goal.returns-in-Err-clause-takes
@@ -163,3 +164,63 @@ returns-clause-ends g c =
     run_full c.args.encoding (encoder_limits c.args.encoder.now) c.args.most c.loop-before.before
     (g.R.Source.remaining c.args.reader.now) (g.R.Source.remaining c.loop-before.reader) c.loop-before.invariant.items
     (Err (write_faults.Early 18446744073709551615)) c.loop-before.invariant.said (omega (arith, c.loop-before-test.false))
+
+pub returns-in-Err-clause-leaves : goal.returns-in-Err-clause-leaves
+returns-in-Err-clause-leaves g c =
+    let i = c.loop-before.invariant in
+    let left : Option (List ℕ) = g.R.Source.remaining c.args.reader.now in
+    subst (λ (l : LimitValues). LeavesAfter c.args.encoding l left g.W.Target.contents (target_of c.args.encoder.now)
+    (target_of c.loop-before.encoder) c.unread_at.result) i.limits
+    (left_unread c.args.encoding (encoder_limits c.loop-before.encoder) c.loop-before.before left g.W.Target.contents
+    (target_of c.args.encoder.now) (target_of c.loop-before.encoder) c.in-Err.fault c.unread_at.result c.unread_at.ensures
+    (lines_left c.args.encoding c.loop-before.before left g.W.Target.contents i.items c.loop-before.reached
+    (target_of c.args.encoder.now) c.loop-before.encoder i.stands i.unfailed
+    (said_first c.args.encoding c.args.most c.loop-before.before left (g.R.Source.remaining c.loop-before.reader) i.items
+    i.said)))
+
+pub returns-in-Err-take_line-clause-leaves : goal.returns-in-Err-take_line-clause-leaves
+returns-in-Err-take_line-clause-leaves g c =
+    let i = c.loop-before.invariant in
+    let left : Option (List ℕ) = g.R.Source.remaining c.args.reader.now in
+    subst (λ (l : LimitValues). LeavesAfter c.args.encoding l left g.W.Target.contents (target_of c.args.encoder.now)
+    (target_of c.take_line.new.encoder) c.fault_at.result) i.limits
+    (left_stopped c.args.encoding c.loop-before.before (SaysItem c.args.encoding c.as_slice-text.result.now)
+    (ReasonOf c.args.encoding c.as_slice-text.result.now) c.loop-before.reached left g.W.Target.contents g.W.Target.failures
+    i.items c.in-Err-take_line.fault c.fault_at.result (target_of c.args.encoder.now) c.loop-before.encoder
+    c.take_line.new.encoder c.in-Err-take_line.ensures.takes c.fault_at.ensures i.stands i.unfailed
+    (said_first c.args.encoding c.args.most c.loop-before.before left (g.R.Source.remaining c.loop-before.reader) i.items i.said)
+    (λ item says. said_first c.args.encoding c.args.most (c.loop-before.before + 1) left
+    (g.R.Source.remaining c.next_line.new.reader) (i.items ++ item ∷ [])
+    (said_item c.args.encoding c.args.most c.loop-before.before left (g.R.Source.remaining c.loop-before.reader)
+    (g.R.Source.remaining c.next_line.new.reader) c.next_line.new.line.items i.items item i.said
+    (subst (TakesLineOf (g.R.Source.remaining c.loop-before.reader) (g.R.Source.remaining c.next_line.new.reader)
+    c.next_line.new.line.items) c.in-Ok-true.field-0-test c.in-Ok-true.ensures.taken) c.in-Ok-true.ensures.short
+    (ap is_blank_line (sym c.as_slice-text.ensures.value) ∙ sym c.is_blank.ensures ∙ c.if-is_blank.false)
+    (subst (λ (l : List ℕ). SaysItem c.args.encoding l item) c.as_slice-text.ensures.value says))))
+
+pub returns-in-Ok-false-clause-leaves : goal.returns-in-Ok-false-clause-leaves
+returns-in-Ok-false-clause-leaves g c =
+    let i = c.loop-before.invariant in
+    let left : Option (List ℕ) = g.R.Source.remaining c.args.reader.now in
+    subst (λ (l : LimitValues). IfErr c.ended_with.result (LeavesAfter c.args.encoding l left g.W.Target.contents
+    (target_of c.args.encoder.now) (target_of c.loop-before.encoder))) i.limits
+    (left_ended c.args.encoding (encoder_limits c.loop-before.encoder) c.loop-before.before c.loop-before.reached left
+    g.W.Target.contents (target_of c.args.encoder.now) (target_of c.loop-before.encoder) c.ended_with.result c.ended_with.ensures
+    (lines_left c.args.encoding c.loop-before.before left g.W.Target.contents i.items c.loop-before.reached
+    (target_of c.args.encoder.now) c.loop-before.encoder i.stands i.unfailed
+    (said_first c.args.encoding c.args.most c.loop-before.before left (g.R.Source.remaining c.loop-before.reader) i.items
+    i.said)))
+
+pub returns-clause-leaves : goal.returns-clause-leaves
+returns-clause-leaves g c =
+    let i = c.loop-before.invariant in
+    let left : Option (List ℕ) = g.R.Source.remaining c.args.reader.now in
+    let all : c.loop-before.before ≡ 18446744073709551615 = omega (arith, c.loop-before-test.false) in
+    subst (λ (l : LimitValues). LeavesAfter c.args.encoding l left g.W.Target.contents (target_of c.args.encoder.now)
+    (target_of c.loop-before.encoder) (write_faults.Early 18446744073709551615)) i.limits
+    (subst (λ (n : ℕ). LeavesAfter c.args.encoding (encoder_limits c.loop-before.encoder) left g.W.Target.contents
+    (target_of c.args.encoder.now) (target_of c.loop-before.encoder) (write_faults.Early n)) all
+    (lines_left c.args.encoding c.loop-before.before left g.W.Target.contents i.items c.loop-before.reached
+    (target_of c.args.encoder.now) c.loop-before.encoder i.stands i.unfailed
+    (said_first c.args.encoding c.args.most c.loop-before.before left (g.R.Source.remaining c.loop-before.reader) i.items
+    i.said)))

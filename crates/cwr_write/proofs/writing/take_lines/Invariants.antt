@@ -2,7 +2,8 @@ use Rattle.std.proofs.Common.{◌≡◌, List, false}
 use Rattle.std.specs.Prelude.{IfSome}
 use Rattle.cwr_values.specs.declared.items.Item.{Item}
 use Rattle.cwr_encode.specs.Steps.Encoders.{RepresentsMore, encoder_limits, is_stopped, target_of}
-use Rattle.cwr_write.specs.Steps.Taking.{SaidSoFar, Stands, given_in}
+use Rattle.cwr_write.specs.Format.Imports.{given_in}
+use Rattle.cwr_write.specs.Steps.Taking.{SaidSoFar, Stands}
 use Rattle.cwr_write.proofs.writing.take_lines.Given as goal
 
 abbrev pub invariant-loop-before : goal.invariant-loop-before

@@ -4,7 +4,7 @@ use Rattle.cwr_write.proofs.writing.taken.Goals as goal
 
 pub returns-in-Err-clause-takes : goal.returns-in-Err-clause-takes
 returns-in-Err-clause-takes g c =
-    taken_fault c.args.item.now c.args.reached g.W.Target.contents g.W.Target.failures _ c.in-Err.fault c.encode_fault.result
+    taken_fault c.args.item.now c.args.reached g.W.Target.contents g.W.Target.failures c.in-Err.fault c.encode_fault.result
     c.args.encoder.now c.take_item.new.encoder c.in-Err.ensures.adds c.in-Err.ensures.judged c.encode_fault.ensures
 
 pub returns-in-Ok-clause-takes : goal.returns-in-Ok-clause-takes
