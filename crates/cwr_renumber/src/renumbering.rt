@@ -1,7 +1,7 @@
 //! A transmission with its numbers put right.
 
-ghost use Rattle.std.specs.Prelude.{◌≡◌, true, OnOk};
-ghost use Rattle.cwr_renumber.specs.Steps.Renumberings.{CountsWriter, Renumbers, RenumbersAccepted, of_one};
+ghost use Rattle.std.specs.Prelude.{◌≡◌, true, IfErr, OnOk};
+ghost use Rattle.cwr_renumber.specs.Steps.Renumberings.{CountsWriter, LeavesRenumbered, Renumbers, RenumbersAccepted, of_one};
 
 use crate::sources::Renumbered;
 use cwr_devices::{Source, Target};
@@ -40,6 +40,9 @@ pub fn renumber<R: Source, W: Target + Drop>(
         result.1 }
     ensures accepted { RenumbersAccepted limits (R.remaining reader.old) W.contents writer result.0
         result.1 }
+    // Else the items before that are written, and no TRL; or their first bytes, so many as a fault of the writer tells.
+    ensures leaves { IfErr result.1 (LeavesRenumbered limits (R.remaining reader.old) W.contents
+        writer result.0) }
     // No failure is passed over: the writer failed only where that is the answer.
     ensures writer_failures { CountsWriter result.1 (W.failures writer) (W.failures result.0) }
     // All that was written was handed on.

@@ -1,7 +1,7 @@
 -- A join of one input is that input.
-use Rattle.std.proofs.Common.{◌≡◌, ℕ, List, [], ◌∷◌, ◌++◌, length, drop, Option, Some, None, sym, ap, subst, ◌∙◌, arith}
+use Rattle.std.proofs.Common.{◌≡◌, ℕ, List, [], ◌∷◌, ◌++◌, length, drop, Option, Some, None, sym, ap, inl, inr, subst, ◌∙◌, arith}
 use Rattle.std.proofs.Common.{append-nil}
-use Rattle.std.specs.Prelude.{Result, Ok, Err, IfSome, MatchResult, option_map}
+use Rattle.std.specs.Prelude.{Result, Ok, Err, IfErr, IfSome, MatchResult, option_map}
 use Rattle.std.specs.Io.KnownBytes.{Appends}
 use Rattle.std.proofs.lemmas.List.{length-append}
 use Rattle.cwr_shape.specs.declared.limits.Limits.{Limits}
@@ -15,9 +15,10 @@ use Rattle.cwr_tools.specs.declared.verdicts.ToolFault.TheVariants as faults
 use Rattle.cwr_parts.specs.Format.Joins.{AreJoined, CountsJoinWriter, IsOfDevice, JoinsAccepted, JoinsAll, TakeInputs}
 use Rattle.cwr_parts.specs.Format.Joins.{join_report}
 use Rattle.cwr_parts.specs.Format.Splits.{join_of}
-use Rattle.cwr_parts.specs.Format.Told.{JoinsBefore, JoinsSoFar, JoinsTexts}
+use Rattle.cwr_parts.specs.Format.Told.{IsJoinedText, JoinsBefore, JoinsSoFar, JoinsTexts}
 use Rattle.cwr_renumber.specs.Steps.Renumbered.{renumbered_text}
-use Rattle.cwr_renumber.specs.Steps.Renumberings.{CountsWriter, Renumbers, RenumbersAccepted, of_one}
+use Rattle.cwr_renumber.specs.Steps.Renumberings.{CountsWriter, IsTextOfItems, LeavesItems, LeavesRenumbered, Renumbers}
+use Rattle.cwr_renumber.specs.Steps.Renumberings.{RenumbersAccepted, of_one}
 
 same_value : (v : TransmissionValue) → join_of v [] ≡ v
 same_value v = ap (λ (gs : List GroupValue). record { opening = v.opening; groups = gs }) (append-nil v.groups)
@@ -114,7 +115,8 @@ fault_of_text limits o contents before now (faults.Limit limit) h = tt
 renumbers_by : {R W : Type 0} (limits : Limits) (remaining : R → Option (List ℕ)) (failures : R → ℕ)
     (contents : W → Option (List ℕ)) (old : R) (after : List R) (before now : W) (o : Option (List ℕ))
     (joined : Result JoinReport JoinFault)
-    → remaining old ≡ option_map renumbered_text o → JoinsTexts limits remaining failures contents (old ∷ []) after before now joined
+    → remaining old ≡ option_map renumbered_text o
+    → JoinsTexts limits remaining failures contents (old ∷ []) after before now joined
     → Renumbers limits o contents before now (of_one joined)
 renumbers_by limits remaining failures contents old after before now o (Ok report) same h =
     of_text o (IsWritten limits (contents before) (contents now) report)
@@ -160,6 +162,67 @@ accepted_one {R = R} limits remaining contents old olds before now (Some text) j
     answer)
     (accepted_by contents before now v joined
     (all (v ∷ []) v ((renumbered_text text, n, same, a), tt) (sym (same_value v)) a.within))
+
+-- ---- what is written where it isn't accepted
+
+items_of : {R : Type 0} (limits : Limits) (fault : ToolFault) (o after : Option (List ℕ)) (later : List R) (text : List ℕ)
+    → IsJoinedText limits fault [] o after later text → IsTextOfItems limits fault o text
+items_of limits fault o after later text (inl part) = inl part
+items_of limits fault o after later text (inr whole) = inr (after, whole.0)
+
+left_so_far : {R W : Type 0} (limits : Limits) (fault : ToolFault) (contents : W → Option (List ℕ)) (o after : Option (List ℕ))
+    (later : List R) (before now : W) → JoinsSoFar limits fault contents [] o after later before now
+    → LeavesItems limits o contents before now fault
+left_so_far limits (faults.Writer written) contents o after later before now h =
+    (h.0, items_of limits (faults.Writer written) o after later h.0 h.1, h.2)
+left_so_far limits (faults.Limit limit) contents o after later before now h = h
+left_so_far limits faults.Output contents o after later before now h = h
+left_so_far limits (faults.Refused refusal) contents o after later before now h = h
+left_so_far limits (faults.Truncated records) contents o after later before now h = h
+left_so_far limits faults.Reader contents o after later before now h = h
+left_so_far limits faults.Memory contents o after later before now h = h
+
+left_of_one : {R W : Type 0} (limits : Limits) (remaining : R → Option (List ℕ)) (failures : R → ℕ)
+    (contents : W → Option (List ℕ)) (old : R) (after : List R) (before now : W) (stopped : JoinFault)
+    → JoinsBefore limits remaining failures contents (old ∷ []) after before now stopped
+    → LeavesItems limits (remaining old) contents before now stopped.fault
+left_of_one {R = R} limits remaining failures contents old after before now stopped h =
+    by h.earlier h.inputs h.finished h.before_are h.taken h.stops
+  where
+    by : (earlier : List R) (inputs : List TransmissionValue) (finished : List R) → old ∷ [] ≡ earlier ++ h.hand ∷ h.later
+        → TakeInputs limits remaining failures earlier inputs finished
+        → JoinsSoFar limits stopped.fault contents inputs (remaining h.hand) (remaining h.left) h.later before now
+        → LeavesItems limits (remaining old) contents before now stopped.fault
+    by [] [] [] e t s =
+        subst (λ (r : R). LeavesItems limits (remaining r) contents before now stopped.fault) (hand_is [] h.hand h.later old e)
+        (left_so_far limits stopped.fault contents (remaining h.hand) (remaining h.left) h.later before now s)
+    by [] [] (x ∷ finished) e t s = absurd t
+    by [] (v ∷ inputs) [] e t s = absurd t
+    by [] (v ∷ inputs) (x ∷ finished) e t s = absurd t
+    by (x ∷ earlier) inputs finished e t s = absurd (omega (arith, ap length e, length-append earlier (h.hand ∷ h.later)))
+
+left_by : {R W : Type 0} (limits : Limits) (remaining : R → Option (List ℕ)) (failures : R → ℕ)
+    (contents : W → Option (List ℕ)) (old : R) (after : List R) (before now : W) (o : Option (List ℕ))
+    (joined : Result JoinReport JoinFault)
+    → remaining old ≡ option_map renumbered_text o
+    → JoinsTexts limits remaining failures contents (old ∷ []) after before now joined
+    → IfErr (of_one joined) (LeavesRenumbered limits o contents before now)
+left_by limits remaining failures contents old after before now o (Ok report) same h = tt
+left_by limits remaining failures contents old after before now o (Err stopped) same h =
+    subst (λ (x : Option (List ℕ)). LeavesItems limits x contents before now stopped.fault) same
+    (left_of_one limits remaining failures contents old after before now stopped h)
+
+-- what is left of a text whose numbers are put right
+pub left_one : {R W : Type 0} (limits : Limits) (remaining : R → Option (List ℕ)) (failures : R → ℕ)
+    (contents : W → Option (List ℕ)) (old : R) (olds after : List R) (before now : W) (o : Option (List ℕ))
+    → (joined : Result JoinReport JoinFault) (result : Result JoinReport ToolFault) → olds ≡ old ∷ []
+    → remaining old ≡ option_map renumbered_text o → result ≡ of_one joined
+    → JoinsTexts limits remaining failures contents olds after before now joined
+    → IfErr result (LeavesRenumbered limits o contents before now)
+left_one limits remaining failures contents old olds after before now o joined result one same answer h =
+    subst (λ (r : Result JoinReport ToolFault). IfErr r (LeavesRenumbered limits o contents before now)) (sym answer)
+    (left_by limits remaining failures contents old after before now o joined same
+    (subst (λ (rs : List _). JoinsTexts limits remaining failures contents rs after before now joined) one h))
 
 -- ---- the writer's failures
 

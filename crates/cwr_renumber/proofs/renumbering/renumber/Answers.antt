@@ -1,6 +1,6 @@
 use Rattle.std.proofs.Common.{ap, ◌∙◌}
 use Rattle.cwr_renumber.specs.Steps.Sources.{inner_of, left_of}
-use Rattle.cwr_renumber.proofs.lemmas.OneJoined.{accepted_one, renumbers_one, writer_one}
+use Rattle.cwr_renumber.proofs.lemmas.OneJoined.{accepted_one, left_one, renumbers_one, writer_one}
 use Rattle.cwr_renumber.proofs.renumbering.renumber.Goals as goal
 
 pub returns-clause-renumbers : goal.returns-clause-renumbers
@@ -18,6 +18,14 @@ returns-clause-accepted g c =
     (g.R.Source.remaining c.args.reader.now) c.join-writer.result.1 c.of_one.result c.from_mut.ensures.value
     (ap (λ r. left_of c.new-source.result (g.R.Source.remaining r)) c.new-source.ensures.inner ∙ c.new-source.ensures.left)
     c.of_one.ensures c.join-writer.ensures.accepted
+
+pub returns-clause-leaves : goal.returns-clause-leaves
+returns-clause-leaves g c =
+    left_one c.args.limits (λ s. left_of s (g.R.Source.remaining (inner_of s))) (λ s. g.R.Source.failures (inner_of s))
+    g.W.Target.contents c.new-source.result _ _ c.args.writer c.join-writer.result.0
+    (g.R.Source.remaining c.args.reader.now) c.join-writer.result.1 c.of_one.result c.from_mut.ensures.value
+    (ap (λ r. left_of c.new-source.result (g.R.Source.remaining r)) c.new-source.ensures.inner ∙ c.new-source.ensures.left)
+    c.of_one.ensures c.join-writer.ensures.told
 
 pub returns-clause-writer_failures : goal.returns-clause-writer_failures
 returns-clause-writer_failures g c =
