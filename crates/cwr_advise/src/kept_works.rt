@@ -44,8 +44,8 @@ impl Keeper for AdvisedSums {
         self.advice.begin(header)
     }
 
-    fn add(&mut self, next: &RecordRef<'_>) -> bool {
-        if !self.findings.add(next) {
+    fn add<A>(&mut self, next: &RecordRef<'_>) -> bool {
+        if !self.findings.add::<A>(next) {
             return false;
         }
         self.advice.add(next)

@@ -18,8 +18,9 @@ pub trait Keeper {
     fn begin(&mut self, header: &RecordRef<'_>) -> bool
         ensures { IsTrue result → stands_for self.new (header.now ∷ []) };
 
-    /// Adds one record more, and says whether it does.
-    fn add(&mut self, next: &RecordRef<'_>) -> bool
+    /// Adds one record more, and says whether it does. `A` says nothing of it: where there is an instance for each kind, the
+    /// compiler knows the kind there.
+    fn add<A>(&mut self, next: &RecordRef<'_>) -> bool
         ensures { (records : List RecordValue) → stands_for self.old records → IsTrue result
             → stands_for self.new (records ++ next.now ∷ []) };
 

@@ -109,6 +109,7 @@ pub fn all_kinds() -> &'static [Kind]
 impl Kind {
     /// The kind that three bytes name, as CWR 2.1 spells it. `None` where they name none, and for a text that isn't
     /// three bytes long.
+    #[inline(always)]
     pub fn of(text: &[u8]) -> Option<Kind>
         ensures { result ≡ kind_of text.now }
     {

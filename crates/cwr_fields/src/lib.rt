@@ -55,7 +55,7 @@ pub use numbers::{Number, Share};
 pub use party_codes::{PublisherType, WriterDesignation};
 pub use quick_cells::surely_fits;
 pub use sender_types::SenderType;
-pub use spelled::SpelledPair;
+pub use spelled::{SpelledPair, are_same};
 pub use tables::Table;
 pub use times::TimeOfDay;
 pub use typed_cells::Cell;

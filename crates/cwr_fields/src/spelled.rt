@@ -46,9 +46,23 @@ fn next_digits(text: [u8; 8], number: u64) -> [u8; 8]
     next
 }
 
+/// The digits of the next number, where the last one is a nine and the one before it isn't.
+#[inline(always)]
+fn next_tens(text: [u8; 8], number: u64) -> [u8; 8]
+    requires spells { text ≡ digits 8 number }
+    requires nine { slice_index text 7 ≡ 57 }
+    requires before { slice_index text 6 ≢ 57 }
+    ensures { result ≡ digits 8 (number + 1) }
+{
+    let mut next = text;
+    next[6] = text[6] + 1;
+    next[7] = b'0';
+    next
+}
+
 /// Whether two texts of eight bytes are the same, by one comparison.
 #[inline(always)]
-pub(crate) fn are_same(cell: &[u8], text: &[u8]) -> bool
+pub fn are_same(cell: &[u8], text: &[u8]) -> bool
     requires cell { length cell.now ≡ 8 }
     requires text { length text.now ≡ 8 }
     ensures { IsTrue result → cell.now ≡ text.now }
@@ -70,16 +84,18 @@ impl Spelled {
         }
     }
 
-    /// The digits of a number, which is mostly the next one.
+    /// The digits of another number, which is mostly the next one.
     #[inline(always)]
     fn digits_for(self, number: u64) -> [u8; 8]
         ensures { result ≡ digits 8 number }
     {
-        if number == self.number {
-            return self.text;
-        }
-        if self.number < number && number - self.number == 1 && self.text[7] != b'9' {
-            return next_digits(self.text, self.number);
+        if 0 < number && number - 1 == self.number {
+            if self.text[7] != b'9' {
+                return next_digits(self.text, self.number);
+            }
+            if self.text[6] != b'9' {
+                return next_tens(self.text, self.number);
+            }
         }
         if number < 10 {
             return one_digit(number);
@@ -93,9 +109,11 @@ impl Spelled {
         requires { length cell.now ≡ 8 }
         ensures { IsTrue result → cell.now ≡ digits 8 number }
     {
-        let text = self.digits_for(number);
-        *self = Spelled { number, text };
-        are_same(cell, text.as_slice())
+        if number != self.number {
+            let text = self.digits_for(number);
+            *self = Spelled { number, text };
+        }
+        are_same(cell, self.text.as_slice())
     }
 }
 

@@ -30,5 +30,13 @@ pub mod FoundByRule
 pub mod CountedRecords
 -- The findings of a transaction, record by record.
 pub mod FoundByRecord
+-- What makes a test false.
+pub mod FalseTests
 -- One record more of a work that is added up, and a work whose sums say that nothing is found.
 pub mod SummedRecords
+-- The parties of an agreement's blocks, with one record more: only those of the last block can become more.
+pub mod OpenBlocks
+-- An agreement of which no record breaks a rule, one record after another.
+pub mod SummedSides
+-- Sums over the copy of an acknowledgement, or over a bare work or agreement, one record after another.
+pub mod SummedCopies

@@ -1,6 +1,6 @@
 //! The rules, each as a question about a record of a transaction, which stands after `sequence` others.
 
-ghost use Rattle.std.specs.Prelude.{◌≡◌, ℕ, ◌+◌, ◌<◌, ◌&&◌, ◌==◌, ◌∷◌, [], not, true, List, take, Some, option_map, slice_get};
+ghost use Rattle.std.specs.Prelude.{◌≡◌, ℕ, ◌+◌, ◌<◌, ◌&&◌, ◌==◌, ◌∷◌, [], not, true, IsTrue, List, take, Some, option_map, slice_get};
 ghost use Rattle.std.specs.List.{list_any};
 ghost use Rattle.cwr_fields.specs.Format.Bytes.{is_spaces};
 ghost use Rattle.cwr_fields.specs.Format.Iswc.{is_iswc};
@@ -19,7 +19,7 @@ use crate::registered::Registered;
 use crate::rules::Rule;
 use crate::shares::{Sides, is_off};
 use crate::totals::TransactionTotals;
-use cwr_fields::{Kind, is_spaces, iswc_ok};
+use cwr_fields::{Kind, are_same, is_spaces, iswc_ok};
 use cwr_lines::RecordRef;
 
 /// Whether the records begin with the header of a work.
@@ -57,13 +57,29 @@ pub(crate) fn has_wrong_iswc(shown: &RecordRef<'_>) -> bool
     }
 }
 
+/// Whether a quick test finds two interested parties' numbers to be the same. A no says nothing.
+#[inline(always)]
+fn are_surely_same(number: &[u8], other: &[u8]) -> bool
+    ensures { IsTrue result → number.now ≡ other.now }
+{
+    if number.len() != 9 || other.len() != 9 {
+        return false;
+    }
+    are_same(&number[..8], &other[..8]) && number[8] == other[8]
+}
+
 /// Whether the number is that of a party, where there is one.
 #[inline(always)]
-fn is_number(number: &[u8], party: Option<&[u8]>) -> bool
+pub(crate) fn is_number(number: &[u8], party: Option<&[u8]>) -> bool
     ensures { result ≡ is_number number.now (option_map (λ cell. cell.now) party.entry) }
 {
     match party {
-        Some(other) => number == other,
+        Some(other) => {
+            if are_surely_same(number, other) {
+                return true;
+            }
+            number == other
+        }
         None => false,
     }
 }
@@ -133,7 +149,7 @@ fn counts_others(header: &RecordRef<'_>, components: u64) -> bool
 }
 
 /// Whether the header of an agreement has both dates, and its end is before its start.
-fn ends_before_start(header: &RecordRef<'_>) -> bool
+pub(crate) fn ends_before_start(header: &RecordRef<'_>) -> bool
     requires { is_agreement (header.now ∷ []) ≡ true }
     ensures { result ≡ ends_before_start header.now }
 {

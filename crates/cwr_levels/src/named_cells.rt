@@ -30,6 +30,9 @@ pub(crate) const NAMED_ISWC: u8 = 5;
 /// IPA: agreement role.
 pub(crate) const ROLE: u8 = 4;
 
+/// IPA: performing share. Those of the other rights are two and four fields further.
+pub(crate) const PARTY_SHARES: u8 = 11;
+
 /// SPU, OPU: interested party number.
 pub(crate) const PUBLISHER_NUMBER: u8 = 5;
 
@@ -99,6 +102,20 @@ fn share_in(a: u8, b: u8, c: u8, d: u8, e: u8) -> u64
 {
     let front = 100 * digit(a) + 10 * digit(b) + digit(c);
     100 * front + 10 * digit(d) + digit(e)
+}
+
+/// The number that the digits of a share's cell write, and 0 of a blank one. It has no loop, so that the compiler puts it where it is
+/// called.
+#[inline(always)]
+pub(crate) fn share_of(cell: &[u8]) -> u64
+    requires { length cell.now ≡ 5 }
+    ensures value { result ≡ number_of cell.now }
+    ensures small { result < 10 ^ 10 }
+{
+    let [a, b, c, d, e] = cell else {
+        unreachable!()
+    };
+    share_in(*a, *b, *c, *d, *e)
 }
 
 /// The number that the digits of a cell write, and 0 of a blank cell.

@@ -3,10 +3,12 @@
 ghost use Rattle.std.specs.Prelude.{◌≡◌, ◌<◌, ℕ, ◌++◌, ◌∷◌, ◌||◌, [], List, true, drop, if◌then◌else◌};
 ghost use Rattle.cwr_lines.specs.Format.Records.{RecordValue};
 ghost use Rattle.cwr_levels.specs.Format.Fields.{HasSharesFrom};
-ghost use Rattle.cwr_levels.specs.Format.Findings.{is_off, is_party, parties_after, are_over_whole, have_side_over_whole};
-ghost use Rattle.cwr_levels.specs.Steps.Walks.{AddUpTo, SidesAddUpTo, capped, has_shares};
+ghost use Rattle.cwr_levels.specs.Format.Findings.{is_off, is_owner, is_party, parties_after, are_over_whole, have_side_over_whole};
+ghost use Rattle.cwr_levels.specs.Steps.Walks.{AddUpTo, SidesAddUpTo, capped};
 
-use crate::named_cells::{PUBLISHER_SHARES, ROLE, WRITER_SHARES, cell, is_of, number_of};
+use crate::named_cells::{
+    PARTY_SHARES, PUBLISHER_SHARES, ROLE, WRITER_SHARES, cell, is_of, share_of,
+};
 use crate::registered::Registered;
 use cwr_fields::Kind;
 use cwr_lines::RecordRef;
@@ -31,17 +33,25 @@ impl Shares {
         }
     }
 
-    /// The shares of an owner of a work, or of a party to an agreement.
+    /// The shares of an owner of a work.
     #[inline(always)]
-    fn of(shown: &RecordRef<'_>) -> Shares
-        requires { has_shares shown.now ≡ true }
+    fn of_owner(shown: &RecordRef<'_>) -> Shares
+        requires { is_owner shown.now ≡ true }
         ensures { AddUpTo (shown.now ∷ []) result }
     {
         match shown.kind() {
             Kind::Spu | Kind::Opu => Shares::from_field(shown, PUBLISHER_SHARES),
-            Kind::Swr | Kind::Owr => Shares::from_field(shown, WRITER_SHARES),
-            _ => Shares::from_field(shown, 11),
+            _ => Shares::from_field(shown, WRITER_SHARES),
         }
+    }
+
+    /// The shares of a party to an agreement.
+    #[inline(always)]
+    fn of_party(shown: &RecordRef<'_>) -> Shares
+        requires { is_party shown.now ≡ true }
+        ensures { AddUpTo (shown.now ∷ []) result }
+    {
+        Shares::from_field(shown, PARTY_SHARES)
     }
 
     /// The shares in the three rights, which stand in this field, in the next but one, and in the one two further.
@@ -52,28 +62,39 @@ impl Shares {
         ensures { AddUpTo (shown.now ∷ []) result }
     {
         Shares {
-            performing: number_of(cell(shown, first)),
-            mechanical: number_of(cell(shown, first + 2)),
-            synchronization: number_of(cell(shown, first + 4)),
+            performing: share_of(cell(shown, first)),
+            mechanical: share_of(cell(shown, first + 2)),
+            synchronization: share_of(cell(shown, first + 4)),
         }
     }
 
     /// With those of one more record, where it counts.
     #[inline(always)]
+    fn plus(self, more: Shares, counts: bool) -> Shares
+        ensures { (rs : List RecordValue) (r : RecordValue) → AddUpTo rs self
+            → AddUpTo (r ∷ []) more → AddUpTo (rs ++ (if counts then r ∷ [] else [])) result }
+    {
+        if !counts {
+            return self;
+        }
+        Shares {
+            performing: self.performing.saturating_add(more.performing),
+            mechanical: self.mechanical.saturating_add(more.mechanical),
+            synchronization: self.synchronization.saturating_add(more.synchronization),
+        }
+    }
+
+    /// With those of a record, where it counts as an owner.
+    #[inline(always)]
     pub(crate) fn with(self, shown: &RecordRef<'_>, counts: bool) -> Shares
-        requires { counts ≡ true → has_shares shown.now ≡ true }
+        requires { counts ≡ true → is_owner shown.now ≡ true }
         ensures { (rs : List RecordValue) → AddUpTo rs self
             → AddUpTo (rs ++ (if counts then shown.now ∷ [] else [])) result }
     {
         if !counts {
             return self;
         }
-        let more = Shares::of(shown);
-        Shares {
-            performing: self.performing.saturating_add(more.performing),
-            mechanical: self.mechanical.saturating_add(more.mechanical),
-            synchronization: self.synchronization.saturating_add(more.synchronization),
-        }
+        self.plus(Shares::of_owner(shown), true)
     }
 
     /// Whether those in one or more rights are more than the whole.
@@ -101,7 +122,7 @@ pub(crate) struct Sides {
 
 impl Sides {
     /// Those of no party.
-    fn none() -> Sides
+    pub(crate) fn none() -> Sides
         ensures { SidesAddUpTo [] result }
     {
         Sides {
@@ -111,15 +132,17 @@ impl Sides {
     }
 
     /// With those of one more party.
-    fn with(self, party: &RecordRef<'_>) -> Sides
+    #[inline(always)]
+    pub(crate) fn with(self, party: &RecordRef<'_>) -> Sides
         requires { is_party party.now ≡ true }
         ensures { (rs : List RecordValue) → SidesAddUpTo rs self
             → SidesAddUpTo (rs ++ party.now ∷ []) result }
     {
         let role = cell(party, ROLE);
+        let shares = Shares::of_party(party);
         Sides {
-            assignors: self.assignors.with(party, role == b"AS".as_slice()),
-            acquirers: self.acquirers.with(party, role == b"AC".as_slice()),
+            assignors: self.assignors.plus(shares, role == b"AS".as_slice()),
+            acquirers: self.acquirers.plus(shares, role == b"AC".as_slice()),
         }
     }
 

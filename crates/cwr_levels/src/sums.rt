@@ -1,26 +1,27 @@
-//! Sums over the records of a work, kept in place of the records: they tell of most works that they surely have no finding. Of an
-//! acknowledgement they are those over its copy.
+//! Sums over the records of a work or an agreement, kept in place of the records: they tell of most that they surely have no finding.
+//! Of an acknowledgement they are those over its copy.
 
 ghost use Rattle.std.specs.Prelude.{◌≡◌, ℕ, ◌++◌, ◌∷◌, [], ◌<◌, ◌^◌, List, length, option_map, true, false, IfSome, IsTrue, IsFalse};
 ghost use Rattle.std.specs.List.{list_any};
 ghost use Rattle.std.specs.Str.{bytes_eq};
 ghost use Rattle.cwr_lines.specs.Format.Records.{RecordValue};
 ghost use Rattle.cwr_levels.specs.declared.rules.Rule.TheVariants.{V7, V8};
-ghost use Rattle.cwr_levels.specs.Format.Findings.{breaks, findings, findings_after, is_blank, is_work};
-ghost use Rattle.cwr_levels.specs.Steps.Sums.{AreSums, AsksComponents, IsUnbroken, KeepsNumbers, StandFor, wants_other};
+ghost use Rattle.cwr_levels.specs.Format.Findings.{breaks, findings, findings_after, is_agreement, is_blank, is_party, is_work};
+ghost use Rattle.cwr_levels.specs.Steps.Sums.{AreOver, AreSides, AreSums, AsksComponents, IsUnbroken, KeepsNumbers, StandFor};
+ghost use Rattle.cwr_levels.specs.Steps.Sums.{wants_other};
 ghost use Rattle.cwr_levels.specs.Steps.Walks.{IsBefore};
 
 use crate::before::Before;
-use crate::judging::{has_wrong_iswc, names_another_party};
+use crate::judging::{ends_before_start, has_wrong_iswc, is_number, names_another_party};
 use crate::named_cells::{
     COMPONENT_COUNT, EXCERPT_TYPE, PUBLISHER_NUMBER, PUBLISHER_OF_WRITER, WRITER_NUMBER, cell,
     is_of, number_of,
 };
 use crate::registered::stands_before_copy;
-use crate::shares::is_off;
+use crate::shares::{Sides, is_off};
 use crate::totals::TransactionTotals;
 use arrayvec::ArrayVec;
-use cwr_fields::{Kind, is_spaces};
+use cwr_fields::{Kind, is_carried, is_spaces};
 use cwr_lines::RecordRef;
 
 /// The bytes of an interested party's number.
@@ -32,13 +33,25 @@ const MOST_PUBLISHERS: usize = 8;
 /// The most records of a work that are added up.
 const MOST_RECORDS: usize = 1_000_000;
 
-/// Sums over the records of a work so far, none of which breaks a rule by itself: enough to tell of most works that they have no
-/// finding, without their records. Of an acknowledgement they are those over its copy.
+/// What has begun.
+#[derive(Clone, Copy)]
+enum Begun {
+    /// Neither a work nor an agreement.
+    Nothing,
+    /// A work.
+    Work,
+    /// An agreement.
+    Agreement,
+}
+
+/// Sums over the records of a work or an agreement so far, none of which breaks a rule by itself: enough to tell of most that they
+/// have no finding, without their records. Of an acknowledgement they are those over its copy.
 #[derive(Drop)]
 pub struct Sums {
-    /// Whether a work has begun.
-    is_begun: bool,
-    /// How many records there are.
+    begun: Begun,
+    /// The shares of the parties of an agreement's last block.
+    sides: Sides,
+    /// How many records of a work there are.
     records: usize,
     totals: TransactionTotals,
     /// The interested party's number of the last SPU.
@@ -105,10 +118,11 @@ fn wants_other(wanted: Option<u64>, components: u64) -> bool
 }
 
 impl Sums {
-    /// Over no work.
+    /// Over nothing.
     pub fn new() -> Sums {
         Sums {
-            is_begun: false,
+            begun: Begun::Nothing,
+            sides: Sides::none(),
             records: 0,
             totals: TransactionTotals::none(),
             publisher: None,
@@ -121,16 +135,13 @@ impl Sums {
 
     /// Begins with the header of a work, and says whether it does: a no says nothing.
     fn begin_work(&mut self, header: &RecordRef<'_>) -> bool
+        requires { is_work (header.now ∷ []) ≡ true }
         ensures { IsTrue result → AreSums self.new (header.now ∷ []) }
     {
-        match header.kind() {
-            Kind::Nwr | Kind::Rev => {}
-            _ => return false,
-        }
         if has_wrong_iswc(header) {
             return false;
         }
-        self.is_begun = true;
+        self.begun = Begun::Work;
         self.records = 1;
         self.totals = TransactionTotals::none();
         self.publisher = None;
@@ -158,7 +169,7 @@ impl Sums {
         ensures { IsTrue result → list_any (bytes_eq number.now) self.now.publishers.items ≡ true }
     {
         for known in self.publishers.as_slice() {
-            if number == &known[..] {
+            if is_number(number, Some(&known[..])) {
                 return true;
             }
         }
@@ -234,9 +245,9 @@ impl Sums {
         }
     }
 
-    /// Adds one record more of the work, and says whether it does: a no says nothing.
+    /// Adds one record more of the work, and says whether it does: a no says nothing. `A` is as for `add`.
     #[inline(always)]
-    fn add_to_work(&mut self, shown: &RecordRef<'_>) -> bool
+    fn add_to_work<A>(&mut self, shown: &RecordRef<'_>) -> bool
         ensures { (rs : List RecordValue) → AreSums self.old rs → IsTrue result
             → AreSums self.new (rs ++ shown.now ∷ []) }
     {
@@ -250,7 +261,7 @@ impl Sums {
         if !self.keep_number(shown) {
             return false;
         }
-        self.totals = self.totals.with(records, shown);
+        self.totals = self.totals.with::<A>(records, shown);
         self.records = records + 1;
         true
     }
@@ -272,30 +283,83 @@ impl Sums {
         }
         totals.has_author && !wants_other(self.components, totals.components)
     }
+
+    /// Begins with the header of an agreement, and says whether it does: a no says nothing.
+    fn begin_agreement(&mut self, header: &RecordRef<'_>) -> bool
+        requires { is_agreement (header.now ∷ []) ≡ true }
+        ensures { IsTrue result → AreSides self.new (header.now ∷ []) }
+    {
+        if ends_before_start(header) {
+            return false;
+        }
+        self.begun = Begun::Agreement;
+        self.sides = Sides::none();
+        true
+    }
+
+    /// Adds one more party of the agreement, and says whether it does: a no says nothing.
+    #[inline(always)]
+    fn add_party(&mut self, party: &RecordRef<'_>) -> bool
+        requires { is_party party.now ≡ true }
+        ensures { (rs : List RecordValue) → AreSides self.old rs → IsTrue result
+            → AreSides self.new (rs ++ party.now ∷ []) }
+    {
+        self.sides = self.sides.with(party);
+        !self.sides.exceed_whole()
+    }
+
+    /// Adds one record more of the agreement, and says whether it does: a no says nothing. No side of a block is over the whole while
+    /// its parties come, so none is at its end.
+    #[inline(always)]
+    fn add_to_agreement(&mut self, shown: &RecordRef<'_>) -> bool
+        ensures { (rs : List RecordValue) → AreSides self.old rs → IsTrue result
+            → AreSides self.new (rs ++ shown.now ∷ []) }
+    {
+        match shown.kind() {
+            Kind::Ter => {
+                self.sides = Sides::none();
+                true
+            }
+            Kind::Ipa => self.add_party(shown),
+            kind => is_carried(kind),
+        }
+    }
+
+    /// Begins with the header of a work or an agreement, and says whether it does: a no says nothing.
+    #[inline(always)]
+    fn begin_registered(&mut self, header: &RecordRef<'_>) -> bool
+        ensures { IsTrue result → AreOver self.new (header.now ∷ []) }
+    {
+        match header.kind() {
+            Kind::Nwr | Kind::Rev => self.begin_work(header),
+            Kind::Agr => self.begin_agreement(header),
+            _ => false,
+        }
+    }
+
     /// Begins with the first record of a transaction, and says whether it does: a no says nothing.
     pub fn begin(&mut self, header: &RecordRef<'_>) -> bool
         ensures { IsTrue result → StandFor self.new (header.now ∷ []) }
     {
         if is_of(header, Kind::Ack) {
-            self.is_begun = false;
+            self.begun = Begun::Nothing;
             return true;
         }
-        self.begin_work(header)
+        self.begin_registered(header)
     }
 
-    /// Adds one record more of the transaction, and says whether it does: a no says nothing.
+    /// Adds one record more of the transaction, and says whether it does: a no says nothing. `A` says nothing of the record: where
+    /// there is an instance for each kind, the compiler knows the kind there.
     #[inline(always)]
-    pub fn add(&mut self, shown: &RecordRef<'_>) -> bool
+    pub fn add<A>(&mut self, shown: &RecordRef<'_>) -> bool
         ensures { (rs : List RecordValue) → StandFor self.old rs → IsTrue result
             → StandFor self.new (rs ++ shown.now ∷ []) }
     {
-        if self.is_begun {
-            return self.add_to_work(shown);
+        match self.begun {
+            Begun::Work => self.add_to_work::<A>(shown),
+            Begun::Agreement => self.add_to_agreement(shown),
+            Begun::Nothing => stands_before_copy(shown) || self.begin_registered(shown),
         }
-        if stands_before_copy(shown) {
-            return true;
-        }
-        self.begin_work(shown)
     }
 
     /// Whether the transaction surely has no finding, where these were all its records. A no says nothing.
@@ -303,9 +367,9 @@ impl Sums {
         ensures { (rs : List RecordValue) → StandFor self.now rs → IsTrue result
             → findings rs ≡ [] }
     {
-        if !self.is_begun {
-            return true;
+        match self.begun {
+            Begun::Work => self.is_work_clean(),
+            Begun::Agreement | Begun::Nothing => true,
         }
-        self.is_work_clean()
     }
 }

@@ -59,9 +59,10 @@ impl TransactionTotals {
         }
     }
 
-    /// With one more record, which may count and stands after `sequence` others.
-    #[inline(always)]
-    fn with_counted(self, sequence: usize, shown: &RecordRef<'_>) -> TransactionTotals
+    /// With one more record, which may count and stands after `sequence` others. It is kept out of what calls it, which is made anew
+    /// for each kind and has to stay small. `A` is as for `with`.
+    #[inline(never)]
+    fn with_counted<A>(self, sequence: usize, shown: &RecordRef<'_>) -> TransactionTotals
         requires { sequence + 1 < 2 ^ 64 }
         ensures { (rs : List RecordValue) → length rs ≡ sequence → AreTotals rs self
             → AreTotals (rs ++ shown.now ∷ []) result }
@@ -83,17 +84,18 @@ impl TransactionTotals {
         }
     }
 
-    /// With one more record, which stands after `sequence` others. Most kinds count nothing.
+    /// With one more record, which stands after `sequence` others. Most kinds count nothing. `A` says nothing of the record: where
+    /// there is an instance for each kind, the compiler knows the kind there.
     #[inline(always)]
-    pub(crate) fn with(self, sequence: usize, shown: &RecordRef<'_>) -> TransactionTotals
+    pub(crate) fn with<A>(self, sequence: usize, shown: &RecordRef<'_>) -> TransactionTotals
         requires { sequence + 1 < 2 ^ 64 }
         ensures { (rs : List RecordValue) → length rs ≡ sequence → AreTotals rs self
             → AreTotals (rs ++ shown.now ∷ []) result }
     {
         match shown.kind() {
-            Kind::Spu | Kind::Opu | Kind::Swr | Kind::Owr | Kind::Com => self.with_counted(
-                sequence, shown,
-            ),
+            Kind::Spu | Kind::Opu | Kind::Swr | Kind::Owr | Kind::Com => {
+                self.with_counted::<A>(sequence, shown)
+            }
             _ => self,
         }
     }
@@ -107,7 +109,7 @@ impl TransactionTotals {
             let Some(shown) = transaction.record(sequence) else {
                 return totals;
             };
-            totals = totals.with(sequence, &shown);
+            totals = totals.with::<()>(sequence, &shown);
         }
         totals
     }

@@ -58,6 +58,19 @@ fn line_feed(piece: &[u8]) -> Option<usize>
     memchr(LF, piece)
 }
 
+/// Copies bytes over a text. Most that wait are as long as the one before, and then nothing is dropped first.
+fn copy_over(text: &mut ArrayVec<u8, LONGEST_LINE>, bytes: &[u8])
+    requires { length bytes.now ≤ LONGEST_LINE }
+    ensures { text.new.items ≡ bytes.now }
+{
+    if text.len() == bytes.len() {
+        text.as_mut_slice().copy_from_slice(bytes);
+    } else {
+        text.truncate(0);
+        let _fits = text.try_extend_from_slice(bytes);
+    }
+}
+
 /// Drops one carriage return at the end of the text, and answers whether there was one.
 fn drop_return(text: &mut ArrayVec<u8, LONGEST_LINE>) -> bool
     ensures body { text.new.items ≡ without_cr text.old.items }
@@ -202,8 +215,7 @@ impl LineBuf {
     pub fn keep(&mut self, line: &CutLine<'_>)
         ensures { self.new ≡ line.now }
     {
-        self.text.truncate(0);
-        let _fits = self.text.try_extend_from_slice(line.text);
+        copy_over(&mut self.text, line.text);
         self.count = line.count;
         self.has_return = line.has_return;
         self.kind = line.kind;

@@ -2,7 +2,8 @@
 
 ghost use Rattle.std.specs.Prelude.{◌≡◌, ◌↔◌, ◌<◌, ◌≤◌, length, option_map, Some, IsSome, IsTrue, IfSome};
 ghost use Rattle.cwr_fields.specs.Format.Bytes.{is_plain};
-ghost use Rattle.cwr_fields.specs.Format.Layouts.{line_width};
+ghost use Rattle.cwr_fields.specs.Format.Layouts.{field_with_start, line_width};
+ghost use Rattle.cwr_fields.specs.Steps.Views.{field_view};
 ghost use Rattle.cwr_lines.specs.Format.Records.{IsRecord};
 ghost use Rattle.cwr_lines.specs.Format.Carried.{HasCellOf, record_cell};
 ghost use Rattle.cwr_lines.specs.Steps.Carried.{record_in};
@@ -11,7 +12,7 @@ use crate::carried_fields::carried_field;
 use crate::drafts::carries;
 use crate::lines::part;
 use arrayvec::ArrayVec;
-use cwr_fields::{Cell, Kind, fields};
+use cwr_fields::{Cell, Field, Kind, fields};
 use std::fmt::{self, Debug};
 use std::marker::Model;
 
@@ -163,19 +164,25 @@ impl<'a> RecordRef<'a> {
         ensures value { option_map (λ cell. cell.now) result ≡ record_cell self.now j }
         ensures fits { IsRecord self.now }
     {
-        self.cell_of(self.kind, j)
+        match self.carried_cell(self.kind, j) {
+            Some((_, cell)) => Some(cell),
+            None => None,
+        }
     }
 
-    /// The same cell, where the record's kind is given: so a caller that asks for many cells reads it once.
+    /// The same cell with its field, where the record's kind is given: a caller that asks for many cells reads that once, and each
+    /// field is looked up once.
     #[inline(always)]
-    pub fn cell_of(&self, kind: Kind, j: u8) -> Option<&'a [u8]>
+    pub fn carried_cell(&self, kind: Kind, j: u8) -> Option<(Field, &'a [u8])>
         requires { kind ≡ self.now.kind }
-        ensures value { option_map (λ cell. cell.now) result ≡ record_cell self.now j }
+        ensures value { option_map (λ found. found.1.now) result ≡ record_cell self.now j }
+        ensures place { IfSome result
+            (λ found. Some (field_view found.0) ≡ field_with_start self.now.kind j) }
         ensures fits { IsRecord self.now }
     {
         let line = self.line;
         let place = carried_field(kind, j)?;
-        Some(part(line, place))
+        Some((place, part(line, place)))
     }
 
     /// The cell of field `j`, from 1, as a value of a cell type. `None` where the record has no cell of field `j`, and

@@ -6,7 +6,7 @@ ghost use Rattle.cwr_notes.specs.Format.RecordTexts.{cell_line, cell_lines, head
 ghost use Rattle.cwr_notes.specs.Steps.FieldLines.{field_line};
 
 use arrayvec::ArrayVec;
-use cwr_fields::{Field, Kind, field, fields, letters, trimmed};
+use cwr_fields::{Field, Kind, fields, letters, trimmed};
 use cwr_lines::RecordRef;
 use itoa::Buffer;
 use std::marker::Model;
@@ -98,10 +98,7 @@ fn push_field(text: &mut Text, kind: Kind, shown: &RecordRef<'_>, j: u8)
     ensures value { text.new.items ≡ text.old.items ++ field_line shown.now j }
     ensures len { length text.new.items ≤ length text.old.items + LONGEST_CELL_LINE }
 {
-    let Some(cell) = shown.cell_of(kind, j) else {
-        return;
-    };
-    let Some(place) = field(kind, j) else {
+    let Some((place, cell)) = shown.carried_cell(kind, j) else {
         return;
     };
     push_cell(text, j, &place, cell);

@@ -160,8 +160,8 @@ impl Keeper for FindingSums {
     }
 
     #[inline(always)]
-    fn add(&mut self, next: &RecordRef<'_>) -> bool {
-        self.0.add(next)
+    fn add<A>(&mut self, next: &RecordRef<'_>) -> bool {
+        self.0.add::<A>(next)
     }
 
     fn is_clean(&self) -> bool {

@@ -85,7 +85,7 @@ impl Keeper for NothingKept {
         false
     }
 
-    fn add(&mut self, _: &RecordRef<'_>) -> bool {
+    fn add<A>(&mut self, _: &RecordRef<'_>) -> bool {
         false
     }
 

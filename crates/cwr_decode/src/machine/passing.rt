@@ -1,21 +1,35 @@
 //! The steps of a decoder that passes over whole transactions.
 
-ghost use Rattle.std.specs.Prelude.{◌≡◌, ◌≢◌, ◌≤◌, length, take, false, None, Some, IsTrue};
+ghost use Rattle.std.specs.Prelude.{◌≡◌, ◌≢◌, ◌≤◌, List, length, take, false, None, Some, IsTrue};
 ghost use Rattle.cwr_fields.specs.Format.Kinds.{kind_of};
-ghost use Rattle.cwr_decode.specs.Steps.Machines.{HasRecord, IsReady, with_line};
+ghost use Rattle.cwr_lines.specs.Format.Records.{RecordValue};
+ghost use Rattle.cwr_decode.specs.Steps.Machines.{FindsCut, HasRecord, IsReady, with_line};
 ghost use Rattle.cwr_decode.specs.Steps.Passing.{BeginsHeld, BeginsWaiting, KeepsCut, KeepsFront, KeepsLine, OfKept, Passes, waiting};
 
 use super::holding::stays_open;
 use super::{Found, Machine, Passed, State};
 use crate::keepers::Keeper;
 use crate::kind_types::{
-    Ack, Alt, Com, Ewt, Msg, Nwr, OfKind, Opu, Orn, Owr, Per, Pwr, Rec, Rev, Spt, Spu, Swr, Swt,
-    Ver,
+    Ack, Agr, Alt, Com, Ewt, Ipa, Msg, Nwr, OfKind, Opu, Orn, Owr, Per, Pwr, Rec, Rev, Spt, Spu,
+    Swr, Swt, Ter, Ver,
 };
 use cwr_fields::{Kind, SpelledPair, is_in_transaction};
-use cwr_judge::count_quickly;
+use cwr_judge::{count_quickly, judge};
 use cwr_lines::{CutLine, LineBuf, LinePad};
 use cwr_shape::Tally;
+
+/// Whether the line is that of a record that may come next, and ends the open transaction. Then that is counted. A no says nothing.
+#[inline(never)]
+fn ends_open(tally: &mut Tally, cut: &CutLine<'_>) -> bool
+    ensures { IsTrue result → (so_far : List RecordValue)
+        → FindsCut Found.Ends cut.now tally.old (Some so_far) tally.new (Some so_far) }
+{
+    let earlier = *tally;
+    match judge(tally, cut) {
+        Ok(_) => !stays_open(&earlier, tally),
+        Err(_) => false,
+    }
+}
 
 /// Judges a line by quick tests, where a keeper stands for the records of the open transaction. For each `A` there is an instance
 /// with one caller, into which the compiler puts it: there it knows what that knows of the line.
@@ -32,7 +46,11 @@ fn keep_cut<A, K: Keeper>(
         return Found::Nothing;
     };
     if !is_in_transaction(kind) {
-        return Found::Nothing;
+        return if ends_open(tally, cut) {
+            Found::Ends
+        } else {
+            Found::Nothing
+        };
     }
     let earlier = *tally;
     if !count_quickly(tally, cut, expected) {
@@ -41,7 +59,7 @@ fn keep_cut<A, K: Keeper>(
     if !stays_open(&earlier, tally) {
         return Found::Ends;
     }
-    if keeper.add(&cut.known_record()) {
+    if keeper.add::<A>(&cut.known_record()) {
         Found::Added
     } else {
         Found::Nothing
@@ -148,7 +166,7 @@ impl Machine {
         (used, self.keep_line::<T, K>(tally, keeper, &cut))
     }
 
-    /// Judges the line that the piece begins with as `keep_as`. The kinds of most lines of works have a branch each.
+    /// Judges the line that the piece begins with as `keep_as`. The kinds of most lines have a branch each.
     #[inline(always)]
     fn keep_front<K: Keeper>(
         &mut self,
@@ -189,6 +207,9 @@ impl Machine {
             Kind::Rev => self.keep_as::<Rev, K>(tally, keeper, pad, buffer, piece),
             Kind::Ack => self.keep_as::<Ack, K>(tally, keeper, pad, buffer, piece),
             Kind::Msg => self.keep_as::<Msg, K>(tally, keeper, pad, buffer, piece),
+            Kind::Agr => self.keep_as::<Agr, K>(tally, keeper, pad, buffer, piece),
+            Kind::Ter => self.keep_as::<Ter, K>(tally, keeper, pad, buffer, piece),
+            Kind::Ipa => self.keep_as::<Ipa, K>(tally, keeper, pad, buffer, piece),
             _ => self.keep_filled(tally, keeper, buffer, piece),
         }
     }

@@ -1,8 +1,8 @@
 -- The shares of records, added up.
 use Prim.Native.String.{String}
 use Rattle.std.proofs.Common.{◌≡◌, ℕ, ◌+◌, ◌<◌, ◌≤◌, ◌^◌, Bool, true, cond, List, [], ◌∷◌, ◌++◌, length, refl, sym, ap, ◌∙◌}
-use Rattle.std.proofs.Common.{arith, subst}
-use Rattle.std.specs.Prelude.{min, filter, ◌||◌}
+use Rattle.std.proofs.Common.{arith, subst, inl, inr}
+use Rattle.std.specs.Prelude.{min, filter, ◌||◌, ◌⊎◌}
 use Rattle.std.specs.List.{sum_by}
 use Rattle.std.proofs.lemmas.List.Sums.{sum_by-append}
 use Rattle.std.specs.Str.{bytes_eq}
@@ -31,25 +31,27 @@ capped_sum a b s m n p q r = omega (arith, p, q, r)
 pub nothing_more : (rs : List RecordValue) (s : Shares) → AddUpTo rs s → AddUpTo (rs ++ []) s
 nothing_more rs s h = subst (λ (l : List RecordValue). AddUpTo l s) (sym (append-nil rs)) h
 
--- the kinds with shares
-abbrev pub can_share : Kind → Bool
-can_share kind =
-    is_kind kinds.Spu kind || is_kind kinds.Opu kind || is_kind kinds.Swr kind || is_kind kinds.Owr kind || is_kind kinds.Ipa kind
+-- the kinds of owners
+abbrev pub can_own : Kind → Bool
+can_own kind = is_kind kinds.Spu kind || is_kind kinds.Opu kind || is_kind kinds.Swr kind || is_kind kinds.Owr kind
 
-pub only_party : (kind : Kind) → can_share kind ≡ true → (kind ≡ kinds.Spu → ⊥) → (kind ≡ kinds.Opu → ⊥) → (kind ≡ kinds.Swr → ⊥)
-    → (kind ≡ kinds.Owr → ⊥) → kind ≡ kinds.Ipa
-only_party kinds.Ipa h spu opu swr owr = refl
-only_party kinds.Spu h spu opu swr owr = absurd (spu refl)
-only_party kinds.Opu h spu opu swr owr = absurd (opu refl)
-only_party kinds.Swr h spu opu swr owr = absurd (swr refl)
-only_party kinds.Owr h spu opu swr owr = absurd (owr refl)
-only_party kind h spu opu swr owr = absurd (cc h)
+pub only_writer : (this_kind : Kind) → can_own this_kind ≡ true → (this_kind ≡ kinds.Spu → ⊥) → (this_kind ≡ kinds.Opu → ⊥)
+    → (this_kind ≡ kinds.Swr) ⊎ (this_kind ≡ kinds.Owr)
+only_writer kinds.Swr h spu opu = inl refl
+only_writer kinds.Owr h spu opu = inr refl
+only_writer kinds.Spu h spu opu = absurd (spu refl)
+only_writer kinds.Opu h spu opu = absurd (opu refl)
+only_writer this_kind h spu opu = absurd (cc h)
 
 -- ---- one record
 
+pub share_is_five : (right : String) (r : RecordValue) (j : ℕ) (cell : List ℕ) → cell ≡ cell_of_field r j
+    → IsField right r.kind j 5 → IsRecord r → length cell ≡ 5
+share_is_five right r j cell e field fits = omega (arith, ap length e, cell_width right r.kind j 5 r field refl fits)
+
 pub share_is_short : (right : String) (r : RecordValue) (j : ℕ) (cell : List ℕ) → cell ≡ cell_of_field r j
     → IsField right r.kind j 5 → IsRecord r → length cell ≤ 8
-share_is_short right r j cell e field fits = omega (arith, ap length e, cell_width right r.kind j 5 r field refl fits)
+share_is_short right r j cell e field fits = omega (arith, share_is_five right r j cell e field fits)
 
 capped_one : (x y : ℕ) → x ≡ y → x < 10 ^ 10 → x ≡ capped (0 + y)
 capped_one x y e small = omega (arith, e, small)

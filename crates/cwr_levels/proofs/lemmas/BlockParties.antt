@@ -45,7 +45,7 @@ among : (r : RecordValue) (l : List RecordValue) (b : Bool) → is_party r ≡ b
     → take_while is_party (r ∷ l) ≡ cond b (r ∷ take_while is_party l) []
 among r l b e = take_while-cons is_party r l ∙ ap (λ (c : Bool). cond c (r ∷ take_while is_party l) []) e
 
-party_is_no_territory : (r : RecordValue) → is_a kinds.Ipa r ≡ true → is_a kinds.Ter r ≡ false
+pub party_is_no_territory : (r : RecordValue) → is_a kinds.Ipa r ≡ true → is_a kinds.Ter r ≡ false
 party_is_no_territory r h = ap (is_kind kinds.Ter) (kind_of kinds.Ipa r h)
 
 pub party_left : (b : Bool) (r : RecordValue) (rest : List RecordValue) → is_a kinds.Ipa r ≡ true

@@ -1,6 +1,6 @@
 -- The findings of a transaction, record by record.
 use Rattle.std.proofs.Common.{◌≡◌, ℕ, zero, suc, ◌+◌, ◌≤◌, List, [], ◌∷◌, ◌++◌, length, take, drop, refl, sym, ap, ap₂, ◌∙◌}
-use Rattle.std.proofs.Common.{arith}
+use Rattle.std.proofs.Common.{subst, arith}
 use Rattle.std.specs.Prelude.{Some, slice_get, flat_map}
 use Rattle.std.specs.List.{enumerate_from}
 use Rattle.std.proofs.lemmas.List.{append-nil, take_all}
@@ -77,3 +77,23 @@ pub some_whole : (t : List RecordValue) (n : ℕ) (copy : List RecordValue) → 
     → (k : ℕ) (r : RecordValue) → slice_get copy k ≡ Some r
     → (findings_at n copy k r ≡ [] → ⊥) → findings t ≡ [] → ⊥
 some_whole t n copy e f k r there some none = some_finding n copy k r there some (of_copy t n copy e f ∙ none)
+
+-- ---- nothing is found
+
+none_from : (n : ℕ) (t rest : List RecordValue) (i : ℕ)
+    → ((k : ℕ) (r : RecordValue) → slice_get rest k ≡ Some r → findings_at n t (i + k) r ≡ [])
+    → flat_map (λ p. findings_at n t p.0 p.1) (enumerate_from i rest) ≡ []
+none_from n t [] i h = refl
+none_from n t (x ∷ rest) i h =
+    let here : i + 0 ≡ i = omega arith in
+    let first : findings_at n t i x ≡ [] = subst (λ (m : ℕ). findings_at n t m x ≡ []) here (h 0 x refl) in
+    ap₂ (λ (a b : List Finding). a ++ b) first
+    (none_from n t rest (i + 1) (λ k r e. let further : i + suc k ≡ (i + 1) + k =
+    omega arith in subst (λ (m : ℕ). findings_at n t m r ≡ []) further (h (suc k) r e)))
+
+pub none_at_any : (n : ℕ) (t : List RecordValue)
+    → ((k : ℕ) (r : RecordValue) → slice_get t k ≡ Some r → findings_at n t k r ≡ []) → findings_after n t ≡ []
+unfolding findings_after
+none_at_any n t h =
+    none_from n t t 0
+    (λ k r e. let same : 0 + k ≡ k = omega arith in subst (λ (m : ℕ). findings_at n t m r ≡ []) (sym same) (h k r e))

@@ -1,7 +1,7 @@
 -- The first records of a list with one more of them, and what a test finds among them.
 use Rattle.std.proofs.Common.{◌≡◌, ℕ, zero, suc, ◌+◌, ◌≤◌, ◌<◌, Bool, true, false, List, [], ◌∷◌, ◌++◌, length, take, drop, refl}
-use Rattle.std.proofs.Common.{sym, ap, ◌∙◌, arith}
-use Rattle.std.specs.Prelude.{Some, slice_get, ◌||◌}
+use Rattle.std.proofs.Common.{sym, ap, ◌∙◌, arith, inl, inr}
+use Rattle.std.specs.Prelude.{Some, slice_get, ◌||◌, ◌⊎◌}
 use Rattle.std.specs.List.{list_any}
 use Rattle.std.proofs.lemmas.Bool.{false_from_ne_true, or_left, or_right, or_from}
 use Rattle.std.proofs.lemmas.List.{take_all, length-take-le}
@@ -31,6 +31,17 @@ dropped (x ∷ t) (suc k) r e = dropped t k r e
 
 pub drop_more : {X : Type 0} → (t : List X) (k : ℕ) (r : X) → slice_get t k ≡ Some r → drop k t ≡ r ∷ drop (k + 1) t
 drop_more {X} t k r e = let next : suc k ≡ k + 1 = omega arith in dropped t k r e ∙ ap (λ (n : ℕ). r ∷ drop n t) next
+
+-- what stands at a place of a longer list
+pub there_or_last : {X : Type 0} → (t : List X) (r : X) (k : ℕ) (x : X) → slice_get (t ++ r ∷ []) k ≡ Some x
+    → ((k < length t) × (slice_get t k ≡ Some x)) ⊎ ((k ≡ length t) × (x ≡ r))
+there_or_last [] r zero x e = let same : r ≡ x = cc e in inr (refl, sym same)
+there_or_last [] r (suc k) x e = absurd (cc e)
+there_or_last (y ∷ t) r zero x e = inl (omega arith, e)
+there_or_last (y ∷ t) r (suc k) x e = elim (there_or_last t r k x e) [
+  | inl (below, there) ↦ inl (omega (arith, below), there)
+  | inr (last, same) ↦ inr (omega (arith, last), same)
+]
 
 -- ---- what a test finds
 

@@ -1,34 +1,36 @@
 -- One record more of a work that is added up, and a work whose sums say that nothing is found.
-use Rattle.std.proofs.Common.{◌≡◌, ℕ, zero, suc, ◌+◌, ◌<◌, ◌≤◌, Bool, true, false, not, cond, List, [], ◌∷◌, ◌++◌, length, take}
-use Rattle.std.proofs.Common.{drop, refl, sym, ap, ap₂, ◌∙◌, subst, arith, inl, inr}
-use Rattle.std.specs.Prelude.{Some, None, Result, Ok, Err, OnOk, ◌&&◌, ◌||◌, ◌==◌, ◌⊎◌, filter, map, slice_get, flat_map}
+use Rattle.std.proofs.Common.{◌≡◌, ℕ, zero, suc, ◌+◌, ◌<◌, Bool, true, false, not, List, [], ◌∷◌, ◌++◌, length, take}
+use Rattle.std.proofs.Common.{refl, sym, ap, ap₂, ◌∙◌, subst, arith, inl, inr}
+use Rattle.std.specs.Prelude.{Some, None, Result, Ok, Err, OnOk, ◌&&◌, ◌||◌, ◌==◌, ◌⊎◌, filter, map, slice_get}
 use Rattle.std.specs.Prelude.{count_by}
 use Rattle.std.specs.Result.{is_ok}
-use Rattle.std.specs.List.{list_any, enumerate_from, prefix_len}
+use Rattle.std.specs.List.{list_any}
 use Rattle.std.specs.Str.{bytes_eq}
-use Rattle.std.proofs.lemmas.Bool.{eqb-true, or_from, or_left, or_right}
-use Rattle.std.proofs.lemmas.List.{drop-append-le, drop_all, length-append, take-append-le, take_all}
-use Rattle.std.proofs.Math.Seq.{drop-append_seam}
+use Rattle.std.proofs.lemmas.Bool.{or_from, or_left, or_right}
+use Rattle.std.proofs.lemmas.List.{length-append, take-append-le, take_all}
 use Rattle.std.proofs.lemmas.List.Folds.{list_any-append}
 use Rattle.cwr_fields.specs.declared.kinds.Kind.{Kind}
 use Rattle.cwr_fields.specs.declared.kinds.Kind.TheVariants as kinds
 use Rattle.cwr_fields.specs.Format.Bytes.{is_spaces}
 use Rattle.cwr_lines.specs.Format.Records.{RecordValue, IsRecord, cell_named}
 use Rattle.cwr_levels.specs.declared.rules.Rule.TheVariants.{V1, V2, V3, V4, V5, V6, V7, V8, V9, V10, V11}
-use Rattle.cwr_levels.specs.declared.rules.Finding.{Finding}
-use Rattle.cwr_levels.specs.Format.Findings.{all_rules, before_copy, breaks, counts_others, findings, findings_after, findings_at}
+use Rattle.cwr_levels.specs.Format.Findings.{all_rules, breaks, counts_others, findings_after, findings_at}
 use Rattle.cwr_levels.specs.Format.Findings.{has_party_number, is_a, is_agreement, is_author, is_blank, is_off, is_work, nearest}
-use Rattle.cwr_levels.specs.Format.Findings.{ownership, stands_before_copy}
+use Rattle.cwr_levels.specs.Format.Findings.{ownership}
+use Rattle.cwr_levels.specs.declared.sums.Begun.TheVariants.{Work}
 use Rattle.cwr_levels.specs.declared.sums.Sums.{Sums}
 use Rattle.cwr_levels.specs.declared.totals.TransactionTotals.{TransactionTotals}
-use Rattle.cwr_levels.specs.Steps.Sums.{AreNumbersOf, AreSums, AreUnbroken, AsksComponents, IsUnbroken, KeepsNumbers, StandFor}
+use Rattle.cwr_levels.specs.Steps.Sums.{AreNumbersOf, AreSums, AreUnbroken, AsksComponents, IsUnbroken, KeepsNumbers}
 use Rattle.cwr_levels.specs.Steps.Sums.{wants_other}
 use Rattle.cwr_levels.specs.Steps.Walks.{AreTotals, capped, is_kind, is_publisher}
 use Rattle.cwr_levels.proofs.lemmas.CountedRecords.{counts_nothing}
+use Rattle.cwr_levels.proofs.lemmas.FalseTests.{and_false, and_left, at_header, middle_false, not_true}
+use Rattle.cwr_levels.proofs.lemmas.FoundByRecord.{none_at_any}
 use Rattle.cwr_levels.proofs.lemmas.FoundByRule.{finding_of}
 use Rattle.cwr_levels.proofs.lemmas.LeftBehind.{number_same, territory_same}
 use Rattle.cwr_levels.proofs.lemmas.KindTests.{kind_of}
 use Rattle.cwr_levels.proofs.lemmas.NamedCells.{named_cell}
+use Rattle.cwr_levels.proofs.lemmas.OneMore.{there_or_last}
 use Rattle.cwr_levels.proofs.lemmas.RuleFields.{publisher_of_pwr}
 use Rattle.cwr_levels.proofs.lemmas.RuleTests.{blank_excerpt_type, cell_of_field, first_of_agreement, first_of_work, header_of_work}
 use Rattle.cwr_levels.proofs.lemmas.RuleTests.{or_none, publisher_of_number}
@@ -42,17 +44,6 @@ work_more (x ∷ t) r h = sym (first_of_work (x ∷ (t ++ r ∷ [])) x refl) ∙
 first_taken : (t : List RecordValue) (r : RecordValue) → is_work t ≡ true → take 1 (t ++ r ∷ []) ≡ take 1 t
 first_taken [] r h = absurd (cc h)
 first_taken (x ∷ t) r h = take-append-le 1 (x ∷ t) (r ∷ []) (omega arith)
-
--- what stands at a place of the longer list
-there_or_last : (t : List RecordValue) (r : RecordValue) (k : ℕ) (x : RecordValue) → slice_get (t ++ r ∷ []) k ≡ Some x
-    → ((k < length t) × (slice_get t k ≡ Some x)) ⊎ ((k ≡ length t) × (x ≡ r))
-there_or_last [] r zero x e = let same : r ≡ x = cc e in inr (refl, sym same)
-there_or_last [] r (suc k) x e = absurd (cc e)
-there_or_last (y ∷ t) r zero x e = inl (omega arith, e)
-there_or_last (y ∷ t) r (suc k) x e = elim (there_or_last t r k x e) [
-  | inl (below, there) ↦ inl (omega (arith, below), there)
-  | inr (last, same) ↦ inr (omega (arith, last), same)
-]
 
 -- the header stays
 pub header_stays : (t : List RecordValue) (r header : RecordValue) → is_work t ≡ true → slice_get (t ++ r ∷ []) 0 ≡ Some header
@@ -107,22 +98,6 @@ unbroken_more t r work all last = λ k x there. by k x (there_or_last t r k x th
 
 -- ---- nothing is found
 
-and_false : (a b : Bool) → b ≡ false → (a && b) ≡ false
-and_false true b h = h
-and_false false b h = refl
-
-and_left : (a b : Bool) → a ≡ false → (a && b) ≡ false
-and_left true b h = absurd (cc h)
-and_left false b h = refl
-
-at_header : (t : List RecordValue) (k : ℕ) (w b : Bool) → (k ≡ 0 → b ≡ false) → (w && (k == 0) && b) ≡ false
-at_header t k w b h = by w (k == 0) refl
-  where
-    by : (w z : Bool) → (k == 0) ≡ z → (w && z && b) ≡ false
-    by false z e = refl
-    by true false e = refl
-    by true true e = h (eqb-true k 0 e)
-
 no_agreement : (t : List RecordValue) → is_work t ≡ true → is_agreement t ≡ false
 no_agreement [] h = refl
 no_agreement (x ∷ t) h =
@@ -131,16 +106,6 @@ no_agreement (x ∷ t) h =
   where
     none : is_a kinds.Agr x ≡ false → is_agreement (x ∷ []) ≡ false
     none e = rw e refl
-
-pub none_before_copy : (t : List RecordValue) → is_work t ≡ true → before_copy t ≡ 0
-none_before_copy [] h = refl
-none_before_copy (x ∷ t) h =
-    ap (λ (b : Bool). cond b (1 + prefix_len stands_before_copy t) 0) (elim (header_of_work x (first_of_work (x ∷ t) x refl ∙ h))
-    [ inl e ↦ none kinds.Nwr e refl refl | inr e ↦ none kinds.Rev e refl refl ])
-  where
-    none : (kind : Kind) → x.kind ≡ kind → is_kind kinds.Ack kind ≡ false → is_kind kinds.Msg kind ≡ false
-        → stands_before_copy x ≡ false
-    none kind e ack msg = ap₂ (λ (a b : Bool). a || b) (ap (is_kind kinds.Ack) e ∙ ack) (ap (is_kind kinds.Msg) e ∙ msg)
 
 -- a work whose sums are in order, and of which no record is broken
 pub record IsInOrder (t : List RecordValue) : Type 0 where
@@ -165,7 +130,7 @@ none_at t n k r h there =
     let v7 : breaks V7 t k r ≡ false = u.publisher in
     let v8 : breaks V8 t k r ≡ false = u.excerpt in
     let v9 : breaks V9 t k r ≡ false =
-    at_header t k (is_work t) (counts_others r (count_by (is_a kinds.Com) t))
+    at_header k (is_work t) (counts_others r (count_by (is_a kinds.Com) t))
     (λ first. h.components r (ap (slice_get t) (sym first) ∙ there)) in
     let v10 : breaks V10 t k r ≡ false =
     and_left (is_agreement t && (k == 0)) _ (and_left (is_agreement t) (k == 0) (no_agreement t h.work)) in
@@ -174,32 +139,10 @@ none_at t n k r h there =
     let none : filter (λ rule. breaks rule t k r) all_rules ≡ [] = rw (v1, v2, v3, v4, v5, v6, v7, v8, v9, v10, v11) refl in
     ap (map (finding_of n k r)) none
 
-none_from : (n : ℕ) (t rest : List RecordValue) (i : ℕ)
-    → ((k : ℕ) (r : RecordValue) → slice_get rest k ≡ Some r → findings_at n t (i + k) r ≡ [])
-    → flat_map (λ p. findings_at n t p.0 p.1) (enumerate_from i rest) ≡ []
-none_from n t [] i h = refl
-none_from n t (x ∷ rest) i h =
-    let here : i + 0 ≡ i = omega arith in
-    let first : findings_at n t i x ≡ [] = subst (λ (m : ℕ). findings_at n t m x ≡ []) here (h 0 x refl) in
-    ap₂ (λ (a b : List Finding). a ++ b) first
-    (none_from n t rest (i + 1) (λ k r e. let further : i + suc k ≡ (i + 1) + k =
-    omega arith in subst (λ (m : ℕ). findings_at n t m r ≡ []) further (h (suc k) r e)))
-
 pub none_found : (t : List RecordValue) (n : ℕ) → IsInOrder t → findings_after n t ≡ []
-unfolding findings_after
-none_found t n h =
-    none_from n t t 0
-    (λ k r e. let same : 0 + k ≡ k = omega arith in subst (λ (m : ℕ). findings_at n t m r ≡ []) (sym same) (none_at t n k r h e))
+none_found t n h = none_at_any n t (λ k r there. none_at t n k r h there)
 
 -- ---- one record that breaks no rule
-
-not_true : (b : Bool) → not b ≡ true → b ≡ false
-not_true true h = absurd (cc h)
-not_true false h = refl
-
-pub not_false : (b : Bool) → not b ≡ false → b ≡ true
-not_false true h = refl
-not_false false h = absurd (cc h)
 
 -- the records before the last one
 pub front_taken : (t : List RecordValue) (r : RecordValue) → take (length t) (t ++ r ∷ []) ≡ t
@@ -208,10 +151,6 @@ front_taken t r = take-append-le (length t) t (r ∷ []) (omega arith) ∙ take_
 pub excerpt_there : (header : RecordValue) (b : Bool) → is_work (header ∷ []) ≡ true → IsRecord header
     → b ≡ is_spaces (cell_of_field header 16) → not b ≡ true → list_any (is_blank "excerpt type") (header ∷ []) ≡ false
 excerpt_there header b work fits e h = sym (blank_excerpt_type (header ∷ []) header refl work fits) ∙ sym e ∙ not_true b h
-
-middle_false : (w a x : Bool) → a ≡ false → (w && a && x) ≡ false
-middle_false true a x h = rw h refl
-middle_false false a x h = refl
 
 pub no_writer_here : (t : List RecordValue) (k : ℕ) (r : RecordValue) → is_a kinds.Pwr r ≡ false → breaks V7 t k r ≡ false
 no_writer_here t k r h = middle_false (is_work t) (is_a kinds.Pwr r) _ h
@@ -288,7 +227,7 @@ pub sums_more : (old new : Sums) (t : List RecordValue) (r : RecordValue) (total
     → KeepsNumbers t r old new → AreTotals (t ++ r ∷ []) totals → IsUnbroken (t ++ r ∷ []) (length t) r
     → AreSums (record new { records = old.records + 1; totals = totals }) (t ++ r ∷ [])
 sums_more old new t r totals h k are last = record {
-  begun = ap (λ (s : Sums). s.is_begun) k.others ∙ h.begun;
+  begun = ap (λ (s : Sums). s.begun) k.others ∙ h.begun;
   work = work_more t r h.work;
   counted = omega (arith, h.counted, length-append t (r ∷ []));
   totals = are;
@@ -356,7 +295,7 @@ of_revised_work =
 
 -- what was set down at the header
 pub record IsSetDown (header : RecordValue) (s : Sums) : Type 0 where
-  pub begun : s.is_begun ≡ true
+  pub begun : s.begun ≡ Work
   pub counted : s.records ≡ 1
   pub totals : AreTotals [] s.totals
   pub publisher : s.publisher ≡ None
@@ -388,10 +327,9 @@ set_down header kind s e k h = record {
   unbroken = only_header header (header_alone header kind e h.iswc k.spt k.swt k.pwr k.ewt);
 }
 
-pub begun_sums : (header : RecordValue) (kind : Kind) (s : Sums) → header.kind ≡ kind → (kind ≡ kinds.Nwr) ⊎ (kind ≡ kinds.Rev)
-    → IsSetDown header s → AreSums s (header ∷ [])
-begun_sums header kind s e (inl is) h = set_down header kinds.Nwr s (e ∙ is) of_new_work h
-begun_sums header kind s e (inr is) h = set_down header kinds.Rev s (e ∙ is) of_revised_work h
+pub begun_sums : (header : RecordValue) (s : Sums) → is_work (header ∷ []) ≡ true → IsSetDown header s → AreSums s (header ∷ [])
+begun_sums header s work h = elim (header_of_work header work)
+    [ inl e ↦ set_down header kinds.Nwr s e of_new_work h | inr e ↦ set_down header kinds.Rev s e of_revised_work h ]
 
 -- what the sums of a whole work are asked
 pub summed_in_order : (s : Sums) (t : List RecordValue) (from : ℕ) (performing mechanical synchronization others : Bool)
@@ -413,105 +351,3 @@ summed_in_order s t from performing mechanical synchronization others h is_p p i
           ∙ sym is_o ∙ not_true others o;
       unbroken = h.unbroken;
     })
-
--- ---- what stands before a copy
-
-all_before : (x : RecordValue) (t : List RecordValue) → before_copy (x ∷ t) ≡ length (x ∷ t)
-    → (stands_before_copy x ≡ true) × (before_copy t ≡ length t)
-all_before x t h = by (stands_before_copy x) refl
-  where
-    by : (b : Bool) → stands_before_copy x ≡ b → (stands_before_copy x ≡ true) × (before_copy t ≡ length t)
-    by true e =
-        let more : 1 + before_copy t ≡ length (x ∷ t) =
-        ap (λ (b : Bool). cond b (1 + before_copy t) 0) (sym e) ∙ h in (e, omega (arith, more))
-    by false e =
-        let none : 0 ≡ length (x ∷ t) =
-        ap (λ (b : Bool). cond b (1 + before_copy t) 0) (sym e) ∙ h in absurd (omega (arith, none))
-
--- one record more, where all stand before the copy
-pub before_more : (t : List RecordValue) (r : RecordValue) (b : Bool) → before_copy t ≡ length t → stands_before_copy r ≡ b
-    → before_copy (t ++ r ∷ []) ≡ length t + cond b 1 0
-before_more [] r true h e = ap (λ (b : Bool). cond b (1 + 0) 0) e
-before_more [] r false h e = ap (λ (b : Bool). cond b (1 + 0) 0) e
-before_more (x ∷ t) r b h e =
-    let all = all_before x t h in
-    ap (λ (b : Bool). cond b (1 + before_copy (t ++ r ∷ [])) 0) all.0 ∙ ap (λ (n : ℕ). 1 + n) (before_more t r b all.1 e)
-    ∙ further
-  where
-    further : 1 + (length t + cond b 1 0) ≡ length (x ∷ t) + cond b 1 0
-    further = omega arith
-
--- and where one doesn't
-before_still : (t : List RecordValue) (r : RecordValue) → (drop (before_copy t) t ≡ [] → ⊥)
-    → (before_copy (t ++ r ∷ []) ≡ before_copy t) × (before_copy t ≤ length t)
-before_still [] r h = absurd (h refl)
-before_still (x ∷ t) r h = by (stands_before_copy x) refl (before_still t r)
-  where
-    by : (b : Bool) → stands_before_copy x ≡ b
-        → ((drop (before_copy t) t ≡ [] → ⊥) → (before_copy (t ++ r ∷ []) ≡ before_copy t) × (before_copy t ≤ length t))
-        → (before_copy (x ∷ (t ++ r ∷ [])) ≡ before_copy (x ∷ t)) × (before_copy (x ∷ t) ≤ length (x ∷ t))
-    by true e others =
-        let count : before_copy (x ∷ t) ≡ 1 + before_copy t = ap (λ (b : Bool). cond b (1 + before_copy t) 0) e in
-        let next : 1 + before_copy t ≡ suc (before_copy t) = omega arith in
-        let rest = others (λ none. h (ap (λ (n : ℕ). drop n (x ∷ t)) (count ∙ next) ∙ none)) in (
-          ap (λ (b : Bool). cond b (1 + before_copy (t ++ r ∷ [])) 0) e ∙ ap (λ (n : ℕ). 1 + n) rest.0
-              ∙ sym count,
-          omega (arith, count, rest.1),
-        )
-    by false e others =
-        let count : before_copy (x ∷ t) ≡ 0 = ap (λ (b : Bool). cond b (1 + before_copy t) 0) e in
-        (ap (λ (b : Bool). cond b (1 + before_copy (t ++ r ∷ [])) 0) e ∙ sym count, omega (arith, count))
-
-not_empty_work : (t : List RecordValue) → is_work t ≡ true → t ≡ [] → ⊥
-not_empty_work [] h e = cc h
-not_empty_work (x ∷ t) h e = cc e
-
-pub copy_more : (t : List RecordValue) (r : RecordValue) → is_work (drop (before_copy t) t) ≡ true
-    → drop (before_copy (t ++ r ∷ [])) (t ++ r ∷ []) ≡ drop (before_copy t) t ++ r ∷ []
-copy_more t r work =
-    let still = before_still t r (not_empty_work (drop (before_copy t) t) work) in
-    ap (λ (n : ℕ). drop n (t ++ r ∷ [])) still.0 ∙ drop-append-le (before_copy t) t (r ∷ []) still.1
-
--- ---- a transaction
-
-not_both : (b : Bool) → b ≡ true → b ≡ false → ⊥
-not_both b is isnt = let same : true ≡ false = sym is ∙ isnt in cc same
-
-pub begins_before : (s : Sums) (header : RecordValue) → is_a kinds.Ack header ≡ true → s.is_begun ≡ false
-    → StandFor s (header ∷ [])
-begins_before s header ack none = inr (none, before_more [] header true refl (ap (λ (b : Bool). b || is_a kinds.Msg header) ack))
-
-pub begins_work : (s : Sums) (header : RecordValue) → AreSums s (header ∷ []) → StandFor s (header ∷ [])
-begins_work s header h = inl (subst (λ (n : ℕ). AreSums s (drop n (header ∷ []))) (sym (none_before_copy (header ∷ []) h.work)) h)
-
-pub stands_within : (old new : Sums) (t : List RecordValue) (r : RecordValue) → old.is_begun ≡ true → StandFor old t
-    → ((rs : List RecordValue) → AreSums old rs → AreSums new (rs ++ r ∷ [])) → StandFor new (t ++ r ∷ [])
-stands_within old new t r begun (inl h) more =
-    inl (subst (AreSums new) (sym (copy_more t r h.work)) (more (drop (before_copy t) t) h))
-stands_within old new t r begun (inr h) more = absurd (not_both old.is_begun begun h.0)
-
-pub stands_before : (s : Sums) (t : List RecordValue) (r : RecordValue) → s.is_begun ≡ false → StandFor s t
-    → stands_before_copy r ≡ true → StandFor s (t ++ r ∷ [])
-stands_before s t r none (inl h) before = absurd (not_both s.is_begun h.begun none)
-stands_before s t r none (inr h) before = inr (none, before_more t r true h.1 before ∙ omega (arith, length-append t (r ∷ [])))
-
-pub begins_copy : (old new : Sums) (t : List RecordValue) (r : RecordValue) → old.is_begun ≡ false → StandFor old t
-    → stands_before_copy r ≡ false → AreSums new (r ∷ []) → StandFor new (t ++ r ∷ [])
-begins_copy old new t r none (inl h) other begun = absurd (not_both old.is_begun h.begun none)
-begins_copy old new t r none (inr h) other begun =
-    let here : before_copy (t ++ r ∷ []) ≡ length t = before_more t r false h.1 other ∙ omega arith in
-    let own : drop (before_copy (t ++ r ∷ [])) (t ++ r ∷ []) ≡ r ∷ [] =
-    ap (λ (n : ℕ). drop n (t ++ r ∷ [])) here ∙ drop-append_seam t (r ∷ []) in
-    inl (subst (AreSums new) (sym own) begun)
-
-pub none_without_copy : (s : Sums) (t : List RecordValue) → s.is_begun ≡ false → StandFor s t → findings t ≡ []
-unfolding findings findings_after
-none_without_copy s t none (inl h) = absurd (not_both s.is_begun h.begun none)
-none_without_copy s t none (inr h) =
-    ap (findings_after (before_copy t)) (ap (λ (n : ℕ). drop n t) h.1 ∙ drop_all (length t) t (omega arith))
-
-pub none_within : (s : Sums) (t : List RecordValue) → s.is_begun ≡ true → StandFor s t
-    → ((rs : List RecordValue) (n : ℕ) → AreSums s rs → findings_after n rs ≡ []) → findings t ≡ []
-unfolding findings
-none_within s t begun (inl h) clean = clean (drop (before_copy t) t) (before_copy t) h
-none_within s t begun (inr h) clean = absurd (not_both s.is_begun begun h.0)

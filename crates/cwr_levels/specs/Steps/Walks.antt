@@ -19,7 +19,7 @@ use Rattle.cwr_levels.specs.declared.shares.Shares.{Shares}
 use Rattle.cwr_levels.specs.declared.shares.Sides.{Sides}
 use Rattle.cwr_levels.specs.declared.totals.TransactionTotals.{TransactionTotals}
 use Rattle.cwr_levels.specs.declared.before.Before.{Before}
-use Rattle.cwr_levels.specs.Format.Findings.{is_a, share_of, nearest, is_owner, is_party, is_author, is_territory, in_blocks}
+use Rattle.cwr_levels.specs.Format.Findings.{is_a, share_of, nearest, is_owner, is_author, is_territory, in_blocks}
 use Rattle.cwr_levels.specs.Format.Findings.{of_role, all_rules}
 
 -- ---- shares, added up
@@ -27,10 +27,6 @@ use Rattle.cwr_levels.specs.Format.Findings.{of_role, all_rules}
 -- a sum, as far as 64 bits go
 abbrev pub capped : ℕ → ℕ
 capped n = min n 18446744073709551615
-
--- the record has a share in each of the three rights
-abbrev pub has_shares : RecordValue → Bool
-has_shares r = is_owner r || is_party r
 
 -- the records' shares add up to these
 pub record AddUpTo (records : List RecordValue) (s : Shares) : Type 0 where

@@ -1,9 +1,6 @@
 -- A line that ended is kept in no more bytes than the longest line.
-use Rattle.std.proofs.Common.{◌≡◌, ℕ, ◌+◌, ◌-◌, ◌≤◌, Bool, true, false, List, [], ◌++◌, length, take, Option, Some, None, refl}
-use Rattle.std.proofs.Common.{ap, ◌∙◌, arith}
-use Rattle.std.specs.Prelude.{Result, Ok, Err}
-use Rattle.std.specs.Result.{IsOk, OnOk}
-use Rattle.std.proofs.lemmas.Bool.{false≢true}
+use Rattle.std.proofs.Common.{ℕ, ◌-◌, ◌≤◌, Bool, true, false, List, length, take, Option, Some, None, refl}
+use Rattle.std.proofs.Common.{ap, arith}
 use Rattle.std.specs.Prelude.{if◌then◌else◌}
 use Rattle.std.proofs.lemmas.List.{length-take-le}
 use Rattle.cwr_fields.specs.declared.kinds.Kind.{Kind}
@@ -40,9 +37,3 @@ kept_short text count has_return kind Line h =
     parts_short text kind (line_kept text count has_return Line) h.0.keeps h.0.held.short
 kept_short text count has_return kind Over h =
     parts_short text kind (line_kept text count has_return Over) h.0.keeps h.0.held.short
-
--- an empty text with a text added is that text
-pub extended_whole : {T E : Type 0} (r : Result T E) (old new xs : List ℕ) → old ≡ [] → length xs ≤ 1024
-    → (length old + length xs ≤ 1024 → IsOk r) → OnOk r (new ≡ old ++ xs) → new ≡ xs
-extended_whole (Ok x) old new xs none short v o = o ∙ ap (λ (l : List ℕ). l ++ xs) none
-extended_whole (Err x) old new xs none short v o = absurd (false≢true (v (omega (arith, ap length none))))

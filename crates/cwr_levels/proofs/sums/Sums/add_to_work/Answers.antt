@@ -6,7 +6,7 @@ use Rattle.cwr_levels.proofs.lemmas.SummedRecords.{sums_more}
 use Rattle.cwr_levels.proofs.sums.Sums.add_to_work.Goals as goal
 
 pub returns : goal.returns
-returns c = λ rs h yes.
+returns g c = λ rs h yes.
     let kept = c.keep_number.ensures rs h c.if-not-keep_number.false in
     sums_more c.args.self.now c.keep_number.new.self rs c.args.shown.now c.with-self.result h kept
     (c.with-self.ensures rs (sym h.counted)

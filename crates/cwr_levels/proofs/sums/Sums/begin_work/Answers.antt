@@ -3,7 +3,7 @@ use Rattle.cwr_levels.proofs.lemmas.SummedRecords.{begun_sums}
 use Rattle.cwr_levels.proofs.sums.Sums.begin_work.Goals as goal
 
 pub returns : goal.returns
-returns c = λ yes. begun_sums c.args.header.now c.kind.result _ (sym c.kind.ensures.value) c.in-Nwr.is (record {
+returns c = λ yes. begun_sums c.args.header.now _ c.requires (record {
   begun = refl;
   counted = refl;
   totals = c.none-self.ensures;

@@ -1,9 +1,9 @@
-use Rattle.cwr_levels.proofs.lemmas.SummedRecords.{none_within, none_without_copy}
+use Rattle.cwr_levels.proofs.lemmas.SummedCopies.{none_elsewhere, none_in_work}
 use Rattle.cwr_levels.proofs.sums.Sums.is_clean.Goals as goal
 
-pub returns-then-not-self : goal.returns-then-not-self
-returns-then-not-self c = λ rs h yes. none_without_copy c.args.self.now rs c.if-not-self.true h
+pub returns-in-Work : goal.returns-in-Work
+returns-in-Work c =
+    λ rs h yes. none_in_work c.args.self.now rs c.in-Work.is h (λ work n are. c.is_work_clean.ensures work n are yes)
 
-pub returns : goal.returns
-returns c =
-    λ rs h yes. none_within c.args.self.now rs c.if-not-self.false h (λ work n are. c.is_work_clean.ensures work n are yes)
+pub returns-in-Agreement : goal.returns-in-Agreement
+returns-in-Agreement c = λ rs h yes. none_elsewhere c.args.self.now rs c.in-Agreement.is h

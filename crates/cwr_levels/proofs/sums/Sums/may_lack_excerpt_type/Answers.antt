@@ -1,5 +1,6 @@
 use Rattle.std.proofs.Common.{[], ◌∷◌, ◌++◌, length, sym, ◌∙◌}
-use Rattle.cwr_levels.proofs.lemmas.SummedRecords.{excerpt_known, no_title_here, not_false}
+use Rattle.cwr_levels.proofs.lemmas.FalseTests.{not_false}
+use Rattle.cwr_levels.proofs.lemmas.SummedRecords.{excerpt_known, no_title_here}
 use Rattle.cwr_levels.proofs.sums.Sums.may_lack_excerpt_type.Goals as goal
 
 pub returns-then-not-is_of : goal.returns-then-not-is_of

@@ -1,5 +1,6 @@
 use Rattle.std.proofs.Common.{[], ◌∷◌, ◌++◌, length, sym, ◌∙◌}
-use Rattle.cwr_levels.proofs.lemmas.SummedRecords.{no_writer_here, not_false, publisher_known}
+use Rattle.cwr_levels.proofs.lemmas.FalseTests.{not_false}
+use Rattle.cwr_levels.proofs.lemmas.SummedRecords.{no_writer_here, publisher_known}
 use Rattle.cwr_levels.proofs.sums.Sums.may_name_no_publisher.Goals as goal
 
 pub returns-then-not-is_of : goal.returns-then-not-is_of

@@ -9,7 +9,7 @@ abbrev one_if : Bool → ℕ
 one_if b = cond b 1 0
 
 pub returns-then-not-is_of : goal.returns-then-not-is_of
-returns-then-not-is_of c = λ rs many h. record {
+returns-then-not-is_of g c = λ rs many h. record {
   ownership =
       owners_more rs c.args.shown.now c.with.result c.is_owner.result c.is_owner.ensures
       (c.with.ensures (filter is_owner rs) h.ownership);
@@ -22,7 +22,7 @@ returns-then-not-is_of c = λ rs many h. record {
 }
 
 pub returns : goal.returns
-returns c = λ rs many h. record {
+returns g c = λ rs many h. record {
   ownership =
       owners_more rs c.args.shown.now c.with.result c.is_owner.result c.is_owner.ensures
       (c.with.ensures (filter is_owner rs) h.ownership);
