@@ -1,6 +1,7 @@
 //! Whole runs over a text: the findings and the advice in each transaction, and the verdict.
 
 ghost use Rattle.std.specs.Prelude.{◌≡◌, [], true, IfOk, OnOk, IsSomeAnd};
+ghost use Rattle.std.specs.Io.KnownBytes.{GrowsBy};
 ghost use Rattle.cwr_tools.specs.Format.Reports.{CountsReaderFault, CountsWriterFault, ReportsText};
 ghost use Rattle.cwr_tools.specs.Steps.Reports.{Reports, StandsAfter};
 ghost use Rattle.cwr_tools.specs.Steps.Verdicts.{IsReadLast};
@@ -170,6 +171,7 @@ pub fn advise_up_to_fault<R: Source, W: Target + Drop>(
         (R.remaining reader.new) W.contents writer result.0 result.1 }
     ensures told { ReportsText (lines_advised explained true 0) limits (R.remaining reader.old)
         (R.remaining reader.new) W.contents writer result.0 result.1 }
+    ensures counted { GrowsBy (W.contents writer) (W.contents result.0) result.2.written }
     ensures said { IfOk result.1 (StandsAfter (λ given. result.3 ≡ said_in given) limits
         (R.remaining reader.old) (R.remaining reader.new)) }
     ensures reader_failures { CountsReaderFault result.1 (R.failures reader.old)
@@ -182,11 +184,20 @@ pub fn advise_up_to_fault<R: Source, W: Target + Drop>(
 {
     let mut lines = AdviceLines::new(alloc, explained, true, 0);
     let (writer, outcome, front) = write_report(&mut lines, true, alloc, limits, reader, writer);
-    let Front { last, totals } = front;
+    let Front {
+        last,
+        totals,
+        written,
+    } = front;
     let handed_out = HandedOut {
         totals,
         findings: lines.findings,
     };
+    let checked = CheckedFront {
+        last,
+        handed_out,
+        written,
+    };
     let said = lines.before.said();
-    (writer, outcome, CheckedFront { last, handed_out }, said)
+    (writer, outcome, checked, said)
 }

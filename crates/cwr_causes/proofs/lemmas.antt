@@ -8,6 +8,8 @@ pub mod ComingSymbols
 pub mod RefusedLines
 -- What is read and counted in two steps.
 pub mod TakenPieces
+-- How numbers go on, byte by byte and line by line.
+pub mod WalkedLines
 -- The codes of a list of members are those of the members.
 pub mod ListedCodes
 -- Symbols are listed one by one.

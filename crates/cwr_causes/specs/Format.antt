@@ -2,6 +2,7 @@
 pub mod ComingTexts
 pub mod Expected
 pub mod Lookings
+pub mod NumbersAfter
 pub mod Openings
 pub mod Refusals
 pub mod Sequences

@@ -5,3 +5,4 @@ pub mod LinesAtEnd
 pub mod Refused
 pub mod Shifts
 pub mod Trailing
+pub mod Walks

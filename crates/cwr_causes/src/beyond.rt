@@ -2,7 +2,9 @@
 
 ghost use Rattle.std.specs.Prelude.{◌≡◌, ◌↔◌, ◌<◌, [], length, IsTrue, IfOk, IfSome, OnOk, option_map, string_bytes};
 ghost use Rattle.std.specs.Option.{is_some};
-ghost use Rattle.cwr_causes.specs.Format.Lookings.{LooksAfterLine, TellsMore, asks_numbers, is_open};
+ghost use Rattle.cwr_causes.specs.Format.Lookings.{LooksAfterLine, asks_numbers, is_open, number_at};
+ghost use Rattle.cwr_causes.specs.Format.NumbersAfter.{FindsAfterLine, followed_at};
+ghost use Rattle.cwr_causes.specs.Format.Refusals.{first_kind};
 ghost use Rattle.cwr_causes.specs.Format.Trailing.{CountsRead, TakesMore};
 ghost use Rattle.cwr_causes.specs.Steps.Refused.{ExplainsLine, ExplainsRefusal, ahead_in, fault_line, goes_on};
 ghost use Rattle.cwr_causes.specs.Steps.Trailing.{found_in};
@@ -75,7 +77,9 @@ fn has_more<R: Source>(reader: &mut R) -> Result<bool, DeviceFault>
 
 /// The sequence of a line whose number is refused, and that number.
 fn wrong_sequence(refusal: &Refusal, line: &LineAtEnd<'_>) -> Option<(Sequence, u64)>
-    ensures { is_some result ≡ asks_numbers refusal.now line.now }
+    ensures asks { is_some result ≡ asks_numbers refusal.now line.now }
+    ensures number { IfSome result (λ s. number_at (first_kind line.now.bytes.now) refusal.now.field line.now.bytes.now ≡ Some s.1) }
+    ensures which { IfSome result (λ s. s.0 ≡ followed_at refusal.now.field) }
 {
     match refusal.reason {
         Reason::Number { .. } => {
@@ -105,9 +109,10 @@ pub fn look_after_line<R: Source>(
 ) -> Result<Beyond, DeviceFault>
     ensures taken { TakesMore (R.remaining reader.old) (R.remaining reader.new) }
     ensures failures { CountsRead result (R.failures reader.old) (R.failures reader.new) }
-    // Nothing that helps is left unasked, and a line that is too long goes on where there is a byte more.
+    // Nothing that helps is left unasked, and what is answered is what the reader has there.
     ensures looks { IfOk result (LooksAfterLine refusal.now line.now) }
-    ensures more { IfOk result (TellsMore (R.remaining reader.old)) }
+    ensures finds { IfOk result (FindsAfterLine refusal.now line.now
+        (R.remaining reader.old) (R.remaining reader.new)) }
 {
     if is_open(line) {
         return Ok(Beyond::GoesOn(has_more(reader)?));

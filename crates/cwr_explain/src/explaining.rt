@@ -1,13 +1,12 @@
 //! Checking a transmission, and explaining what was found.
 
 ghost use Rattle.std.specs.Prelude.{◌≡◌, true, string_bytes, IfOk, IsSomeAnd, OnOk};
-ghost use Rattle.std.specs.Io.KnownBytes.{Appends};
 ghost use Rattle.cwr_tools.specs.Format.Verdicts.{IsAnswerTo, JudgesText};
-ghost use Rattle.cwr_tools.specs.Format.Reports.{AddsWords, CountsReaderFault, CountsWriterFault};
+ghost use Rattle.cwr_tools.specs.Format.Reports.{CountsAfter, CountsReaderFault, CountsWriterFault, CountsWritten};
 ghost use Rattle.cwr_tools.specs.Format.Watching.{SeesAccepted};
 ghost use Rattle.cwr_causes.specs.Format.Trailing.{CountsRead, IsTrailing, TakesMore};
 ghost use Rattle.cwr_explain.specs.Format.Explained.{ExplainsText, FindsAfter, ReadsOnly, WritesOnly};
-ghost use Rattle.cwr_explain.specs.Steps.Explained.{AddsExplanation, Explains, Looks, SaysVerdict, is_good};
+ghost use Rattle.cwr_explain.specs.Steps.Explained.{AddsExplanation, AddsText, Explains, Looks, SaysVerdict, is_good};
 
 use cwr_causes::{
     Beyond, Trailing, add_refused, add_trailing, add_truncated, line_at_end, look_after_line,
@@ -16,7 +15,7 @@ use cwr_causes::{
 use cwr_decode::LastRead;
 use cwr_devices::{DeviceFault, Sink, Source, Target};
 use cwr_shape::Limits;
-use cwr_tools::{ToolFault, Verdict, Watch, check_explained};
+use cwr_tools::{Front, ToolFault, Verdict, Watch, check_explained};
 use std::alloc::{AllocError, Global};
 
 /// Looks at what the reader has after the run: all of it after a transmission, and what tells more of a refused line.
@@ -68,8 +67,7 @@ fn explanation(
 
 /// Writes a text, and has the writer hand it on.
 fn write_text<W: Target>(writer: W, text: &str) -> (W, Result<(), ToolFault>)
-    ensures text { OnOk result.1 (Appends (W.contents writer) (W.contents result.0) text.now) }
-    ensures words { AddsWords W.contents writer result.0 }
+    ensures text { AddsText W.contents text.now writer result.0 result.1 }
     ensures failures { WritesOnly result.1 (W.failures writer) (W.failures result.0) }
     ensures handed_on { OnOk result.1 (W.handed_on result.0 ≡ true) }
 {
@@ -117,7 +115,7 @@ fn explained<R: Source>(
     }
 }
 
-/// Writes the lines that explain the verdict.
+/// Writes the lines that explain the verdict, after so many bytes of the run.
 fn add_explanation<R: Source, W: Target>(
     alloc: Global,
     limits: &Limits,
@@ -125,13 +123,14 @@ fn add_explanation<R: Source, W: Target>(
     reader: &mut R,
     verdict: Verdict,
     last: &LastRead,
+    before: u64,
     writer: W,
 ) -> (W, Result<Verdict, ToolFault>, Option<Trailing>)
     ensures found { is_good verdict ≡ true → OnOk result.1
         (IsSomeAnd result.2 (IsTrailing (R.remaining reader.old) (R.remaining reader.new))) }
-    ensures says { IfOk result.1 (AddsExplanation W.contents limits.now name.now last.now
-        (R.remaining reader.old) (R.remaining reader.new) writer result.0) }
-    ensures words { AddsWords W.contents writer result.0 }
+    ensures says { AddsExplanation W.contents limits.now name.now verdict last.now
+        (R.remaining reader.old) (R.remaining reader.new) writer result.0 result.1 }
+    ensures counted { CountsAfter W.contents before writer result.0 result.1 }
     ensures taken { TakesMore (R.remaining reader.old) (R.remaining reader.new) }
     ensures answered { IsAnswerTo verdict result.1 }
     ensures reader_failures { CountsReaderFault result.1 (R.failures reader.old)
@@ -145,7 +144,7 @@ fn add_explanation<R: Source, W: Target>(
             let (writer, written) = write_text(writer, text.as_str());
             match written {
                 Ok(()) => (writer, Ok(verdict), beyond.found()),
-                Err(fault) => (writer, Err(fault), None),
+                Err(fault) => (writer, Err(fault.after(before)), None),
             }
         }
     }
@@ -156,7 +155,8 @@ fn add_explanation<R: Source, W: Target>(
 /// what stands after it, which is answered too. `name` is that of the input in these lines. The watch sees the findings that are
 /// told.
 ///
-/// Where a device or memory fails after the verdict, the lines of `check` are written.
+/// Where the reader or memory fails after the verdict, the lines of `check` are written, and where the writer fails, the first of the
+/// bytes that would be: so many as the fault says.
 pub fn explain<R: Source, W: Target + Drop>(
     alloc: Global,
     limits: Limits,
@@ -177,6 +177,8 @@ pub fn explain<R: Source, W: Target + Drop>(
     ensures seen { OnOk result.1 (SeesAccepted limits (R.remaining reader.old) watch.old watch.new) }
     ensures found { OnOk result.1
         (FindsAfter limits (R.remaining reader.old) (R.remaining reader.new) result.2) }
+    // Where the writer failed, the fault says how many bytes were written in all.
+    ensures written { CountsWritten W.contents writer result.0 result.1 }
     // No failure is passed over: a device failed only where that is the answer.
     ensures reader_failures { CountsReaderFault result.1 (R.failures reader.old)
         (R.failures reader.new) }
@@ -184,12 +186,15 @@ pub fn explain<R: Source, W: Target + Drop>(
     // All that was written was handed on.
     ensures handed_on { OnOk result.1 (W.handed_on result.0 ≡ true) }
 {
-    let (writer, checked, last) = check_explained(alloc, limits, watch, reader, writer);
+    let (writer, checked, front) = check_explained(alloc, limits, watch, reader, writer);
+    let Front { last, written, .. } = front;
     match checked {
         Err(fault) => (writer, Err(fault), None),
         Ok(verdict) => match last {
             None => (writer, Ok(verdict), None),
-            Some(last) => add_explanation(alloc, &limits, name, reader, verdict, &last, writer),
+            Some(last) => add_explanation(
+                alloc, &limits, name, reader, verdict, &last, written, writer,
+            ),
         },
     }
 }

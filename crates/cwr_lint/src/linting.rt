@@ -2,10 +2,10 @@
 
 ghost use Rattle.std.specs.Prelude.{◌≡◌, ◌==◌, ◌&&◌, ◌+◌, ◌^◌, ◌-◌, ◌<◌, ◌≤◌, ℕ, min, true, false, List, IfOk, OnOk, IsSome, IsSomeAnd};
 ghost use Rattle.std.specs.Option.{is_some};
-ghost use Rattle.std.specs.Io.KnownBytes.{Appends, Keeps};
-ghost use Rattle.cwr_devices.specs.Steps.Sinks.{has_failed, writer_of};
+ghost use Rattle.std.specs.Io.KnownBytes.{Appends, GrowsBy, Keeps};
+ghost use Rattle.cwr_devices.specs.Steps.Sinks.{counted_up, has_failed, writer_of, written_of};
 ghost use Rattle.cwr_causes.specs.Format.Trailing.{TakesMore};
-ghost use Rattle.cwr_tools.specs.Format.Reports.{AddsWords, CountsReaderFault, CountsWriterFault, JudgesAccepted};
+ghost use Rattle.cwr_tools.specs.Format.Reports.{AddsWords, CountsAfter, CountsReaderFault, CountsWriterFault, CountsWritten, JudgesAccepted};
 ghost use Rattle.cwr_tools.specs.Format.Verdicts.{IsAnswerTo, JudgesText};
 ghost use Rattle.cwr_lines.specs.Steps.Held.{held_body, held_kind};
 ghost use Rattle.cwr_tools.specs.Steps.Reports.{Reports, StandsAfter};
@@ -19,7 +19,7 @@ ghost use Rattle.cwr_fields.specs.Format.Bytes.{is_spaces};
 ghost use Rattle.cwr_lint_lines.specs.Steps.JudgedLines.{IsFaultFrom, IsJudged, ends_by, judged_at, scope_by};
 ghost use Rattle.cwr_lint_lines.specs.Steps.Cells.{held_cut};
 ghost use Rattle.cwr_lint.specs.Steps.LinesRead.{IsOfLine, held_raw};
-ghost use Rattle.cwr_lint.specs.Steps.Lints.{EndsRun, Lints, Tells};
+ghost use Rattle.cwr_lint.specs.Steps.Lints.{EndsRun, Lints, Tells, counted};
 ghost use Rattle.cwr_lint.specs.Steps.Puts.{TellsWith, AppendsSuch, PutsWith, TellsRead};
 ghost use Rattle.cwr_lint.specs.Steps.Runs.{BeginsAt, TakesAll, TakesFirst, TakesFrom, TakesLine, TakesNextIf, TakesRead, TellsJudged, TellsRun, TellsSoMany};
 ghost use Rattle.cwr_lint.specs.Steps.Runs.{TellsAfter, TellsToEnd, asking_of};
@@ -384,21 +384,32 @@ fn is_good(told: u64, from: u8) -> bool
     told == 0 && from == 1
 }
 
-/// Hands on what was put, and answers how the run ended.
+/// The fault, where so many bytes were written in all.
+fn counted(fault: ToolFault, written: u64) -> ToolFault
+    ensures { result ≡ counted written fault }
+{
+    match fault {
+        ToolFault::Writer { .. } => ToolFault::Writer { written },
+        other => other,
+    }
+}
+
+/// Hands on what was put after so many bytes of the run, and answers how it ended.
 fn finish<W: Target>(
     refusal: Refusal,
     told: Result<(), ToolFault>,
+    before: u64,
     sink: Sink<W>,
 ) -> (W, Result<Verdict, ToolFault>)
     ensures kept { Keeps (W.contents (writer_of sink)) (W.contents result.0) }
-    ensures answer { EndsRun refusal told (W.failures (writer_of sink)) (W.failures result.0)
-        result.1 }
+    ensures answer { EndsRun refusal (counted_up before (written_of sink)) told
+        (W.failures (writer_of sink)) (W.failures result.0) result.1 }
     ensures handed_on { OnOk result.1 (W.handed_on result.0 ≡ true) }
 {
-    let written = sink.written();
+    let written = before.saturating_add(sink.written());
     let mut writer = sink.into_inner();
     match told {
-        Err(fault) => (writer, Err(fault)),
+        Err(fault) => (writer, Err(counted(fault, written))),
         Ok(()) => match writer.flush() {
             Ok(()) => (writer, Ok(Verdict::Refused(refusal))),
             Err(_) => (writer, Err(ToolFault::Writer { written })),
@@ -416,18 +427,20 @@ fn state_before(last: &LastRead, refusal: &Refusal) -> LintState
     LintState::at(last.stage, &last.counts, lines)
 }
 
-/// Goes on after the first fault, which a check has met and not told, and answers the verdict.
+/// Goes on after the first fault, which a check has met and not told, where that has written so many bytes, and answers the verdict.
 fn tell_faults<R: Source, W: Target>(
     asked: &Asked<'_>,
     refusal: Refusal,
     last: &LastRead,
     findings: u64,
+    before: u64,
     reader: &mut R,
     writer: W,
 ) -> (W, Result<Verdict, ToolFault>)
     ensures told { OnOk result.1 (AppendsSuch W.contents writer result.0 (TellsAfter
         (asking_of asked.now) last.now refusal (R.remaining reader.old) (R.remaining reader.new))) }
     ensures words { AddsWords W.contents writer result.0 }
+    ensures counted { CountsAfter W.contents before writer result.0 result.1 }
     ensures taken { TakesMore (R.remaining reader.old) (R.remaining reader.new) }
     ensures answered { IsAnswerTo (Verdict.Refused refusal) result.1 }
     ensures reader_failures { CountsReaderFault result.1 (R.failures reader.old)
@@ -444,7 +457,7 @@ fn tell_faults<R: Source, W: Target>(
     };
     let mut sink = Sink::new(writer);
     let told = lint.run(asked, &refusal, last, reader, &mut sink);
-    finish(refusal, told, sink)
+    finish(refusal, told, before, sink)
 }
 
 /// Checks a transmission up to its first fault, and advises on it where that is wanted. How far it came is answered too, and what the
@@ -460,6 +473,7 @@ fn check_front<R: Source, W: Target + Drop>(
     ensures reported { Reports (lines_before_fault advised explained) limits
         (R.remaining reader.old) (R.remaining reader.new) W.contents writer result.0 result.1 }
     ensures judged { JudgesText limits (R.remaining reader.old) result.1 }
+    ensures counted { GrowsBy (W.contents writer) (W.contents result.0) result.2.written }
     ensures said { IfOk result.1 (StandsAfter
         (λ given. result.3 ≡ said_when advised (said_in given)) limits (R.remaining reader.old)
         (R.remaining reader.new)) }
@@ -508,6 +522,8 @@ pub fn lint<R: Source, W: Target + Drop>(
     ensures accepted { IfOk result.1 (JudgesAccepted
         (lines_linted (wanting (is_some name.entry) advised)) limits (R.remaining reader.old)
         (R.remaining reader.new) W.contents writer result.0) }
+    // Where the writer failed, the fault says how many bytes were written in all.
+    ensures written { CountsWritten W.contents writer result.0 result.1 }
     // No failure is passed over: a device failed only where that is the answer.
     ensures reader_failures { CountsReaderFault result.1 (R.failures reader.old)
         (R.failures reader.new) }
@@ -523,7 +539,11 @@ pub fn lint<R: Source, W: Target + Drop>(
         reader,
         writer,
     );
-    let CheckedFront { last, handed_out } = front;
+    let CheckedFront {
+        last,
+        handed_out,
+        written,
+    } = front;
     match checked {
         Err(fault) => (writer, Err(fault)),
         Ok(verdict) => match verdict {
@@ -537,7 +557,15 @@ pub fn lint<R: Source, W: Target + Drop>(
                         name,
                         said,
                     };
-                    tell_faults(&asked, refusal, &last, handed_out.findings, reader, writer)
+                    tell_faults(
+                        &asked,
+                        refusal,
+                        &last,
+                        handed_out.findings,
+                        written,
+                        reader,
+                        writer,
+                    )
                 }
                 None => unreachable!(),
             },

@@ -1,8 +1,10 @@
-//! Tests of tables, of numbers that are put right and of whole lints, on worked lines.
+//! Tests of tables, of numbers that are put right, and of whole lints and explanations, on worked lines.
 #![tactic(auto)]
 
 #[cfg(test)]
 mod devices;
+#[cfg(test)]
+mod explained;
 #[cfg(test)]
 mod lints;
 #[cfg(test)]

@@ -13,7 +13,7 @@ use std::process::Abort;
 type Linted = (&'static [&'static [u8]], &'static str);
 
 /// A good one, one of whose transactions has no writer and whose last count is wrong, and one that ends too early; one with an HDR
-/// between its groups, and one whose header is of unknown kind, with a wrong number after it.
+/// between its groups, and one whose header is of unknown kind, with a wrong number after it; one with a finding, whose last count is wrong.
 const LINTED: &[Linted] = &[
     (
         ONE_ACKNOWLEDGEMENT,
@@ -78,6 +78,19 @@ const LINTED: &[Linted] = &[
          FAULT record 4 field 3 level T number expected 1\n\
          FAULTS 2 findings 0 records 6\n",
     ),
+    (
+        &[
+            HDR,
+            GRH_NWR,
+            NWR_0_WITH_WRONG_ISWC,
+            SWR_0_1,
+            b"GRT000010000000100000004",
+            b"TRL000010000000100000007",
+        ],
+        "FINDING group 1 transaction 0 record 0 field 7 level F rule V1\n\
+         FAULT record 6 field 4 level E number expected 6\n\
+         FAULTS 1 findings 1 records 6\n",
+    ),
 ];
 
 /// What a lint of a text writes to a writer of so much room, and what it answers, where the reader fails after so many reads.
@@ -99,7 +112,7 @@ fn linted(
 
 /// The text of a row.
 fn text_of(rt: &(impl Abort + AllocGlobal), row: usize) -> Vec<u8> {
-    canonical(rt.alloc(), LINTED[row % 5].0).expect(&rt, "memory for a text")
+    canonical(rt.alloc(), LINTED[row % 6].0).expect(&rt, "memory for a text")
 }
 
 #[test]
@@ -118,11 +131,18 @@ fn each_device_that_fails_is_answered(rt: HostRuntime) {
         let (_, answer) = linted(&rt, text.as_slice(), reads, 9999);
         assert!(rt; answer == Err(ToolFault::Reader), "after {reads} reads");
     }
-    for room in 0..60 {
-        let (_, answer) = linted(&rt, text.as_slice(), usize::MAX, room);
-        assert!(rt;
-            matches!(answer, Err(ToolFault::Writer { .. })),
-            "in room for {room}"
-        );
+}
+
+#[test]
+fn a_writer_that_fails_has_the_bytes_that_are_told(rt: HostRuntime) {
+    let text = text_of(&rt, 5);
+    let wanted = LINTED[5].1.as_bytes();
+    for room in 0..wanted.len() {
+        let (written, answer) = linted(&rt, text.as_slice(), usize::MAX, room);
+        let fault = ToolFault::Writer {
+            written: room as u64,
+        };
+        assert!(rt; answer == Err(fault), "in room for {room}");
+        assert!(rt; written.as_slice() == &wanted[..room], "in room for {room}");
     }
 }

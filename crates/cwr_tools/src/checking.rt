@@ -1,6 +1,7 @@
 //! Checking a transmission.
 
 ghost use Rattle.std.specs.Prelude.{◌≡◌, true, IfOk, OnOk, IsSomeAnd};
+ghost use Rattle.std.specs.Io.KnownBytes.{GrowsBy};
 ghost use Rattle.cwr_tools.specs.Format.Watching.{SeesAccepted};
 ghost use Rattle.cwr_tools.specs.Steps.Verdicts.{IsReadLast};
 ghost use Rattle.cwr_tools.specs.Format.Reports.{CountsReaderFault, CountsWriterFault, ReportsText, lines_of_explained, lines_of_findings};
@@ -75,15 +76,14 @@ pub fn check_watched<R: Source, W: Target + Drop>(
 
 /// Checks a transmission as `check` does, and writes what that writes, with lines under each finding: where its record stands, the
 /// rule in words, how much it rejects, and the cells that it speaks of. These lines begin with two spaces. Beside its answer comes
-/// what was read last, where there is a verdict: the stage of the accepted records, and the last bytes that the reader lost, of a
-/// refused line all. The watch sees the findings that are told.
+/// how far it came. The watch sees the findings that are told.
 pub fn check_explained<R: Source, W: Target + Drop>(
     alloc: Global,
     limits: Limits,
     watch: &mut Watch,
     reader: &mut R,
     writer: W,
-) -> (W, Result<Verdict, ToolFault>, Option<LastRead>)
+) -> (W, Result<Verdict, ToolFault>, Front)
     ensures reported { Reports lines_of_explained limits (R.remaining reader.old)
         (R.remaining reader.new) W.contents writer result.0 result.1 }
     ensures told { ReportsText lines_of_explained limits (R.remaining reader.old)
@@ -94,13 +94,14 @@ pub fn check_explained<R: Source, W: Target + Drop>(
     ensures writer_failures { CountsWriterFault result.1 (W.failures writer) (W.failures result.0) }
     // All that was written was handed on.
     ensures handed_on { OnOk result.1 (W.handed_on result.0 ≡ true) }
-    ensures last { IfOk result.1 (λ verdict. IsSomeAnd result.2
+    ensures counted { GrowsBy (W.contents writer) (W.contents result.0) result.2.written }
+    ensures last { IfOk result.1 (λ verdict. IsSomeAnd result.2.last
         (IsReadLast limits (R.remaining reader.old) (R.remaining reader.new) verdict)) }
 {
     let mut lines = FindingLines::new(true, false);
     let (writer, outcome, front) = write_report(&mut lines, true, alloc, limits, reader, writer);
     watch.see(lines.told.worst);
-    (writer, outcome, front.last)
+    (writer, outcome, front)
 }
 
 /// How far a check came.
@@ -111,6 +112,8 @@ pub struct CheckedFront {
     pub last: Option<LastRead>,
     /// What was handed out before.
     pub handed_out: HandedOut,
+    /// The bytes that were written. It stays at `u64::MAX`; the text is then at least that long.
+    pub written: u64,
 }
 
 /// Checks a transmission as `check` does, or where it is to be explained as `check_explained` does, and writes what that writes, but
@@ -131,13 +134,22 @@ pub fn check_up_to_fault<R: Source, W: Target + Drop>(
     ensures writer_failures { CountsWriterFault result.1 (W.failures writer) (W.failures result.0) }
     // All that was written was handed on.
     ensures handed_on { OnOk result.1 (W.handed_on result.0 ≡ true) }
+    ensures counted { GrowsBy (W.contents writer) (W.contents result.0) result.2.written }
     ensures last { IfOk result.1 (λ verdict. IsSomeAnd result.2.last
         (IsReadLast limits (R.remaining reader.old) (R.remaining reader.new) verdict)) }
 {
     let mut lines = FindingLines::new(explained, true);
     let (writer, outcome, front) = write_report(&mut lines, true, alloc, limits, reader, writer);
-    let Front { last, totals } = front;
+    let Front {
+        last,
+        totals,
+        written,
+    } = front;
     let findings = lines.told.findings;
-    let handed_out = HandedOut { totals, findings };
-    (writer, outcome, CheckedFront { last, handed_out })
+    let checked = CheckedFront {
+        last,
+        handed_out: HandedOut { totals, findings },
+        written,
+    };
+    (writer, outcome, checked)
 }

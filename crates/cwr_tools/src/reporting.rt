@@ -1,6 +1,7 @@
 //! Whole runs over a text: the lines of its items, and what stands for the verdict.
 
 ghost use Rattle.std.specs.Prelude.{◌≡◌, [], true, false, IfOk, OnOk, IsSomeAnd, None};
+ghost use Rattle.std.specs.Io.KnownBytes.{GrowsBy};
 ghost use Rattle.cwr_decode.specs.Steps.Decoding.{final_answer, has_ended, limits_of};
 ghost use Rattle.cwr_decode.specs.Steps.LastReads.{AreHeld};
 ghost use Rattle.cwr_decode.specs.Steps.Represents.{Represents};
@@ -31,6 +32,8 @@ pub struct Front {
     pub last: Option<LastRead>,
     /// The numbers of the items that were handed out.
     pub totals: Totals,
+    /// The bytes that were written. It stays at `u64::MAX`; the text is then at least that long.
+    pub written: u64,
 }
 
 /// The verdict on a text at whose reading this fault was reported, or the fault that ends the run.
@@ -186,6 +189,8 @@ pub fn write_report<L: Report, R: Source, W: Target>(
     requires { (of : ItemLines) × L.stands lines.old of [] }
     ensures reported { (of : ItemLines) → L.stands lines.old of [] → Reports of limits
         (R.remaining reader.old) (R.remaining reader.new) W.contents writer result.0 result.1 }
+    // So many bytes were written after what the writer had.
+    ensures counted { GrowsBy (W.contents writer) (W.contents result.0) result.2.written }
     // It is as the items leave it that were handed out before the verdict.
     ensures stands { (of : ItemLines) → L.stands lines.old of [] → IfOk result.1 (StandsAfter
         (L.stands lines.new of) limits (R.remaining reader.old) (R.remaining reader.new)) }
@@ -201,12 +206,14 @@ pub fn write_report<L: Report, R: Source, W: Target>(
     let mut front = Front {
         last: None,
         totals: Totals::new(),
+        written: 0,
     };
     let mut sink = Sink::new(writer);
     let put = put_report(
         lines, holds_last, alloc, limits, reader, &mut front, &mut sink,
     );
     let written = sink.written();
+    front.written = written;
     let mut writer = sink.into_inner();
     match put {
         Err(fault) => (writer, Err(fault), front),

@@ -1,5 +1,8 @@
 //! How a run over a text ended.
 
+ghost use Rattle.std.specs.Prelude.{◌≡◌};
+ghost use Rattle.cwr_tools.specs.Format.Reports.{fault_after};
+
 use cwr_decode::Refusal;
 use cwr_shape::LimitKind;
 
@@ -47,6 +50,20 @@ pub enum ToolFault {
     Output,
     /// The result doesn't keep to a limit.
     Limit(LimitKind),
+}
+
+impl ToolFault {
+    /// The same fault, of a run that wrote so many bytes before what failed.
+    pub fn after(self, written: u64) -> ToolFault
+        ensures { result ≡ fault_after written self }
+    {
+        match self {
+            ToolFault::Writer { written: more } => ToolFault::Writer {
+                written: written.saturating_add(more),
+            },
+            fault => fault,
+        }
+    }
 }
 
 /// What a join wrote.

@@ -34,7 +34,9 @@ fn import_ending<'a>(
 fn tell_import<E: Write>(import: &Import, outcome: &Result<Written, WriteFault>, error: &mut E) {
     let mut sink = Sink::new(Counted::new(error));
     // What standard error doesn't take is lost.
-    let _ = put_write_outcome(outcome, &mut sink);
+    let Ok(()) = put_write_outcome(outcome, &mut sink) else {
+        return;
+    };
     if let Err(WriteFault::Refused(refusal)) = outcome {
         let _ = put_hint(refusal, import.encoding, &mut sink);
     }

@@ -4,3 +4,4 @@ pub mod Endings
 pub mod Faults
 pub mod Imports
 pub mod Laws
+pub mod OutcomeTexts

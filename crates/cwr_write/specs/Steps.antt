@@ -2,4 +2,5 @@
 pub mod Filling
 pub mod Lines
 pub mod Members
+pub mod Putting
 pub mod Taking

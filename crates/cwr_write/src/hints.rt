@@ -1,6 +1,15 @@
 //! What is told below a refusal: which keys there are, how wide a field is, and what an item lacks.
 
-use crate::refusals::{Key, Refusal, Why, put_key_of, put_name};
+ghost use Rattle.std.specs.Prelude.{◌≡◌, ◌++◌, [], ◌∷◌, codes, decimal, flat_map, IfErr, false};
+ghost use Rattle.std.specs.List.{concat};
+ghost use Rattle.cwr_devices.specs.Steps.Sinks.{Puts, has_failed, written_of};
+ghost use Rattle.cwr_fields.specs.Format.Kinds.{letters as letters_of};
+ghost use Rattle.cwr_fields.specs.Format.Layouts.{field_at, layout};
+ghost use Rattle.cwr_json.specs.Format.Forms.{key_of};
+ghost use Rattle.cwr_write.specs.Format.OutcomeTexts.{carried_if, carried_key, character_text, hint_text, keys_text, lack_text, lack_words, width_text};
+
+use crate::putting::{put_each, put_text};
+use crate::refusals::{Key, Refusal, Why, put_name};
 use cwr_devices::{Sink, SinkFault, Target};
 use cwr_fields::{Kind, field, fields, letters};
 use cwr_json::Encoding;
@@ -28,7 +37,9 @@ pub enum Lack {
 }
 
 /// The words for what is lacking.
-fn lack_words(lack: Lack) -> &'static [u8] {
+fn lack_words(lack: Lack) -> &'static [u8]
+    ensures { result.now ≡ lack_words lack }
+{
     match lack {
         Lack::Territory => b"a territory (TER) is missing, and its parties (IPA)",
         Lack::Parties => b"an assignor (IPA, agreement_role AS) and an acquirer (AC) are missing",
@@ -75,45 +86,119 @@ pub(crate) fn lack_of(item: &Item) -> Lack {
     }
 }
 
-/// Puts the keys that a kind's records may have.
-fn put_keys<W: Target>(kind: Kind, sink: &mut Sink<W>) -> Result<(), SinkFault> {
-    sink.put(b"  keys of ")?;
-    sink.put(letters(kind))?;
-    sink.put(b": record_type")?;
-    for before in 0..fields(kind) {
-        if let Some(place) = field(kind, before + 1) {
-            if !place.derived {
-                sink.put(b" ")?;
-                put_name(place.name, sink)?;
-            }
-        }
-    }
-    sink.put(b"\n")
+/// Puts the key of a field, after a space.
+fn put_spaced<W: Target>(name: &str, sink: &mut Sink<W>) -> Result<(), SinkFault>
+    requires { has_failed sink.old ≡ false }
+    ensures puts { Puts W.contents W.failures (codes " " ++ key_of name.now) result sink.old sink.new }
+    ensures fault { IfErr result (λ f. f.written ≡ written_of sink.new) }
+{
+    put_text(b" ", sink)?;
+    put_name(name, sink)
 }
 
-/// Puts the width of field `j`.
-fn put_width<W: Target>(kind: Kind, j: u8, sink: &mut Sink<W>) -> Result<(), SinkFault> {
+/// Puts the key of field `j`, after a space, where the field isn't computed.
+fn put_carried<W: Target>(kind: Kind, j: u8, sink: &mut Sink<W>) -> Result<(), SinkFault>
+    requires { has_failed sink.old ≡ false }
+    ensures puts { Puts W.contents W.failures (carried_if (field_at kind j)) result sink.old sink.new }
+    ensures fault { IfErr result (λ f. f.written ≡ written_of sink.new) }
+{
     match field(kind, j) {
         Some(place) => {
-            sink.put(b"  ")?;
-            put_key_of(kind, j, sink)?;
-            sink.put(b" has at most ")?;
-            sink.put(Buffer::new().format(place.width).as_bytes())?;
-            sink.put(b" bytes\n")
+            if place.derived {
+                Ok(())
+            } else {
+                put_spaced(place.name, sink)
+            }
         }
         None => Ok(()),
     }
 }
 
+/// Puts the keys of the fields of a kind that aren't computed, each after a space.
+fn put_all_carried<W: Target>(kind: Kind, sink: &mut Sink<W>) -> Result<(), SinkFault>
+    requires { has_failed sink.old ≡ false }
+    ensures puts { Puts W.contents W.failures (flat_map carried_key (layout kind)) result sink.old sink.new }
+    ensures fault { IfErr result (λ f. f.written ≡ written_of sink.new) }
+{
+    for before in 0..fields(kind) {
+        put_carried(kind, before + 1, sink)?;
+    }
+    Ok(())
+}
+
+/// Puts the keys that a kind's records may have, but for the end of the line.
+fn put_begun_keys<W: Target>(kind: Kind, sink: &mut Sink<W>) -> Result<(), SinkFault>
+    requires { has_failed sink.old ≡ false }
+    ensures puts { Puts W.contents W.failures (concat (codes "  keys of " ∷ letters_of kind ∷ codes ": record_type" ∷ []) ++ flat_map carried_key (layout kind)) result sink.old sink.new }
+    ensures fault { IfErr result (λ f. f.written ≡ written_of sink.new) }
+{
+    put_each(&[b"  keys of ", letters(kind), b": record_type"], sink)?;
+    put_all_carried(kind, sink)
+}
+
+/// Puts the keys that a kind's records may have.
+fn put_keys<W: Target>(kind: Kind, sink: &mut Sink<W>) -> Result<(), SinkFault>
+    requires { has_failed sink.old ≡ false }
+    ensures puts { Puts W.contents W.failures (keys_text kind) result sink.old sink.new }
+    ensures fault { IfErr result (λ f. f.written ≡ written_of sink.new) }
+{
+    put_begun_keys(kind, sink)?;
+    put_text(b"\n", sink)
+}
+
+/// Puts the key of a field, after two spaces.
+fn put_named<W: Target>(name: &str, sink: &mut Sink<W>) -> Result<(), SinkFault>
+    requires { has_failed sink.old ≡ false }
+    ensures puts { Puts W.contents W.failures (codes "  " ++ key_of name.now) result sink.old sink.new }
+    ensures fault { IfErr result (λ f. f.written ≡ written_of sink.new) }
+{
+    put_text(b"  ", sink)?;
+    put_name(name, sink)
+}
+
+/// Puts how wide the field of that name is.
+fn put_width_of<W: Target>(name: &str, width: usize, sink: &mut Sink<W>) -> Result<(), SinkFault>
+    requires { has_failed sink.old ≡ false }
+    ensures puts { Puts W.contents W.failures ((codes "  " ++ key_of name.now) ++ concat (codes " has at most " ∷ decimal width ∷ codes " bytes\n" ∷ [])) result sink.old sink.new }
+    ensures fault { IfErr result (λ f. f.written ≡ written_of sink.new) }
+{
+    put_named(name, sink)?;
+    let mut digits = Buffer::new();
+    put_each(
+        &[
+            b" has at most ",
+            digits.format(width).as_bytes(),
+            b" bytes\n",
+        ],
+        sink,
+    )
+}
+
+/// Puts the width of field `j`.
+fn put_width<W: Target>(kind: Kind, j: u8, sink: &mut Sink<W>) -> Result<(), SinkFault>
+    requires { has_failed sink.old ≡ false }
+    ensures puts { Puts W.contents W.failures (width_text kind j) result sink.old sink.new }
+    ensures fault { IfErr result (λ f. f.written ≡ written_of sink.new) }
+{
+    match field(kind, j) {
+        Some(place) => put_width_of(place.name, place.width, sink),
+        None => Ok(()),
+    }
+}
+
 /// Puts what is lacking.
-fn put_lack<W: Target>(lack: Lack, sink: &mut Sink<W>) -> Result<(), SinkFault> {
-    sink.put(b"  ")?;
-    sink.put(lack_words(lack))?;
-    sink.put(b"\n")
+fn put_lack<W: Target>(lack: Lack, sink: &mut Sink<W>) -> Result<(), SinkFault>
+    requires { has_failed sink.old ≡ false }
+    ensures puts { Puts W.contents W.failures (lack_text lack) result sink.old sink.new }
+    ensures fault { IfErr result (λ f. f.written ≡ written_of sink.new) }
+{
+    put_each(&[b"  ", lack_words(lack), b"\n"], sink)
 }
 
 /// The words for the characters that there may be.
-fn character_words(encoding: Encoding) -> &'static [u8] {
+fn character_words(encoding: Encoding) -> &'static [u8]
+    ensures { result.now ≡ character_text encoding }
+{
     match encoding {
         Encoding::Latin1 => b"  without --utf8 there are only the characters up to U+00FF\n",
         Encoding::Utf8 => {
@@ -129,12 +214,16 @@ pub fn put_hint<W: Target>(
     refusal: &Refusal,
     encoding: Encoding,
     sink: &mut Sink<W>,
-) -> Result<(), SinkFault> {
+) -> Result<(), SinkFault>
+    requires { has_failed sink.old ≡ false }
+    ensures puts { Puts W.contents W.failures (hint_text encoding refusal.now.fault) result sink.old sink.new }
+    ensures fault { IfErr result (λ f. f.written ≡ written_of sink.new) }
+{
     let fault = &refusal.fault;
     match (&fault.why, fault.kind, &fault.key) {
         (Why::UnknownKey, Some(kind), _) => put_keys(kind, sink),
-        (Why::UnknownKey, None, _) => sink.put(b"  keys of a line: records\n"),
-        (Why::NotAByte, _, _) => sink.put(character_words(encoding)),
+        (Why::UnknownKey, None, _) => put_text(b"  keys of a line: records\n", sink),
+        (Why::NotAByte, _, _) => put_text(character_words(encoding), sink),
         (Why::TooWide, Some(kind), Key::Field(j)) => put_width(kind, *j, sink),
         (Why::Incomplete(lack), _, _) => put_lack(*lack, sink),
         _ => Ok(()),

@@ -6,6 +6,7 @@ mod items;
 mod keys;
 pub mod laws;
 mod lines;
+mod putting;
 mod records;
 mod refusals;
 mod writing;

@@ -9,12 +9,15 @@ ghost use Rattle.cwr_encode.specs.Steps.Encoders.{AddsRecords, Encodes, OfEncode
 ghost use Rattle.cwr_encode.specs.Steps.Finishing.{FinishesWriting};
 ghost use Rattle.cwr_write.specs.Format.Imports.{CountsReaderFault, CountsWriterFault, SaysItem, WritesWhole, given_records};
 ghost use Rattle.cwr_write.specs.Format.Faults.{IsOfLine, IsPlaceReason, IsReason, JudgesTrailer, reached_with};
+ghost use Rattle.cwr_devices.specs.Steps.Sinks.{Puts, has_failed, written_of};
+ghost use Rattle.cwr_write.specs.Format.OutcomeTexts.{outcome_text, written_text};
 ghost use Rattle.cwr_write.specs.Format.Endings.{EndsAtLine, LeavesAfter, WritesWhatIsSaid};
 ghost use Rattle.cwr_write.specs.Steps.Taking.{EndsLines, EndsWith, FinishesLines, IsCutShort, IsFinishFault, IsNoWriter, IsRunFaultOf, IsUnreadFault, JudgesNext};
 ghost use Rattle.cwr_write.specs.Steps.Taking.{NoReader, Stands, TakesLine, TakesLines};
 
 use crate::items::{ItemFault, encode_fault, item_in, write_item};
 use crate::lines::{ReadFault, is_blank, next_line};
+use crate::putting::{put_each, put_text};
 use crate::refusals::{Refusal, Why, of_line};
 use cwr_devices::{Sink, SinkFault, Source, Target};
 use cwr_encode::{EncodeFault, Encoder};
@@ -55,22 +58,42 @@ pub enum WriteFault {
     Memory,
 }
 
+/// Puts the numbers of a transmission that was written.
+fn put_written<W: Target>(written: &Written, sink: &mut Sink<W>) -> Result<(), SinkFault>
+    requires { has_failed sink.old ≡ false }
+    ensures puts { Puts W.contents W.failures (written_text written.now) result sink.old sink.new }
+    ensures fault { IfErr result (λ f. f.written ≡ written_of sink.new) }
+{
+    let mut lines = Buffer::new();
+    let mut bytes = Buffer::new();
+    put_each(
+        &[
+            b"WRITTEN lines ",
+            lines.format(written.lines).as_bytes(),
+            b" bytes ",
+            bytes.format(written.bytes).as_bytes(),
+            b"\n",
+        ],
+        sink,
+    )
+}
+
 /// Puts the line that says how a write ended: `WRITTEN` with its numbers, or what isn't taken and why. Where a device or memory
 /// failed it puts nothing.
 pub fn put_write_outcome<W: Target>(
     outcome: &Result<Written, WriteFault>,
     sink: &mut Sink<W>,
-) -> Result<(), SinkFault> {
+) -> Result<(), SinkFault>
+    requires { has_failed sink.old ≡ false }
+    ensures puts { Puts W.contents W.failures (outcome_text outcome.now) result sink.old sink.new }
+    ensures fault { IfErr result (λ f. f.written ≡ written_of sink.new) }
+{
     match outcome {
-        Ok(written) => {
-            sink.put(b"WRITTEN lines ")?;
-            sink.put(Buffer::new().format(written.lines).as_bytes())?;
-            sink.put(b" bytes ")?;
-            sink.put(Buffer::new().format(written.bytes).as_bytes())?;
-            sink.put(b"\n")
-        }
+        Ok(written) => put_written(written, sink),
         Err(WriteFault::Refused(refusal)) => refusal.put(sink),
-        Err(WriteFault::Early { .. }) => sink.put(b"REFUSED the input ends before the trailer\n"),
+        Err(WriteFault::Early { .. }) => {
+            put_text(b"REFUSED the input ends before the trailer\n", sink)
+        }
         Err(WriteFault::Reader | WriteFault::Writer { .. } | WriteFault::Memory) => Ok(()),
     }
 }

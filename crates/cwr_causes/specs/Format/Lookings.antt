@@ -1,5 +1,5 @@
 -- What is looked at after a refused line.
-use Rattle.std.specs.Prelude.{◌↔◌, ℕ, ◌<◌, ◌==◌, ◌&&◌, Bool, true, false, not, IsTrue, IfSome, List, length, Option, None, Some, if◌then◌else◌}
+use Rattle.std.specs.Prelude.{ℕ, ◌==◌, ◌&&◌, Bool, true, false, not, List, length, Option, None, Some, if◌then◌else◌}
 use Rattle.std.specs.Option.{is_some, option_and_then}
 use Rattle.cwr_fields.specs.declared.kinds.Kind.{Kind}
 use Rattle.cwr_fields.specs.declared.kinds.Kind.TheVariants.{Hdr, Grh, Grt, Trl, Agr, Nwr, Rev, Ack}
@@ -61,8 +61,3 @@ IsAnswer open_line asks beyond = ⊥
 -- so it is of a refused line
 abbrev pub LooksAfterLine : Refusal → LineAtEnd → Beyond → Type 0
 LooksAfterLine refusal line beyond = IsAnswer (is_open line) (asks_numbers refusal line) beyond
-
--- where it is known what the reader had left, a line goes on just where that is a byte or more
-abbrev pub TellsMore : Option (List ℕ) → Beyond → Type 0
-TellsMore left (beyonds.GoesOn more) = IfSome left (λ bytes. IsTrue more ↔ 0 < length bytes)
-TellsMore left beyond = Unit {0}

@@ -1,5 +1,5 @@
 -- What is told of a text that is explained, what is found after its verdict, and which faults words after that have.
-use Rattle.std.specs.Prelude.{◌≡◌, ℕ, List, drop, Option, Some, IfSome, IsSomeAnd, OnOk, Result, Ok, Err}
+use Rattle.std.specs.Prelude.{◌≡◌, ℕ, List, [], ◌++◌, drop, Option, Some, IfSome, IsSomeAnd, Result, Ok, Err}
 use Rattle.std.specs.Io.KnownBytes.{Appends, Consumes}
 use Rattle.cwr_devices.specs.Format.Failures.{one_more_failure}
 use Rattle.cwr_shape.specs.declared.limits.Limits.{Limits}
@@ -20,9 +20,20 @@ SaysAfter limits name before after words =
     IfSome before (λ text. (v : TransmissionValue) (n : ℕ) → IsAccepted limits text v n
     → (found : Trailing) × IsTrailing (Some (drop n text)) after found × (words ≡ trailing_words name found))
 
+-- words after a verdict: all that are to be said, or where the writer failed the first bytes of such, and else none
+abbrev pub AreWordsOf : (List ℕ → Type 0) → Result Verdict ToolFault → List ℕ → Type 0
+AreWordsOf Says (Ok verdict) words = Says words
+AreWordsOf Says (Err (Writer written)) words = (rest : List ℕ) × Says (words ++ rest)
+AreWordsOf Says (Err fault) words = words ≡ []
+
+-- the same after a check; after a fault of it there are none
+abbrev pub AreWordsAfter : (Verdict → List ℕ → Type 0) → Result Verdict ToolFault → Result Verdict ToolFault → List ℕ → Type 0
+AreWordsAfter Says (Ok verdict) result words = AreWordsOf (Says verdict) result words
+AreWordsAfter Says (Err fault) result words = words ≡ []
+
 -- Where the bytes that are read are known, a check tells of them what it tells of a text, with lines under each finding. Then words
--- follow, after a transmission those on what stands there; after a fault of the check there are none. More bytes may be taken from
--- the reader.
+-- follow, after a transmission those on what stands there, or where the writer failed the first of them; after another fault there
+-- are none. More bytes may be taken from the reader.
 pub record ExplainsText {W : Type 0} (limits : Limits) (name : List ℕ) (before after : Option (List ℕ)) (contents : W → Option (List ℕ))
     (old new : W) (result : Result Verdict ToolFault) : Type 0 where
   pub between : W
@@ -34,7 +45,7 @@ pub record ExplainsText {W : Type 0} (limits : Limits) (name : List ℕ) (before
   pub more : List ℕ
   pub taken : Consumes left after more
   pub answered : IsAnswerAfter checked result
-  pub says : OnOk result (SaysAfter limits name before after words)
+  pub says : AreWordsAfter (λ verdict. SaysAfter limits name before after) checked result words
 
 -- where the text is accepted, what stands after its transmission was found
 abbrev pub FindsAfter : Limits → Option (List ℕ) → Option (List ℕ) → Option Trailing → Type 0

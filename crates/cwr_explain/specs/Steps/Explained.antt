@@ -1,11 +1,13 @@
 -- What an explained check has written and taken.
-use Rattle.std.specs.Prelude.{◌≡◌, ℕ, Bool, true, false, List, [], Option, None, Some, IfOk, IsSomeAnd, Result}
+use Rattle.std.specs.Prelude.{◌≡◌, ℕ, ◌-◌, ◌^◌, min, Bool, true, false, List, [], ◌++◌, length, Option, None, Some, IsSomeAnd}
+use Rattle.std.specs.Prelude.{Result, Ok, Err}
 use Rattle.std.specs.Io.KnownBytes.{Appends, Consumes}
 use Rattle.cwr_decode.specs.declared.readings.LastRead.{LastRead}
 use Rattle.cwr_shape.specs.declared.limits.Limits.{Limits}
 use Rattle.cwr_tools.specs.declared.verdicts.Verdict.{Verdict}
 use Rattle.cwr_tools.specs.declared.verdicts.Verdict.TheVariants.{Good, Refused, Truncated}
 use Rattle.cwr_tools.specs.declared.verdicts.ToolFault.{ToolFault}
+use Rattle.cwr_tools.specs.declared.verdicts.ToolFault.TheVariants.{Writer}
 use Rattle.cwr_tools.specs.Format.Reports.{lines_of_explained}
 use Rattle.cwr_tools.specs.Format.Verdicts.{IsAnswerAfter}
 use Rattle.cwr_tools.specs.Steps.Reports.{Reports}
@@ -14,19 +16,22 @@ use Rattle.cwr_causes.specs.declared.beyond.Beyond.{Beyond}
 use Rattle.cwr_causes.specs.declared.beyond.Beyond.TheVariants.{Unasked}
 use Rattle.cwr_causes.specs.declared.lines_at_end.LineAtEnd.{LineAtEnd}
 use Rattle.cwr_causes.specs.declared.trailing.Trailing.{Trailing}
-use Rattle.cwr_causes.specs.Format.Lookings.{LooksAfterLine, TellsMore}
+use Rattle.cwr_causes.specs.Format.Lookings.{LooksAfterLine}
+use Rattle.cwr_causes.specs.Format.NumbersAfter.{FindsAfterLine}
 use Rattle.cwr_causes.specs.Format.Trailing.{IsTrailing}
 use Rattle.cwr_causes.specs.Format.TrailingTexts.{trailing_words}
 use Rattle.cwr_causes.specs.Steps.LinesAtEnd.{IsLineAtEnd}
 use Rattle.cwr_causes.specs.Steps.Refused.{ExplainsEnd, ExplainsRefusal}
 use Rattle.cwr_causes.specs.Steps.Trailing.{found_in}
+use Rattle.cwr_explain.specs.Format.Explained.{AreWordsAfter, AreWordsOf}
 
 -- What is looked at after a verdict, and what is found there, where the reader had that left before and has this after it: of a
 -- transmission all that stands after it, of a refusal what helps with its line. After any other verdict nothing is looked at or taken.
 abbrev pub Looks : Verdict → LastRead → Option (List ℕ) → Option (List ℕ) → Beyond → Type 0
 Looks (Good groups transactions records) last left after beyond = IsSomeAnd (found_in beyond) (IsTrailing left after)
 Looks (Refused refusal) last left after beyond =
-    (line : LineAtEnd) × IsLineAtEnd last.bytes line × LooksAfterLine refusal line beyond × TellsMore left beyond
+    (line : LineAtEnd) × IsLineAtEnd last.bytes line × LooksAfterLine refusal line beyond
+    × FindsAfterLine refusal line left after beyond
 Looks (Truncated records) last left after beyond = (beyond ≡ Unasked) × (after ≡ left)
 
 -- what is said of what stands after a transmission
@@ -50,15 +55,24 @@ abbrev pub ExplainsRun : Limits → List ℕ → Option (List ℕ) → Option (L
 ExplainsRun limits name before left after words verdict =
     (last : LastRead) × IsReadLast limits before left verdict last × ExplainsLast limits name verdict last left after words
 
--- such words were added
-abbrev pub AddsExplanation : {W : Type 0} → (W → Option (List ℕ)) → Limits → List ℕ → LastRead → Option (List ℕ) → Option (List ℕ)
-    → W → W → Verdict → Type 0
-AddsExplanation contents limits name last left after old new verdict =
-    (words : List ℕ) × Appends (contents old) (contents new) words × ExplainsLast limits name verdict last left after words
+-- such words were added, or where the writer failed the first bytes of such, and else none
+abbrev pub AddsExplanation : {W : Type 0} → (W → Option (List ℕ)) → Limits → List ℕ → Verdict → LastRead → Option (List ℕ)
+    → Option (List ℕ) → W → W → Result Verdict ToolFault → Type 0
+AddsExplanation contents limits name verdict last left after old new result =
+    (words : List ℕ) × Appends (contents old) (contents new) words
+    × AreWordsOf (ExplainsLast limits name verdict last left after) result words
+
+-- a text was added, or where the writer failed its first bytes, so many as the fault says
+abbrev pub AddsText : {W : Type 0} → (W → Option (List ℕ)) → List ℕ → W → W → Result (Unit {0}) ToolFault → Type 0
+AddsText contents text old new (Ok u) = Appends (contents old) (contents new) text
+AddsText contents text old new (Err (Writer written)) =
+    (bytes : List ℕ) × (rest : List ℕ) × (text ≡ bytes ++ rest) × Appends (contents old) (contents new) bytes
+    × (written ≡ min (length bytes) (2 ^ 64 - 1))
+AddsText contents text old new (Err fault) = ⊥
 
 -- First a check is made, and what it writes is written: the text on the findings and the verdict, with all that is said of a
--- check of these bytes. Then words follow it, which explain the verdict by what was read last and by what the reader has after it;
--- after a fault of the check there are none. More bytes may be taken from the reader.
+-- check of these bytes. Then words follow it, which explain the verdict by what was read last and by what the reader has after it,
+-- or where the writer failed the first of them; after another fault there are none. More bytes may be taken from the reader.
 pub record Explains {W : Type 0} (limits : Limits) (name : List ℕ) (before after : Option (List ℕ)) (contents : W → Option (List ℕ))
     (old new : W) (result : Result Verdict ToolFault) : Type 0 where
   pub between : W
@@ -70,7 +84,7 @@ pub record Explains {W : Type 0} (limits : Limits) (name : List ℕ) (before aft
   pub more : List ℕ
   pub taken : Consumes left after more
   pub answered : IsAnswerAfter checked result
-  pub says : IfOk result (ExplainsRun limits name before left after words)
+  pub says : AreWordsAfter (λ verdict said. ExplainsRun limits name before left after said verdict) checked result words
 
 -- the verdict is that on a transmission
 abbrev pub is_good : Verdict → Bool

@@ -1,21 +1,21 @@
 -- Texts that are put one after another, while bytes are taken from a reader.
-use Rattle.std.proofs.Common.{◌≡◌, ℕ, false, List, [], ◌++◌, Option, refl, sym, ap, subst, ◌∙◌, append_assoc, append-nil}
-use Rattle.std.specs.Prelude.{Result, Ok, Err, IfOk, OnOk}
-use Rattle.std.specs.Io.KnownBytes.{Appends, Keeps}
+use Rattle.std.proofs.Common.{◌≡◌, ℕ, ◌+◌, ◌-◌, false, List, [], ◌++◌, Option, refl, sym, ap, subst, ◌∙◌, append_assoc, append-nil}
+use Rattle.std.specs.Prelude.{◌^◌, min, Result, Ok, Err, IfOk, OnOk}
+use Rattle.std.specs.Io.KnownBytes.{Appends, GrowsBy, Keeps}
 use Rattle.cwr_devices.specs.Format.Failures.{one_more_failure}
 use Rattle.cwr_devices.specs.declared.sinks.Sink.{Sink}
-use Rattle.cwr_devices.specs.Steps.Sinks.{HasWritten, has_failed, writer_of, written_of}
+use Rattle.cwr_devices.specs.Steps.Sinks.{HasWritten, counted_up, has_failed, writer_of, written_of}
 use Rattle.cwr_encode.proofs.lemmas.Ends.{all_written, appends_kept}
 use Rattle.cwr_judge.specs.declared.refusals.Refusal.{Refusal}
 use Rattle.cwr_causes.specs.Format.Trailing.{TakesMore}
-use Rattle.cwr_tools.specs.Format.Reports.{AddsWords, CountsReaderFault, CountsWriterFault}
+use Rattle.cwr_tools.specs.Format.Reports.{AddsWords, CountsAfter, CountsReaderFault, CountsWriterFault}
 use Rattle.cwr_tools.specs.Format.Verdicts.{IsAnswerTo}
 use Rattle.cwr_causes.proofs.lemmas.TakenPieces.{no_more, takes_both}
 use Rattle.cwr_tools.specs.declared.verdicts.Verdict.{Verdict}
 use Rattle.cwr_tools.specs.declared.verdicts.Verdict.TheVariants.{Refused}
 use Rattle.cwr_tools.specs.declared.verdicts.ToolFault.{ToolFault}
 use Rattle.cwr_tools.specs.declared.verdicts.ToolFault.TheVariants as faults
-use Rattle.cwr_lint.specs.Steps.Lints.{EndsRun}
+use Rattle.cwr_lint.specs.Steps.Lints.{EndsRun, counted}
 use Rattle.cwr_lint.specs.Steps.Puts.{CountsBoth, CountsPut, PutsAfter, PutsWith, ReadsAndPuts, ReadsAndPutsWith}
 
 -- what is put counts for both
@@ -191,49 +191,49 @@ read_first P Q left mid_left after reader mid_read read contents failures result
 
 -- ---- the faults of a run, as those of a lint
 
-reader_counts : (A : Type 0) (fault : ToolFault) (a b c d : ℕ) → CountsBoth {A = A} (Err fault) a b c d
-    → CountsReaderFault (Err fault) a b
-reader_counts A (faults.Writer written) a b c d h = h.0
-reader_counts A faults.Memory a b c d h = h.0
-reader_counts A faults.Reader a b c d h = h.0
-reader_counts A (faults.Refused refusal) a b c d h = absurd h
-reader_counts A (faults.Truncated records) a b c d h = absurd h
-reader_counts A faults.Output a b c d h = absurd h
-reader_counts A (faults.Limit limit) a b c d h = absurd h
+reader_counts : (A : Type 0) (n : ℕ) (fault : ToolFault) (a b c d : ℕ) → CountsBoth {A = A} (Err fault) a b c d
+    → CountsReaderFault (Err (counted n fault)) a b
+reader_counts A n (faults.Writer written) a b c d h = h.0
+reader_counts A n faults.Memory a b c d h = h.0
+reader_counts A n faults.Reader a b c d h = h.0
+reader_counts A n (faults.Refused refusal) a b c d h = absurd h
+reader_counts A n (faults.Truncated records) a b c d h = absurd h
+reader_counts A n faults.Output a b c d h = absurd h
+reader_counts A n (faults.Limit limit) a b c d h = absurd h
 
-writer_counts : (A : Type 0) (fault : ToolFault) (a b c d : ℕ) → CountsBoth {A = A} (Err fault) a b c d
-    → CountsWriterFault (Err fault) c d
-writer_counts A (faults.Writer written) a b c d h = h.1
-writer_counts A faults.Memory a b c d h = h.1
-writer_counts A faults.Reader a b c d h = h.1
-writer_counts A (faults.Refused refusal) a b c d h = absurd h
-writer_counts A (faults.Truncated records) a b c d h = absurd h
-writer_counts A faults.Output a b c d h = absurd h
-writer_counts A (faults.Limit limit) a b c d h = absurd h
+writer_counts : (A : Type 0) (n : ℕ) (fault : ToolFault) (a b c d : ℕ) → CountsBoth {A = A} (Err fault) a b c d
+    → CountsWriterFault (Err (counted n fault)) c d
+writer_counts A n (faults.Writer written) a b c d h = h.1
+writer_counts A n faults.Memory a b c d h = h.1
+writer_counts A n faults.Reader a b c d h = h.1
+writer_counts A n (faults.Refused refusal) a b c d h = absurd h
+writer_counts A n (faults.Truncated records) a b c d h = absurd h
+writer_counts A n faults.Output a b c d h = absurd h
+writer_counts A n (faults.Limit limit) a b c d h = absurd h
 
-answers : (A : Type 0) (verdict : Verdict) (fault : ToolFault) (a b c d : ℕ) → CountsBoth {A = A} (Err fault) a b c d
-    → IsAnswerTo verdict (Err fault)
-answers A verdict (faults.Writer written) a b c d h = tt
-answers A verdict faults.Memory a b c d h = tt
-answers A verdict faults.Reader a b c d h = tt
-answers A verdict (faults.Refused refusal) a b c d h = absurd h
-answers A verdict (faults.Truncated records) a b c d h = absurd h
-answers A verdict faults.Output a b c d h = absurd h
-answers A verdict (faults.Limit limit) a b c d h = absurd h
+answers : (A : Type 0) (n : ℕ) (verdict : Verdict) (fault : ToolFault) (a b c d : ℕ) → CountsBoth {A = A} (Err fault) a b c d
+    → IsAnswerTo verdict (Err (counted n fault))
+answers A n verdict (faults.Writer written) a b c d h = tt
+answers A n verdict faults.Memory a b c d h = tt
+answers A n verdict faults.Reader a b c d h = tt
+answers A n verdict (faults.Refused refusal) a b c d h = absurd h
+answers A n verdict (faults.Truncated records) a b c d h = absurd h
+answers A n verdict faults.Output a b c d h = absurd h
+answers A n verdict (faults.Limit limit) a b c d h = absurd h
 
 -- ---- how a run ends
 
 -- all that was told is written
 pub ends_told : {W : Type 0} (P : List ℕ → Type 0) (contents : W → Option (List ℕ)) (start : Option (List ℕ)) (new : W)
-    (refusal : Refusal) (text : List ℕ) (sink : Sink W) (told : Result (Unit {0}) ToolFault) (a b : ℕ)
+    (refusal : Refusal) (n : ℕ) (text : List ℕ) (sink : Sink W) (told : Result (Unit {0}) ToolFault) (a b : ℕ)
     (result : Result Verdict ToolFault)
     → IfOk told (λ u. P text) → OnOk told (has_failed sink ≡ false) → Keeps (contents (writer_of sink)) (contents new)
-    → HasWritten contents start text sink → EndsRun refusal told a b result
+    → HasWritten contents start text sink → EndsRun refusal n told a b result
     → OnOk result ((it : List ℕ) × P it × Appends start (contents new) it)
-ends_told P contents start new refusal text sink (Ok u) a b (Ok verdict) is unfailed kept h e =
+ends_told P contents start new refusal n text sink (Ok u) a b (Ok verdict) is unfailed kept h e =
     (text, is, (all_written contents start text text sink new (written_of sink) refl unfailed kept refl h).appended)
-ends_told P contents start new refusal text sink (Ok u) a b (Err fault) is unfailed kept h e = tt
-ends_told P contents start new refusal text sink (Err fault) a b result is unfailed kept h e =
+ends_told P contents start new refusal n text sink (Ok u) a b (Err fault) is unfailed kept h e = tt
+ends_told P contents start new refusal n text sink (Err fault) a b result is unfailed kept h e =
     subst (λ (r : Result Verdict ToolFault). OnOk r ((it : List ℕ) × P it × Appends start (contents new) it)) (sym e.0) tt
 
 -- some bytes are, however it ends
@@ -243,45 +243,83 @@ pub ends_words : {W : Type 0} (contents : W → Option (List ℕ)) (writer new :
 ends_words contents writer new text sink kept h =
     (h.bytes, appends_kept (contents writer) (contents (writer_of sink)) (contents new) h.bytes h.appended kept)
 
-pub ends_reader : (refusal : Refusal) (told : Result (Unit {0}) ToolFault) (result : Result Verdict ToolFault)
-    (reader read a b d : ℕ) → CountsBoth told reader read a b → EndsRun refusal told b d result → CountsReaderFault result reader
+pub ends_reader : (refusal : Refusal) (n : ℕ) (told : Result (Unit {0}) ToolFault) (result : Result Verdict ToolFault)
+    (reader read a b d : ℕ) → CountsBoth told reader read a b → EndsRun refusal n told b d result → CountsReaderFault result reader
     read
-ends_reader refusal (Ok u) (Ok verdict) reader read a b d h e = h.0
-ends_reader refusal (Ok u) (Err (faults.Writer written)) reader read a b d h e = h.0
-ends_reader refusal (Ok u) (Err faults.Reader) reader read a b d h e = absurd e
-ends_reader refusal (Ok u) (Err faults.Memory) reader read a b d h e = absurd e
-ends_reader refusal (Ok u) (Err (faults.Refused other)) reader read a b d h e = absurd e
-ends_reader refusal (Ok u) (Err (faults.Truncated records)) reader read a b d h e = absurd e
-ends_reader refusal (Ok u) (Err faults.Output) reader read a b d h e = absurd e
-ends_reader refusal (Ok u) (Err (faults.Limit limit)) reader read a b d h e = absurd e
-ends_reader refusal (Err fault) result reader read a b d h e =
+ends_reader refusal n (Ok u) (Ok verdict) reader read a b d h e = h.0
+ends_reader refusal n (Ok u) (Err (faults.Writer written)) reader read a b d h e = h.0
+ends_reader refusal n (Ok u) (Err faults.Reader) reader read a b d h e = absurd e
+ends_reader refusal n (Ok u) (Err faults.Memory) reader read a b d h e = absurd e
+ends_reader refusal n (Ok u) (Err (faults.Refused other)) reader read a b d h e = absurd e
+ends_reader refusal n (Ok u) (Err (faults.Truncated records)) reader read a b d h e = absurd e
+ends_reader refusal n (Ok u) (Err faults.Output) reader read a b d h e = absurd e
+ends_reader refusal n (Ok u) (Err (faults.Limit limit)) reader read a b d h e = absurd e
+ends_reader refusal n (Err fault) result reader read a b d h e =
     subst (λ (r : Result Verdict ToolFault). CountsReaderFault r reader read) (sym e.0)
-    (reader_counts (Unit {0}) fault reader read a b h)
+    (reader_counts (Unit {0}) n fault reader read a b h)
 
-pub ends_writer : (refusal : Refusal) (told : Result (Unit {0}) ToolFault) (result : Result Verdict ToolFault)
-    (reader read a b d : ℕ) → CountsBoth told reader read a b → EndsRun refusal told b d result → CountsWriterFault result a d
-ends_writer refusal (Ok u) (Ok verdict) reader read a b d h e = e.1 ∙ h.1
-ends_writer refusal (Ok u) (Err (faults.Writer written)) reader read a b d h e = e ∙ ap one_more_failure h.1
-ends_writer refusal (Ok u) (Err faults.Reader) reader read a b d h e = absurd e
-ends_writer refusal (Ok u) (Err faults.Memory) reader read a b d h e = absurd e
-ends_writer refusal (Ok u) (Err (faults.Refused other)) reader read a b d h e = absurd e
-ends_writer refusal (Ok u) (Err (faults.Truncated records)) reader read a b d h e = absurd e
-ends_writer refusal (Ok u) (Err faults.Output) reader read a b d h e = absurd e
-ends_writer refusal (Ok u) (Err (faults.Limit limit)) reader read a b d h e = absurd e
-ends_writer refusal (Err fault) result reader read a b d h e =
+pub ends_writer : (refusal : Refusal) (n : ℕ) (told : Result (Unit {0}) ToolFault) (result : Result Verdict ToolFault)
+    (reader read a b d : ℕ) → CountsBoth told reader read a b → EndsRun refusal n told b d result → CountsWriterFault result a d
+ends_writer refusal n (Ok u) (Ok verdict) reader read a b d h e = e.1 ∙ h.1
+ends_writer refusal n (Ok u) (Err (faults.Writer written)) reader read a b d h e = e.0 ∙ ap one_more_failure h.1
+ends_writer refusal n (Ok u) (Err faults.Reader) reader read a b d h e = absurd e
+ends_writer refusal n (Ok u) (Err faults.Memory) reader read a b d h e = absurd e
+ends_writer refusal n (Ok u) (Err (faults.Refused other)) reader read a b d h e = absurd e
+ends_writer refusal n (Ok u) (Err (faults.Truncated records)) reader read a b d h e = absurd e
+ends_writer refusal n (Ok u) (Err faults.Output) reader read a b d h e = absurd e
+ends_writer refusal n (Ok u) (Err (faults.Limit limit)) reader read a b d h e = absurd e
+ends_writer refusal n (Err fault) result reader read a b d h e =
     subst (λ (r : Result Verdict ToolFault). CountsWriterFault r a d) (sym e.0)
-    (subst (λ (n : ℕ). CountsWriterFault (Err fault) a n) (sym e.1) (writer_counts (Unit {0}) fault reader read a b h))
+    (subst (λ (k : ℕ). CountsWriterFault (Err (counted n fault)) a k) (sym e.1) (writer_counts (Unit {0}) n fault reader read a b h))
 
-pub ends_answer : (refusal : Refusal) (told : Result (Unit {0}) ToolFault) (result : Result Verdict ToolFault)
-    (reader read a b d : ℕ) → CountsBoth told reader read a b → EndsRun refusal told b d result → IsAnswerTo (Refused refusal)
+pub ends_answer : (refusal : Refusal) (n : ℕ) (told : Result (Unit {0}) ToolFault) (result : Result Verdict ToolFault)
+    (reader read a b d : ℕ) → CountsBoth told reader read a b → EndsRun refusal n told b d result → IsAnswerTo (Refused refusal)
     result
-ends_answer refusal (Ok u) (Ok verdict) reader read a b d h e = e.0
-ends_answer refusal (Ok u) (Err (faults.Writer written)) reader read a b d h e = tt
-ends_answer refusal (Ok u) (Err faults.Reader) reader read a b d h e = absurd e
-ends_answer refusal (Ok u) (Err faults.Memory) reader read a b d h e = absurd e
-ends_answer refusal (Ok u) (Err (faults.Refused other)) reader read a b d h e = absurd e
-ends_answer refusal (Ok u) (Err (faults.Truncated records)) reader read a b d h e = absurd e
-ends_answer refusal (Ok u) (Err faults.Output) reader read a b d h e = absurd e
-ends_answer refusal (Ok u) (Err (faults.Limit limit)) reader read a b d h e = absurd e
-ends_answer refusal (Err fault) result reader read a b d h e =
-    subst (IsAnswerTo (Refused refusal)) (sym e.0) (answers (Unit {0}) (Refused refusal) fault reader read a b h)
+ends_answer refusal n (Ok u) (Ok verdict) reader read a b d h e = e.0
+ends_answer refusal n (Ok u) (Err (faults.Writer written)) reader read a b d h e = tt
+ends_answer refusal n (Ok u) (Err faults.Reader) reader read a b d h e = absurd e
+ends_answer refusal n (Ok u) (Err faults.Memory) reader read a b d h e = absurd e
+ends_answer refusal n (Ok u) (Err (faults.Refused other)) reader read a b d h e = absurd e
+ends_answer refusal n (Ok u) (Err (faults.Truncated records)) reader read a b d h e = absurd e
+ends_answer refusal n (Ok u) (Err faults.Output) reader read a b d h e = absurd e
+ends_answer refusal n (Ok u) (Err (faults.Limit limit)) reader read a b d h e = absurd e
+ends_answer refusal n (Err fault) result reader read a b d h e =
+    subst (IsAnswerTo (Refused refusal)) (sym e.0) (answers (Unit {0}) n (Refused refusal) fault reader read a b h)
+
+-- a fault of the writer has the number of all bytes
+pub ends_counted : {W : Type 0} (refusal : Refusal) (contents : W → Option (List ℕ)) (writer new : W) (before : ℕ) (text : List ℕ)
+    (sink : Sink W) (told : Result (Unit {0}) ToolFault) (a b : ℕ) (result : Result Verdict ToolFault)
+    → Keeps (contents (writer_of sink)) (contents new) → HasWritten contents (contents writer) text sink
+    → EndsRun refusal (counted_up before (written_of sink)) told a b result → CountsAfter contents before writer new result
+ends_counted refusal contents writer new before text sink told a b result kept h e = by told result e
+  where
+    had : (more : ℕ) × GrowsBy (contents writer) (contents new) more
+        × (counted_up before (written_of sink) ≡ min (before + more) (2 ^ 64 - 1))
+    had = (
+      written_of sink,
+      (h.bytes, appends_kept (contents writer) (contents (writer_of sink)) (contents new) h.bytes h.appended kept, h.counted),
+      refl,
+    )
+
+    at : (fault : ToolFault)
+        → CountsAfter {A = Verdict} contents before writer new (Err (counted (counted_up before (written_of sink)) fault))
+    at (faults.Writer written) = had
+    at faults.Memory = tt
+    at faults.Reader = tt
+    at (faults.Refused other) = tt
+    at (faults.Truncated records) = tt
+    at faults.Output = tt
+    at (faults.Limit limit) = tt
+
+    by : (told : Result (Unit {0}) ToolFault) (result : Result Verdict ToolFault)
+        → EndsRun refusal (counted_up before (written_of sink)) told a b result → CountsAfter contents before writer new result
+    by (Ok u) (Ok verdict) e = tt
+    by (Ok u) (Err (faults.Writer written)) e = (had.0, had.1, e.1 ∙ had.2)
+    by (Ok u) (Err faults.Reader) e = tt
+    by (Ok u) (Err faults.Memory) e = tt
+    by (Ok u) (Err (faults.Refused other)) e = tt
+    by (Ok u) (Err (faults.Truncated records)) e = tt
+    by (Ok u) (Err faults.Output) e = tt
+    by (Ok u) (Err (faults.Limit limit)) e = tt
+    by (Err fault) result e =
+        subst (CountsAfter contents before writer new) (sym e.0) (at fault)

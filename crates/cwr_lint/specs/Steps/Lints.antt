@@ -89,10 +89,15 @@ Tells wanted limits before after contents old new (Refused refusal) =
 Tells wanted limits before after contents old new verdict =
     Reports (lines_linted wanted) limits before after contents old new (Ok verdict)
 
--- A run that goes on after the refusal ends so: its fault is answered, and nothing more is done; or else the writer hands on what it has, and
--- the refusal is answered, or the fault of the writer, which then counts one more failure.
-abbrev pub EndsRun : Refusal → Result (Unit {0}) ToolFault → ℕ → ℕ → Result Verdict ToolFault → Type 0
-EndsRun refusal (Err fault) old new result = (result ≡ Err fault) × (new ≡ old)
-EndsRun refusal (Ok u) old new (Ok verdict) = (verdict ≡ Refused refusal) × (new ≡ old)
-EndsRun refusal (Ok u) old new (Err (Writer written)) = new ≡ one_more_failure old
-EndsRun refusal (Ok u) old new (Err fault) = ⊥
+-- the fault, where so many bytes were written in all
+abbrev pub counted : ℕ → ToolFault → ToolFault
+counted count (Writer written) = Writer count
+counted count fault = fault
+
+-- A run that goes on after the refusal, and has written so many bytes in all, ends so: its fault is answered, and nothing more is done; or else
+-- the writer hands on what it has, and the refusal is answered, or the fault of the writer, which then counts one more failure.
+abbrev pub EndsRun : Refusal → ℕ → Result (Unit {0}) ToolFault → ℕ → ℕ → Result Verdict ToolFault → Type 0
+EndsRun refusal count (Err fault) old new result = (result ≡ Err (counted count fault)) × (new ≡ old)
+EndsRun refusal count (Ok u) old new (Ok verdict) = (verdict ≡ Refused refusal) × (new ≡ old)
+EndsRun refusal count (Ok u) old new (Err (Writer written)) = (new ≡ one_more_failure old) × (written ≡ count)
+EndsRun refusal count (Ok u) old new (Err fault) = ⊥

@@ -1,7 +1,9 @@
 -- What a whole run has put, and what its writer then has.
-use Rattle.std.proofs.Common.{◌≡◌, ℕ, List, [], ◌++◌, Option, Some, None, refl, sym, ap, subst, ◌∙◌, inr, append-nil}
-use Rattle.std.specs.Prelude.{Result, Ok, Err}
-use Rattle.std.specs.Io.KnownBytes.{Appends, Keeps}
+use Rattle.std.proofs.Common.{◌≡◌, ℕ, ◌+◌, ◌-◌, List, [], ◌++◌, length, Option, Some, None, refl, sym, ap, ap₂, subst, ◌∙◌, inr}
+use Rattle.std.proofs.Common.{append-nil, arith, length-append}
+use Rattle.std.proofs.KnownBytes.{Appends-trans}
+use Rattle.std.specs.Prelude.{◌^◌, min, Result, Ok, Err}
+use Rattle.std.specs.Io.KnownBytes.{Appends, GrowsBy, Keeps}
 use Rattle.cwr_devices.specs.Format.Failures.{one_more_failure}
 use Rattle.cwr_shape.specs.declared.limits.Limits.{Limits}
 use Rattle.cwr_devices.specs.declared.sinks.Sink.{Sink}
@@ -14,7 +16,7 @@ use Rattle.cwr_tools.specs.declared.verdicts.Verdict.{Verdict}
 use Rattle.cwr_tools.specs.declared.verdicts.ToolFault.{ToolFault}
 use Rattle.cwr_tools.specs.declared.verdicts.ToolFault.TheVariants.{Writer}
 use Rattle.cwr_tools.specs.declared.verdicts.ToolFault.TheVariants as faults
-use Rattle.cwr_tools.specs.Format.Reports.{ItemLines}
+use Rattle.cwr_tools.specs.Format.Reports.{CountsAfter, CountsWritten, ItemLines}
 use Rattle.cwr_tools.specs.Steps.Reports.{HasPut, PutsReport, Reports}
 use Rattle.cwr_tools.proofs.lemmas.ReportsOn.{nothing}
 
@@ -155,3 +157,78 @@ reports_failed of limits before after contents failures (faults.Refused r) write
 reports_failed of limits before after contents failures (faults.Truncated r) writer new first sink same out h = absurd h
 reports_failed of limits before after contents failures faults.Output writer new first sink same out h = absurd h
 reports_failed of limits before after contents failures (faults.Limit l) writer new first sink same out h = absurd h
+
+-- ---- how many bytes were written
+
+put_text : {W : Type 0} (of : ItemLines) (end : Verdict → List ℕ) (limits : Limits) (before after : Option (List ℕ))
+    (contents : W → Option (List ℕ)) (failures : W → ℕ) (result : Result Verdict ToolFault) (first sink : Sink W)
+    → PutsReport of end limits before after contents failures result first sink
+    → (text : List ℕ) × HasWritten contents (contents (writer_of first)) text sink
+put_text of end limits before after contents failures (Ok verdict) first sink h = (of.lines h.0 ++ end verdict, h.2.written)
+put_text of end limits before after contents failures (Err faults.Reader) first sink h = (of.lines h.0, h.2.written)
+put_text of end limits before after contents failures (Err faults.Memory) first sink h = (of.lines h.0, h.2.written)
+put_text of end limits before after contents failures (Err (Writer n)) first sink h = (h.1, h.3.written)
+put_text of end limits before after contents failures (Err (faults.Refused refusal)) first sink h = absurd h
+put_text of end limits before after contents failures (Err (faults.Truncated records)) first sink h = absurd h
+put_text of end limits before after contents failures (Err faults.Output) first sink h = absurd h
+put_text of end limits before after contents failures (Err (faults.Limit limit)) first sink h = absurd h
+
+-- so many as the sink counts
+pub counts_put : {W : Type 0} (of : ItemLines) (limits : Limits) (before after : Option (List ℕ)) (contents : W → Option (List ℕ))
+    (failures : W → ℕ) (result : Result Verdict ToolFault) (writer mid new : W) (first sink : Sink W) (n : ℕ)
+    → writer_of first ≡ writer → mid ≡ writer_of sink → n ≡ written_of sink → Keeps (contents mid) (contents new)
+    → PutsReport of of.last limits before after contents failures result first sink
+    → GrowsBy (contents writer) (contents new) n
+counts_put {W = W} of limits before after contents failures result writer mid new first sink n same out counted kept h =
+    let put = put_text of of.last limits before after contents failures result first sink h in
+    let had = front contents put.0 writer new first sink n same
+    (subst (λ (w : W). Keeps (contents w) (contents new)) out kept) put.1 counted in
+    (had.bytes, had.has.appended, had.has.counted)
+
+-- where nothing was handed on
+pub counts_kept : {W : Type 0} (of : ItemLines) (limits : Limits) (before after : Option (List ℕ)) (contents : W → Option (List ℕ))
+    (failures : W → ℕ) (result : Result Verdict ToolFault) (writer new : W) (first sink : Sink W) (n : ℕ)
+    → writer_of first ≡ writer → new ≡ writer_of sink → n ≡ written_of sink
+    → PutsReport of of.last limits before after contents failures result first sink
+    → GrowsBy (contents writer) (contents new) n
+counts_kept of limits before after contents failures result writer new first sink n same out counted h =
+    counts_put of limits before after contents failures result writer new new first sink n same out counted
+    (same_bytes (contents new)) h
+
+-- so many as a report's fault says
+counts_front : {W : Type 0} (contents : W → Option (List ℕ)) (old new : W) (text : List ℕ) (n : ℕ)
+    → HasFront contents (contents old) new text n → GrowsBy (contents old) (contents new) n
+counts_front contents old new text n h = (h.bytes, h.has.appended, h.has.counted)
+
+pub counts_reported : {W : Type 0} (of : ItemLines) (limits : Limits) (before after : Option (List ℕ))
+    (contents : W → Option (List ℕ)) (old new : W) (result : Result Verdict ToolFault)
+    → Reports of limits before after contents old new result → CountsWritten contents old new result
+counts_reported of limits before after contents old new (Ok verdict) h = tt
+counts_reported of limits before after contents old new (Err (Writer written)) h = counts_front contents old new h.1 written h.3
+counts_reported of limits before after contents old new (Err faults.Reader) h = tt
+counts_reported of limits before after contents old new (Err faults.Memory) h = tt
+counts_reported of limits before after contents old new (Err (faults.Refused refusal)) h = tt
+counts_reported of limits before after contents old new (Err (faults.Truncated records)) h = tt
+counts_reported of limits before after contents old new (Err faults.Output) h = tt
+counts_reported of limits before after contents old new (Err (faults.Limit limit)) h = tt
+
+-- the bytes of two parts of a run, one after the other
+min_sum : (a b n : ℕ) → min (min a n + min b n) n ≡ min (a + b) n
+min_sum a b n = omega arith
+
+pub counts_all : {W : Type 0} (contents : W → Option (List ℕ)) (old between new : W) (before : ℕ) (result : Result Verdict ToolFault)
+    → GrowsBy (contents old) (contents between) before → CountsAfter contents before between new result
+    → CountsWritten contents old new result
+counts_all contents old between new before (Ok verdict) g c = tt
+counts_all contents old between new before (Err (Writer written)) g c = (
+  g.0 ++ c.1.0,
+  Appends-trans (contents old) (contents between) (contents new) g.0 c.1.0 g.1 c.1.1,
+  c.2 ∙ ap₂ (λ (a b : ℕ). min (a + b) (2 ^ 64 - 1)) g.2 c.1.2 ∙ min_sum (length g.0) (length c.1.0) (2 ^ 64 - 1)
+      ∙ ap (λ (n : ℕ). min n (2 ^ 64 - 1)) (sym (length-append g.0 c.1.0)),
+)
+counts_all contents old between new before (Err faults.Reader) g c = tt
+counts_all contents old between new before (Err faults.Memory) g c = tt
+counts_all contents old between new before (Err (faults.Refused refusal)) g c = tt
+counts_all contents old between new before (Err (faults.Truncated records)) g c = tt
+counts_all contents old between new before (Err faults.Output) g c = tt
+counts_all contents old between new before (Err (faults.Limit limit)) g c = tt

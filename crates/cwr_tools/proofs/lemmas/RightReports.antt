@@ -1,5 +1,5 @@
 -- What is told of a text says its verdict, and all of a text that begins with a transmission.
-use Rattle.std.proofs.Common.{◌≡◌, ℕ, List, length, drop, Option, Some, None, ap, ap₂, subst, ◌∙◌}
+use Rattle.std.proofs.Common.{◌≡◌, ℕ, List, Option, Some, None, ap, ap₂, subst, ◌∙◌}
 use Rattle.std.specs.Prelude.{Result, Ok, Err, IfOk}
 use Rattle.std.specs.Io.KnownBytes.{Appends}
 use Rattle.cwr_shape.specs.declared.limits.Limits.{Limits}

@@ -1,10 +1,10 @@
 -- What a report says of a text that is known: the items before its end are those that its lines give.
-use Rattle.std.proofs.Common.{◌≡◌, ℕ, ◌+◌, ◌-◌, Bool, true, false, List, [], ◌∷◌, ◌++◌, length, take, drop, Option, Some, None}
+use Rattle.std.proofs.Common.{◌≡◌, ℕ, ◌-◌, Bool, true, false, List, [], ◌∷◌, ◌++◌, length, take, drop, Option, Some, None}
 use Rattle.std.proofs.Common.{refl, sym}
 use Rattle.std.proofs.Common.{ap, subst, ◌∙◌, arith, append_assoc, append-nil, inl, inr}
-use Rattle.std.specs.Prelude.{◌⊎◌, IfSome, Result, Ok, Err}
+use Rattle.std.specs.Prelude.{Result, Ok, Err}
 use Rattle.std.specs.List.{AllZip}
-use Rattle.std.specs.Io.KnownBytes.{Appends, Consumes}
+use Rattle.std.specs.Io.KnownBytes.{Consumes}
 use Rattle.std.proofs.Math.Seq.{take-append_seam}
 use Rattle.cwr_lines.specs.Format.Lines.{IsLineOf, closed, raw_lines}
 use Rattle.cwr_lines.specs.Format.Records.{RecordValue, Row}
@@ -13,11 +13,9 @@ use Rattle.cwr_shape.specs.declared.limits.Limits.{Limits}
 use Rattle.cwr_shape.specs.Steps.Tallies.{TallyValue}
 use Rattle.cwr_values.specs.declared.items.Item.{Item}
 use Rattle.cwr_values.specs.Format.Begins.{rows_so_far}
-use Rattle.cwr_values.specs.Format.Values.{TransmissionValue}
 use Rattle.cwr_values.proofs.lemmas.OneSpelling.{lines_without_lf}
 use Rattle.cwr_values.proofs.lemmas.RowAt.{length-rows_so_far}
 use Rattle.cwr_judge.specs.declared.refusals.Refusal.{Refusal}
-use Rattle.cwr_judge.specs.Format.Ends.{IsAccepted}
 use Rattle.cwr_judge.specs.Format.Items.{AreFirstItems}
 use Rattle.cwr_judge.specs.Steps.Open.{items_so_far}
 use Rattle.cwr_judge.proofs.lemmas.Accepted.{accepted_once}
@@ -37,9 +35,9 @@ use Rattle.cwr_tools.specs.declared.verdicts.Verdict.TheVariants.{Good, Refused,
 use Rattle.cwr_tools.specs.declared.verdicts.ToolFault.{ToolFault}
 use Rattle.cwr_tools.specs.declared.verdicts.ToolFault.TheVariants as faults
 use Rattle.cwr_tools.specs.Format.Verdicts.{AreItemsOfLines, IsVerdictAfter, TakesSpelling}
-use Rattle.cwr_tools.specs.Format.Reports.{IsTextSoFar, ItemLines, ReportsText, text_on}
+use Rattle.cwr_tools.specs.Format.Reports.{IsTextSoFar, ItemLines, ReportsText}
 use Rattle.cwr_tools.specs.Steps.Verdicts.{IsRightVerdict, StopsAfter}
-use Rattle.cwr_tools.specs.Steps.Reports.{HasHandedOut, IsReported, LacksMemory, Reports}
+use Rattle.cwr_tools.specs.Steps.Reports.{IsReported, LacksMemory, Reports}
 
 -- lines of rows with which the closed text begins are its first lines
 lines_first : (rows : List Row) (lines : List (List ℕ)) (text rest : List ℕ) → AllZip IsLineOf rows lines

@@ -1,8 +1,8 @@
 -- The lines of a report: those of each item, and the verdict's.
-use Rattle.std.specs.Prelude.{◌≡◌, ◌⊎◌, ℕ, Bool, true, false, nat_lt, length, List, [], ◌++◌, drop, Option, Some, IfSome, Result}
+use Rattle.std.specs.Prelude.{◌≡◌, ◌⊎◌, ℕ, ◌+◌, ◌-◌, ◌^◌, min, Bool, true, false, nat_lt, length, List, [], ◌++◌, drop, Option, Some, IfSome, Result}
 use Rattle.std.specs.Prelude.{Ok}
 use Rattle.std.specs.Prelude.{Err}
-use Rattle.std.specs.Io.KnownBytes.{Appends}
+use Rattle.std.specs.Io.KnownBytes.{Appends, GrowsBy}
 use Rattle.cwr_devices.specs.Format.Failures.{one_more_failure}
 use Rattle.cwr_lines.specs.Format.Records.{RecordValue}
 use Rattle.cwr_shape.specs.declared.limits.Limits.{Limits}
@@ -83,6 +83,22 @@ CountsReaderFault result old new = new ≡ old
 abbrev pub CountsWriterFault : Result Verdict ToolFault → ℕ → ℕ → Type 0
 CountsWriterFault (Err (Writer written)) old new = new ≡ one_more_failure old
 CountsWriterFault result old new = new ≡ old
+
+-- the fault of a run that wrote so many bytes before what failed
+abbrev pub fault_after : ℕ → ToolFault → ToolFault
+fault_after count (Writer written) = Writer (min (count + written) (2 ^ 64 - 1))
+fault_after count fault = fault
+
+-- where the writer failed, the fault says how many bytes were written after what it had; at the highest number that stays
+abbrev pub CountsWritten : {W A : Type 0} → (W → Option (List ℕ)) → W → W → Result A ToolFault → Type 0
+CountsWritten contents old new (Err (Writer written)) = GrowsBy (contents old) (contents new) written
+CountsWritten contents old new result = Unit {0}
+
+-- the same, where so many bytes were written before that
+abbrev pub CountsAfter : {W A : Type 0} → (W → Option (List ℕ)) → ℕ → W → W → Result A ToolFault → Type 0
+CountsAfter contents before old new (Err (Writer written)) =
+    (more : ℕ) × GrowsBy (contents old) (contents new) more × (written ≡ min (before + more) (2 ^ 64 - 1))
+CountsAfter contents before old new result = Unit {0}
 
 -- the text on some first items of a transmission within the limits, or, where the bytes read are known, on those before their end
 -- and on the verdict

@@ -4,7 +4,6 @@ use Rattle.std.specs.Prelude.{Err}
 use Rattle.std.specs.List.{AllZip, filter}
 use Rattle.json.specs.Json.{Json}
 use Rattle.cwr_devices.specs.Format.Failures.{one_more_failure}
-use Rattle.cwr_lines.specs.Format.Records.{RecordValue}
 use Rattle.cwr_values.specs.declared.items.Item.{Item}
 use Rattle.cwr_values.specs.declared.items.Item.TheVariants.{Opened, GroupOpened, Transaction, GroupClosed, Ended}
 use Rattle.cwr_encode.specs.declared.encoders.Encoder.{Encoder}

@@ -34,3 +34,10 @@ pub returns-in-false-clause-judged : goal.returns-in-false-clause-judged
 returns-in-false-clause-judged g c =
     judged_text (lines_up_to_fault c.args.explained) c.args.limits _ _ g.W.Target.contents c.args.writer
     c.check_up_to_fault-writer.result.0 c.check_up_to_fault-writer.result.1 c.check_up_to_fault-writer.ensures.told
+
+pub returns-in-true-clause-reported : goal.returns-in-true-clause-reported
+returns-in-true-clause-reported g c =
+    subst (λ (b : Bool). Reports (lines_before_fault b c.args.explained) c.args.limits (g.R.Source.remaining c.args.reader.now)
+    (g.R.Source.remaining c.advise_up_to_fault-writer.new.reader) g.W.Target.contents c.args.writer
+    c.advise_up_to_fault-writer.result.0 c.advise_up_to_fault-writer.result.1)
+    (sym c.in-true.is) c.advise_up_to_fault-writer.ensures.reported

@@ -3,7 +3,9 @@ use Rattle.std.specs.Prelude.{Ok, Err}
 use Rattle.std.specs.Option.{is_some}
 use Rattle.cwr_tools.specs.declared.verdicts.Verdict.TheVariants.{Refused}
 use Rattle.cwr_tools.specs.Format.Verdicts.{JudgesText}
-use Rattle.cwr_lint.specs.Format.Wanted.{wanting}
+use Rattle.cwr_tools.specs.Format.Reports.{CountsWritten}
+use Rattle.cwr_tools.proofs.lemmas.ReportsWhole.{counts_all, counts_reported}
+use Rattle.cwr_lint.specs.Format.Wanted.{lines_before_fault, wanting}
 use Rattle.cwr_lint.specs.Steps.Runs.{asking_of}
 use Rattle.cwr_lint.proofs.lemmas.Tells.{IsUnrefused, accepted_after, accepted_at, faults_at, hears, known_ok, lints_at, read_last}
 use Rattle.cwr_lint.proofs.lemmas.Tells.{refused_at, unrefused_at}
@@ -101,3 +103,16 @@ returns-in-Truncated-clause-accepted g c =
     c.in-Ok.verdict (Ok c.in-Ok.verdict) refl
     (subst (JudgesText c.args.limits (g.R.Source.remaining c.args.reader.now)) c.in-Ok.is c.check_front-writer.ensures.judged)
     (returns-in-Truncated-clause-tells g c)
+
+pub returns-in-Err-clause-written : goal.returns-in-Err-clause-written
+returns-in-Err-clause-written g c =
+    subst (CountsWritten g.W.Target.contents c.args.writer c.check_front-writer.result.0) c.in-Err.is
+    (counts_reported (lines_before_fault c.args.advised c.is_some.result) c.args.limits (g.R.Source.remaining c.args.reader.now)
+    (g.R.Source.remaining c.check_front-writer.new.reader) g.W.Target.contents c.args.writer c.check_front-writer.result.0
+    c.check_front-writer.result.1 c.check_front-writer.ensures.reported)
+
+pub returns-in-Some-clause-written : goal.returns-in-Some-clause-written
+returns-in-Some-clause-written g c =
+    counts_all g.W.Target.contents c.args.writer c.check_front-writer.result.0 c.tell_faults.result.0
+    c.check_front-writer.result.2.written c.tell_faults.result.1 c.check_front-writer.ensures.counted
+    c.tell_faults.ensures.counted
