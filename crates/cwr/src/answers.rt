@@ -5,7 +5,7 @@ ghost use Rattle.cwr_acks.specs.Format.SentAnswers.{IsFresh};
 
 use crate::reports::{Asked, Judgement, Telling, judgement_of, look_after, tell_aside};
 use cwr_acks::{Form, acks};
-use cwr_devices::{Counted, Sink};
+use cwr_devices::{Counted, ReadAhead, Sink};
 use cwr_files::{
     Fault, Gathered, Input, Name, Pace, Told, gathered, is_standard, open_input, told_of,
 };
@@ -34,7 +34,7 @@ fn sent_of<'a, R: Files + AllocGlobal, I: Read + Drop, P: Pace, E: Write>(
     ensures { IfOk result (λ read. IfOk read IsFresh) }
 {
     let input = open_input(rt, Some(name), standard, &mut *pace)?;
-    let mut reader = Counted::new(input);
+    let mut reader = ReadAhead::new(input);
     let read = read_sent(asked.alloc, asked.limits, &mut reader);
     let told: Told<'a> = reader.into_inner().told();
     match read {
@@ -71,7 +71,7 @@ fn lines_on<'a, F: Read + Drop, I: Read + Drop, P: Pace + Drop, O: Write + Drop>
 ) -> (Gathered<'a, O>, Result<Judgement, ToolFault>, Told<'a>)
     requires { IsFresh sent }
 {
-    let mut reader = Counted::new(input);
+    let mut reader = ReadAhead::new(input);
     let (lines, outcome) = acks(
         asked.alloc,
         asked.limits,

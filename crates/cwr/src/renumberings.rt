@@ -1,6 +1,6 @@
 //! A transmission whose numbers are put right.
 
-use cwr_devices::{Counted, Sink};
+use cwr_devices::{Counted, ReadAhead, Sink};
 use cwr_files::{
     DASH, Fault, Gathered, Input, Name, Pace, Told, create_output, gathered, open_input, told_of,
 };
@@ -60,7 +60,7 @@ fn run<'a, F: Read + Drop, I: Read + Drop, P: Pace + Drop, O: Write + Drop, E: W
     writer: Gathered<'a, O>,
     error: &mut E,
 ) -> Repaired<'a> {
-    let mut reader = Counted::new(input);
+    let mut reader = ReadAhead::new(input);
     let (writer, outcome) = renumber(alloc, limits, &mut reader, writer);
     let look = match outcome {
         Ok(_) => look_beyond(&mut reader),

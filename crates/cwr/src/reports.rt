@@ -14,7 +14,7 @@ use cwr_acks::{Form, acks};
 use cwr_advise::advise;
 use cwr_causes::Trailing;
 use cwr_csv::{Table, csv};
-use cwr_devices::{Counted, Sink, SinkFault, Source, Target};
+use cwr_devices::{Counted, ReadAhead, Sink, SinkFault, Source, Target};
 use cwr_explain::explain;
 use cwr_files::{
     Fault, FileLines, Gathered, Input, Name, Pace, Told, gathered, shown_name, told_of,
@@ -251,7 +251,7 @@ pub(crate) fn judge_input<'a, F: Read + Drop, I: Read + Drop, P: Pace + Drop, W:
     ensures handed_on { OnOk result.1 (W.handed_on result.0 ≡ true) }
     ensures writer_failures { CountsWriting result.1 (W.failures writer) (W.failures result.0) }
 {
-    let mut reader = Counted::new(input);
+    let mut reader = ReadAhead::new(input);
     let (writer, judged) = judge_source(asked, telling, &mut reader, writer);
     let told = reader.into_inner().told();
     (writer, judged, told)

@@ -14,7 +14,7 @@ use crate::reports::{copy_out, report, what_is_asked};
 use crate::verdicts::{CwrVerdict, end_in_c, ended, in_c};
 use crate::writing::{CwrWritten, write_text, written};
 use cwr_decode::{IndexEntry, index};
-use cwr_devices::{Counted, DeviceFault, Target};
+use cwr_devices::{DeviceFault, InMemory, Target};
 use cwr_fields::{Kind, letters};
 use cwr_shape::Limits;
 use cwr_tools::check;
@@ -63,7 +63,7 @@ pub fn check_text(
         *verdict = ended(4);
         return;
     };
-    let mut reader = Counted::new(text);
+    let mut reader = InMemory::new(text);
     let (_, checked) = check(alloc, limits, &mut reader, Nowhere { handed_on: true });
     *verdict = match checked {
         Ok(found) => in_c(found),

@@ -4,7 +4,7 @@ ghost use Rattle.std.specs.Prelude.{◌≡◌, ◌≢◌, IfOk};
 ghost use Rattle.cwr_calls.specs.Format.WrittenTexts.{IsCanonical};
 
 use crate::writing::{CwrWritten, written};
-use cwr_devices::{Counted, Sink};
+use cwr_devices::{Counted, InMemory, Sink};
 use cwr_json::Encoding;
 use cwr_shape::Limits;
 use cwr_write::{WriteFault, put_write_outcome, write};
@@ -36,7 +36,7 @@ fn words_of(alloc: Global, fault: WriteFault) -> Vec<u8> {
 pub(crate) fn import_text(alloc: Global, limits: Limits, text: &[u8]) -> (Vec<u8>, CwrWritten)
     ensures { result.1.ending ≡ 0 → IsCanonical limits result.0.items }
 {
-    let mut reader = Counted::new(text);
+    let mut reader = InMemory::new(text);
     let writer = Counted::new(Vec::new(alloc));
     let (writer, outcome) = write(
         alloc,

@@ -9,7 +9,7 @@ ghost use Rattle.cwr_decode.specs.Steps.TakenLines.{PutsAt};
 
 use crate::verdicts::level_letter;
 use cwr_decode::{ReadFault, Reading};
-use cwr_devices::{Counted, Source};
+use cwr_devices::{InMemory, Source};
 use cwr_levels::{Finding, Rule, findings};
 use cwr_shape::Limits;
 use cwr_tools::{ToolFault, Verdict};
@@ -223,6 +223,6 @@ pub(crate) fn list_findings(
 ) -> (usize, Result<Verdict, ToolFault>)
     ensures { Lists limits text.now entries.old entries.new result.0 result.1 }
 {
-    let mut reader = Counted::new(text);
+    let mut reader = InMemory::new(text);
     list_items(alloc, limits, &mut reader, entries)
 }

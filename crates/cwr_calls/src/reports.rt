@@ -5,7 +5,7 @@ ghost use Rattle.cwr_tools.specs.Format.Reports.{lines_of_data, lines_of_explain
 ghost use Rattle.cwr_calls.specs.Format.Copies.{CopiesOut};
 ghost use Rattle.cwr_calls.specs.Steps.Reported.{IsExplainedOn, IsJudged, IsLintOn, IsReportOn, IsTextOn, IsWritten, asked_by};
 
-use cwr_devices::Counted;
+use cwr_devices::{Counted, InMemory};
 use cwr_explain::explain;
 use cwr_json::Encoding;
 use cwr_lint::lint;
@@ -53,7 +53,7 @@ fn check_report(alloc: Global, limits: Limits, text: &[u8]) -> (Vec<u8>, Result<
     ensures judged { IsJudged limits text.now result.1 }
     ensures written { IsWritten (IsTextOn lines_of_findings limits text.now result.0.items) result.1 }
 {
-    let mut reader = Counted::new(text);
+    let mut reader = InMemory::new(text);
     let writer = Counted::new(Vec::new(alloc));
     let (writer, verdict) = check(alloc, limits, &mut reader, writer);
     (writer.into_inner(), verdict)
@@ -64,7 +64,7 @@ fn show_report(alloc: Global, limits: Limits, text: &[u8]) -> (Vec<u8>, Result<V
     ensures judged { IsJudged limits text.now result.1 }
     ensures written { IsWritten (IsTextOn lines_of_records limits text.now result.0.items) result.1 }
 {
-    let mut reader = Counted::new(text);
+    let mut reader = InMemory::new(text);
     let writer = Counted::new(Vec::new(alloc));
     let (writer, verdict) = show(alloc, limits, &mut reader, writer);
     (writer.into_inner(), verdict)
@@ -80,7 +80,7 @@ fn explain_report(
     ensures judged { IsJudged limits text.now result.1 }
     ensures written { IsWritten (IsExplainedOn limits text.now result.0.items) result.1 }
 {
-    let mut reader = Counted::new(text);
+    let mut reader = InMemory::new(text);
     let mut watch = Watch::new(None);
     let writer = Counted::new(Vec::new(alloc));
     let (writer, verdict, _) = explain(alloc, limits, name, &mut watch, &mut reader, writer);
@@ -98,7 +98,7 @@ fn data_report(
     ensures written { IsWritten
         (IsTextOn (lines_of_data Encoding.Latin1 noted) limits text.now result.0.items) result.1 }
 {
-    let mut reader = Counted::new(text);
+    let mut reader = InMemory::new(text);
     let writer = Counted::new(Vec::new(alloc));
     let (writer, verdict) = json(alloc, limits, Encoding::Latin1, noted, &mut reader, writer);
     (writer.into_inner(), verdict)
@@ -109,7 +109,7 @@ fn lint_report(alloc: Global, limits: Limits, text: &[u8]) -> (Vec<u8>, Result<V
     ensures judged { IsJudged limits text.now result.1 }
     ensures written { IsWritten (IsLintOn lines_of_findings limits text.now result.0.items) result.1 }
 {
-    let mut reader = Counted::new(text);
+    let mut reader = InMemory::new(text);
     let writer = Counted::new(Vec::new(alloc));
     let (writer, verdict) = lint(alloc, limits, None, false, &mut reader, writer);
     (writer.into_inner(), verdict)
@@ -126,7 +126,7 @@ fn explained_lint_report(
     ensures written { IsWritten (IsLintOn lines_of_explained limits text.now result.0.items)
         result.1 }
 {
-    let mut reader = Counted::new(text);
+    let mut reader = InMemory::new(text);
     let writer = Counted::new(Vec::new(alloc));
     let (writer, verdict) = lint(alloc, limits, Some(name), false, &mut reader, writer);
     (writer.into_inner(), verdict)

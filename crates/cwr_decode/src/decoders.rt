@@ -82,6 +82,14 @@ impl Decoder {
         self.machine.holds()
     }
 
+    /// Takes an item that nobody needs any more. Where it is a transaction the next one has its room, and asks for memory only where
+    /// that isn't enough.
+    pub fn reuse(&mut self, spent: Option<Item>)
+        ensures { self.new ≡ self.old }
+    {
+        self.machine.reuse(spent);
+    }
+
     /// Enters the record that waits, where that needs no answer, and says whether a byte is needed now. A no says nothing,
     /// and then nothing changes.
     pub(crate) fn is_settled(&mut self) -> bool

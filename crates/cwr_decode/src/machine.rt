@@ -12,7 +12,7 @@ ghost use Rattle.cwr_decode.specs.Steps.Calls.{Feeds, Finishes};
 use crate::outcomes::{Answer, Outcome};
 use cwr_fields::SpelledPair;
 use cwr_judge::Refusal;
-use cwr_lines::{LineBuf, LinePad};
+use cwr_lines::{LineBuf, LinePad, RecordList};
 use cwr_shape::{Counts, Limits, Stage, Tally};
 use cwr_values::{Item, Transaction};
 use std::alloc::{AllocError, Global};
@@ -87,6 +87,8 @@ pub struct Machine {
     tally: Tally,
     /// The records of the open transaction.
     held: Option<Transaction>,
+    /// Where the next transaction has room.
+    room: RecordList,
     /// The sequences of the line before, with their digits.
     expected: SpelledPair,
     state: State,
@@ -116,6 +118,7 @@ impl Machine {
             pad: LinePad::new(),
             tally: Tally::new(limits),
             held: None,
+            room: RecordList::new(alloc),
             expected: SpelledPair::new(),
             state: State::Reading,
             finished: false,
@@ -160,6 +163,15 @@ impl Machine {
         match &self.held {
             Some(transaction) => (self.line.len(), transaction.len()),
             None => (self.line.len(), 0),
+        }
+    }
+
+    /// Takes an item that nobody needs any more: where it is a transaction the next one has its room.
+    pub fn reuse(&mut self, spent: Option<Item>)
+        ensures { self.new ≡ self.old }
+    {
+        if let Some(Item::Transaction(whole)) = spent {
+            self.room = whole.into_records();
         }
     }
 

@@ -340,6 +340,23 @@ impl<'a, R: Source> Reading<'a, R> {
         }
     }
 
+    /// Reads the next item, as `next_item` does, where nobody needs the one before any more: the next transaction has its room, and
+    /// asks for memory only where that isn't enough.
+    pub fn next_item_after(&mut self, spent: Option<Item>) -> Result<Option<Item>, ReadFault>
+        ensures same_reference { self.new.reader.ghost_name ≡ self.old.reader.ghost_name }
+        ensures reads { Reads self.old.decoder (R.remaining self.old.reader.now) result
+            self.new.decoder (R.remaining self.new.reader.now) }
+        ensures failures { CountsReader result (R.failures self.old.reader.now)
+            (R.failures self.new.reader.now) }
+        ensures again { ReadsAgain self.old.decoder self.old.reader.now result self.new.decoder
+            self.new.reader.now }
+        ensures last { ReadsLast (R.remaining self.old.reader.now) (R.remaining self.new.reader.now)
+            self.old.last self.new.last }
+    {
+        self.decoder.reuse(spent);
+        self.next_item()
+    }
+
     /// Passes over whole transactions of what the reader shows next, where the keeper finds each surely as it should be, and reads the
     /// next item. It is as if `next_item` had answered the transactions that were passed over, but nothing is held of them. Beside the
     /// answer stands how many they were.

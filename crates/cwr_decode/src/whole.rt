@@ -83,7 +83,7 @@ fn collect_group(
         match item {
             Item::Transaction(transaction) => add_transaction(&mut group, transaction)?,
             Item::GroupClosed(foot) => {
-                return match group.set_foot(foot) {
+                return match group.set_foot(foot.to_record()) {
                     Ok(()) => Ok(group),
                     Err(_) => unreachable!(),
                 };
@@ -133,7 +133,7 @@ fn collect(alloc: Global, items: Vec<Item>) -> Result<Transmission, AllocError>
         unreachable!()
     };
     let opening = match first {
-        Item::Opened(opening) => opening,
+        Item::Opened(opening) => opening.to_record(),
         _ => unreachable!(),
     };
     let Ok(mut transmission) = Transmission::new(alloc, opening) else {
@@ -145,7 +145,7 @@ fn collect(alloc: Global, items: Vec<Item>) -> Result<Transmission, AllocError>
         };
         match item {
             Item::GroupOpened(head) => {
-                let group = collect_group(alloc, head, &mut items)?;
+                let group = collect_group(alloc, head.to_record(), &mut items)?;
                 add_group(&mut transmission, group)?;
             }
             Item::Ended => return Ok(transmission),

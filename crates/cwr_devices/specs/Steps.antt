@@ -2,3 +2,4 @@
 pub mod Counted
 pub mod Failures
 pub mod Sinks
+pub mod Sources

@@ -1,12 +1,12 @@
 //! Readers and writers that show their bytes and how often they failed.
 
-ghost use Rattle.std.specs.Prelude.{◌≡◌, ℕ, ◌-◌, ◌≤◌, Bool, true, false, List, [], length, drop, Option, Some, IfSome, IfOk, OnOk};
+ghost use Rattle.std.specs.Prelude.{◌≡◌, ℕ, ◌+◌, ◌-◌, ◌<◌, ◌≤◌, Bool, true, false, List, [], length, drop, Option, Some, IfSome, IfOk, OnOk};
 ghost use Rattle.std.specs.Io.{StartsWith};
 ghost use Rattle.std.specs.Io.BufRead.{Rests};
 ghost use Rattle.std.specs.Io.KnownBytes.{Keeps, WriteAppends};
 ghost use types.Logic.{sem};
 ghost use Rattle.cwr_devices.specs.Format.DeviceFaultTexts.{device_fault_text};
-ghost use Rattle.cwr_devices.specs.Format.Failures.{CountsFailure};
+ghost use Rattle.cwr_devices.specs.Format.Failures.{CountsFailure, most_failures};
 ghost use Rattle.cwr_devices.specs.Steps.Failures.{ShowsBytes};
 
 use std::error::Error;
@@ -25,6 +25,15 @@ impl Display for DeviceFault {
 }
 
 impl Error for DeviceFault {}
+
+/// Counts a failure, and answers the fault that reports it.
+pub(crate) fn count_failure(failures: &mut u64) -> DeviceFault
+    requires { failures.old < most_failures }
+    ensures { failures.new ≡ failures.old + 1 }
+{
+    *failures += 1;
+    DeviceFault
+}
 
 /// A reader of bytes, which counts its failures. After `u64::MAX` of them every `fill` fails.
 pub trait Source {

@@ -6,8 +6,10 @@ mod counted;
 mod devices;
 mod outputs;
 mod sinks;
+mod sources;
 
 pub use counted::Counted;
 pub use devices::{DeviceFault, Source, Target};
 pub use outputs::{OutputFault, Outputs};
 pub use sinks::{Sink, SinkFault};
+pub use sources::{InMemory, ReadAhead};

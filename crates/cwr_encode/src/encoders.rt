@@ -21,7 +21,7 @@ ghost use Rattle.cwr_encode.specs.Steps.Finishing.{Finishes};
 use crate::checks::{group_may_end, limit_passed};
 use crate::rows::{put_row, put_transaction};
 use cwr_devices::{Sink, Target};
-use cwr_fields::{Kind, TransactionType};
+use cwr_fields::{Kind, SpelledPair, TransactionType};
 use cwr_lines::{CanonicalLine, Draft, Record, RecordRef};
 use cwr_shape::{Bar, LimitKind, Limits, Stage, Symbol, Tally, TransactionStep};
 use cwr_values::{Transaction, symbol_of};
@@ -97,6 +97,8 @@ pub struct Encoder<W: Target> {
     sink: Sink<W>,
     tally: Tally,
     line: CanonicalLine,
+    /// The numbers of the line that was looked at last, with their digits.
+    expected: SpelledPair,
 }
 
 impl<W: Target> Encoder<W> {
@@ -111,6 +113,7 @@ impl<W: Target> Encoder<W> {
             sink: Sink::new(writer),
             tally: Tally::new(limits),
             line: CanonicalLine::new(),
+            expected: SpelledPair::new(),
         }
     }
 
@@ -237,7 +240,13 @@ impl<W: Target> Encoder<W> {
         ensures fault { IfErr result (λ e. e ≡ EncodeFault.Writer (bytes_written self.new)) }
         ensures tally { self.new.tally ≡ self.old.tally }
     {
-        match put_transaction(&mut self.sink, &mut self.line, transaction, number) {
+        match put_transaction(
+            &mut self.sink,
+            &mut self.line,
+            &mut self.expected,
+            transaction,
+            number,
+        ) {
             Ok(()) => Ok(()),
             Err(fault) => Err(EncodeFault::Writer {
                 written: fault.written,

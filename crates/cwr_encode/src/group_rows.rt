@@ -9,6 +9,7 @@ ghost use Rattle.cwr_encode.specs.Steps.GroupTexts.{text_of_transactions, text_o
 
 use crate::rows::{put_row, put_transaction};
 use cwr_devices::{Sink, SinkFault, Target};
+use cwr_fields::SpelledPair;
 use cwr_lines::CanonicalLine;
 use cwr_values::{Group, Transmission};
 
@@ -58,9 +59,10 @@ fn put_transactions<W: Target>(
         sink.old sink.new }
     ensures fault { IfErr result (λ f. f.written ≡ written_of sink.new) }
 {
+    let mut expected = SpelledPair::new();
     let mut i = 0;
     while let Some(transaction) = group.transaction(i) {
-        put_transaction(sink, line, transaction, i as u64)?;
+        put_transaction(sink, line, &mut expected, transaction, i as u64)?;
         i += 1;
     }
     Ok(())

@@ -7,6 +7,7 @@ ghost use Rattle.cwr_devices.specs.Steps.Sinks.{Puts, has_failed, written_of};
 ghost use Rattle.cwr_encode.specs.Steps.Texts.{text_from};
 
 use cwr_devices::{Sink, SinkFault, Target};
+use cwr_fields::SpelledPair;
 use cwr_lines::{CanonicalLine, RecordRef};
 use cwr_values::Transaction;
 
@@ -48,9 +49,11 @@ fn put_lines<W: Target>(
 }
 
 /// Puts the canonical text of a whole transaction, which has that number in its group: at once where just that is kept.
+/// `expected` keeps the numbers of the line that was looked at last.
 pub(crate) fn put_transaction<W: Target>(
     sink: &mut Sink<W>,
     line: &mut CanonicalLine,
+    expected: &mut SpelledPair,
     transaction: &Transaction,
     number: u64,
 ) -> Result<(), SinkFault>
@@ -60,7 +63,7 @@ pub(crate) fn put_transaction<W: Target>(
         sink.new }
     ensures fault { IfErr result (λ f. f.written ≡ written_of sink.new) }
 {
-    match transaction.numbered_text(number) {
+    match transaction.numbered_text(expected, number) {
         Some(text) => sink.put(text),
         None => put_lines(sink, line, transaction, number),
     }

@@ -15,5 +15,5 @@ pub use canonical_lines::CanonicalLine;
 pub use drafts::{Draft, DraftFault, SetFault};
 pub use lines::{CutLine, LONGEST_LINE, LineBuf, LineEnd, LinePad, Taken};
 pub use record_lists::RecordList;
-pub use records::{Record, RecordRef};
+pub use records::{ControlRecord, Record, RecordRef};
 pub use renumbered_lines::RenumberedLine;

@@ -97,16 +97,20 @@ fn is_numbered(
 
 /// Whether the lines at these starts are the canonical ones of their records, with the transaction's number and with theirs, from 0. A
 /// no says nothing.
-fn are_numbered(text: &[u8], starts: &[LineStart], transaction: u64) -> bool
+fn are_numbered(
+    text: &[u8],
+    starts: &[LineStart],
+    expected: &mut SpelledPair,
+    transaction: u64,
+) -> bool
     requires { AllByRecursion (IsKeptLine text.now) starts.now }
     ensures { IsTrue result → AreNumbered transaction 0 text.now starts.now }
 {
-    let mut expected = SpelledPair::new();
     let mut i = 0;
     while i < starts.len() {
         let line = starts[i];
         let whole = line_at(text, line);
-        if !is_numbered(line.kind, whole, &mut expected, transaction, i as u64) {
+        if !is_numbered(line.kind, whole, expected, transaction, i as u64) {
             return false;
         }
         i += 1;
@@ -153,6 +157,14 @@ impl RecordList {
         }
     }
 
+    /// Drops all records, and keeps the room for others.
+    pub fn clear(&mut self)
+        ensures { self.new ≡ [] }
+    {
+        self.text.clear();
+        self.starts.clear();
+    }
+
     /// How many records it has.
     #[inline(always)]
     pub fn len(&self) -> usize
@@ -175,12 +187,13 @@ impl RecordList {
     }
 
     /// The canonical text of the records as those of a transaction with that number in its group, where just that is kept: nothing
-    /// is copied. `None` says nothing.
-    pub fn numbered_text(&self, transaction: u64) -> Option<&[u8]>
+    /// is copied. `None` says nothing. `expected` keeps the two sequences of the line before with their digits; whatever it keeps, the
+    /// answer is right.
+    pub fn numbered_text(&self, expected: &mut SpelledPair, transaction: u64) -> Option<&[u8]>
         ensures { IfSome result (λ text. text.now ≡ text_from transaction 0 self.now) }
     {
         let text = self.text.as_slice();
-        if are_numbered(text, self.starts.as_slice(), transaction) {
+        if are_numbered(text, self.starts.as_slice(), expected, transaction) {
             Some(text)
         } else {
             None

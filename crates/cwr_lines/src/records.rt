@@ -1,7 +1,8 @@
 //! Records as values: a kind and the cells that a record of the kind carries, each one of its field.
 
-ghost use Rattle.std.specs.Prelude.{◌≡◌, ◌↔◌, ◌<◌, ◌≤◌, length, option_map, Some, IsSome, IsTrue, IfSome};
+ghost use Rattle.std.specs.Prelude.{◌≡◌, ◌↔◌, ◌<◌, ◌≤◌, length, option_map, false, Some, IsSome, IsTrue, IfSome};
 ghost use Rattle.cwr_fields.specs.Format.Bytes.{is_plain};
+ghost use Rattle.cwr_fields.specs.Format.Kinds.{is_in_transaction};
 ghost use Rattle.cwr_fields.specs.Format.Layouts.{field_with_start, line_width};
 ghost use Rattle.cwr_fields.specs.Steps.Views.{field_view};
 ghost use Rattle.cwr_lines.specs.Format.Records.{IsRecord};
@@ -22,9 +23,12 @@ pub(crate) const WIDEST_LINE: usize = 719;
 /// The bytes of a whole line of some kind.
 pub(crate) type LineText = ArrayVec<u8, WIDEST_LINE>;
 
+/// The bytes of the widest line of a control record, that of HDR.
+const WIDEST_CONTROL: usize = 101;
+
 /// The bytes of a line, kept in the value.
-pub(crate) fn copy_bytes(line: &[u8]) -> LineText
-    requires { length line.now ≤ WIDEST_LINE }
+pub(crate) fn copy_bytes<const N: usize>(line: &[u8]) -> ArrayVec<u8, N>
+    requires { length line.now ≤ N }
     ensures { result.items ≡ line.now }
 {
     let mut text = ArrayVec::new();
@@ -99,6 +103,43 @@ impl Record {
             kind: self.kind,
             line: self.text.as_slice(),
         }
+    }
+}
+
+/// One of the records around transactions, HDR, GRH, GRT or TRL. It is as a `Record`, but takes little room.
+#[derive(Clone, Drop)]
+pub struct ControlRecord {
+    kind: Kind,
+    /// The whole line, in whose derived cells nothing is kept.
+    text: ArrayVec<u8, WIDEST_CONTROL>,
+}
+
+impl Model for ControlRecord {
+    ghost use Rattle.cwr_lines.specs.Format.Records.{RecordValue};
+    ghost use Rattle.cwr_lines.specs.Steps.Carried.{record_in, KeepsRecord};
+
+    ghost Value = { RecordValue };
+
+    ghost view = { λ r. record_in r.kind r.text.items };
+
+    ghost invariant = { λ r. KeepsRecord r.kind r.text.items };
+}
+
+impl ControlRecord {
+    /// The record as one borrowed.
+    pub fn view(&self) -> RecordRef<'_>
+        ensures value { result ≡ self.now }
+        ensures fits { IsRecord self.now }
+    {
+        RecordRef::of_line(self.kind, self.text.as_slice())
+    }
+
+    /// The same record in as much room as any.
+    pub fn to_record(&self) -> Record
+        ensures value { result ≡ self.now }
+        ensures fits { IsRecord self.now }
+    {
+        self.view().to_record()
     }
 }
 
@@ -211,11 +252,28 @@ impl<'a> RecordRef<'a> {
     {
         Record::of_line(self.kind, copy_bytes(self.line))
     }
+
+    /// The record, copied out of where it is kept, where it isn't one of a transaction. It takes no memory.
+    pub fn to_control(&self) -> ControlRecord
+        requires { is_in_transaction self.now.kind ≡ false }
+        ensures value { result ≡ self.now }
+        ensures fits { IsRecord self.now }
+    {
+        let kind = self.kind;
+        let text = copy_bytes(self.line);
+        ControlRecord { kind, text }
+    }
 }
 
 impl Debug for RecordRef<'_> {
     fn fmt<W: fmt::Write>(&self, f: &mut fmt::Formatter<W>) -> fmt::Result {
         show_cells(self.kind, self.line, f)
+    }
+}
+
+impl Debug for ControlRecord {
+    fn fmt<W: fmt::Write>(&self, f: &mut fmt::Formatter<W>) -> fmt::Result {
+        show_cells(self.kind, self.text.as_slice(), f)
     }
 }
 

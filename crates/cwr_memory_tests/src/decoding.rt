@@ -3,7 +3,7 @@
 use crate::checks::check_equal;
 use crate::works::{TWO_GROUPS_WITH_A_FINDING, ended, largest, text_of};
 use cwr_decode::{Decoder, Outcome, ReadFault, Reading, read_all};
-use cwr_devices::{Counted, Source};
+use cwr_devices::{InMemory, Source};
 use cwr_values::Item;
 use cwr_worked::texts::{ONE_ACKNOWLEDGEMENT, TWO_GROUPS, WORK_OF_ELEVEN};
 use std::process::Abort;
@@ -126,8 +126,8 @@ fn count_groups<R: Source>(rt: &(impl Abort + AllocGlobal), reader: &mut R) -> O
 
 /// Reads a text item by item, and whole: how many items and groups come. `None` where memory is refused.
 fn read_twice(rt: &(impl Abort + AllocGlobal), text: &[u8]) -> Option<(usize, usize)> {
-    let items = count_items(rt, &mut Counted::new(text))?;
-    let groups = count_groups(rt, &mut Counted::new(text))?;
+    let items = count_items(rt, &mut InMemory::new(text))?;
+    let groups = count_groups(rt, &mut InMemory::new(text))?;
     Some((items, groups))
 }
 

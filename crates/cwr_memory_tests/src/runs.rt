@@ -2,7 +2,7 @@
 
 use crate::outputs::{Nowhere, Numbered};
 use crate::works::{TWO_GROUPS_WITH_A_FINDING, ended, largest, text_of};
-use cwr_devices::Counted;
+use cwr_devices::{Counted, InMemory};
 use cwr_explain::explain;
 use cwr_parts::{join, split};
 use cwr_tools::{JoinFault, JoinReport, SplitReport, ToolFault, Verdict, Watch, check, show};
@@ -21,19 +21,19 @@ const fn good(groups: u32, transactions: u32, records: u32) -> Verdict {
 
 /// What a check of a text answers.
 fn checked(rt: &impl AllocGlobal, text: &[u8]) -> Result<Verdict, ToolFault> {
-    let mut reader = Counted::new(text);
+    let mut reader = InMemory::new(text);
     check(rt.alloc(), largest(), &mut reader, Counted::new(Nowhere)).1
 }
 
 /// What a show of a text answers.
 fn shown(rt: &impl AllocGlobal, text: &[u8]) -> Result<Verdict, ToolFault> {
-    let mut reader = Counted::new(text);
+    let mut reader = InMemory::new(text);
     show(rt.alloc(), largest(), &mut reader, Counted::new(Nowhere)).1
 }
 
 /// What an explanation of a text answers.
 fn explained(rt: &impl AllocGlobal, text: &[u8]) -> Result<Verdict, ToolFault> {
-    let mut reader = Counted::new(text);
+    let mut reader = InMemory::new(text);
     let writer = Counted::new(Nowhere);
     explain(
         rt.alloc(),
@@ -75,7 +75,7 @@ fn parted(
     text: &[u8],
     all: u32,
 ) -> Option<(Result<SplitReport, ToolFault>, u32)> {
-    let mut reader = Counted::new(text);
+    let mut reader = InMemory::new(text);
     let mut outputs = Numbered::new();
     let answer = split(rt.alloc(), largest(), &mut reader, 2, &mut outputs);
     if answer == Err(ToolFault::Memory) {
@@ -98,7 +98,7 @@ fn check_split(
 
 /// Joins a text with itself: what is answered.
 fn joined_twice(rt: &impl AllocGlobal, text: &[u8]) -> Result<JoinReport, JoinFault> {
-    let mut readers = [Counted::new(text), Counted::new(text)];
+    let mut readers = [InMemory::new(text), InMemory::new(text)];
     let writer = Counted::new(Nowhere);
     join(rt.alloc(), largest(), readers.as_mut_slice(), writer).1
 }

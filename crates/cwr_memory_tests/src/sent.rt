@@ -3,7 +3,7 @@
 use crate::checks::check_equal;
 use crate::works::{ended, largest, text_of};
 use cwr_decode::ReadFault;
-use cwr_devices::Counted;
+use cwr_devices::InMemory;
 use cwr_sent::read_sent;
 use cwr_worked::texts::{ONE_ACKNOWLEDGEMENT, TWO_GROUPS, WORK_OF_ELEVEN};
 use std::process::Abort;
@@ -11,7 +11,7 @@ use std::test::Fail;
 
 /// How many groups are kept of a text, and how many transactions of the last of them. `None` where memory is refused.
 fn count_kept(rt: &(impl Abort + AllocGlobal), text: &[u8]) -> Option<(usize, usize)> {
-    match read_sent(rt.alloc(), largest(), &mut Counted::new(text)) {
+    match read_sent(rt.alloc(), largest(), &mut InMemory::new(text)) {
         Ok(sent) => {
             let groups = sent.groups();
             Some((groups, sent.group(groups.saturating_sub(1)).len()))

@@ -3,7 +3,7 @@
 use crate::checks::check_equal;
 use crate::works::{TWO_GROUPS_WITH_A_FINDING, ended, largest, text_of};
 use cwr_decode::{ReadFault, Reading};
-use cwr_devices::{Counted, Source};
+use cwr_devices::{InMemory, Source};
 use cwr_levels::findings;
 use cwr_values::{
     Group, GroupFault, Item, PushFault, Transaction, Transmission, TransmissionFault,
@@ -112,8 +112,8 @@ fn close_group(rt: &impl Abort, parts: &mut Parts) -> bool {
 /// Adds an item. No where memory is refused.
 fn add_item(rt: &(impl Abort + AllocGlobal), parts: &mut Parts, item: Item) -> bool {
     match item {
-        Item::Opened(head) => parts.whole = Transmission::new(rt.alloc(), head).ok(),
-        Item::GroupOpened(head) => parts.open = Group::new(rt.alloc(), head).ok(),
+        Item::Opened(head) => parts.whole = Transmission::new(rt.alloc(), head.to_record()).ok(),
+        Item::GroupOpened(head) => parts.open = Group::new(rt.alloc(), head.to_record()).ok(),
         Item::Transaction(transaction) => return add_copy(rt, parts, &transaction),
         Item::GroupClosed(_) => return close_group(rt, parts),
         Item::Ended => {}
@@ -161,7 +161,7 @@ fn check_values(
     numbers: (usize, usize),
 ) -> Result<(), Fail> {
     let text = text_of(rt, lines);
-    let answer = count_values(rt, &mut Counted::new(text.as_slice()));
+    let answer = count_values(rt, &mut InMemory::new(text.as_slice()));
     ended(rt, answer, numbers)
 }
 

@@ -2,6 +2,7 @@
 
 ghost use Rattle.std.specs.Prelude.{◌≡◌, ◌≢◌, ◌+◌, ◌≤◌, ◌∷◌, ℕ, Bool, List, Option, [], length, true, false, filter, Result, Ok, Err, OnOk};
 ghost use Rattle.std.specs.List.{AllByRecursion};
+ghost use Rattle.cwr_lines.specs.Format.Records.{RecordValue};
 ghost use Rattle.cwr_shape.specs.Format.Ranges.{AreInRange};
 ghost use Rattle.cwr_values.specs.Format.Values.{IsTransmission, TransmissionValue};
 ghost use Rattle.cwr_values.specs.declared.items.Item.{Item};
@@ -17,6 +18,25 @@ use cwr_shape::Limits;
 use cwr_tools::{JoinFault, JoinReport, ToolFault, Totals};
 use cwr_values::Item;
 
+/// Writes the record of an item that is none of a transaction. It is rare, and kept out of the way of transactions.
+#[inline(never)]
+fn put_control<W: Target>(encoder: &mut Encoder<W>, item: &Item) -> Result<(), EncodeFault>
+    requires unfailed { is_stopped encoder.old ≡ false }
+    requires not_ended { item.now ≢ Item.Ended }
+    requires outside { (records : List RecordValue) → item.now ≢ Item.Transaction records }
+    ensures judged { JudgesNext W.contents item.now result encoder.old }
+    ensures adds { AddsRecords W.contents W.failures (item_records item.now) result encoder.old
+        encoder.new }
+    ensures limits { encoder_limits encoder.new ≡ encoder_limits encoder.old }
+{
+    match item {
+        Item::Opened(opening) => encoder.open(&opening.to_record()),
+        Item::GroupOpened(head) => encoder.group(&head.to_record()),
+        Item::GroupClosed(foot) => encoder.end_group(&foot.to_record()),
+        Item::Transaction(_) | Item::Ended => unreachable!(),
+    }
+}
+
 /// Writes the record or the transaction of an item.
 pub(crate) fn put_item<W: Target>(encoder: &mut Encoder<W>, item: &Item) -> Result<(), EncodeFault>
     requires unfailed { is_stopped encoder.old ≡ false }
@@ -27,11 +47,8 @@ pub(crate) fn put_item<W: Target>(encoder: &mut Encoder<W>, item: &Item) -> Resu
     ensures limits { encoder_limits encoder.new ≡ encoder_limits encoder.old }
 {
     match item {
-        Item::Opened(opening) => encoder.open(opening),
-        Item::GroupOpened(head) => encoder.group(head),
         Item::Transaction(transaction) => encoder.transaction(transaction),
-        Item::GroupClosed(foot) => encoder.end_group(foot),
-        Item::Ended => unreachable!(),
+        _ => put_control(encoder, item),
     }
 }
 

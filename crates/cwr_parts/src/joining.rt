@@ -42,11 +42,13 @@ fn add_input<R: Source, W: Target>(
 {
     let mut reading = Reading::new(alloc, limits, reader);
     let mut handed_out: u64 = 0;
+    let mut spent = None;
     'items: loop {
-        match reading.next_item() {
+        match reading.next_item_after(spent) {
             Ok(Some(item)) => {
                 joined.add(first, &item)?;
                 handed_out += 1;
+                spent = Some(item);
             }
             Ok(None) => return Ok(()),
             Err(fault) => return Err(reading_fault(fault)),

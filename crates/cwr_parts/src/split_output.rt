@@ -22,7 +22,7 @@ fn blank_foot() -> Item
     ensures { result ≡ blank_end }
 {
     match Draft::blank(Kind::Grt).done() {
-        Ok(foot) => Item::GroupClosed(foot),
+        Ok(foot) => Item::GroupClosed(foot.view().to_control()),
         Err(_) => unreachable!(),
     }
 }

@@ -1,7 +1,7 @@
 //! Tests of what an explanation leaves where its writer fails.
 
 use crate::devices::Bounded;
-use cwr_devices::Counted;
+use cwr_devices::{Counted, InMemory};
 use cwr_explain::explain;
 use cwr_shape::Limits;
 use cwr_tools::{ToolFault, Verdict, Watch};
@@ -21,7 +21,7 @@ fn explained(
 ) -> (Vec<u8>, Result<Verdict, ToolFault>) {
     let limits = Limits::new(99_999_999, 99_999, 999_999).expect(&rt, "largest limits");
     let mut watch = Watch::new(None);
-    let mut reader = Counted::new(text);
+    let mut reader = InMemory::new(text);
     let writer = Counted::new(Bounded {
         text: Vec::new(rt.alloc()),
         room,

@@ -1,7 +1,7 @@
 //! Tests of what a lint writes and answers.
 
 use crate::devices::{Bounded, FailsAfter};
-use cwr_devices::Counted;
+use cwr_devices::{Counted, ReadAhead};
 use cwr_lint::lint;
 use cwr_shape::Limits;
 use cwr_tools::{ToolFault, Verdict};
@@ -101,7 +101,7 @@ fn linted(
     room: usize,
 ) -> (Vec<u8>, Result<Verdict, ToolFault>) {
     let limits = Limits::new(99_999_999, 99_999, 999_999).expect(&rt, "largest limits");
-    let mut reader = Counted::new(FailsAfter { left: text, reads });
+    let mut reader = ReadAhead::new(FailsAfter { left: text, reads });
     let writer = Counted::new(Bounded {
         text: Vec::new(rt.alloc()),
         room,

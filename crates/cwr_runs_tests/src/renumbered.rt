@@ -1,7 +1,7 @@
 //! Tests of what is written and answered.
 
 use crate::devices::{Bounded, FailsAfter};
-use cwr_devices::Counted;
+use cwr_devices::{Counted, ReadAhead};
 use cwr_judge::Refusal;
 use cwr_renumber::renumber;
 use cwr_shape::{Level, Limits, Reason};
@@ -40,7 +40,7 @@ fn renumbered(
     room: usize,
 ) -> (Vec<u8>, Result<JoinReport, ToolFault>) {
     let limits = Limits::new(99_999_999, 99_999, 999_999).expect(&rt, "largest limits");
-    let mut reader = Counted::new(FailsAfter { left: text, reads });
+    let mut reader = ReadAhead::new(FailsAfter { left: text, reads });
     let writer = Counted::new(Bounded {
         text: Vec::new(rt.alloc()),
         room,

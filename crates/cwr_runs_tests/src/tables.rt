@@ -2,7 +2,7 @@
 
 use crate::devices::{Bounded, FailsAfter};
 use cwr_csv::{Table, csv};
-use cwr_devices::Counted;
+use cwr_devices::{Counted, ReadAhead};
 use cwr_fields::Kind;
 use cwr_shape::Limits;
 use cwr_tools::{ToolFault, Verdict};
@@ -22,7 +22,7 @@ fn tabled(
     let limits = Limits::new(99_999_999, 99_999, 999_999).expect(&rt, "largest limits");
     let first = lines.get(..most).unwrap_or(lines);
     let text = canonical(rt.alloc(), first).expect(&rt, "memory for a text");
-    let mut reader = Counted::new(FailsAfter {
+    let mut reader = ReadAhead::new(FailsAfter {
         left: text.as_slice(),
         reads,
     });

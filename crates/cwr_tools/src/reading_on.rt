@@ -52,12 +52,14 @@ impl<K> Passing<K> {
     }
 }
 
-/// Reads the next item of which something may be told. Where clean transactions may be passed over, it counts those that are.
+/// Reads the next item of which something may be told, where nobody needs the one before any more. Where clean transactions may be
+/// passed over, it counts those that are.
 pub(crate) fn read_on<K: Keeper, R: Source>(
     passes: bool,
     reading: &mut Reading<'_, R>,
     works: &mut Passing<K>,
     counts: &mut Totals,
+    spent: Option<Item>,
 ) -> Result<Option<Item>, ReadFault>
     ensures same_reference { reading.new.reader.ghost_name ≡ reading.old.reader.ghost_name }
     ensures told { ReadsTold (IsPassed passes K.are_clean) reading.old.decoder
@@ -69,7 +71,7 @@ pub(crate) fn read_on<K: Keeper, R: Source>(
         (R.remaining reading.new.reader.now) reading.old.last reading.new.last }
 {
     if !passes || works.pauses() {
-        return reading.next_item();
+        return reading.next_item_after(spent);
     }
     let (passed, answer) = reading.next_item_passing(&mut works.works);
     works.note(&passed);

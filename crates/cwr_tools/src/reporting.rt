@@ -122,12 +122,14 @@ fn put_items<L: Report, R: Source, W: Target>(
     let mut reading = begin_reading(holds_last, alloc, limits, reader);
     let mut counts = Totals::new();
     let mut works = Passing::new(lines.works());
+    let mut spent = None;
     lines.put_first(sink)?;
     'items: loop {
-        match read_on(lines.passes(), &mut reading, &mut works, &mut counts) {
+        match read_on(lines.passes(), &mut reading, &mut works, &mut counts, spent) {
             Ok(Some(item)) => {
                 lines.put_item(alloc, &counts, &item, sink)?;
                 counts.count(&item);
+                spent = Some(item);
             }
             Ok(None) => {
                 front.last = reading.last_read();

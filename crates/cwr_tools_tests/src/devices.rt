@@ -2,7 +2,7 @@
 
 ghost use Rattle.std.specs.Prelude.{Some};
 
-use cwr_devices::Counted;
+use cwr_devices::{Counted, ReadAhead};
 use std::alloc::Global;
 use std::io::{self, ErrorKind, Read, Write};
 
@@ -25,11 +25,11 @@ impl Read for FailsAfter<'_> {
 }
 
 /// What the runs read.
-pub(crate) type Reader<'a> = Counted<FailsAfter<'a>>;
+pub(crate) type Reader<'a> = ReadAhead<FailsAfter<'a>>;
 
 /// A reader of the text that fails after so many reads.
 pub(crate) fn failing_after(left: &[u8], reads: usize) -> Reader<'_> {
-    Counted::new(FailsAfter { left, reads })
+    ReadAhead::new(FailsAfter { left, reads })
 }
 
 /// A reader of the text, which fails once all is read, or ends there.

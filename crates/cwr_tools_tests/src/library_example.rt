@@ -3,7 +3,7 @@
 use crate::checks::check_equal;
 use crate::decoders::text_of;
 use cwr_decode::{ReadFault, Reading};
-use cwr_devices::Counted;
+use cwr_devices::ReadAhead;
 use cwr_fields::Kind;
 use cwr_shape::Limits;
 use cwr_values::Item;
@@ -14,7 +14,7 @@ use std::io::Read;
 /// How many works a transmission registers. It is read item by item: one transaction at most is in memory.
 fn new_works<I: Read + Drop>(alloc: Global, input: I) -> Result<u32, ReadFault> {
     let limits = Limits::new(1_000_000, 1_000, 10_000).unwrap();
-    let mut reader = Counted::new(input);
+    let mut reader = ReadAhead::new(input);
     let mut reading = Reading::new(alloc, limits, &mut reader);
     let mut works: u32 = 0;
     for _ in 0..2_000_000 {

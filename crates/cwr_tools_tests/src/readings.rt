@@ -7,7 +7,7 @@ use crate::checks::check_equal;
 use crate::decoders::{LARGEST, limits_of, text_of, twice_of};
 use crate::item_lines::add_item;
 use cwr_decode::{ReadFault, Reading};
-use cwr_devices::{Counted, DeviceFault, Source};
+use cwr_devices::{DeviceFault, ReadAhead, Source};
 use cwr_values::Item;
 use cwr_worked::texts::{ONE_ACKNOWLEDGEMENT, TWO_GROUPS};
 use std::fmt::Write;
@@ -183,7 +183,7 @@ fn acknowledgements_from_readers_that_fail(rt: HostRuntime) {
 #[test]
 fn acknowledgements_one_after_another(rt: HostRuntime) {
     let text = twice_of(&rt, ONE_ACKNOWLEDGEMENT);
-    let mut reader = Counted::new(text.as_slice());
+    let mut reader = ReadAhead::new(text.as_slice());
     for words in [ITEMS, ITEMS, NOTHING] {
         check_words(&rt, &mut reader, words);
     }

@@ -3,7 +3,7 @@
 use crate::checks::check_equal;
 use crate::decoders::{LARGEST, Numbers, limits_of, short_text_of, text_of, twice_of};
 use cwr_decode::{ReadFault, read_all, read_pieces};
-use cwr_devices::{Counted, Source};
+use cwr_devices::{ReadAhead, Source};
 use cwr_fields::Kind;
 use cwr_values::{Group, Transmission};
 use cwr_worked::texts::ONE_ACKNOWLEDGEMENT;
@@ -45,14 +45,14 @@ fn check_read<R: Source>(rt: &(impl Abort + AllocGlobal), numbers: Numbers, read
 fn acknowledgements_from_readers(rt: HostRuntime) {
     let text = twice_of(&rt, ONE_ACKNOWLEDGEMENT);
     check_equal(&rt, text.len(), 718);
-    let mut reader = Counted::new(text.as_slice());
+    let mut reader = ReadAhead::new(text.as_slice());
     for _ in 0..2 {
         check_read(&rt, LARGEST, &mut reader);
     }
     let third = read_all(rt.alloc(), limits_of(&rt, LARGEST), &mut reader).err();
     check_equal(&rt, third, Some(ReadFault::Truncated { records: 0 }));
     let short = short_text_of(&rt, ONE_ACKNOWLEDGEMENT);
-    check_read(&rt, (5, 1, 1), &mut Counted::new(short.as_slice()));
+    check_read(&rt, (5, 1, 1), &mut ReadAhead::new(short.as_slice()));
 }
 
 #[test]

@@ -4,7 +4,7 @@ ghost use Rattle.cwr_files.specs.Steps.Inputs.{remaining_of};
 ghost use Rattle.cwr_transform.specs.Format.Imports.{EndsAsFileImport, EndsAsImport, ImportEndsAs, JudgesImport};
 
 use crate::endings::{Status, settle};
-use cwr_devices::{Counted, Sink};
+use cwr_devices::{Counted, ReadAhead, Sink};
 use cwr_files::{Fault, Gathered, Input, Name, Pace, Told, create_output, gathered, told_of};
 use cwr_json::Encoding;
 use cwr_shape::Limits;
@@ -62,7 +62,7 @@ fn import_from<'a, F: Read + Drop, I: Read + Drop, P: Pace + Drop, O: Write + Dr
 ) -> (Result<Written, WriteFault>, Told<'a>, Told<'a>)
     ensures { JudgesImport import.now (remaining_of F.remaining I.remaining input.entry) result.0 }
 {
-    let mut reader = Counted::new(input);
+    let mut reader = ReadAhead::new(input);
     let (writer, outcome) = write(
         alloc,
         import.limits,

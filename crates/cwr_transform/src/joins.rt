@@ -7,7 +7,7 @@ ghost use Rattle.cwr_transform.specs.Format.Joins.{EndsAfterJoin, EndsAsJoin, En
 use crate::endings::{Look, Status, ended_by, follows, settle};
 use crate::looks::{look_beyond, tell_following};
 use crate::splits::hand_on;
-use cwr_devices::{Counted, Sink, Source};
+use cwr_devices::{ReadAhead, Sink, Source};
 use cwr_files::{
     Fault, Gathered, Input, Name, Pace, Paced, Told, Unwatched, create_output, gathered,
     identity_of, identity_of_input, is_standard, is_there, open_input, told_of,
@@ -32,7 +32,7 @@ pub struct Union<'a> {
 }
 
 /// An input that is read. How far that is isn't followed: the result is, as it is written.
-type Reader<'a, F, I> = Counted<Input<'a, F, I, Unwatched>>;
+type Reader<'a, F, I> = ReadAhead<Input<'a, F, I, Unwatched>>;
 
 /// The inputs of these names, in their order.
 fn open_inputs<'a, R: Files, I: Read + Drop>(
@@ -49,7 +49,7 @@ fn open_inputs<'a, R: Files, I: Read + Drop>(
     for name in names {
         match open_input(rt, Some(*name), &mut standard, Unwatched) {
             Ok(input) => {
-                if readers.push(Counted::new(input)).is_err() {
+                if readers.push(ReadAhead::new(input)).is_err() {
                     return Err(Fault::Memory);
                 }
             }

@@ -9,7 +9,7 @@ ghost use Rattle.cwr_transform.specs.Steps.Splits.{JudgesCut, SplitEndsAs};
 
 use crate::endings::{Look, Status, ended_by, status_after};
 use crate::looks::{look_beyond, tell_following};
-use cwr_devices::{Counted, Outputs, Sink, SinkFault, Source, Target};
+use cwr_devices::{Outputs, ReadAhead, Sink, SinkFault, Source, Target};
 use cwr_files::{
     Fault, Gathered, Identity, Input, Name, NumberedFiles, Pace, Told, gathered, identity_of_input,
     part_number, part_that_is, told_of,
@@ -107,7 +107,7 @@ pub fn split_file<
         Err(_) => return Err(Fault::Memory),
     }
     let lines = gathered(alloc, output, Name::StandardOutput).map_err(|_| Fault::Memory)?;
-    let mut reader = Counted::new(input);
+    let mut reader = ReadAhead::new(input);
     let mut files = NumberedFiles::new(rt, alloc, cut.prefix, own, cut.only_new);
     let (outcome, look) = cut_source(alloc, cut, &mut reader, &mut files);
     let told = reader.into_inner().told();

@@ -10,7 +10,7 @@ ghost use Rattle.cwr_values.specs.Format.ValueFaultTexts.{push_fault_text};
 ghost use Rattle.cwr_values.specs.Steps.Begun.{IsStepAfter, IsStepWith};
 
 use crate::symbols::symbol_of;
-use cwr_fields::{Kind, TransactionType};
+use cwr_fields::{Kind, SpelledPair, TransactionType};
 use cwr_lines::{RecordList, RecordRef};
 use cwr_shape::{Symbol, TransactionStep};
 use std::alloc::{AllocError, Global};
@@ -91,16 +91,16 @@ impl Transaction {
         let Some(step) = begin(symbol_of(&head)) else {
             return Err(PushFault::Misplaced);
         };
-        match Transaction::begin_at(alloc, head, step) {
+        match Transaction::begin_at(RecordList::new(alloc), head, step) {
             Ok(begun) => Ok(begun),
             Err(_) => Err(PushFault::Memory),
         }
     }
 
     /// The transaction that begins with the record, of which it is known that one does, and which step is after it: the order
-    /// isn't asked. It fails only for want of memory.
+    /// isn't asked. It takes the room of that list, whose records are dropped. It fails only for want of memory.
     pub fn begin_at(
-        alloc: Global,
+        room: RecordList,
         head: RecordRef<'_>,
         step: TransactionStep,
     ) -> Result<Transaction, AllocError>
@@ -108,9 +108,17 @@ impl Transaction {
         ensures ok { IfOk result (λ t. t ≡ head.entry ∷ []) }
         ensures memory { OnErr result (AsksMemory [] head.entry) }
     {
-        let mut records = RecordList::new(alloc);
+        let mut records = room;
+        records.clear();
         records.push(&head)?;
         Ok(Transaction { step, records })
+    }
+
+    /// Its records, whose room another transaction can take.
+    pub fn into_records(self) -> RecordList
+        ensures { result ≡ self }
+    {
+        self.records
     }
 
     /// How many records it has, its header counted.
@@ -132,10 +140,11 @@ impl Transaction {
     }
 
     /// Its canonical text, where it has that number in its group and just that is kept: nothing is copied. `None` says nothing.
-    pub fn numbered_text(&self, number: u64) -> Option<&[u8]>
+    /// `expected` keeps the numbers of the line before, whichever that was.
+    pub fn numbered_text(&self, expected: &mut SpelledPair, number: u64) -> Option<&[u8]>
         ensures { IfSome result (λ text. text.now ≡ text_from number 0 self.now) }
     {
-        self.records.numbered_text(number)
+        self.records.numbered_text(expected, number)
     }
 
     /// Adds a record at the end. It is refused as misplaced exactly where no transaction continues so, and for want of

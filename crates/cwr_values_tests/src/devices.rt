@@ -1,7 +1,7 @@
 //! Devices by example.
 
 use crate::checks::check_equal;
-use cwr_devices::{Counted, DeviceFault, Source, Target};
+use cwr_devices::{Counted, DeviceFault, InMemory, ReadAhead, Source, Target};
 use std::io;
 use std::io::{ErrorKind, Read, Write};
 use std::process::Abort;
@@ -14,12 +14,17 @@ fn check_read<S: Source>(rt: &impl Abort, source: &mut S, wanted: &[u8], count: 
     source.consume(count);
 }
 
+/// Checks what a source over the bytes `HDR` shows while it is consumed.
+fn check_reads<S: Source + Drop>(rt: &impl Abort, mut source: S) {
+    check_read(rt, &mut source, b"HDR", 2);
+    check_read(rt, &mut source, b"R", 1);
+    check_read(rt, &mut source, b"", 0);
+}
+
 #[test]
 fn reads_through(rt: HostRuntime) {
-    let mut source = Counted::new(b"HDR".as_slice());
-    check_read(&rt, &mut source, b"HDR", 2);
-    check_read(&rt, &mut source, b"R", 1);
-    check_read(&rt, &mut source, b"", 0);
+    check_reads(&rt, ReadAhead::new(b"HDR".as_slice()));
+    check_reads(&rt, InMemory::new(b"HDR"));
 }
 
 /// Writes a text and hands it on: so both calls answer.
@@ -74,7 +79,7 @@ impl Write for Broken {
 
 #[test]
 fn readers_fail(rt: HostRuntime) {
-    let mut source = Counted::new(Broken { works: false });
+    let mut source = ReadAhead::new(Broken { works: false });
     check_read(&rt, &mut source, b"A", 1);
     check_equal(&rt, source.fill(), Err(DeviceFault));
     check_read(&rt, &mut source, b"A", 0);

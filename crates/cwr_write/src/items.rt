@@ -182,9 +182,9 @@ fn item_alone(
         return Err(ItemFault::Line(beside(encoding, values, &first)));
     }
     Ok(match kind {
-        Kind::Hdr => Item::Opened(first),
-        Kind::Grh => Item::GroupOpened(first),
-        Kind::Grt => Item::GroupClosed(first),
+        Kind::Hdr => Item::Opened(first.view().to_control()),
+        Kind::Grh => Item::GroupOpened(first.view().to_control()),
+        Kind::Grt => Item::GroupClosed(first.view().to_control()),
         _ => Item::Ended,
     })
 }
@@ -285,10 +285,10 @@ pub(crate) fn write_item<W: Target>(
         JudgesGiven (encoder_limits encoder.old) item.now (map symbol_of records) result) }
 {
     match item {
-        Item::Opened(record) => encoder.open(record),
-        Item::GroupOpened(record) => encoder.group(record),
+        Item::Opened(record) => encoder.open(&record.to_record()),
+        Item::GroupOpened(record) => encoder.group(&record.to_record()),
         Item::Transaction(transaction) => encoder.transaction(transaction),
-        Item::GroupClosed(record) => encoder.end_group(record),
+        Item::GroupClosed(record) => encoder.end_group(&record.to_record()),
         Item::Ended => Ok(()),
     }
 }

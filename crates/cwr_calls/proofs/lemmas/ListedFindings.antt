@@ -14,13 +14,15 @@ use Rattle.cwr_decode.proofs.lemmas.ItemsReadSoFar.{some_read}
 use Rattle.cwr_levels.specs.declared.rules.Finding.{Finding}
 use Rattle.cwr_levels.proofs.lemmas.OneMore.{take_more}
 use Rattle.cwr_tools.specs.declared.verdicts.Verdict.{Verdict}
+use Rattle.cwr_tools.specs.declared.verdicts.Verdict.TheVariants.{Good, Refused, Truncated}
 use Rattle.cwr_tools.specs.declared.verdicts.ToolFault.{ToolFault}
+use Rattle.cwr_tools.specs.Format.Verdicts.{IsVerdictOn}
 use Rattle.cwr_tools.specs.Steps.Verdicts.{IsRightVerdict}
 use Rattle.cwr_calls.specs.declared.listing.CwrFinding.{CwrFinding}
 use Rattle.cwr_calls.specs.declared.listing.Numbers.{Numbers}
 use Rattle.cwr_calls.specs.Format.Copies.{CopiesOut}
 use Rattle.cwr_calls.specs.Format.FindingNumbers.{finding_in_c, findings_in_c, item_findings}
-use Rattle.cwr_calls.specs.Steps.Listed.{ListsFrom, PutsMore, numbers_with}
+use Rattle.cwr_calls.specs.Steps.Listed.{Lists, ListsFrom, PutsMore, numbers_with}
 use Rattle.cwr_decode.specs.Steps.TakenLines.{PutsAt}
 use Rattle.cwr_calls.proofs.lemmas.CountedItems.{IsCount, count_more}
 use Rattle.cwr_calls.proofs.lemmas.PutElements.{copies_more, copies_nothing}
@@ -108,3 +110,21 @@ pub lists_before : (limits : Limits) (before after : Option (List ℕ)) (given :
     → ListsFrom limits before after old entries at result
 lists_before limits before after given old entries at (Ok verdict) right put = (given, right, put)
 lists_before limits before after given old entries at (Err fault) right put = tt
+
+-- ---- of a text that is known
+
+-- a right verdict is the one on the text
+verdict_on : (limits : Limits) (text : List ℕ) (verdict : Verdict) (after : Option (List ℕ)) (given : List Item)
+    → IsRightVerdict limits (Some text) verdict after given → IsVerdictOn limits text verdict
+verdict_on limits text (Good groups transactions records) after given t = (t.0, length t.1.input, t.1.front.0, t.3)
+verdict_on limits text (Refused refusal) after given t = t.0.right.ends
+verdict_on limits text (Truncated records) after given t = t.0.right.ends
+
+pub listed_text : (limits : Limits) (text : List ℕ) (before after : Option (List ℕ)) (old new : List CwrFinding) (count : ℕ)
+    (result : Result Verdict ToolFault) → before ≡ Some text → ListsFrom limits before after old new count result
+    → Lists limits text old new count result
+listed_text limits text before after old new count (Ok verdict) same h =
+    let right : IsRightVerdict limits (Some text) verdict after h.0 =
+    subst (λ (b : Option (List ℕ)). IsRightVerdict limits b verdict after h.0) same h.1 in
+    (verdict_on limits text verdict after h.0 right, (h.0, after, right, h.2))
+listed_text limits text before after old new count (Err fault) same h = tt

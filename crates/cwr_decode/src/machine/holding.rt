@@ -9,10 +9,11 @@ ghost use Rattle.cwr_decode.specs.Steps.Machines.{Adds, ComesTo, FitsHeld, Hands
 
 use super::Machine;
 use cwr_fields::Kind;
-use cwr_lines::RecordRef;
+use cwr_lines::{RecordList, RecordRef};
 use cwr_shape::{Scope, Stage, Tally};
 use cwr_values::{Item, Transaction};
 use std::alloc::{AllocError, Global};
+use std::mem;
 
 /// Whether a record that was counted continues the open transaction.
 #[inline(always)]
@@ -31,10 +32,11 @@ pub(super) fn hand_out(continues: bool, held: &mut Option<Transaction>) -> Optio
     if continues { None } else { held.take() }
 }
 
-/// Adds a record, which comes to the stage, to the transaction that is held, or begins one with it. It fails only where the list
-/// of its records asks for memory, and then nothing changes.
+/// Adds a record, which comes to the stage, to the transaction that is held, or begins one with it in that room. It fails only where
+/// the list of its records asks for memory, and then nothing is held that wasn't before.
 pub(super) fn add(
     alloc: Global,
+    room: &mut RecordList,
     held: &mut Option<Transaction>,
     accepted: RecordRef<'_>,
     stage: Stage,
@@ -49,20 +51,19 @@ pub(super) fn add(
     };
     match held {
         Some(transaction) => transaction.push_at(accepted, step),
-        None => match Transaction::begin_at(alloc, accepted, step) {
-            Ok(begun) => {
-                *held = Some(begun);
-                Ok(())
-            }
-            Err(fault) => Err(fault),
-        },
+        None => {
+            let taken = mem::replace(room, RecordList::new(alloc));
+            *held = Some(Transaction::begin_at(taken, accepted, step)?);
+            Ok(())
+        }
     }
 }
 
-/// Adds an accepted record, with which the stage came, to the transaction that is held, or begins one with it, or answers its
-/// own item.
+/// Adds an accepted record, with which the stage came, to the transaction that is held, or begins one with it in that room, or
+/// answers its own item.
 pub(super) fn add_accepted(
     alloc: Global,
+    room: &mut RecordList,
     held: &mut Option<Transaction>,
     accepted: RecordRef<'_>,
     stage: Stage,
@@ -71,12 +72,12 @@ pub(super) fn add_accepted(
     ensures { Adds accepted.entry.kind accepted.entry held.old result held.new }
 {
     let item = match accepted.kind() {
-        Kind::Hdr => Item::Opened(accepted.to_record()),
-        Kind::Grh => Item::GroupOpened(accepted.to_record()),
-        Kind::Grt => Item::GroupClosed(accepted.to_record()),
+        Kind::Hdr => Item::Opened(accepted.to_control()),
+        Kind::Grh => Item::GroupOpened(accepted.to_control()),
+        Kind::Grt => Item::GroupClosed(accepted.to_control()),
         Kind::Trl => Item::Ended,
         _ => {
-            add(alloc, held, accepted, stage)?;
+            add(alloc, room, held, accepted, stage)?;
             return Ok(None);
         }
     };

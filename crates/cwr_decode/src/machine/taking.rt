@@ -51,7 +51,13 @@ impl Machine {
             self.state = State::Pending;
             return Some(Outcome::Item(Item::Transaction(whole)));
         }
-        let outcome = add_accepted(self.alloc, &mut self.held, accepted, self.tally.stage());
+        let outcome = add_accepted(
+            self.alloc,
+            &mut self.room,
+            &mut self.held,
+            accepted,
+            self.tally.stage(),
+        );
         self.finish_record(outcome)
     }
 

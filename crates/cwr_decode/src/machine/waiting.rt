@@ -17,7 +17,13 @@ impl Machine {
         ensures { EntersHeld (held_record self.old.line) self.old result self.new }
     {
         let accepted = self.line.cut().known_record();
-        let outcome = add_accepted(self.alloc, &mut self.held, accepted, self.tally.stage());
+        let outcome = add_accepted(
+            self.alloc,
+            &mut self.room,
+            &mut self.held,
+            accepted,
+            self.tally.stage(),
+        );
         self.finish_record(outcome)
     }
 
@@ -33,7 +39,13 @@ impl Machine {
         if !is_in_transaction(accepted.kind()) {
             return false;
         }
-        match add(self.alloc, &mut self.held, accepted, self.tally.stage()) {
+        match add(
+            self.alloc,
+            &mut self.room,
+            &mut self.held,
+            accepted,
+            self.tally.stage(),
+        ) {
             Ok(()) => {
                 self.begin_line();
                 true

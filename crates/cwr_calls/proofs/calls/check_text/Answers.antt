@@ -1,6 +1,4 @@
 use Rattle.std.proofs.Common.{None, Some, true, inr, rules, subst}
-use Rattle.std.specs.Io.KnownBytes.{prepend_known}
-use Rattle.cwr_devices.specs.Steps.Counted.{ahead_of}
 use Rattle.cwr_shape.specs.declared.limits.Limits.{Limits}
 use Rattle.cwr_tools.specs.Format.Reports.{lines_of_findings}
 use Rattle.cwr_tools.specs.Format.Verdicts.{IsVerdictOn}
@@ -12,10 +10,10 @@ use Rattle.cwr_calls.proofs.calls.check_text.Goals as goal
 pub returns-in-Ok-checked : goal.returns-in-Ok-checked
 returns-in-Ok-checked c =
     let judged : IsJudged c.in-Ok.limits c.args.text.now c.check-checked.result.1 =
-    judged_on c.in-Ok.limits (prepend_known (ahead_of c.new-reader.result) (Some c.new-reader.result.inner.now)) c.args.text.now
+    judged_on c.in-Ok.limits (Some c.new-reader.result.left.now) c.args.text.now
     c.check-checked.result.1 (search rules)
     (judged_text lines_of_findings c.in-Ok.limits
-    (prepend_known (ahead_of c.new-reader.result) (Some c.new-reader.result.inner.now)) _
+    (Some c.new-reader.result.left.now) _
     (λ w. None) (record { handed_on = true }) c.check-checked.result.0 c.check-checked.result.1 c.check-checked.ensures.told) in
     let found : IsVerdictOn c.in-Ok.limits c.args.text.now c.in-Ok-checked.found =
     subst (IsJudged c.in-Ok.limits c.args.text.now) c.in-Ok-checked.is judged in

@@ -6,6 +6,7 @@ use Rattle.cwr_values.specs.declared.items.Item.{Item}
 use Rattle.cwr_values.specs.declared.items.Item.TheVariants.{Opened, GroupOpened, Ended}
 use Rattle.cwr_values.specs.Format.Values.{TransmissionValue}
 use Rattle.cwr_judge.specs.Format.Items.{group_items, group_rest}
+use Rattle.cwr_decode.specs.Format.Runs.{AreGroupItems}
 use Rattle.cwr_decode.proofs.lemmas.ItemsMakeOneTransmission.{AreGroups, group_begins, group_ends, groups_end, more_groups, next_group}
 use Rattle.cwr_decode.proofs.whole.collect.Goals as goal
 
@@ -13,7 +14,8 @@ pub collect_group-requires : goal.collect_group-requires
 collect_group-requires c =
     let here : into_iter_items c.groups.items ≡ GroupOpened c.in-GroupOpened.head ∷ into_iter_items c.next-in-groups.new.self
     = c.in-Some-next.ensures.items ∙ ap (λ (x : Item). x ∷ into_iter_items c.next-in-groups.new.self) c.in-GroupOpened.is in
-    group_begins c.in-GroupOpened.head (into_iter_items c.next-in-groups.new.self) (subst AreGroups here c.groups.invariant.left)
+    subst (λ (r : RecordValue). AreGroupItems r (into_iter_items c.next-in-groups.new.self)) (sym c.to_record.ensures.value)
+    (group_begins c.in-GroupOpened.head (into_iter_items c.next-in-groups.new.self) (subst AreGroups here c.groups.invariant.left))
 
 pub add_group-requires : goal.add_group-requires
 add_group-requires c =
@@ -31,7 +33,7 @@ groups-preserved c =
     let rest : List Item = into_iter_items c.collect_group.new.items in
     let whole : into_iter_items c.groups.items ≡ GroupOpened group.head ∷ (group_rest group ++ rest)
     = here ∙ ap (λ (r : RecordValue). GroupOpened r ∷ into_iter_items c.next-in-groups.new.self)
-    (sym c.in_ok-group-in-GroupOpened.ensures.head)
+    (sym (c.in_ok-group-in-GroupOpened.ensures.head ∙ c.to_record.ensures.value))
     ∙ ap (λ (l : List Item). GroupOpened group.head ∷ l) c.in_ok-group-in-GroupOpened.ensures.items in
     let pushed = c.in_ok-add_group-in-GroupOpened.ensures in
     record {

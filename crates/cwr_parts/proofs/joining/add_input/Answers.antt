@@ -33,12 +33,12 @@ add-requires-clause-unfailed g c = c.items.invariant.joining.on.unfailed
 pub add-requires-clause-may : goal.add-requires-clause-may
 add-requires-clause-may g c =
     let reading =
-    next_handed_out c.args.limits c.args.first c.items.reading.decoder c.next_item.new.self.decoder
+    next_handed_out c.args.limits c.args.first c.items.reading.decoder c.next_item_after.new.self.decoder
     (g.R.Source.remaining c.args.reader.now) _ _ g.W.Target.contents g.W.Target.failures c.items.handed_out c.args.joined.now
     c.items.joined
     c.in-Ok-Some.field-0 c.in-Ok-Some.item _ _ c.in-Ok-Some.field-0-is c.items.invariant.joining c.in-Ok-Some.ensures.reads
     c.in-Ok-Some.ensures.again in
-    may_add c.args.limits c.args.first c.items.reading.decoder c.next_item.new.self.decoder
+    may_add c.args.limits c.args.first c.items.reading.decoder c.next_item_after.new.self.decoder
     (g.R.Source.remaining c.args.reader.now) _ _ g.W.Target.contents g.W.Target.failures c.items.handed_out c.args.joined.now
     c.items.joined
     c.in-Ok-Some.item c.requires.between c.requires.limits c.items.invariant.joining reading
@@ -46,64 +46,30 @@ add-requires-clause-may g c =
 pub overflow_add-handed_out : goal.overflow_add-handed_out
 overflow_add-handed_out g c =
     let reading =
-    next_handed_out c.args.limits c.args.first c.items.reading.decoder c.next_item.new.self.decoder
+    next_handed_out c.args.limits c.args.first c.items.reading.decoder c.next_item_after.new.self.decoder
     (g.R.Source.remaining c.args.reader.now) _ _ g.W.Target.contents g.W.Target.failures c.items.handed_out c.args.joined.now
     c.items.joined
     c.in-Ok-Some.field-0 c.in-Ok-Some.item _ _ c.in-Ok-Some.field-0-is c.items.invariant.joining c.in-Ok-Some.ensures.reads
     c.in-Ok-Some.ensures.again in
     omega (
       arith,
-      few_handed_out c.args.limits c.args.first c.items.reading.decoder c.next_item.new.self.decoder
+      few_handed_out c.args.limits c.args.first c.items.reading.decoder c.next_item_after.new.self.decoder
           (g.R.Source.remaining c.args.reader.now) _ _ g.W.Target.contents g.W.Target.failures c.items.handed_out
           c.args.joined.now c.items.joined
           c.in-Ok-Some.item c.items.invariant.joining reading,
     )
-
-pub items-smaller-in_ok-add-in-Ok-Some : goal.items-smaller-in_ok-add-in-Ok-Some
-items-smaller-in_ok-add-in-Ok-Some g c =
-    let reading =
-    next_handed_out c.args.limits c.args.first c.items.reading.decoder c.next_item.new.self.decoder
-    (g.R.Source.remaining c.args.reader.now) _ _ g.W.Target.contents g.W.Target.failures c.items.handed_out c.args.joined.now
-    c.items.joined
-    c.in-Ok-Some.field-0 c.in-Ok-Some.item _ _ c.in-Ok-Some.field-0-is c.items.invariant.joining c.in-Ok-Some.ensures.reads
-    c.in-Ok-Some.ensures.again in
-    omega (
-      arith,
-      few_handed_out c.args.limits c.args.first c.items.reading.decoder c.next_item.new.self.decoder
-          (g.R.Source.remaining c.args.reader.now) _ _ g.W.Target.contents g.W.Target.failures c.items.handed_out
-          c.args.joined.now c.items.joined
-          c.in-Ok-Some.item c.items.invariant.joining reading,
-    )
-
-pub items-preserved-in_ok-add-in-Ok-Some : goal.items-preserved-in_ok-add-in-Ok-Some
-items-preserved-in_ok-add-in-Ok-Some g c =
-    let reading =
-    next_handed_out c.args.limits c.args.first c.items.reading.decoder c.next_item.new.self.decoder
-    (g.R.Source.remaining c.args.reader.now) _ _ g.W.Target.contents g.W.Target.failures c.items.handed_out c.args.joined.now
-    c.items.joined
-    c.in-Ok-Some.field-0 c.in-Ok-Some.item _ _ c.in-Ok-Some.field-0-is c.items.invariant.joining c.in-Ok-Some.ensures.reads
-    c.in-Ok-Some.ensures.again in
-    record {
-      joining =
-          item_added c.args.limits c.args.first c.items.reading.decoder c.next_item.new.self.decoder
-          (g.R.Source.remaining c.args.reader.now) _ _ g.W.Target.contents g.W.Target.failures c.items.handed_out
-          c.args.joined.now c.items.joined
-          c.add.new.self c.in-Ok-Some.item tt c.items.invariant.joining reading c.in_ok-add-in-Ok-Some.ensures;
-      failures = c.in-Ok-Some.ensures.failures ∙ c.items.invariant.failures;
-      same = c.in-Ok-Some.ensures.same_reference ∙ c.items.invariant.same;
-    }
 
 pub items-smaller : goal.items-smaller
 items-smaller g c =
     let reading =
-    next_handed_out c.args.limits c.args.first c.items.reading.decoder c.next_item.new.self.decoder
+    next_handed_out c.args.limits c.args.first c.items.reading.decoder c.next_item_after.new.self.decoder
     (g.R.Source.remaining c.args.reader.now) _ _ g.W.Target.contents g.W.Target.failures c.items.handed_out c.args.joined.now
     c.items.joined
     c.in-Ok-Some.field-0 c.in-Ok-Some.item _ _ c.in-Ok-Some.field-0-is c.items.invariant.joining c.in-Ok-Some.ensures.reads
     c.in-Ok-Some.ensures.again in
     omega (
       arith,
-      few_handed_out c.args.limits c.args.first c.items.reading.decoder c.next_item.new.self.decoder
+      few_handed_out c.args.limits c.args.first c.items.reading.decoder c.next_item_after.new.self.decoder
           (g.R.Source.remaining c.args.reader.now) _ _ g.W.Target.contents g.W.Target.failures c.items.handed_out
           c.args.joined.now c.items.joined
           c.in-Ok-Some.item c.items.invariant.joining reading,
@@ -112,14 +78,14 @@ items-smaller g c =
 pub items-preserved : goal.items-preserved
 items-preserved g c =
     let reading =
-    next_handed_out c.args.limits c.args.first c.items.reading.decoder c.next_item.new.self.decoder
+    next_handed_out c.args.limits c.args.first c.items.reading.decoder c.next_item_after.new.self.decoder
     (g.R.Source.remaining c.args.reader.now) _ _ g.W.Target.contents g.W.Target.failures c.items.handed_out c.args.joined.now
     c.items.joined
     c.in-Ok-Some.field-0 c.in-Ok-Some.item _ _ c.in-Ok-Some.field-0-is c.items.invariant.joining c.in-Ok-Some.ensures.reads
     c.in-Ok-Some.ensures.again in
     record {
       joining =
-          item_added c.args.limits c.args.first c.items.reading.decoder c.next_item.new.self.decoder
+          item_added c.args.limits c.args.first c.items.reading.decoder c.next_item_after.new.self.decoder
           (g.R.Source.remaining c.args.reader.now) _ _ g.W.Target.contents g.W.Target.failures c.items.handed_out
           c.args.joined.now c.items.joined
           c.add.new.self c.in-Ok-Some.item tt c.items.invariant.joining reading c.in_ok-add-in-Ok-Some.ensures;
@@ -130,19 +96,19 @@ items-preserved g c =
 pub returns-in_err-add-in-Ok-Some-clause-adds : goal.returns-in_err-add-in-Ok-Some-clause-adds
 returns-in_err-add-in-Ok-Some-clause-adds g c =
     let reading =
-    next_handed_out c.args.limits c.args.first c.items.reading.decoder c.next_item.new.self.decoder
+    next_handed_out c.args.limits c.args.first c.items.reading.decoder c.next_item_after.new.self.decoder
     (g.R.Source.remaining c.args.reader.now) _ _ g.W.Target.contents g.W.Target.failures c.items.handed_out c.args.joined.now
     c.items.joined
     c.in-Ok-Some.field-0 c.in-Ok-Some.item _ _ c.in-Ok-Some.field-0-is c.items.invariant.joining c.in-Ok-Some.ensures.reads
     c.in-Ok-Some.ensures.again in
     let faulty : AddsInput c.args.limits g.W.Target.contents g.W.Target.failures c.args.first
-    (g.R.Source.remaining c.args.reader.now) (g.R.Source.remaining c.next_item.new.self.reader.now) c.from_residual.result
+    (g.R.Source.remaining c.args.reader.now) (g.R.Source.remaining c.next_item_after.new.self.reader.now) c.from_residual.result
     c.args.joined.now c.add.new.self
     = subst (λ (r : Result (Unit {0}) ToolFault). AddsInput c.args.limits g.W.Target.contents g.W.Target.failures c.args.first
-    (g.R.Source.remaining c.args.reader.now) (g.R.Source.remaining c.next_item.new.self.reader.now) r c.args.joined.now
+    (g.R.Source.remaining c.args.reader.now) (g.R.Source.remaining c.next_item_after.new.self.reader.now) r c.args.joined.now
     c.add.new.self)
     (sym (same_fault c.from_residual.result c.in_err-add-in-Ok-Some.field-0.0 c.from_residual.ensures.1))
-    (item_refused c.args.limits c.args.first c.items.reading.decoder c.next_item.new.self.decoder
+    (item_refused c.args.limits c.args.first c.items.reading.decoder c.next_item_after.new.self.decoder
     (g.R.Source.remaining c.args.reader.now) _ _ g.W.Target.contents g.W.Target.failures c.items.handed_out c.args.joined.now
     c.items.joined c.add.new.self
     c.in-Ok-Some.item c.in_err-add-in-Ok-Some.field-0.0 c.requires.limits c.items.invariant.joining reading
@@ -152,12 +118,12 @@ returns-in_err-add-in-Ok-Some-clause-adds g c =
 pub returns-in-Ok-None-clause-adds : goal.returns-in-Ok-None-clause-adds
 returns-in-Ok-None-clause-adds g c =
     let all : HasReadAll c.args.limits (g.R.Source.remaining c.args.reader.now)
-    (g.R.Source.remaining c.next_item.new.self.reader.now) c.items.invariant.joining.given
-    = none_read c.args.limits c.items.reading.decoder c.next_item.new.self.decoder (g.R.Source.remaining c.args.reader.now) _ _
+    (g.R.Source.remaining c.next_item_after.new.self.reader.now) c.items.invariant.joining.given
+    = none_read c.args.limits c.items.reading.decoder c.next_item_after.new.self.decoder (g.R.Source.remaining c.args.reader.now) _ _
     c.items.invariant.joining.given c.in-Ok-None.field-0 _ c.in-Ok-None.field-0-is
     c.items.invariant.joining.reading c.in-Ok-None.ensures.reads c.in-Ok-None.ensures.again (λ e. ap g.R.Source.remaining e) in
     let good : AddsInput c.args.limits g.W.Target.contents g.W.Target.failures c.args.first
-    (g.R.Source.remaining c.args.reader.now) (g.R.Source.remaining c.next_item.new.self.reader.now) (Ok tt) c.args.joined.now
+    (g.R.Source.remaining c.args.reader.now) (g.R.Source.remaining c.next_item_after.new.self.reader.now) (Ok tt) c.args.joined.now
     c.items.joined
     = input_joined c.args.limits c.args.first _ _ g.W.Target.contents g.W.Target.failures c.args.joined.now c.items.joined
     c.items.invariant.joining.given tt all c.items.invariant.joining.on in
@@ -166,15 +132,15 @@ returns-in-Ok-None-clause-adds g c =
 pub returns-in-Err-clause-adds : goal.returns-in-Err-clause-adds
 returns-in-Err-clause-adds g c =
     let stop : StopsAfter c.args.limits c.in-Err.fault (g.R.Source.remaining c.args.reader.now)
-    (g.R.Source.remaining c.next_item.new.self.reader.now) c.items.invariant.joining.given
-    = stops_after c.args.limits c.items.reading.decoder c.next_item.new.self.decoder (g.R.Source.remaining c.args.reader.now) _ _
+    (g.R.Source.remaining c.next_item_after.new.self.reader.now) c.items.invariant.joining.given
+    = stops_after c.args.limits c.items.reading.decoder c.next_item_after.new.self.decoder (g.R.Source.remaining c.args.reader.now) _ _
     c.items.invariant.joining.given c.in-Err.fault _ _
     c.items.invariant.joining.reading c.in-Err.ensures.reads c.in-Err.ensures.again in
     let stopped : AddsInput c.args.limits g.W.Target.contents g.W.Target.failures c.args.first
-    (g.R.Source.remaining c.args.reader.now) (g.R.Source.remaining c.next_item.new.self.reader.now)
+    (g.R.Source.remaining c.args.reader.now) (g.R.Source.remaining c.next_item_after.new.self.reader.now)
     (Err c.reading_fault.result) c.args.joined.now c.items.joined
     = subst (λ (f : ToolFault). AddsInput c.args.limits g.W.Target.contents g.W.Target.failures c.args.first
-    (g.R.Source.remaining c.args.reader.now) (g.R.Source.remaining c.next_item.new.self.reader.now) (Err f) c.args.joined.now
+    (g.R.Source.remaining c.args.reader.now) (g.R.Source.remaining c.next_item_after.new.self.reader.now) (Err f) c.args.joined.now
     c.items.joined)
     (sym c.reading_fault.ensures) (reading_stopped c.args.limits c.args.first _ _ g.W.Target.contents g.W.Target.failures
     c.args.joined.now c.items.joined c.items.invariant.joining.given c.in-Err.fault stop c.items.invariant.joining.on) in

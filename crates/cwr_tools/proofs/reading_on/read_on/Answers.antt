@@ -5,9 +5,9 @@ use Rattle.cwr_tools.proofs.lemmas.ToldReports.{passing_for, told_alone}
 use Rattle.cwr_tools.proofs.reading_on.read_on.Goals as goal
 
 pub returns-then-not-passes-clause-told : goal.returns-then-not-passes-clause-told
-returns-then-not-passes-clause-told g c = told_alone _ _ _ c.args.counts.now _ _ _ c.next_item.ensures.reads
+returns-then-not-passes-clause-told g c = told_alone _ _ _ c.args.counts.now _ _ _ c.next_item_after.ensures.reads
     (if_some (again c.args.reading.now.decoder.state) _ _ (λ outcome h. (h.0, h.1, ap g.R.Source.remaining h.2))
-    c.next_item.ensures.again)
+    c.next_item_after.ensures.again)
 
 pub returns-clause-told : goal.returns-clause-told
 returns-clause-told g c = record {

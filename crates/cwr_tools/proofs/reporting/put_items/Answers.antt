@@ -203,61 +203,6 @@ items-preserved g c =
       same = c.in-Ok-Some.ensures.same_reference ∙ c.items.invariant.same;
     }
 
-pub items-smaller-in_ok-put_item-in-Ok-Some : goal.items-smaller-in_ok-put_item-in-Ok-Some
-items-smaller-in_ok-put_item-in-Ok-Some g c =
-    let told =
-    (told_reporting _ c.requires.stands.0 _ _ _ _ _ _ _ _ _ _ _ _ _ _
-    (passes_over c.passes.result _ c.requires.stands.0 _ (λ t. c.passes.ensures t c.requires.stands.0))
-    (c.items.invariant.reporting c.requires.stands.0 c.requires.stands.1) c.in-Ok-Some.ensures.told) in
-    let reading =
-    (reads_item c.requires.stands.0 _ c.args.limits c.in-Ok-Some.ensures.told.reads.between c.read_on.new.reading.decoder
-    (g.R.Source.remaining c.args.reader.now) _ _ g.W.Target.contents g.W.Target.failures c.read_on.new.counts c.args.sink.now
-    c.items.sink
-    c.in-Ok-Some.field-0 c.in-Ok-Some.item _ _ c.in-Ok-Some.field-0-is told c.in-Ok-Some.ensures.told.reads.reads
-    c.in-Ok-Some.ensures.told.reads.again) in
-    let room =
-    (next_room c.args.limits c.read_on.new.reading.decoder (g.R.Source.remaining c.args.reader.now) _ c.read_on.new.counts
-    told.given c.in-Ok-Some.item reading told.counts) in
-    omega (
-      arith,
-      room.groups,
-      room.transactions,
-      room.records,
-      total_grows c.read_on.new.counts c.in-Ok-Some.item,
-      told_grows _ c.requires.stands.0 _ _ _ _ _ _ _ _ _ _ _ _ _ _
-          (c.items.invariant.reporting c.requires.stands.0 c.requires.stands.1) c.in-Ok-Some.ensures.told,
-      ap (λ (n : Totals). n.groups) c.count.ensures,
-      ap (λ (n : Totals). n.transactions) c.count.ensures,
-      ap (λ (n : Totals). n.records) c.count.ensures,
-    )
-
-pub items-preserved-in_ok-put_item-in-Ok-Some : goal.items-preserved-in_ok-put_item-in-Ok-Some
-items-preserved-in_ok-put_item-in-Ok-Some g c =
-    record {
-      reporting = λ of s.
-          let told =
-          (told_reporting _ of _ _ _ _ _ _ _ _ _ _ _ _ _ _ (passes_over c.passes.result _ of _ (λ t. c.passes.ensures t of))
-          (c.items.invariant.reporting of s) c.in-Ok-Some.ensures.told) in
-          let reading =
-          (reads_item of _ c.args.limits c.in-Ok-Some.ensures.told.reads.between c.read_on.new.reading.decoder
-          (g.R.Source.remaining c.args.reader.now) _ _ g.W.Target.contents g.W.Target.failures c.read_on.new.counts
-          c.args.sink.now c.items.sink
-          c.in-Ok-Some.field-0 c.in-Ok-Some.item _ _ c.in-Ok-Some.field-0-is told c.in-Ok-Some.ensures.told.reads.reads
-          c.in-Ok-Some.ensures.told.reads.again) in
-          subst (λ (counts : Totals). IsReporting of (g.L.Report.stands c.put_item.new.self of) c.args.limits
-          c.read_on.new.reading.decoder (g.R.Source.remaining c.args.reader.now)
-          (g.R.Source.remaining c.read_on.new.reading.reader.now)
-          g.W.Target.contents g.W.Target.failures counts c.args.sink.now c.put_item.new.sink) (sym c.count.ensures)
-          (reports_item of _ (g.L.Report.stands c.put_item.new.self of) c.args.limits c.in-Ok-Some.ensures.told.reads.between
-          c.read_on.new.reading.decoder (g.R.Source.remaining c.args.reader.now) _ _ g.W.Target.contents g.W.Target.failures
-          c.read_on.new.counts c.args.sink.now c.items.sink c.put_item.new.sink c.in-Ok-Some.item tt told reading
-          (c.in_ok-put_item-in-Ok-Some.ensures.puts of told.given told.counts told.here)
-          (c.in_ok-put_item-in-Ok-Some.ensures.stands of told.given told.counts told.here));
-      failures = c.in-Ok-Some.ensures.failures ∙ c.items.invariant.failures;
-      last = λ held. holds_more _ _ _ _ _ (c.items.invariant.last held) c.in-Ok-Some.ensures.last;
-      same = c.in-Ok-Some.ensures.same_reference ∙ c.items.invariant.same;
-    }
-
 pub returns-in_err-put_item-in-Ok-Some-clause-puts : goal.returns-in_err-put_item-in-Ok-Some-clause-puts
 returns-in_err-put_item-in-Ok-Some-clause-puts g c = λ of s.
     let told =

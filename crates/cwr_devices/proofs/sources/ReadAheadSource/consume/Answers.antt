@@ -1,6 +1,6 @@
 use Rattle.std.proofs.Common.{arith}
 use Rattle.cwr_devices.proofs.lemmas.BytesReadAhead.{consumed}
-use Rattle.cwr_devices.proofs.counted.CountedSource.consume.Goals as goal
+use Rattle.cwr_devices.proofs.sources.ReadAheadSource.consume.Goals as goal
 
 pub returns-clause-bytes : goal.returns-clause-bytes
 returns-clause-bytes g c =
