@@ -4,6 +4,8 @@ pub mod AdviceTold
 pub mod Awaited
 -- Which faults are told of a line.
 pub mod CellsTold
+-- What was told where a device or memory failed.
+pub mod CutShort
 -- What a lint holds after records of a good text, of which one may have had a wrong number: whatever it counts by the
 -- numbers, what is there is counted right, and each sequence awaits the number that belongs there.
 pub mod FairStates

@@ -1,4 +1,5 @@
 -- What the code keeps, and what its calls do to that.
+pub mod CutShort
 pub mod LinesRead
 pub mod Lints
 pub mod OneCells

@@ -7,6 +7,7 @@ ghost use Rattle.cwr_values.specs.Format.Begun.{BeginsWithOneMore};
 ghost use Rattle.cwr_lint.specs.Format.FaultsOfLines.{ended_lines, said_if, told_lines};
 ghost use Rattle.cwr_lint.specs.Steps.Runs.{asking_of};
 ghost use Rattle.cwr_lint_lines.specs.Steps.Cells.{held_cut};
+ghost use Rattle.cwr_lint.specs.Steps.CutShort.{IsNoneOr, Leaves};
 ghost use Rattle.cwr_lint.specs.Steps.Puts.{PutsWith};
 ghost use Rattle.cwr_lint_lines.specs.Steps.States.{is_whole};
 ghost use Rattle.cwr_lint_lines.specs.declared.takings.Taking.{Taking};
@@ -171,8 +172,10 @@ fn put_told<W: Target>(
 ) -> Result<(), ToolFault>
     requires unfailed { has_failed sink.old ≡ false }
     requires few { numbered ≡ true → first + length transaction.now ≤ 100000000 }
-    ensures { PutsWith (λ _ text. text ≡ told_lines (asking_of asked.now) numbered group sequence
-        first transaction.now) W.contents W.failures result sink.old sink.new }
+    ensures puts { PutsWith (λ _ text. text ≡ told_lines (asking_of asked.now) numbered group
+        sequence first transaction.now) W.contents W.failures result sink.old sink.new }
+    ensures leaves { Leaves (IsNoneOr (told_lines (asking_of asked.now) numbered group sequence
+        first transaction.now)) W.contents result sink.old sink.new }
 {
     let explained = is_worded(asked.name.is_some(), numbered);
     match said_if(numbered, asked.said) {
@@ -210,8 +213,11 @@ fn put_findings<W: Target>(
     sink: &mut Sink<W>,
 ) -> Result<(), ToolFault>
     requires { has_failed sink.old ≡ false }
-    ensures { PutsWith (λ _ text. text ≡ ended_lines (asking_of asked.now) (ended_in state.now
-        (Some group.now) (Some transaction.now))) W.contents W.failures result sink.old sink.new }
+    ensures puts { PutsWith (λ _ text. text ≡ ended_lines (asking_of asked.now)
+        (ended_in state.now (Some group.now) (Some transaction.now))) W.contents W.failures result
+        sink.old sink.new }
+    ensures leaves { Leaves (IsNoneOr (ended_lines (asking_of asked.now) (ended_in state.now
+        (Some group.now) (Some transaction.now)))) W.contents result sink.old sink.new }
 {
     let number = group.open_transaction().number;
     let count = transaction.len() as u64;
@@ -237,8 +243,11 @@ fn put_open<W: Target>(
     sink: &mut Sink<W>,
 ) -> Result<(), ToolFault>
     requires { has_failed sink.old ≡ false }
-    ensures { PutsWith (λ _ text. text ≡ ended_lines (asking_of asked.now) (ended_in state.now
-        state.now.group begun.now)) W.contents W.failures result sink.old sink.new }
+    ensures puts { PutsWith (λ _ text. text ≡ ended_lines (asking_of asked.now)
+        (ended_in state.now state.now.group begun.now)) W.contents W.failures result sink.old
+        sink.new }
+    ensures leaves { Leaves (IsNoneOr (ended_lines (asking_of asked.now) (ended_in state.now
+        state.now.group begun.now))) W.contents result sink.old sink.new }
 {
     match (&state.group, begun) {
         (Some(group), Some(transaction)) => put_findings(
@@ -264,8 +273,10 @@ pub(crate) fn put_ended<W: Target>(
     sink: &mut Sink<W>,
 ) -> Result<(), ToolFault>
     requires { has_failed sink.old ≡ false }
-    ensures { PutsWith (λ _ text. text ≡ ended_lines (asking_of asked.now)
+    ensures puts { PutsWith (λ _ text. text ≡ ended_lines (asking_of asked.now)
         (ended_by judged.now state.now begun.now)) W.contents W.failures result sink.old sink.new }
+    ensures leaves { Leaves (IsNoneOr (ended_lines (asking_of asked.now)
+        (ended_by judged.now state.now begun.now))) W.contents result sink.old sink.new }
 {
     if ends_whole(state, judged) {
         put_open(asked, state, begun, told, sink)

@@ -14,7 +14,7 @@ ghost use Rattle.cwr_advise.specs.Format.AdviceLines.{said_in};
 ghost use Rattle.cwr_lint.specs.Format.Wanted.{lines_before_fault, lines_linted, said_when, wanting};
 ghost use Rattle.cwr_lint_lines.specs.Format.FaultsAtFields.{fields_end, one_more_line};
 ghost use Rattle.cwr_lint_lines.specs.Steps.Fronts.{state_at};
-ghost use Rattle.cwr_lint.specs.Steps.Walks.{AfterJudged, judged_in, state_by};
+ghost use Rattle.cwr_lint.specs.Steps.Walks.{AfterJudged, ended_by, judged_in, state_by};
 ghost use Rattle.cwr_fields.specs.Format.Bytes.{is_spaces};
 ghost use Rattle.cwr_lint_lines.specs.Steps.JudgedLines.{IsFaultFrom, IsJudged, ends_by, judged_at, scope_by};
 ghost use Rattle.cwr_lint_lines.specs.Steps.Cells.{held_cut};
@@ -22,7 +22,9 @@ ghost use Rattle.cwr_lint.specs.Steps.LinesRead.{IsOfLine, held_raw};
 ghost use Rattle.cwr_lint.specs.Steps.Lints.{EndsRun, Lints, Tells, counted};
 ghost use Rattle.cwr_lint.specs.Steps.Puts.{TellsWith, AppendsSuch, PutsWith, TellsRead};
 ghost use Rattle.cwr_lint.specs.Steps.Runs.{BeginsAt, TakesAll, TakesFirst, TakesFrom, TakesLine, TakesNextIf, TakesRead, TellsJudged, TellsRun, TellsSoMany};
-ghost use Rattle.cwr_lint.specs.Steps.Runs.{TellsAfter, TellsToEnd, asking_of};
+ghost use Rattle.cwr_lint.specs.Steps.CutShort.{AppendsUpTo, IsFirstPart, Leaves, TakesFromPart, TakesNextPart, TakesSome, TellsAfterUpTo};
+ghost use Rattle.cwr_lint.specs.Steps.CutShort.{TellsPart, TellsRunUpTo, TellsSome, TellsUpTo, WalksPart};
+ghost use Rattle.cwr_lint.specs.Steps.Runs.{TellsAfter, TellsToEnd, asking_of, walk_of};
 
 use crate::findings::{after_line, put_ended};
 use crate::puts::{Asked, Shown, put_end, report_number};
@@ -92,9 +94,12 @@ impl LintRun {
         requires unfailed { has_failed sink.old ≡ false }
         requires judged { IsJudged line.now judged.now }
         requires first { 1 ≤ from }
-        ensures { PutsWith (TellsSoMany (asking_of asked.now)
+        ensures puts { PutsWith (TellsSoMany (asking_of asked.now)
             (judged_in self.now.state line.now judged.now) from (fields_end (held_kind line.now)))
             W.contents W.failures result sink.old sink.new }
+        ensures leaves { Leaves (TellsSome (asking_of asked.now)
+            (judged_in self.now.state line.now judged.now) from (fields_end (held_kind line.now)))
+            W.contents result sink.old sink.new }
     {
         let mut told: u64 = 0;
         for field in 1..judged.places() {
@@ -126,6 +131,10 @@ impl LintRun {
         requires first { 1 ≤ from }
         ensures puts { PutsWith (TellsJudged (asking_of asked.now) self.old.state
             self.old.begun line.now judged.now from) W.contents W.failures result sink.old
+            sink.new }
+        ensures leaves { Leaves (TellsPart (asking_of asked.now)
+            (judged_in self.old.state line.now judged.now)
+            (ended_by judged.now self.old.state self.old.begun) from) W.contents result sink.old
             sink.new }
         ensures state { self.new.state ≡ self.old.state }
         ensures begun { self.new.begun ≡ self.old.begun }
@@ -187,9 +196,11 @@ impl LintRun {
         requires unfailed { has_failed sink.old ≡ false }
         requires first { 1 ≤ from }
         requires blank { is_blank ≡ is_spaces (held_body line.now) }
-        ensures { PutsWith
+        ensures puts { PutsWith
             (λ _. TakesLine (asking_of asked.now) (held_cut line.now) from self.old self.new)
             W.contents W.failures result sink.old sink.new }
+        ensures leaves { Leaves (WalksPart (asking_of asked.now) (walk_of self.old)
+            (held_cut line.now) from) W.contents result sink.old sink.new }
     {
         let judged = Judged::of(&self.state, line);
         let told = match self.tell_all(asked, &judged, line, from, shown, sink) {
@@ -215,8 +226,11 @@ impl LintRun {
     ) -> Result<bool, ToolFault>
         requires unfailed { has_failed sink.old ≡ false }
         requires line { IsOfLine raw.now }
-        ensures { PutsWith (λ more. TakesRead (asking_of asked.now) (held_cut (held_raw raw.now))
-            self.old self.new more) W.contents W.failures result sink.old sink.new }
+        ensures puts { PutsWith (λ more. TakesRead (asking_of asked.now)
+            (held_cut (held_raw raw.now)) self.old self.new more) W.contents W.failures result
+            sink.old sink.new }
+        ensures leaves { Leaves (WalksPart (asking_of asked.now) (walk_of self.old)
+            (held_cut (held_raw raw.now)) 1) W.contents result sink.old sink.new }
     {
         raw.cut_into(cut);
         let shown = self.shown(raw, Some(before));
@@ -237,9 +251,11 @@ impl LintRun {
         sink: &mut Sink<W>,
     ) -> Result<bool, ToolFault>
         requires { has_failed sink.old ≡ false }
-        ensures { TellsWith R.remaining R.failures reader.old reader.new W.contents W.failures
+        ensures tells { TellsWith R.remaining R.failures reader.old reader.new W.contents W.failures
             (TakesNextIf (asking_of asked.now) before.now raw.new self.old self.new)
             result sink.old sink.new }
+        ensures leaves { Leaves (TakesNextPart (asking_of asked.now) (R.remaining reader.old)
+            before.now self.old) W.contents result sink.old sink.new }
     {
         if self.state.over || !before.has_ended() {
             return Ok(false);
@@ -261,9 +277,11 @@ impl LintRun {
         sink: &mut Sink<W>,
     ) -> Result<(), ToolFault>
         requires { has_failed sink.old ≡ false }
-        ensures { TellsRead R.remaining R.failures reader.old reader.new W.contents W.failures
+        ensures tells { TellsRead R.remaining R.failures reader.old reader.new W.contents W.failures
             (TakesAll (asking_of asked.now) first.ended self.old self.new)
             result sink.old sink.new }
+        ensures leaves { Leaves (TakesSome (asking_of asked.now) (R.remaining reader.old)
+            first.ended self.old) W.contents result sink.old sink.new }
     {
         let mut before = first;
         let mut raw = RawLine::new();
@@ -289,9 +307,11 @@ impl LintRun {
     ) -> Result<(), ToolFault>
         requires unfailed { has_failed sink.old ≡ false }
         requires line { IsOfLine raw.now }
-        ensures { PutsWith (λ _. TakesFirst (asking_of asked.now) refusal.now
+        ensures puts { PutsWith (λ _. TakesFirst (asking_of asked.now) refusal.now
             (held_cut (held_raw raw.now)) self.old
             self.new) W.contents W.failures result sink.old sink.new }
+        ensures leaves { Leaves (IsFirstPart (asking_of asked.now) (walk_of self.old) refusal.now
+            (held_cut (held_raw raw.now))) W.contents result sink.old sink.new }
     {
         raw.cut_into(cut);
         let shown = self.shown(raw, None);
@@ -315,9 +335,11 @@ impl LintRun {
     ) -> Result<(), ToolFault>
         requires unfailed { has_failed sink.old ≡ false }
         requires line { IsOfLine raw }
-        ensures { TellsRead R.remaining R.failures reader.old reader.new W.contents W.failures
+        ensures tells { TellsRead R.remaining R.failures reader.old reader.new W.contents W.failures
             (TakesFrom (asking_of asked.now) refusal.now raw self.old self.new)
             result sink.old sink.new }
+        ensures leaves { Leaves (TakesFromPart (asking_of asked.now) refusal.now raw self.old
+            (R.remaining reader.old)) W.contents result sink.old sink.new }
     {
         let mut cut = LineBuf::new();
         match self.take_first(asked, refusal, &raw, &mut cut, sink) {
@@ -338,9 +360,11 @@ impl LintRun {
         requires unfailed { has_failed sink.old ≡ false }
         requires line { IsOfLine raw }
         requires begins { BeginsAt refusal.now self.old }
-        ensures { TellsRead R.remaining R.failures reader.old reader.new W.contents W.failures
+        ensures tells { TellsRead R.remaining R.failures reader.old reader.new W.contents W.failures
             (TellsToEnd (asking_of asked.now) self.old.state refusal.now raw)
             result sink.old sink.new }
+        ensures leaves { Leaves (TellsUpTo (asking_of asked.now) self.old.state refusal.now raw
+            (R.remaining reader.old)) W.contents result sink.old sink.new }
     {
         match self.tell_from(asked, refusal, reader, raw, sink) {
             Ok(()) => put_end(
@@ -366,9 +390,11 @@ impl LintRun {
     ) -> Result<(), ToolFault>
         requires unfailed { has_failed sink.old ≡ false }
         requires begins { BeginsAt refusal.now self.old }
-        ensures { TellsRead R.remaining R.failures reader.old reader.new W.contents W.failures
+        ensures tells { TellsRead R.remaining R.failures reader.old reader.new W.contents W.failures
             (TellsRun (asking_of asked.now) self.old.state refusal.now last.now.bytes)
             result sink.old sink.new }
+        ensures leaves { Leaves (TellsRunUpTo (asking_of asked.now) self.old.state refusal.now
+            last.now.bytes (R.remaining reader.old)) W.contents result sink.old sink.new }
     {
         match RawLine::of_last(&last.bytes, reader) {
             Ok(raw) => self.tell_to_end(asked, refusal, reader, raw, sink),
@@ -440,6 +466,8 @@ fn tell_faults<R: Source, W: Target>(
     ensures told { OnOk result.1 (AppendsSuch W.contents writer result.0 (TellsAfter
         (asking_of asked.now) last.now refusal (R.remaining reader.old) (R.remaining reader.new))) }
     ensures words { AddsWords W.contents writer result.0 }
+    ensures leaves { AppendsUpTo W.contents writer result.0 result.1 (TellsAfterUpTo
+        (asking_of asked.now) last.now refusal (R.remaining reader.old)) }
     ensures counted { CountsAfter W.contents before writer result.0 result.1 }
     ensures taken { TakesMore (R.remaining reader.old) (R.remaining reader.new) }
     ensures answered { IsAnswerTo (Verdict.Refused refusal) result.1 }
@@ -506,6 +534,9 @@ fn check_front<R: Source, W: Target + Drop>(
 /// refusal first, with the findings between them, and at the end how many faults and findings it told, and in how many lines. The
 /// answer is the verdict of `check`. With a name for the input, lines under each say what `explain` says of it. Where advice is wanted,
 /// that on a transaction follows its findings.
+///
+/// Where the reader or memory fails after the first fault, what is told up to there is written, and where the writer fails, the first of
+/// the bytes that would be: so many as the fault says.
 pub fn lint<R: Source, W: Target + Drop>(
     alloc: Global,
     limits: Limits,
@@ -514,6 +545,8 @@ pub fn lint<R: Source, W: Target + Drop>(
     reader: &mut R,
     writer: W,
 ) -> (W, Result<Verdict, ToolFault>)
+    // Of any reader, by what was read of it: the lines of a check, and what stands after them where a
+    // device or memory fails.
     ensures lints { Lints (wanting (is_some name.entry) advised) limits (R.remaining reader.old)
         (R.remaining reader.new) W.contents writer result.0 result.1 }
     ensures tells { IfOk result.1 (Tells (wanting (is_some name.entry) advised) limits

@@ -1,12 +1,13 @@
 //! The lines that a lint puts: of one fault with what explains it, and how an input ended.
 
-ghost use Rattle.std.specs.Prelude.{◌≡◌, false};
+ghost use Rattle.std.specs.Prelude.{◌≡◌, ◌++◌, false};
 ghost use Rattle.std.specs.Option.{is_some};
 ghost use Rattle.cwr_devices.specs.Steps.Sinks.{has_failed};
 ghost use Rattle.cwr_levels.specs.Format.ReportLines.{fault_line, faults_line};
 ghost use Rattle.cwr_lint_lines.specs.Format.FaultsAtFields.{report_number};
 ghost use Rattle.cwr_lint.specs.Format.FaultsOfLines.{IsFaultText};
 ghost use Rattle.cwr_lint.specs.Format.Told.{truncated_unless};
+ghost use Rattle.cwr_lint.specs.Steps.CutShort.{IsFrontOf, Leaves};
 ghost use Rattle.cwr_lint.specs.Steps.Puts.{PutsAfter, PutsWith, tool_result};
 ghost use Rattle.cwr_lint.specs.Steps.Runs.{AreWords, IsEndText, asking_of};
 
@@ -64,7 +65,9 @@ fn as_told(put: Result<(), SinkFault>) -> Result<(), ToolFault>
 /// Puts the line of a fault.
 fn put_fault_line<W: Target>(fault: &Refusal, sink: &mut Sink<W>) -> Result<(), ToolFault>
     requires { has_failed sink.old ≡ false }
-    ensures { PutsAfter W.contents W.failures (fault_line fault.now) result sink.old sink.new }
+    ensures puts { PutsAfter W.contents W.failures (fault_line fault.now) result sink.old sink.new }
+    ensures leaves { Leaves (λ text. text ≡ fault_line fault.now) W.contents result sink.old
+        sink.new }
 {
     as_told(fault_line(fault, sink))
 }
@@ -72,7 +75,8 @@ fn put_fault_line<W: Target>(fault: &Refusal, sink: &mut Sink<W>) -> Result<(), 
 /// Puts lines that explain a fault.
 fn put_words<W: Target>(words: &[u8], sink: &mut Sink<W>) -> Result<(), ToolFault>
     requires { has_failed sink.old ≡ false }
-    ensures { PutsAfter W.contents W.failures words.now result sink.old sink.new }
+    ensures puts { PutsAfter W.contents W.failures words.now result sink.old sink.new }
+    ensures leaves { Leaves (λ text. text ≡ words.now) W.contents result sink.old sink.new }
 {
     as_told(sink.put(words))
 }
@@ -80,8 +84,10 @@ fn put_words<W: Target>(words: &[u8], sink: &mut Sink<W>) -> Result<(), ToolFaul
 /// Puts that an input ended too early, after so many lines, unless it is over.
 fn put_truncated<W: Target>(is_over: bool, lines: u64, sink: &mut Sink<W>) -> Result<(), ToolFault>
     requires { has_failed sink.old ≡ false }
-    ensures { PutsAfter W.contents W.failures (truncated_unless is_over lines) result sink.old
+    ensures puts { PutsAfter W.contents W.failures (truncated_unless is_over lines) result sink.old
         sink.new }
+    ensures leaves { Leaves (λ text. text ≡ truncated_unless is_over lines) W.contents result
+        sink.old sink.new }
 {
     match is_over {
         true => Ok(()),
@@ -97,8 +103,10 @@ fn put_faults_line<W: Target>(
     sink: &mut Sink<W>,
 ) -> Result<(), ToolFault>
     requires { has_failed sink.old ≡ false }
-    ensures { PutsAfter W.contents W.failures (faults_line faults findings lines) result sink.old
-        sink.new }
+    ensures puts { PutsAfter W.contents W.failures (faults_line faults findings lines) result
+        sink.old sink.new }
+    ensures leaves { Leaves (λ text. text ≡ faults_line faults findings lines) W.contents result
+        sink.old sink.new }
 {
     as_told(faults_line(faults, findings, lines, sink))
 }
@@ -112,8 +120,10 @@ pub(crate) fn put_end<W: Target>(
     sink: &mut Sink<W>,
 ) -> Result<(), ToolFault>
     requires { has_failed sink.old ≡ false }
-    ensures { PutsWith (λ _. IsEndText is_over faults findings lines) W.contents W.failures result
-        sink.old sink.new }
+    ensures puts { PutsWith (λ _. IsEndText is_over faults findings lines) W.contents W.failures
+        result sink.old sink.new }
+    ensures leaves { Leaves (IsFrontOf (truncated_unless is_over lines
+        ++ faults_line faults findings lines)) W.contents result sink.old sink.new }
 {
     match put_truncated(is_over, lines, sink) {
         Ok(()) => put_faults_line(faults, findings, lines, sink),
@@ -140,8 +150,10 @@ impl Asked<'_> {
         sink: &mut Sink<W>,
     ) -> Result<(), ToolFault>
         requires { has_failed sink.old ≡ false }
-        ensures { PutsWith (λ _. AreWords (is_some self.now.name)) W.contents W.failures result
+        ensures puts { PutsWith (λ _. AreWords (is_some self.now.name)) W.contents W.failures result
             sink.old sink.new }
+        ensures leaves { Leaves (AreWords (is_some self.now.name)) W.contents result sink.old
+            sink.new }
     {
         let Some(name) = self.name else {
             return Ok(());
@@ -172,8 +184,10 @@ impl Asked<'_> {
         sink: &mut Sink<W>,
     ) -> Result<(), ToolFault>
         requires { has_failed sink.old ≡ false }
-        ensures { PutsWith (λ _. IsFaultText (asking_of self.now) fault.now) W.contents W.failures
-            result sink.old sink.new }
+        ensures puts { PutsWith (λ _. IsFaultText (asking_of self.now) fault.now) W.contents
+            W.failures result sink.old sink.new }
+        ensures leaves { Leaves (IsFaultText (asking_of self.now) fault.now) W.contents result
+            sink.old sink.new }
     {
         match put_fault_line(fault, sink) {
             Ok(()) => self.put_explanation(fault, line, is_first, sink),

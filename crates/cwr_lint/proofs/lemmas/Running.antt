@@ -77,7 +77,7 @@ walks_more asked old between new (first ∷ lines) line told here text more (ope
   ap (λ (l : List ℕ). l ++ more) f ∙ append_assoc b d more,
 )
 
-all_more : (lines : List (List ℕ)) (line : List ℕ) → AllByRecursion (λ l. IsFalse (list_any is_lf l)) lines
+pub all_more : (lines : List (List ℕ)) (line : List ℕ) → AllByRecursion (λ l. IsFalse (list_any is_lf l)) lines
     → IsFalse (list_any is_lf line) → AllByRecursion (λ l. IsFalse (list_any is_lf l)) (lines ++ line ∷ [])
 all_more [] line h k = (k, tt)
 all_more (first ∷ lines) line h k = (h.0, all_more lines line h.1 k)

@@ -1,7 +1,8 @@
 -- A whole lint: a check up to the first fault, and what follows it.
 use Rattle.std.proofs.Common.{◌≡◌, ℕ, ◌-◌, ◌≤◌, List, [], ◌∷◌, ◌++◌, length, Option, Some, None, refl, sym, ap, subst, ◌∙◌, arith}
 use Rattle.std.proofs.Common.{inl, inr, append_assoc, append-nil, ap₂, drop}
-use Rattle.std.specs.Prelude.{◌⊎◌, ◌^◌, Bool, true, false, Result, Ok, Err, IfOk, IfSome, IsSomeAnd, OnOk}
+use Rattle.std.specs.Prelude.{◌⊎◌, ◌^◌, Bool, true, false, Result, Ok, Err, IfErr, IfOk, IfSome, IsFalse, IsSomeAnd, OnOk}
+use Rattle.std.specs.List.{AllByRecursion, list_any}
 use Rattle.std.specs.Io.KnownBytes.{Appends, Consumes, IsAtEnd}
 use Rattle.std.proofs.lemmas.List.{length-append}
 use Rattle.cwr_values.specs.Format.Begins.{rows_so_far}
@@ -18,7 +19,9 @@ use Rattle.cwr_tools.specs.Steps.Verdicts.{IsReadLast, IsRightVerdict, StopsAfte
 use Rattle.cwr_advise.specs.Format.AdviceLines.{said_in}
 use Rattle.cwr_lint.specs.Format.FaultsOfLines.{Asking}
 use Rattle.cwr_lint.specs.Format.Wanted.{Wanted, asking_for, lines_before_fault, lines_linted, lines_up_to, lines_with, said_when}
-use Rattle.cwr_lint.specs.Steps.LinesRead.{HoldsRaw, IsAllRead, IsTextOf, spelled}
+use Rattle.cwr_lint.specs.declared.raw_lines.RawLine.{RawLine}
+use Rattle.cwr_lint.specs.Steps.CutShort.{AppendsUpTo, IsToldUpTo, TellsAfterUpTo, TellsLastUpTo}
+use Rattle.cwr_lint.specs.Steps.LinesRead.{GoesOn, HoldsRaw, IsAllRead, IsTextOf, ReadsLast, spelled}
 use Rattle.cwr_lint.specs.Steps.Runs.{TellsRun}
 use Rattle.cwr_lint_lines.specs.Steps.Fronts.{state_at}
 use Rattle.cwr_lint.specs.Steps.Walks.{IsTold}
@@ -41,7 +44,9 @@ use Rattle.cwr_judge.specs.Format.Items.{value_items}
 use Rattle.cwr_judge.proofs.lemmas.Accepted.{accepted_once}
 use Rattle.cwr_tools.specs.Steps.Reports.{Reports, StandsAfter}
 use Rattle.cwr_advice.specs.declared.said.Said.{Said}
-use Rattle.cwr_lint.specs.Steps.Lints.{AreLinesRead, Lints, Tells, TellsFaults}
+use Rattle.cwr_lines.specs.Format.Lines.{is_lf}
+use Rattle.cwr_lint.specs.Steps.Lints.{AreLinesRead, AreWordsUpTo, Lints, Tells, TellsFaults, TellsUpToFault}
+use Rattle.cwr_lint.proofs.lemmas.CutShort.{cut_as}
 
 -- nothing follows a verdict that is no refusal: what was written is what a check writes
 pub tells_good : {W : Type 0} (wanted : Wanted) (limits : Limits) (before after : Option (List ℕ))
@@ -161,6 +166,62 @@ built wanted limits before left after contents old between new refusal asking la
       rest (inl e) = inl (t.read.all e)
       rest (inr r) = inr r
 
+-- the bytes that were read are the text of these lines
+lines_read : (limits : Limits) (known : List ℕ) (left between after : Option (List ℕ)) (refusal : Refusal) (last : LastRead)
+    (raw : RawLine) (more : List ℕ) (lines : List (List ℕ)) (ended : Bool)
+    → (s : StopsAt limits (read_faults.Refused refusal) (Some known) left last) → ReadsLast left between last.bytes raw
+    → Consumes between after more → GoesOn raw.ended more lines ended
+    → AllByRecursion (λ line. IsFalse (list_any is_lf line)) lines
+    → (refused : List ℕ) × HoldsRaw refused raw × (bytes : List ℕ) × Consumes (Some known) after bytes
+    × AreLinesRead refusal s.0.decoder.tally ended bytes refused lines
+lines_read limits known left between after refusal last raw more lines ended s r taken goes no_lf = (
+  stopped.line.bytes ++ found.0,
+  found.1,
+  stop.read.input ++ (r.bytes ++ more),
+  Consumes-trans (Some known) left after stop.read.input (r.bytes ++ more) stop.read.consumed
+      (Consumes-trans left between after r.bytes more r.taken taken),
+  record {
+    front = stopped.lines;
+    records = stopped.records;
+    in_order = stopped.read.in_order;
+    rows = stopped.read.rows;
+    counted = stopped.read.counted;
+    no_lf = (found.1.no_lf, no_lf);
+    number =
+        omega (
+          arith,
+          stopped.number,
+          as_many (rows_so_far stopped.records) stopped.lines stopped.read.rows,
+          length-rows_so_far stopped.records,
+        );
+    text =
+        subst (λ (l : List (List ℕ)). IsTextOf ended (stop.read.input ++ (r.bytes ++ more)) l)
+        (append_assoc stopped.lines ((stopped.line.bytes ++ found.0) ∷ []) lines)
+        (subst (λ (l : List ℕ). IsTextOf ended l ((stopped.lines ++ (stopped.line.bytes ++ found.0) ∷ []) ++ lines))
+        (append_assoc stop.read.input r.bytes more)
+        (goes (stop.read.input ++ r.bytes) (stopped.lines ++ (stopped.line.bytes ++ found.0) ∷ [])
+        (first_text raw.ended found.2)));
+  },
+) where
+  stop : StopsRun limits (read_faults.Refused refusal) (Some known) left
+  stop = s.0
+
+  stopped : IsStopped s.0.decoder s.0.read.input s.0.given refusal
+  stopped = subst (λ (state : State). RepresentsIn state s.0.decoder s.0.read.input s.0.given) s.0.leaves s.0.read.stands.here
+
+  found : (rest : List ℕ) × HoldsRaw (stopped.line.bytes ++ rest) raw
+      × (s.0.read.input ++ r.bytes ≡ text_of stopped.lines ++ spelled raw.ended (stopped.line.bytes ++ rest))
+  found =
+      r.line s.0.read.input (text_of stopped.lines) stopped.line.bytes s.2
+      (refused_last s.0.decoder s.0.read.input s.0.given refusal stopped)
+
+  first_text : (b : Bool) → s.0.read.input ++ r.bytes ≡ text_of stopped.lines ++ spelled b (stopped.line.bytes ++ found.0)
+      → IsTextOf b (s.0.read.input ++ r.bytes) (stopped.lines ++ (stopped.line.bytes ++ found.0) ∷ [])
+  first_text true e = e ∙ sym (text_of-push stopped.lines (stopped.line.bytes ++ found.0))
+  first_text false e =
+      ap (λ (l : List ℕ). l ++ 10 ∷ []) e ∙ append_assoc (text_of stopped.lines) (stopped.line.bytes ++ found.0) (10 ∷ [])
+      ∙ sym (text_of-push stopped.lines (stopped.line.bytes ++ found.0))
+
 tells_faults : {W : Type 0} (wanted : Wanted) (limits : Limits) (before left after : Option (List ℕ))
     (contents : W → Option (List ℕ)) (old between new : W) (refusal : Refusal) (asking : Asking) (last : LastRead) (text : List ℕ)
     → Reports (lines_up_to wanted) limits before left contents old between (Ok (Refused refusal))
@@ -172,54 +233,51 @@ tells_faults wanted limits None left after contents old between new refusal aski
     built wanted limits None left after contents old between new refusal asking last text h s x t written t.held.line t.held.holds
     tt
 tells_faults wanted limits (Some known) left after contents old between new refusal asking last text h s x t written =
-    built wanted limits (Some known) left after contents old between new refusal asking last text h s x t written
-    (stopped.line.bytes ++ found.0) found.1 (
-      stop.read.input ++ (t.read.bytes ++ t.tells.bytes),
-      Consumes-trans (Some known) left after stop.read.input (t.read.bytes ++ t.tells.bytes) stop.read.consumed
-          (Consumes-trans left t.between after t.read.bytes t.tells.bytes t.read.taken t.tells.taken),
-      record {
-        front = stopped.lines;
-        records = stopped.records;
-        in_order = stopped.read.in_order;
-        rows = stopped.read.rows;
-        counted = stopped.read.counted;
-        no_lf = (found.1.no_lf, t.tells.no_lf);
-        number =
-            omega (
-              arith,
-              stopped.number,
-              as_many (rows_so_far stopped.records) stopped.lines stopped.read.rows,
-              length-rows_so_far stopped.records,
-            );
-        text =
-            subst (λ (l : List (List ℕ)). IsTextOf t.tells.last (stop.read.input ++ (t.read.bytes ++ t.tells.bytes)) l)
-            (append_assoc stopped.lines ((stopped.line.bytes ++ found.0) ∷ []) t.tells.lines)
-            (subst (λ (l : List ℕ). IsTextOf t.tells.last l
-            ((stopped.lines ++ (stopped.line.bytes ++ found.0) ∷ []) ++ t.tells.lines)) (append_assoc stop.read.input
-            t.read.bytes t.tells.bytes)
-            (t.tells.goes (stop.read.input ++ t.read.bytes) (stopped.lines ++ (stopped.line.bytes ++ found.0) ∷ [])
-            (first_text t.raw.ended found.2)));
-      },
-    )
-  where
-    stop : StopsRun limits (read_faults.Refused refusal) (Some known) left
-    stop = s.0
+    let found =
+    lines_read limits known left t.between after refusal last t.raw t.tells.bytes t.tells.lines t.tells.last s t.read t.tells.taken
+    t.tells.goes t.tells.no_lf in
+    built wanted limits (Some known) left after contents old between new refusal asking last text h s x t written found.0 found.1
+    (found.2, found.3, found.4)
 
-    stopped : IsStopped s.0.decoder s.0.read.input s.0.given refusal
-    stopped = subst (λ (state : State). RepresentsIn state s.0.decoder s.0.read.input s.0.given) s.0.leaves s.0.read.stands.here
+-- what is told up to a fault
+built_up_to : (wanted : Wanted) (limits : Limits) (before left : Option (List ℕ)) (refusal : Refusal) (asking : Asking)
+    (last : LastRead) (text : List ℕ) → (s : StopsAt limits (read_faults.Refused refusal) before left last)
+    → Hears wanted limits before left refusal asking
+    → (t : TellsLastUpTo asking (state_at last.stage last.counts (refusal.rec - 1)) refusal last.bytes left text)
+    → (refused : List ℕ) → HoldsRaw refused t.raw
+    → IfSome before (λ known. (bytes : List ℕ) × (now : Option (List ℕ)) × Consumes before now bytes
+    × AreLinesRead refusal s.0.decoder.tally t.tells.last bytes refused t.tells.lines)
+    → TellsUpToFault wanted limits before left refusal text
+built_up_to wanted limits before left refusal asking last text s x t refused holds read = record {
+  refused = refused;
+  lines = t.tells.lines;
+  last = t.tells.last;
+  tally = s.0.decoder.tally;
+  heard = x.heard;
+  heard_before = x.stopped;
+  told =
+      subst (λ (a : Asking). IsToldUpTo a (state_at s.0.decoder.tally.stage s.0.decoder.tally.counts (refusal.rec - 1)) refusal
+      refused t.tells.lines text) x.asks
+      (subst (λ (c : Counts). IsToldUpTo asking (state_at s.0.decoder.tally.stage c (refusal.rec - 1)) refusal refused t.tells.lines
+      text) s.3
+      (subst (λ (g : Stage). IsToldUpTo asking (state_at g last.counts (refusal.rec - 1)) refusal refused t.tells.lines text) s.1
+      (t.tells.told refused holds)));
+  read = read;
+}
 
-    found : (rest : List ℕ) × HoldsRaw (stopped.line.bytes ++ rest) t.raw
-        × (s.0.read.input ++ t.read.bytes ≡ text_of stopped.lines ++ spelled t.raw.ended (stopped.line.bytes ++ rest))
-    found =
-        t.read.line s.0.read.input (text_of stopped.lines) stopped.line.bytes s.2
-        (refused_last s.0.decoder s.0.read.input s.0.given refusal stopped)
-
-    first_text : (b : Bool) → s.0.read.input ++ t.read.bytes ≡ text_of stopped.lines ++ spelled b (stopped.line.bytes ++ found.0)
-        → IsTextOf b (s.0.read.input ++ t.read.bytes) (stopped.lines ++ (stopped.line.bytes ++ found.0) ∷ [])
-    first_text true e = e ∙ sym (text_of-push stopped.lines (stopped.line.bytes ++ found.0))
-    first_text false e =
-        ap (λ (l : List ℕ). l ++ 10 ∷ []) e ∙ append_assoc (text_of stopped.lines) (stopped.line.bytes ++ found.0) (10 ∷ [])
-        ∙ sym (text_of-push stopped.lines (stopped.line.bytes ++ found.0))
+tells_up_to : (wanted : Wanted) (limits : Limits) (before left : Option (List ℕ)) (refusal : Refusal) (asking : Asking)
+    (last : LastRead) → StopsAt limits (read_faults.Refused refusal) before left last
+    → Hears wanted limits before left refusal asking → (text : List ℕ) → TellsAfterUpTo asking last refusal left text
+    → (text ≡ []) ⊎ TellsUpToFault wanted limits before left refusal text
+tells_up_to wanted limits before left refusal asking last s x text (inl e) = inl e
+tells_up_to wanted limits None left refusal asking last s x text (inr t) =
+    inr (built_up_to wanted limits None left refusal asking last text s x t t.held.line t.held.holds tt)
+tells_up_to wanted limits (Some known) left refusal asking last s x text (inr t) =
+    let found =
+    lines_read limits known left t.between t.tells.mid refusal last t.raw t.tells.bytes t.tells.lines t.tells.last s t.read
+    t.tells.taken t.tells.goes t.tells.no_lf in
+    inr (built_up_to wanted limits (Some known) left refusal asking last text s x t found.0 found.1
+    (found.2, t.tells.mid, found.3, found.4))
 
 -- where the answer is a verdict
 pub tells_after : {W : Type 0} (wanted : Wanted) (limits : Limits) (before left after : Option (List ℕ))
@@ -237,26 +295,34 @@ tells_after wanted limits before left after contents old between new refusal ask
 tells_after wanted limits before left after contents old between new refusal asking last (Err fault) h s x answered told = tt
 
 -- a check and words after it
-pub lints_after : {W : Type 0} (wanted : Wanted) (limits : Limits) (before left after : Option (List ℕ))
-    (contents : W → Option (List ℕ)) (old between new : W) (checked result : Result Verdict ToolFault)
-    → Reports (lines_up_to wanted) limits before left contents old between checked → AddsWords contents between new
-    → TakesMore left after → IsAnswerAfter checked result → Lints wanted limits before after contents old new result
-lints_after wanted limits before left after contents old between new checked result r w t a = record {
+lints_after : {W : Type 0} (wanted : Wanted) (limits : Limits) (before left after : Option (List ℕ))
+    (contents : W → Option (List ℕ)) (old between new : W) (checked result : Result Verdict ToolFault) (words : List ℕ)
+    → Reports (lines_up_to wanted) limits before left contents old between checked
+    → Appends (contents between) (contents new) words → TakesMore left after → IsAnswerAfter checked result
+    → IfErr result (λ fault. AreWordsUpTo wanted limits before left checked fault words)
+    → Lints wanted limits before after contents old new result
+lints_after wanted limits before left after contents old between new checked result words r w t a l = record {
   between = between;
   left = left;
   checked = checked;
   reported = r;
-  words = w.0;
-  written = w.1;
+  words = words;
+  written = w;
   more = t.0;
   taken = t.1;
   answered = a;
+  leaves = l;
 }
 
 -- nothing follows
 answer_same : (checked : Result Verdict ToolFault) → IsAnswerAfter checked checked
 answer_same (Ok verdict) = refl
 answer_same (Err fault) = refl
+
+no_words : (wanted : Wanted) (limits : Limits) (before left : Option (List ℕ)) (checked : Result Verdict ToolFault)
+    → IfErr checked (λ fault. AreWordsUpTo wanted limits before left checked fault [])
+no_words wanted limits before left (Ok verdict) = tt
+no_words wanted limits before left (Err fault) = refl
 
 pub lints_alone : {W : Type 0} (wanted : Wanted) (limits : Limits) (before after : Option (List ℕ))
     (contents : W → Option (List ℕ)) (old new : W) (checked result : Result Verdict ToolFault)
@@ -272,6 +338,9 @@ lints_alone wanted limits before after contents old new checked result h e = rec
   more = [];
   taken = Consumes-nil after;
   answered = subst (IsAnswerAfter checked) e (answer_same checked);
+  leaves =
+      subst (λ (r : Result Verdict ToolFault). IfErr r (λ fault. AreWordsUpTo wanted limits before after checked fault [])) e
+      (no_words wanted limits before after checked);
 }
 
 -- ---- where the test that is passed on says the same
@@ -326,14 +395,27 @@ refused_at flag wanted limits before left after contents old between new refusal
     (subst (Reports (lines_up_to flag) limits before left contents old between) e h)) s x answered told
 
 pub faults_at : {W : Type 0} (flag wanted : Wanted) (limits : Limits) (before left after : Option (List ℕ))
-    (contents : W → Option (List ℕ)) (old between new : W) (refusal : Refusal) (checked result : Result Verdict ToolFault)
-    → flag ≡ wanted → Reports (lines_up_to flag) limits before left contents old between checked → checked ≡ Ok (Refused refusal)
-    → AddsWords contents between new → TakesMore left after → IsAnswerTo (Refused refusal) result
-    → Lints wanted limits before after contents old new result
-faults_at flag wanted limits before left after contents old between new refusal checked result same h e words more answered =
-    subst (λ (b : Wanted). Lints b limits before after contents old new result) same
-    (lints_after flag limits before left after contents old between new checked result h words more
-    (subst (λ (r : Result Verdict ToolFault). IsAnswerAfter r result) (sym e) answered))
+    (contents : W → Option (List ℕ)) (old between new : W) (refusal : Refusal) (asking : Asking) (last : LastRead)
+    (checked result : Result Verdict ToolFault)
+    → flag ≡ wanted → Reports (lines_up_to flag) limits before left contents old between checked
+    → StopsAt limits (read_faults.Refused refusal) before left last → Hears wanted limits before left refusal asking
+    → checked ≡ Ok (Refused refusal) → AddsWords contents between new
+    → AppendsUpTo contents between new result (TellsAfterUpTo asking last refusal left) → TakesMore left after
+    → IsAnswerTo (Refused refusal) result → Lints wanted limits before after contents old new result
+faults_at flag wanted limits before left after contents old between new refusal asking last checked (Ok verdict) same h s x e words
+    cut more answered =
+    lints_after wanted limits before left after contents old between new checked (Ok verdict) words.0
+    (subst (λ (b : Wanted). Reports (lines_up_to b) limits before left contents old between checked) same h) words.1 more
+    (subst (λ (r : Result Verdict ToolFault). IsAnswerAfter r (Ok verdict)) (sym e) answered) tt
+faults_at flag wanted limits before left after contents old between new refusal asking last checked (Err fault) same h s x e words
+    cut more answered =
+    lints_after wanted limits before left after contents old between new checked (Err fault) cut.0
+    (subst (λ (b : Wanted). Reports (lines_up_to b) limits before left contents old between checked) same h) cut.2 more
+    (subst (λ (r : Result Verdict ToolFault). IsAnswerAfter r (Err fault)) (sym e) answered)
+    (subst (λ (r : Result Verdict ToolFault). AreWordsUpTo wanted limits before left r fault cut.0) (sym e)
+    (cut_as (TellsAfterUpTo asking last refusal left)
+    (λ text. (text ≡ []) ⊎ TellsUpToFault wanted limits before left refusal text) fault cut.0
+    (tells_up_to wanted limits before left refusal asking last s x) cut.1))
 
 -- the verdict on an accepted text, and what is written of it
 judges_accepted : {W : Type 0} (of : ItemLines) (limits : Limits) (before after : Option (List ℕ))

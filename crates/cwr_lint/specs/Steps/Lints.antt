@@ -1,6 +1,6 @@
 -- What a whole lint has written and taken.
-use Rattle.std.specs.Prelude.{◌≡◌, ◌⊎◌, ℕ, ◌+◌, ◌-◌, ◌^◌, ◌≤◌, Bool, true, false, IsFalse, List, ◌∷◌, ◌++◌, length, map, Option}
-use Rattle.std.specs.Prelude.{IfSome, Result, Ok, Err}
+use Rattle.std.specs.Prelude.{◌≡◌, ◌⊎◌, ℕ, ◌+◌, ◌-◌, ◌^◌, ◌≤◌, Bool, true, false, IsFalse, List, [], ◌∷◌, ◌++◌, length, map}
+use Rattle.std.specs.Prelude.{Option, IfSome, IfErr, Result, Ok, Err}
 use Rattle.std.specs.List.{AllByRecursion, AllZip, list_any}
 use Rattle.std.specs.Io.KnownBytes.{Appends, Consumes, IsAtEnd}
 use Rattle.cwr_devices.specs.Format.Failures.{one_more_failure}
@@ -23,23 +23,10 @@ use Rattle.cwr_tools.specs.Steps.Reports.{Reports}
 use Rattle.cwr_tools.specs.Steps.Verdicts.{StopsAfter}
 use Rattle.cwr_lint_lines.specs.Steps.Fronts.{state_at}
 use Rattle.cwr_lint.specs.Format.Wanted.{Wanted, asking_for, lines_linted, lines_up_to}
+use Rattle.cwr_lint.specs.Steps.CutShort.{IsCutText, IsToldUpTo}
 use Rattle.cwr_lint.specs.Steps.LinesRead.{IsTextOf}
 use Rattle.cwr_lint.specs.Steps.Runs.{EndsAtTrl}
 use Rattle.cwr_lint.specs.Steps.Walks.{IsTold}
-
--- First a check is made, and what it writes is written, but no line of a refusal: with all that is said of a check of these bytes. Then
--- words follow it; after a fault of the check there are none. More bytes may be taken from the reader.
-pub record Lints {W : Type 0} (wanted : Wanted) (limits : Limits) (before after : Option (List ℕ))
-    (contents : W → Option (List ℕ)) (old new : W) (result : Result Verdict ToolFault) : Type 0 where
-  pub between : W
-  pub left : Option (List ℕ)
-  pub checked : Result Verdict ToolFault
-  pub reported : Reports (lines_up_to wanted) limits before left contents old between checked
-  pub words : List ℕ
-  pub written : Appends (contents between) (contents new) words
-  pub more : List ℕ
-  pub taken : Consumes left after more
-  pub answered : IsAnswerAfter checked result
 
 -- These bytes were read: the text of lines, of which this one is refused, and those follow it. The lines before it are those of records, which
 -- the tally counts.
@@ -53,6 +40,46 @@ pub record AreLinesRead (refusal : Refusal) (tally : TallyValue) (last : Bool) (
   pub number : refusal.rec ≡ length front + 1
   pub no_lf : AllByRecursion (λ line. IsFalse (list_any is_lf line)) (refused ∷ lines)
   pub text : IsTextOf last bytes (front ++ refused ∷ lines)
+
+-- What is told up to a fault of a device or of memory: of the line that is refused, from what was counted of the records before, and of
+-- lines after it, with advice by what was heard before the same stop. Where the text's bytes are known these are its first lines.
+pub record TellsUpToFault (wanted : Wanted) (limits : Limits) (before left : Option (List ℕ)) (refusal : Refusal) (text : List ℕ)
+    : Type 0 where
+  pub refused : List ℕ
+  pub lines : List (List ℕ)
+  pub last : Bool
+  pub tally : TallyValue
+  pub heard : List Item
+  pub heard_before : StopsAfter limits (read_faults.Refused refusal) before left heard
+  pub told : IsToldUpTo (asking_for wanted (said_in heard)) (state_at tally.stage tally.counts (refusal.rec - 1)) refusal refused
+      lines text
+  pub read : IfSome before (λ known. (bytes : List ℕ) × (now : Option (List ℕ)) × Consumes before now bytes
+      × AreLinesRead refusal tally last bytes refused lines)
+
+-- The words after a check where a fault follows: none after a fault of the check. After a refusal nothing, where the refused line can't be
+-- read, or what is told up to the fault; where that is the writer's, its first bytes.
+abbrev pub AreWordsUpTo : Wanted → Limits → Option (List ℕ) → Option (List ℕ) → Result Verdict ToolFault → ToolFault → List ℕ
+    → Type 0
+AreWordsUpTo wanted limits before left (Ok (Refused refusal)) fault words =
+    IsCutText (λ text. (text ≡ []) ⊎ TellsUpToFault wanted limits before left refusal text) fault words
+AreWordsUpTo wanted limits before left (Ok verdict) fault words = ⊥
+AreWordsUpTo wanted limits before left (Err other) fault words = words ≡ []
+
+-- First a check is made, and what it writes is written, but no line of a refusal: with all that is said of a check of these bytes. Then
+-- words follow it; after a fault of the check there are none, and before a later fault those that are told up to it. More bytes may be
+-- taken from the reader.
+pub record Lints {W : Type 0} (wanted : Wanted) (limits : Limits) (before after : Option (List ℕ))
+    (contents : W → Option (List ℕ)) (old new : W) (result : Result Verdict ToolFault) : Type 0 where
+  pub between : W
+  pub left : Option (List ℕ)
+  pub checked : Result Verdict ToolFault
+  pub reported : Reports (lines_up_to wanted) limits before left contents old between checked
+  pub words : List ℕ
+  pub written : Appends (contents between) (contents new) words
+  pub more : List ℕ
+  pub taken : Consumes left after more
+  pub answered : IsAnswerAfter checked result
+  pub leaves : IfErr result (λ fault. AreWordsUpTo wanted limits before left checked fault words)
 
 -- The text was refused so, after these items, and their lines were written and then what is told of the line that is refused and of those after
 -- it, from what was counted of the records before, and with advice by what was heard before the same stop. Where the text's bytes are known these are its lines, up to a TRL or to its end.

@@ -1,10 +1,13 @@
-use Rattle.std.proofs.Common.{[]}
+use Rattle.std.proofs.Common.{[], refl, inl, inr}
+use Rattle.cwr_tools.specs.declared.verdicts.ToolFault.TheVariants.{Reader}
+use Rattle.cwr_lint.specs.Steps.CutShort.{TellsRunUpTo, TellsUpTo}
 use Rattle.cwr_lint.specs.Steps.Runs.{asking_of, TellsRun, TellsToEnd}
+use Rattle.cwr_lint.proofs.lemmas.CutShort.{leaves_as, leaves_none}
 use Rattle.cwr_lint.proofs.lemmas.TextsTold.{read_failed, read_first}
 use Rattle.cwr_lint.proofs.linting.LintRun.run.Goals as goal
 
-pub returns-in-Ok : goal.returns-in-Ok
-returns-in-Ok g c =
+pub returns-in-Ok-clause-tells : goal.returns-in-Ok-clause-tells
+returns-in-Ok-clause-tells g c =
     read_first (λ u. TellsToEnd (asking_of c.args.asked.now) c.args.self.now.state c.args.refusal.now
     c.in-Ok.raw (g.R.Source.remaining c.of_last.new.reader) (g.R.Source.remaining c.tell_to_end.new.reader)) (λ u. TellsRun
     (asking_of c.args.asked.now) c.args.self.now.state c.args.refusal.now c.args.last.now.bytes
@@ -19,13 +22,32 @@ returns-in-Ok g c =
       held = c.in-Ok.ensures.held;
       read = c.in-Ok.ensures.read;
       tells = t;
-    }) c.requires.unfailed c.in-Ok.ensures.taken c.in-Ok.ensures.failures c.tell_to_end.ensures
+    }) c.requires.unfailed c.in-Ok.ensures.taken c.in-Ok.ensures.failures c.tell_to_end.ensures.tells
 
-pub returns-in-Err : goal.returns-in-Err
-returns-in-Err g c = (
+pub returns-in-Err-clause-tells : goal.returns-in-Err-clause-tells
+returns-in-Err-clause-tells g c = (
   [],
   read_failed (g.R.Source.remaining c.args.reader.now) (g.R.Source.remaining c.of_last.new.reader)
       (g.R.Source.failures c.args.reader.now) (g.R.Source.failures c.of_last.new.reader) g.W.Target.contents g.W.Target.failures
       c.args.sink.now c.in-Err.ensures.taken c.in-Err.ensures.failures,
   tt,
 )
+
+pub returns-in-Ok-clause-leaves : goal.returns-in-Ok-clause-leaves
+returns-in-Ok-clause-leaves g c =
+    leaves_as (TellsUpTo (asking_of c.args.asked.now) c.args.self.now.state c.args.refusal.now c.in-Ok.raw
+    (g.R.Source.remaining c.of_last.new.reader)) (TellsRunUpTo (asking_of c.args.asked.now) c.args.self.now.state
+    c.args.refusal.now c.args.last.now.bytes (g.R.Source.remaining c.args.reader.now)) g.W.Target.contents c.tell_to_end.result
+    c.args.sink.now c.tell_to_end.new.sink
+    (λ text tells. inr (record {
+      between = (g.R.Source.remaining c.of_last.new.reader);
+      raw = c.in-Ok.raw;
+      held = c.in-Ok.ensures.held;
+      read = c.in-Ok.ensures.read;
+      tells = tells;
+    })) c.tell_to_end.ensures.leaves
+
+pub returns-in-Err-clause-leaves : goal.returns-in-Err-clause-leaves
+returns-in-Err-clause-leaves g c =
+    leaves_none (TellsRunUpTo (asking_of c.args.asked.now) c.args.self.now.state c.args.refusal.now c.args.last.now.bytes
+    (g.R.Source.remaining c.args.reader.now)) g.W.Target.contents Reader c.args.sink.now c.requires.unfailed (inl refl)
