@@ -20,6 +20,8 @@ pub mod FaultsPassed
 pub mod ItemsInOrder
 -- The records of a line, member by member and value by value.
 pub mod ItemsRead
+-- What records tell that an item lacks, one after another.
+pub mod LacksTold
 -- What is taken of a text line by line.
 pub mod LinesTaken
 -- Why a line's value is data of no item: what is told of it is so.

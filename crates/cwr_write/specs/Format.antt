@@ -3,5 +3,6 @@ pub mod AloneKinds
 pub mod Endings
 pub mod Faults
 pub mod Imports
+pub mod Lacks
 pub mod Laws
 pub mod OutcomeTexts

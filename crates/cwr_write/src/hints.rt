@@ -1,11 +1,12 @@
 //! What is told below a refusal: which keys there are, how wide a field is, and what an item lacks.
 
-ghost use Rattle.std.specs.Prelude.{◌≡◌, ◌++◌, [], ◌∷◌, codes, decimal, flat_map, IfErr, false};
+ghost use Rattle.std.specs.Prelude.{◌≡◌, ◌++◌, [], ◌∷◌, codes, decimal, flat_map, option_map, unwrap_or, IfErr, false};
 ghost use Rattle.std.specs.List.{concat};
 ghost use Rattle.cwr_devices.specs.Steps.Sinks.{Puts, has_failed, written_of};
 ghost use Rattle.cwr_fields.specs.Format.Kinds.{letters as letters_of};
 ghost use Rattle.cwr_fields.specs.Format.Layouts.{field_at, layout};
 ghost use Rattle.cwr_json.specs.Format.Forms.{key_of};
+ghost use Rattle.cwr_write.specs.Format.Lacks.{lack_after, lack_beside, lack_of, lack_told};
 ghost use Rattle.cwr_write.specs.Format.OutcomeTexts.{carried_if, carried_key, character_text, hint_text, keys_text, lack_text, lack_words, width_text};
 
 use crate::putting::{put_each, put_text};
@@ -51,34 +52,56 @@ fn lack_words(lack: Lack) -> &'static [u8]
     }
 }
 
+/// What is missing beside a party of that role: the other one.
+fn lack_beside(role: Option<&[u8]>) -> Lack
+    ensures { result ≡ lack_beside (option_map (λ text. text.now) role.entry) }
+{
+    match role {
+        Some(b"AS") => Lack::Acquirer,
+        _ => Lack::Assignor,
+    }
+}
+
 /// What records that end with that one lack, where it tells.
-fn lack_after(last: &RecordRef<'_>) -> Option<Lack> {
+fn lack_after(last: &RecordRef<'_>) -> Option<Lack>
+    ensures { result ≡ lack_after last.now.kind last.now }
+{
     match last.kind() {
         Kind::Agr => Some(Lack::Territory),
         Kind::Ter => Some(Lack::Parties),
-        Kind::Ipa => match last.cell(4) {
-            Some(b"AS") => Some(Lack::Acquirer),
-            _ => Some(Lack::Assignor),
-        },
+        Kind::Ipa => Some(lack_beside(last.cell(4))),
         Kind::Nwr | Kind::Rev | Kind::Spu | Kind::Opu | Kind::Spt => Some(Lack::Writer),
         _ => None,
     }
 }
 
+/// What records that end with that one lack, where those before it told that.
+fn lack_with(before: Lack, last: &RecordRef<'_>) -> Lack
+    ensures { result ≡ unwrap_or (lack_after last.now.kind last.now) before }
+{
+    match lack_after(last) {
+        Some(lack) => lack,
+        None => before,
+    }
+}
+
 /// What a transaction that isn't whole lacks. Its last record that isn't carried as text tells.
-fn lack_in(transaction: &Transaction) -> Lack {
-    for before in (0..transaction.len()).rev() {
-        if let Some(record) = transaction.record(before) {
-            if let Some(lack) = lack_after(&record) {
-                return lack;
-            }
+fn lack_in(transaction: &Transaction) -> Lack
+    ensures { result ≡ lack_told Lack.Writer transaction.now }
+{
+    let mut lack = Lack::Writer;
+    for place in 0..transaction.len() {
+        if let Some(record) = transaction.record(place) {
+            lack = lack_with(lack, &record);
         }
     }
-    Lack::Writer
+    lack
 }
 
 /// What an item lacks that is incomplete.
-pub(crate) fn lack_of(item: &Item) -> Lack {
+pub(crate) fn lack_of(item: &Item) -> Lack
+    ensures { result ≡ lack_of item.now }
+{
     match item {
         Item::Transaction(transaction) => lack_in(transaction),
         Item::GroupClosed(_) => Lack::Transaction,

@@ -261,7 +261,7 @@ pub(crate) fn item_in(
 
 /// What is told of an encoder's fault with the item.
 pub(crate) fn encode_fault(fault: EncodeFault, item: &Item) -> ItemFault
-    ensures { IsFaultOf fault result }
+    ensures { IsFaultOf item.now fault result }
 {
     match fault {
         EncodeFault::OutOfOrder => ItemFault::Line(of_line(Why::OutOfOrder)),

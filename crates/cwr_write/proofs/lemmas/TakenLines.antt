@@ -51,6 +51,7 @@ use Rattle.cwr_write.specs.declared.items.ItemFault.TheVariants as item_faults
 use Rattle.cwr_write.specs.Steps.Members.{IsKinded}
 use Rattle.cwr_write.specs.Format.Faults.{IsOfLine, IsItem, IsItemReason, IsOfData, IsPlaceReason, IsReason, IsReasonOf, NoItem}
 use Rattle.cwr_write.specs.Format.Faults.{SaysNone, reached_with}
+use Rattle.cwr_write.specs.Format.Lacks.{lack_of}
 use Rattle.cwr_write.specs.Steps.Taking.{CountsReading, EndsWith, FinishesLines, Goes, HaveGiven, IsFaultOf, IsFinishFault}
 use Rattle.cwr_write.specs.Steps.Taking.{IsLine, IsNoWriter, IsOther, IsOwn, IsOwnRun, OnLine, IsRefusedAt, IsRunFaultOf}
 use Rattle.cwr_write.specs.Steps.Taking.{IsUnreadFault, JudgesNext, NoReader, Stands, StandsWith, TakesLine, TakesLines}
@@ -203,7 +204,7 @@ of_why limits items item why other e h = subst (IsPlaceReason limits items item)
 pub taken_fault : {W : Type 0} (item : Item) (before : Reached) (contents : W → Option (List ℕ)) (failures : W → ℕ)
     (fault : EncodeFault) (told : ItemFault) (old new : Encoder W)
     → AddsRecords contents failures (given_records item) (Err fault) old new
-    → Judged contents item before old (Err fault) → IsFaultOf fault told
+    → Judged contents item before old (Err fault) → IsFaultOf item fault told
     → TakesLine (λ i. i ≡ item) (PlaceOf item) before contents failures (Err told) old new
 taken_fault item before contents failures encode_faults.OutOfOrder (item_faults.Line t) old new h j f =
     place_fault item before contents failures t old new h f.0
@@ -213,7 +214,7 @@ taken_fault item before contents failures encode_faults.WrongKind (item_faults.L
     (λ start items s. let p = j start items s in (p.0, of_why (encoder_limits old) items item t.why whys.WrongKind f.1 p.1))
 taken_fault item before contents failures encode_faults.Incomplete (item_faults.Line t) old new h j f =
     place_fault item before contents failures t old new h f.0 (λ start items s. let p =
-    j start items s in (p.0, of_why (encoder_limits old) items item t.why (whys.Incomplete f.1.0) f.1.1 p.1))
+    j start items s in (p.0, of_why (encoder_limits old) items item t.why (whys.Incomplete (lack_of item)) f.1 (p.1, refl)))
 taken_fault item before contents failures (encode_faults.Limit limit) (item_faults.Line t) old new h j f =
     place_fault item before contents failures t old new h f.0 (λ start items s. let p =
     j start items s in (p.0, of_why (encoder_limits old) items item t.why (whys.Limit limit) f.1 p.1))

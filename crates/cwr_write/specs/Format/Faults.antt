@@ -27,6 +27,7 @@ use Rattle.cwr_json.specs.Format.Encodings.{StandFor}
 use Rattle.cwr_json.specs.Format.Forms.{AreRecordsData, IsCellFrom, IsItemData, IsRecordData, first_of, key_of, kind_key}
 use Rattle.cwr_json.specs.Format.Forms.{records_key, told}
 use Rattle.cwr_write.specs.Format.Imports.{SaysItem}
+use Rattle.cwr_write.specs.Format.Lacks.{lack_of}
 use Rattle.cwr_write.specs.declared.writing.Reached.{Reached}
 use Rattle.cwr_write.specs.declared.writing.Reached.TheVariants as reached_to
 use Rattle.cwr_write.specs.declared.refusals.Why.{Why}
@@ -76,11 +77,11 @@ JudgesItem limits items (Transaction t) answer = JudgesTransaction limits t (map
 JudgesItem limits items (GroupClosed r) answer = JudgesFoot limits r (map symbol_of (records_in items)) answer
 JudgesItem limits items Ended answer = JudgesTrailer (reached_after reached_to.Begun items) answer
 
--- the reason is the place of the item after the others
+-- the reason is the place of the item after the others, and where it is incomplete what it lacks is told
 abbrev pub IsPlaceReason : LimitValues → List Item → Item → Why → Type 0
 IsPlaceReason limits items i OutOfOrder = JudgesItem limits items i (Err faults.OutOfOrder)
 IsPlaceReason limits items i WrongKind = JudgesItem limits items i (Err faults.WrongKind)
-IsPlaceReason limits items i (Incomplete lack) = JudgesItem limits items i (Err faults.Incomplete)
+IsPlaceReason limits items i (Incomplete lack) = JudgesItem limits items i (Err faults.Incomplete) × (lack ≡ lack_of i)
 IsPlaceReason limits items i (Limit limit) = JudgesItem limits items i (Err (faults.Limit limit))
 IsPlaceReason limits items i why = ⊥
 

@@ -18,7 +18,6 @@ use Rattle.cwr_values.specs.Format.Values.{TransmissionValue, IsTransmission, Fi
 use Rattle.cwr_json.specs.declared.encodings.Encoding.{Encoding}
 use Rattle.cwr_write.specs.Format.Faults.{IsAmong, IsOfData, IsOfLine, TellsKey, JudgesItem, reached_after}
 use Rattle.cwr_json.specs.Format.Forms.{records_key}
-use Rattle.cwr_write.specs.declared.hints.Lack.{Lack}
 use Rattle.cwr_write.specs.declared.refusals.LineFault.{LineFault}
 use Rattle.cwr_write.specs.declared.refusals.Why.{Why}
 use Rattle.cwr_write.specs.declared.refusals.Why.TheVariants as whys
@@ -28,6 +27,7 @@ use Rattle.cwr_values.specs.Format.Rows.{trailer}
 use Rattle.cwr_judge.specs.Format.Items.{AreFirstItems, records_in, value_items}
 use Rattle.cwr_write.specs.Format.Endings.{AreShort, EndsEarly, EndsWell, StopsAtLine}
 use Rattle.cwr_write.specs.Format.Imports.{AreLines, SaysItem, SaysItems, given_in, given_records, is_blank_line}
+use Rattle.cwr_write.specs.Format.Lacks.{lack_of}
 use Rattle.cwr_write.specs.declared.writing.Reached.{Reached}
 use Rattle.cwr_write.specs.declared.writing.Reached.TheVariants as reached_to
 use Rattle.cwr_write.specs.declared.lines.ReadFault.{ReadFault}
@@ -62,19 +62,19 @@ abbrev pub IsLine : ItemFault → Type 0
 IsLine (item_faults.Line f) = Unit {0}
 IsLine fault = ⊥
 
--- the reason that is told of an encoder's fault
-abbrev pub IsWhyOf : EncodeFault → Why → Type 0
-IsWhyOf encode_faults.OutOfOrder why = why ≡ whys.OutOfOrder
-IsWhyOf encode_faults.WrongKind why = why ≡ whys.WrongKind
-IsWhyOf encode_faults.Incomplete why = (lack : Lack) × (why ≡ whys.Incomplete lack)
-IsWhyOf (encode_faults.Limit limit) why = why ≡ whys.Limit limit
-IsWhyOf (encode_faults.Writer written) why = ⊥
+-- the reason that is told of an encoder's fault with the item
+abbrev pub IsWhyOf : Item → EncodeFault → Why → Type 0
+IsWhyOf item encode_faults.OutOfOrder why = why ≡ whys.OutOfOrder
+IsWhyOf item encode_faults.WrongKind why = why ≡ whys.WrongKind
+IsWhyOf item encode_faults.Incomplete why = why ≡ whys.Incomplete (lack_of item)
+IsWhyOf item (encode_faults.Limit limit) why = why ≡ whys.Limit limit
+IsWhyOf item (encode_faults.Writer written) why = ⊥
 
--- what is told of an encoder's fault
-abbrev pub IsFaultOf : EncodeFault → ItemFault → Type 0
-IsFaultOf (encode_faults.Writer written) told = told ≡ item_faults.Writer written
-IsFaultOf fault (item_faults.Line f) = IsOfLine f × IsWhyOf fault f.why
-IsFaultOf fault told = ⊥
+-- what is told of an encoder's fault with the item
+abbrev pub IsFaultOf : Item → EncodeFault → ItemFault → Type 0
+IsFaultOf item (encode_faults.Writer written) told = told ≡ item_faults.Writer written
+IsFaultOf item fault (item_faults.Line f) = IsOfLine f × IsWhyOf item fault f.why
+IsFaultOf item fault told = ⊥
 
 -- how far the lines have come with the item: none comes after TRL's
 abbrev pub Goes : Reached → Item → Reached → Type 0
