@@ -22,8 +22,8 @@ ghost use Rattle.cwr_lint.specs.Steps.LinesRead.{IsOfLine, held_raw};
 ghost use Rattle.cwr_lint.specs.Steps.Lints.{EndsRun, Lints, Tells, counted};
 ghost use Rattle.cwr_lint.specs.Steps.Puts.{TellsWith, AppendsSuch, PutsWith, TellsRead};
 ghost use Rattle.cwr_lint.specs.Steps.Runs.{BeginsAt, TakesAll, TakesFirst, TakesFrom, TakesLine, TakesNextIf, TakesRead, TellsJudged, TellsRun, TellsSoMany};
-ghost use Rattle.cwr_lint.specs.Steps.CutShort.{AppendsUpTo, IsFirstPart, Leaves, TakesFromPart, TakesNextPart, TakesSome, TellsAfterUpTo};
-ghost use Rattle.cwr_lint.specs.Steps.CutShort.{TellsPart, TellsRunUpTo, TellsSome, TellsUpTo, WalksPart};
+ghost use Rattle.cwr_lint.specs.Steps.CutShort.{AppendsUpTo, IsFirstPart, Leaves, LeavesOrUnread, TakesFromPart, TakesNextPart, TakesSome};
+ghost use Rattle.cwr_lint.specs.Steps.CutShort.{TellsAfterUpTo, TellsLastUpTo, TellsPart, TellsSome, TellsUpTo, WalksPart};
 ghost use Rattle.cwr_lint.specs.Steps.Runs.{TellsAfter, TellsToEnd, asking_of, walk_of};
 
 use crate::findings::{after_line, put_ended};
@@ -393,8 +393,9 @@ impl LintRun {
         ensures tells { TellsRead R.remaining R.failures reader.old reader.new W.contents W.failures
             (TellsRun (asking_of asked.now) self.old.state refusal.now last.now.bytes)
             result sink.old sink.new }
-        ensures leaves { Leaves (TellsRunUpTo (asking_of asked.now) self.old.state refusal.now
-            last.now.bytes (R.remaining reader.old)) W.contents result sink.old sink.new }
+        ensures leaves { LeavesOrUnread (TellsLastUpTo (asking_of asked.now) self.old.state
+            refusal.now last.now.bytes (R.remaining reader.old)) W.contents result sink.old
+            sink.new }
     {
         match RawLine::of_last(&last.bytes, reader) {
             Ok(raw) => self.tell_to_end(asked, refusal, reader, raw, sink),

@@ -1,7 +1,7 @@
 -- What was told where a device or memory failed.
 use Rattle.std.proofs.Common.{◌≡◌, ℕ, suc, ◌+◌, ◌-◌, ◌<◌, ◌≤◌, min, Bool, true, false, List, [], ◌∷◌, ◌++◌, Option, Some, None}
 use Rattle.std.proofs.Common.{refl, sym, ap, subst, ◌∙◌, arith, inl, inr, append_assoc, append-nil}
-use Rattle.std.specs.Prelude.{◌^◌, Result, Ok, Err, IfOk}
+use Rattle.std.specs.Prelude.{◌⊎◌, ◌^◌, Result, Ok, Err, IfOk}
 use Rattle.std.specs.Io.KnownBytes.{Appends, Keeps}
 use Rattle.std.proofs.KnownBytes.{Consumes-nil, Consumes-trans}
 use Rattle.cwr_lines.specs.Format.Records.{RecordValue}
@@ -24,9 +24,9 @@ use Rattle.cwr_lint_lines.specs.Steps.JudgedLines.{IsFaultFrom, judged_as, judge
 use Rattle.cwr_lint.specs.declared.linting.LintRun.{LintRun}
 use Rattle.cwr_lint.specs.declared.raw_lines.RawLine.{RawLine}
 use Rattle.cwr_lint.specs.Format.FaultsOfLines.{Asking, EndedTransaction, IsFaultText, TellsMore, ended_lines}
-use Rattle.cwr_lint.specs.Steps.CutShort.{AppendsUpTo, IsCutText, IsFirstPart, IsFrontOf, IsNoneOr, Leaves, PutsUpTo, TakesFromPart}
-use Rattle.cwr_lint.specs.Steps.CutShort.{TakesNextPart, TakesSome, TellsPart, TellsRunUpTo, TellsSome, TellsUpTo, UnlessWriter}
-use Rattle.cwr_lint.specs.Steps.CutShort.{WalksPart}
+use Rattle.cwr_lint.specs.Steps.CutShort.{AppendsUpTo, IsCutText, IsFirstPart, IsFrontOf, IsNoneOr, IsUnread, Leaves, LeavesOrUnread}
+use Rattle.cwr_lint.specs.Steps.CutShort.{PutsUpTo, TakesFromPart, TakesNextPart, TakesSome, TellsLastUpTo, TellsPart, TellsSome}
+use Rattle.cwr_lint.specs.Steps.CutShort.{TellsUpTo, UnlessWriter, WalksPart}
 use Rattle.cwr_lint.specs.Steps.LinesRead.{GoesOn, HoldsRaw, ReadsLine, held_raw, spelled}
 use Rattle.cwr_lint.specs.Steps.Lints.{EndsRun, counted}
 use Rattle.cwr_lint.specs.Steps.Puts.{PutsAfter, tool_result}
@@ -82,6 +82,18 @@ pub leaves_as : {W A : Type 0} (P Q : List ℕ → Type 0) (contents : W → Opt
     (old new : Sink W) → ((text : List ℕ) → P text → Q text) → Leaves P contents result old new → Leaves Q contents result old new
 leaves_as P Q contents (Ok x) old new f p = tt
 leaves_as P Q contents (Err fault) old new f p = leaves_other P Q contents fault old new f p
+
+-- the reader failed, and nothing was put
+pub unread : {W : Type 0} (P : List ℕ → Type 0) (contents : W → Option (List ℕ)) (sink : Sink W) → has_failed sink ≡ false
+    → (text : List ℕ) × PutsUpTo contents text faults.Reader sink sink × (IsUnread faults.Reader text ⊎ P text)
+unread P contents sink unfailed =
+    ([], record { written = adds_none contents sink; unfailed = unfailed }, inl refl)
+
+pub leaves_read : {W A : Type 0} (P Q : List ℕ → Type 0) (contents : W → Option (List ℕ)) (result : Result A ToolFault)
+    (old new : Sink W) → ((text : List ℕ) → P text → Q text) → Leaves P contents result old new
+    → LeavesOrUnread Q contents result old new
+leaves_read P Q contents (Ok x) old new f p = tt
+leaves_read P Q contents (Err fault) old new f p = (p.0, p.1, inr (f p.0 p.2))
 
 -- one text, and then such a one
 pub then_cut : {W : Type 0} (P Q : List ℕ → Type 0) (contents : W → Option (List ℕ)) (text : List ℕ) (fault : ToolFault)
@@ -336,8 +348,8 @@ sums_part asked begins refusal left after raw text end more t f = record {
 
 -- all was told, with the sums
 pub run_whole : (asked : Asking) (begins : LintState) (refusal : Refusal) (last : LastBytes) (left after : Option (List ℕ))
-    (text : List ℕ) → TellsRun asked begins refusal last left after text → TellsRunUpTo asked begins refusal last left text
-run_whole asked begins refusal last left after text t = inr (record {
+    (text : List ℕ) → TellsRun asked begins refusal last left after text → TellsLastUpTo asked begins refusal last left text
+run_whole asked begins refusal last left after text t = record {
   between = t.between;
   raw = t.raw;
   held = t.held;
@@ -346,7 +358,7 @@ run_whole asked begins refusal last left after text t = inr (record {
       subst (TellsUpTo asked begins refusal t.raw t.between) (append-nil text)
       (sums_part asked begins refusal t.between after t.raw text [] []
       (subst (TellsToEnd asked begins refusal t.raw t.between after) (sym (append-nil text)) t.tells) ([], refl));
-})
+}
 
 -- ---- how a run ends
 
@@ -364,10 +376,10 @@ cut_as P Q (faults.Limit limit) text f p = f text p
 front_written : {W : Type 0} (P : List ℕ → Type 0) (contents : W → Option (List ℕ)) (start : Option (List ℕ)) (new : W) (n : ℕ)
     (text : List ℕ) (sink : Sink W) → P text → Keeps (contents (writer_of sink)) (contents new)
     → HasWritten contents start text sink
-    → (it : List ℕ) × IsCutText P (faults.Writer n) it × Appends start (contents new) it
+    → (it : List ℕ) × IsCutText (λ l. IsUnread (faults.Writer n) l ⊎ P l) (faults.Writer n) it × Appends start (contents new) it
 front_written P contents start new n text sink p kept h = (
   h.bytes,
-  (h.rest, subst P h.split p),
+  (h.rest, inr (subst P h.split p)),
   appends_kept start (contents (writer_of sink)) (contents new) h.bytes h.appended kept,
 )
 
@@ -378,10 +390,12 @@ whole_written contents start new text sink unfailed kept h =
     (all_written contents start text text sink new (written_of sink) refl unfailed kept refl h).appended
 
 fault_ends : {W : Type 0} (P : List ℕ → Type 0) (contents : W → Option (List ℕ)) (start : Option (List ℕ)) (new : W) (n : ℕ)
-    (fault : ToolFault) (text : List ℕ) (sink : Sink W) → P text → UnlessWriter fault (has_failed sink ≡ false)
-    → Keeps (contents (writer_of sink)) (contents new) → HasWritten contents start text sink
-    → (it : List ℕ) × IsCutText P (counted n fault) it × Appends start (contents new) it
-fault_ends P contents start new n (faults.Writer written) text sink p unfailed kept h =
+    (fault : ToolFault) (text : List ℕ) (sink : Sink W) → IsUnread fault text ⊎ P text
+    → UnlessWriter fault (has_failed sink ≡ false) → Keeps (contents (writer_of sink)) (contents new)
+    → HasWritten contents start text sink
+    → (it : List ℕ) × IsCutText (λ l. IsUnread (counted n fault) l ⊎ P l) (counted n fault) it × Appends start (contents new) it
+fault_ends P contents start new n (faults.Writer written) text sink (inl p) unfailed kept h = absurd p
+fault_ends P contents start new n (faults.Writer written) text sink (inr p) unfailed kept h =
     front_written P contents start new n text sink p kept h
 fault_ends P contents start new n faults.Memory text sink p unfailed kept h =
     (text, p, whole_written contents start new text sink unfailed kept h)
@@ -399,7 +413,7 @@ fault_ends P contents start new n (faults.Limit limit) text sink p unfailed kept
 -- what is written where a run ends with a fault, its own or that of the last flush
 pub ends_cut : {W : Type 0} (P Q : List ℕ → Type 0) (contents : W → Option (List ℕ)) (writer new : W) (refusal : Refusal) (n : ℕ)
     (text : List ℕ) (begun sink : Sink W) (told : Result (Unit {0}) ToolFault) (a b : ℕ) (result : Result Verdict ToolFault)
-    → ((it : List ℕ) → P it → Q it) → IfOk told (λ u. P text) → Leaves Q contents told begun sink
+    → ((it : List ℕ) → P it → Q it) → IfOk told (λ u. P text) → LeavesOrUnread Q contents told begun sink
     → HasWritten contents (contents writer) [] begun → HasWritten contents (contents writer) text sink
     → Keeps (contents (writer_of sink)) (contents new) → EndsRun refusal n told a b result
     → AppendsUpTo contents writer new result Q

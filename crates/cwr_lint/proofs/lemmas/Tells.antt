@@ -20,7 +20,7 @@ use Rattle.cwr_advise.specs.Format.AdviceLines.{said_in}
 use Rattle.cwr_lint.specs.Format.FaultsOfLines.{Asking}
 use Rattle.cwr_lint.specs.Format.Wanted.{Wanted, asking_for, lines_before_fault, lines_linted, lines_up_to, lines_with, said_when}
 use Rattle.cwr_lint.specs.declared.raw_lines.RawLine.{RawLine}
-use Rattle.cwr_lint.specs.Steps.CutShort.{AppendsUpTo, IsToldUpTo, TellsAfterUpTo, TellsLastUpTo}
+use Rattle.cwr_lint.specs.Steps.CutShort.{AppendsUpTo, IsToldUpTo, IsUnread, TellsAfterUpTo, TellsLastUpTo}
 use Rattle.cwr_lint.specs.Steps.LinesRead.{GoesOn, HoldsRaw, IsAllRead, IsTextOf, ReadsLast, spelled}
 use Rattle.cwr_lint.specs.Steps.Runs.{TellsRun}
 use Rattle.cwr_lint_lines.specs.Steps.Fronts.{state_at}
@@ -266,13 +266,14 @@ built_up_to wanted limits before left refusal asking last text s x t refused hol
 }
 
 tells_up_to : (wanted : Wanted) (limits : Limits) (before left : Option (List ℕ)) (refusal : Refusal) (asking : Asking)
-    (last : LastRead) → StopsAt limits (read_faults.Refused refusal) before left last
-    → Hears wanted limits before left refusal asking → (text : List ℕ) → TellsAfterUpTo asking last refusal left text
-    → (text ≡ []) ⊎ TellsUpToFault wanted limits before left refusal text
-tells_up_to wanted limits before left refusal asking last s x text (inl e) = inl e
-tells_up_to wanted limits None left refusal asking last s x text (inr t) =
+    (last : LastRead) (fault : ToolFault) → StopsAt limits (read_faults.Refused refusal) before left last
+    → Hears wanted limits before left refusal asking → (text : List ℕ)
+    → IsUnread fault text ⊎ TellsAfterUpTo asking last refusal left text
+    → IsUnread fault text ⊎ TellsUpToFault wanted limits before left refusal text
+tells_up_to wanted limits before left refusal asking last fault s x text (inl e) = inl e
+tells_up_to wanted limits None left refusal asking last fault s x text (inr t) =
     inr (built_up_to wanted limits None left refusal asking last text s x t t.held.line t.held.holds tt)
-tells_up_to wanted limits (Some known) left refusal asking last s x text (inr t) =
+tells_up_to wanted limits (Some known) left refusal asking last fault s x text (inr t) =
     let found =
     lines_read limits known left t.between t.tells.mid refusal last t.raw t.tells.bytes t.tells.lines t.tells.last s t.read
     t.tells.taken t.tells.goes t.tells.no_lf in
@@ -413,9 +414,9 @@ faults_at flag wanted limits before left after contents old between new refusal 
     (subst (λ (b : Wanted). Reports (lines_up_to b) limits before left contents old between checked) same h) cut.2 more
     (subst (λ (r : Result Verdict ToolFault). IsAnswerAfter r (Err fault)) (sym e) answered)
     (subst (λ (r : Result Verdict ToolFault). AreWordsUpTo wanted limits before left r fault cut.0) (sym e)
-    (cut_as (TellsAfterUpTo asking last refusal left)
-    (λ text. (text ≡ []) ⊎ TellsUpToFault wanted limits before left refusal text) fault cut.0
-    (tells_up_to wanted limits before left refusal asking last s x) cut.1))
+    (cut_as (λ text. IsUnread fault text ⊎ TellsAfterUpTo asking last refusal left text)
+    (λ text. IsUnread fault text ⊎ TellsUpToFault wanted limits before left refusal text) fault cut.0
+    (tells_up_to wanted limits before left refusal asking last fault s x) cut.1))
 
 -- the verdict on an accepted text, and what is written of it
 judges_accepted : {W : Type 0} (of : ItemLines) (limits : Limits) (before after : Option (List ℕ))

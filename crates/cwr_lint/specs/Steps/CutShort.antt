@@ -11,7 +11,7 @@ use Rattle.cwr_devices.specs.declared.sinks.Sink.{Sink}
 use Rattle.cwr_devices.specs.Steps.Sinks.{HasWritten, has_failed}
 use Rattle.cwr_tools.specs.declared.verdicts.Verdict.{Verdict}
 use Rattle.cwr_tools.specs.declared.verdicts.ToolFault.{ToolFault}
-use Rattle.cwr_tools.specs.declared.verdicts.ToolFault.TheVariants.{Writer}
+use Rattle.cwr_tools.specs.declared.verdicts.ToolFault.TheVariants.{Reader, Writer}
 use Rattle.cwr_lint_lines.specs.declared.states.LintState.{LintState}
 use Rattle.cwr_lint_lines.specs.Format.FaultsAtFields.{JudgedLine, LineCut, cut_of, fields_end}
 use Rattle.cwr_lint_lines.specs.Steps.Cells.{held_cut}
@@ -42,6 +42,18 @@ pub record PutsUpTo {W : Type 0} (contents : W → Option (List ℕ)) (text : Li
 abbrev pub Leaves : {W A : Type 0} → (List ℕ → Type 0) → (W → Option (List ℕ)) → Result A ToolFault → Sink W → Sink W → Type 0
 Leaves P contents (Ok x) old new = Unit {0}
 Leaves P contents (Err fault) old new = (text : List ℕ) × PutsUpTo contents text fault old new × P text
+
+-- the reader failed before any text was put
+abbrev pub IsUnread : ToolFault → List ℕ → Type 0
+IsUnread Reader text = text ≡ []
+IsUnread fault text = ⊥
+
+-- so, or such a text was put before a fault
+abbrev pub LeavesOrUnread : {W A : Type 0} → (List ℕ → Type 0) → (W → Option (List ℕ)) → Result A ToolFault → Sink W → Sink W
+    → Type 0
+LeavesOrUnread P contents (Ok x) old new = Unit {0}
+LeavesOrUnread P contents (Err fault) old new =
+    (text : List ℕ) × PutsUpTo contents text fault old new × (IsUnread fault text ⊎ P text)
 
 -- a text, or nothing
 abbrev pub IsNoneOr : List ℕ → List ℕ → Type 0
@@ -167,14 +179,10 @@ pub record TellsLastUpTo (asked : Asking) (begins : LintState) (refusal : Refusa
   pub read : ReadsLast left between last raw
   pub tells : TellsUpTo asked begins refusal raw between text
 
--- so, or nothing is told, where the reader failed in that line
-abbrev pub TellsRunUpTo : Asking → LintState → Refusal → LastBytes → Option (List ℕ) → List ℕ → Type 0
-TellsRunUpTo asked begins refusal last left text = (text ≡ []) ⊎ TellsLastUpTo asked begins refusal last left text
-
 -- so it is told from where the records had come before the refused line, of which the last bytes are held
 abbrev pub TellsAfterUpTo : Asking → LastRead → Refusal → Option (List ℕ) → List ℕ → Type 0
 TellsAfterUpTo asked last refusal left text =
-    TellsRunUpTo asked (state_at last.stage last.counts (refusal.rec - 1)) refusal last.bytes left text
+    TellsLastUpTo asked (state_at last.stage last.counts (refusal.rec - 1)) refusal last.bytes left text
 
 -- ---- a whole lint
 
@@ -183,7 +191,8 @@ abbrev pub IsCutText : (List ℕ → Type 0) → ToolFault → List ℕ → Type
 IsCutText P (Writer written) text = (rest : List ℕ) × P (text ++ rest)
 IsCutText P fault text = P text
 
--- before a fault such a text was appended
+-- before a fault such a text was appended, or the reader failed before any
 abbrev pub AppendsUpTo : {W : Type 0} → (W → Option (List ℕ)) → W → W → Result Verdict ToolFault → (List ℕ → Type 0) → Type 0
 AppendsUpTo contents old new (Ok verdict) P = Unit {0}
-AppendsUpTo contents old new (Err fault) P = (text : List ℕ) × IsCutText P fault text × Appends (contents old) (contents new) text
+AppendsUpTo contents old new (Err fault) P =
+    (text : List ℕ) × IsCutText (λ it. IsUnread fault it ⊎ P it) fault text × Appends (contents old) (contents new) text

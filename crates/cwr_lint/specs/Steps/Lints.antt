@@ -23,7 +23,7 @@ use Rattle.cwr_tools.specs.Steps.Reports.{Reports}
 use Rattle.cwr_tools.specs.Steps.Verdicts.{StopsAfter}
 use Rattle.cwr_lint_lines.specs.Steps.Fronts.{state_at}
 use Rattle.cwr_lint.specs.Format.Wanted.{Wanted, asking_for, lines_linted, lines_up_to}
-use Rattle.cwr_lint.specs.Steps.CutShort.{IsCutText, IsToldUpTo}
+use Rattle.cwr_lint.specs.Steps.CutShort.{IsCutText, IsToldUpTo, IsUnread}
 use Rattle.cwr_lint.specs.Steps.LinesRead.{IsTextOf}
 use Rattle.cwr_lint.specs.Steps.Runs.{EndsAtTrl}
 use Rattle.cwr_lint.specs.Steps.Walks.{IsTold}
@@ -56,12 +56,12 @@ pub record TellsUpToFault (wanted : Wanted) (limits : Limits) (before left : Opt
   pub read : IfSome before (λ known. (bytes : List ℕ) × (now : Option (List ℕ)) × Consumes before now bytes
       × AreLinesRead refusal tally last bytes refused lines)
 
--- The words after a check where a fault follows: none after a fault of the check. After a refusal nothing, where the refused line can't be
--- read, or what is told up to the fault; where that is the writer's, its first bytes.
+-- The words after a check where a fault follows: none after a fault of the check. After a refusal what is told up to the fault, or nothing,
+-- where the reader fails in the refused line; where the fault is the writer's, the first bytes of such words.
 abbrev pub AreWordsUpTo : Wanted → Limits → Option (List ℕ) → Option (List ℕ) → Result Verdict ToolFault → ToolFault → List ℕ
     → Type 0
 AreWordsUpTo wanted limits before left (Ok (Refused refusal)) fault words =
-    IsCutText (λ text. (text ≡ []) ⊎ TellsUpToFault wanted limits before left refusal text) fault words
+    IsCutText (λ text. IsUnread fault text ⊎ TellsUpToFault wanted limits before left refusal text) fault words
 AreWordsUpTo wanted limits before left (Ok verdict) fault words = ⊥
 AreWordsUpTo wanted limits before left (Err other) fault words = words ≡ []
 

@@ -3,7 +3,7 @@ use Rattle.std.specs.Prelude.{IfOk}
 use Rattle.cwr_lint_lines.specs.declared.states.LintState.{LintState}
 use Rattle.cwr_tools.specs.Format.Reports.{CountsWriterFault}
 use Rattle.cwr_lint_lines.specs.Steps.Fronts.{state_at}
-use Rattle.cwr_lint.specs.Steps.CutShort.{Leaves, TellsAfterUpTo, TellsRunUpTo}
+use Rattle.cwr_lint.specs.Steps.CutShort.{LeavesOrUnread, TellsAfterUpTo, TellsLastUpTo}
 use Rattle.cwr_lint.specs.Steps.Runs.{asking_of, TellsAfter, TellsRun}
 use Rattle.cwr_lint.proofs.lemmas.CutShort.{ends_cut, run_whole}
 use Rattle.cwr_lint.proofs.lemmas.TextsTold.{ends_answer, ends_counted, ends_reader, ends_told, ends_words, ends_writer}
@@ -64,7 +64,7 @@ returns-clause-leaves g c = let told = c.run-told.ensures.tells in
     (λ text run. run_whole (asking_of c.args.asked.now) begins c.args.refusal c.args.last.now.bytes left after text run)
     (subst (λ (s : LintState). IfOk c.run-told.result (λ (u : Unit {0}). TellsRun (asking_of c.args.asked.now) s c.args.refusal
     c.args.last.now.bytes left after told.0)) c.state_before-begins.ensures.is told.2)
-    (subst (λ (s : LintState). Leaves (TellsRunUpTo (asking_of c.args.asked.now) s c.args.refusal c.args.last.now.bytes left)
+    (subst (λ (s : LintState). LeavesOrUnread (TellsLastUpTo (asking_of c.args.asked.now) s c.args.refusal c.args.last.now.bytes left)
     g.W.Target.contents c.run-told.result c.new-sink.result c.run-told.new.sink) c.state_before-begins.ensures.is
     c.run-told.ensures.leaves) c.new-sink.ensures.empty
     (told.1.written (g.W.Target.contents c.args.writer) [] c.new-sink.ensures.empty) c.finish.ensures.kept

@@ -1,8 +1,7 @@
-use Rattle.std.proofs.Common.{[], refl, inl, inr}
-use Rattle.cwr_tools.specs.declared.verdicts.ToolFault.TheVariants.{Reader}
-use Rattle.cwr_lint.specs.Steps.CutShort.{TellsRunUpTo, TellsUpTo}
+use Rattle.std.proofs.Common.{[]}
+use Rattle.cwr_lint.specs.Steps.CutShort.{TellsLastUpTo, TellsUpTo}
 use Rattle.cwr_lint.specs.Steps.Runs.{asking_of, TellsRun, TellsToEnd}
-use Rattle.cwr_lint.proofs.lemmas.CutShort.{leaves_as, leaves_none}
+use Rattle.cwr_lint.proofs.lemmas.CutShort.{leaves_read, unread}
 use Rattle.cwr_lint.proofs.lemmas.TextsTold.{read_failed, read_first}
 use Rattle.cwr_lint.proofs.linting.LintRun.run.Goals as goal
 
@@ -35,19 +34,19 @@ returns-in-Err-clause-tells g c = (
 
 pub returns-in-Ok-clause-leaves : goal.returns-in-Ok-clause-leaves
 returns-in-Ok-clause-leaves g c =
-    leaves_as (TellsUpTo (asking_of c.args.asked.now) c.args.self.now.state c.args.refusal.now c.in-Ok.raw
-    (g.R.Source.remaining c.of_last.new.reader)) (TellsRunUpTo (asking_of c.args.asked.now) c.args.self.now.state
+    leaves_read (TellsUpTo (asking_of c.args.asked.now) c.args.self.now.state c.args.refusal.now c.in-Ok.raw
+    (g.R.Source.remaining c.of_last.new.reader)) (TellsLastUpTo (asking_of c.args.asked.now) c.args.self.now.state
     c.args.refusal.now c.args.last.now.bytes (g.R.Source.remaining c.args.reader.now)) g.W.Target.contents c.tell_to_end.result
     c.args.sink.now c.tell_to_end.new.sink
-    (λ text tells. inr (record {
+    (λ text tells. record {
       between = (g.R.Source.remaining c.of_last.new.reader);
       raw = c.in-Ok.raw;
       held = c.in-Ok.ensures.held;
       read = c.in-Ok.ensures.read;
       tells = tells;
-    })) c.tell_to_end.ensures.leaves
+    }) c.tell_to_end.ensures.leaves
 
 pub returns-in-Err-clause-leaves : goal.returns-in-Err-clause-leaves
 returns-in-Err-clause-leaves g c =
-    leaves_none (TellsRunUpTo (asking_of c.args.asked.now) c.args.self.now.state c.args.refusal.now c.args.last.now.bytes
-    (g.R.Source.remaining c.args.reader.now)) g.W.Target.contents Reader c.args.sink.now c.requires.unfailed (inl refl)
+    unread (TellsLastUpTo (asking_of c.args.asked.now) c.args.self.now.state c.args.refusal.now c.args.last.now.bytes
+    (g.R.Source.remaining c.args.reader.now)) g.W.Target.contents c.args.sink.now c.requires.unfailed
