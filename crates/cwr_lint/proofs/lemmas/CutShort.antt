@@ -1,5 +1,5 @@
 -- What was told where a device or memory failed.
-use Rattle.std.proofs.Common.{◌≡◌, ℕ, suc, ◌+◌, ◌-◌, ◌<◌, ◌≤◌, min, Bool, true, false, List, [], ◌∷◌, ◌++◌, Option, Some, None}
+use Rattle.std.proofs.Common.{◌≡◌, ℕ, suc, ◌+◌, ◌-◌, ◌≤◌, min, Bool, true, false, List, [], ◌∷◌, ◌++◌, Option, Some, None}
 use Rattle.std.proofs.Common.{refl, sym, ap, subst, ◌∙◌, arith, inl, inr, append_assoc, append-nil}
 use Rattle.std.specs.Prelude.{◌⊎◌, ◌^◌, Result, Ok, Err, IfOk}
 use Rattle.std.specs.Io.KnownBytes.{Appends, Keeps}
@@ -27,9 +27,9 @@ use Rattle.cwr_lint.specs.Format.FaultsOfLines.{Asking, EndedTransaction, IsFaul
 use Rattle.cwr_lint.specs.Steps.CutShort.{AppendsUpTo, IsCutText, IsFirstPart, IsFrontOf, IsNoneOr, IsUnread, Leaves, LeavesOrUnread}
 use Rattle.cwr_lint.specs.Steps.CutShort.{PutsUpTo, TakesFromPart, TakesNextPart, TakesSome, TellsLastUpTo, TellsPart, TellsSome}
 use Rattle.cwr_lint.specs.Steps.CutShort.{TellsUpTo, UnlessWriter, WalksPart}
-use Rattle.cwr_lint.specs.Steps.LinesRead.{GoesOn, HoldsRaw, ReadsLine, held_raw, spelled}
+use Rattle.cwr_lint.specs.Steps.LinesRead.{GoesOn, ReadsLine, held_raw, spelled}
 use Rattle.cwr_lint.specs.Steps.Lints.{EndsRun, counted}
-use Rattle.cwr_lint.specs.Steps.Puts.{PutsAfter, tool_result}
+use Rattle.cwr_lint.specs.Steps.Puts.{tool_result}
 use Rattle.cwr_lint.specs.Steps.Runs.{BeginsAt, TellsOfLine, TellsRun, TellsToEnd, walk_of}
 use Rattle.cwr_lint.specs.Steps.Walks.{Walk, WalksLine, ended_by}
 use Rattle.cwr_lint.proofs.lemmas.RawLines.{goes_both, goes_line, goes_none, raw_cut}

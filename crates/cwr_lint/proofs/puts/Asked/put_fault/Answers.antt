@@ -1,4 +1,4 @@
-use Rattle.std.proofs.Common.{◌≡◌, List, [], refl, sym, ◌∙◌, append-nil}
+use Rattle.std.proofs.Common.{◌≡◌, [], refl, sym, ◌∙◌, append-nil}
 use Rattle.std.specs.Option.{is_some}
 use Rattle.cwr_levels.specs.Format.ReportLines.{fault_line}
 use Rattle.cwr_lint.specs.Format.FaultsOfLines.{IsFaultText}
