@@ -38,7 +38,7 @@ rt = $(call need,rt,it is the Rattle toolchain's)
 # what is made of the manual, of the program's help and of the toolchain's licences
 made = $(addprefix $(OUT)/made/,cwr.1 cwr.bash copyright)
 
-.PHONY: all made test install install_program install_library uninstall dist deb wheel page clean help
+.PHONY: all made try test install install_program install_library uninstall dist deb wheel page clean help
 .DELETE_ON_ERROR:
 
 all: ## proves the program and the C library, and builds them
@@ -76,6 +76,11 @@ $(OUT)/made/cwr.bash: tools/completions $(PROGRAM) | $(OUT)/made
 $(OUT)/made/copyright: tools/licenses crates.txt | $(OUT)/made
 	$(rt)
 	tools/licenses > $@
+
+try: ## checks, explains and lints FILE in a minute or two, with nothing proved or installed (FILE=my.cwr)
+	$(rt)
+	$(call debian,python3,python3)
+	@tools/try_file "$(FILE)"
 
 test: ## proves every crate, tries the edits that must fail, and runs all tests
 	$(rt)
