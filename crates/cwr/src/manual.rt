@@ -60,9 +60,10 @@ COMMANDS
    cwr lint [OPTIONS] [FILE]...
        Tells every fault of transmissions in one pass, where `cwr check` stops
        at the first. Each has a line, by record and then by field, and so has
-       each finding. A line with their numbers is last. Where there is no
-       fault it prints what `cwr check` prints. Several files are told as `cwr
-       check` tells them.
+       each finding in a transaction without a fault, but for one that the
+       first faulty line ends. A line with their numbers is last. Where there
+       is no fault it prints what `cwr check` prints. Several files are told
+       as `cwr check` tells them.
 
        --explain
               Explains each fault and each finding.

@@ -1,13 +1,13 @@
 //! The lines of advice on items, put to a sink.
 
-ghost use Rattle.std.specs.Prelude.{◌≡◌, ◌+◌, ◌≤◌, ◌++◌, false, length, IfErr};
+ghost use Rattle.std.specs.Prelude.{◌≡◌, ◌+◌, ◌≤◌, ◌++◌, false, length, IfErr, OnOk};
 ghost use Rattle.std.specs.List.{flat_map};
 ghost use Rattle.cwr_devices.specs.Steps.Sinks.{Puts, has_failed, written_of};
 ghost use Rattle.cwr_judge.specs.Format.Items.{item_records};
 ghost use Rattle.cwr_tools.specs.Steps.Reports.{PutsLines};
 ghost use Rattle.cwr_advise.specs.Format.AdviceLines.{advised_transaction, has_advice, has_advised};
 ghost use Rattle.cwr_advise.specs.Format.AdviceTexts.{noted_advice};
-ghost use Rattle.cwr_advise.specs.Steps.AdvisedItems.{advised_at};
+ghost use Rattle.cwr_advise.specs.Steps.AdvisedItems.{advised_at, told_with};
 ghost use Rattle.cwr_advise.specs.Steps.KeptWorks.{repeated_at};
 
 use crate::advice_texts::AdviceText;
@@ -106,9 +106,10 @@ fn put_advised_in<W: Target>(
 ) -> Result<(), ToolFault>
     requires unfailed { has_failed sink.old ≡ false }
     requires few { first + length transaction.now ≤ 100000000 }
-    ensures { PutsLines W.contents W.failures (has_advice transaction.now)
+    ensures puts { PutsLines W.contents W.failures (has_advice transaction.now)
         (advised_transaction explained said group sequence first transaction.now) result sink.old
         sink.new }
+    ensures counted { OnOk result (count.new ≡ told_with count.old (Item.Transaction transaction.now)) }
 {
     let Ok(found) = advice(alloc, said, transaction) else {
         return Err(ToolFault::Memory);
@@ -150,9 +151,10 @@ pub fn put_advised<W: Target>(
 ) -> Result<(), ToolFault>
     requires unfailed { has_failed sink.old ≡ false }
     requires few { first + length transaction.now ≤ 100000000 }
-    ensures { PutsLines W.contents W.failures (has_advice transaction.now)
+    ensures puts { PutsLines W.contents W.failures (has_advice transaction.now)
         (advised_transaction explained said group sequence first transaction.now) result sink.old
         sink.new }
+    ensures counted { OnOk result (count.new ≡ told_with count.old (Item.Transaction transaction.now)) }
 {
     put_advised_in(
         explained,
@@ -182,8 +184,9 @@ fn put_own<W: Target>(
 ) -> Result<(), ToolFault>
     requires unfailed { has_failed sink.old ≡ false }
     requires few { counts.now.records + length (item_records item.now) ≤ 99999999 }
-    ensures { PutsLines W.contents W.failures (has_advised item.now)
+    ensures puts { PutsLines W.contents W.failures (has_advised item.now)
         (advised_at explained said counts.now item.now) result sink.old sink.new }
+    ensures counted { OnOk result (count.new ≡ told_with count.old item.now) }
 {
     match item {
         Item::Transaction(transaction) => put_advised_in(
@@ -262,9 +265,10 @@ pub(crate) fn put_item<W: Target>(
     requires unfailed { has_failed sink.old ≡ false }
     requires room { counts.now.records ≤ 99999999 }
     requires few { counts.now.records + length (item_records item.now) ≤ 99999999 }
-    ensures { PutsLines W.contents W.failures (has_advised item.now) (advised_at explained said
+    ensures puts { PutsLines W.contents W.failures (has_advised item.now) (advised_at explained said
         counts.now item.now ++ repeated_at limit counts.now item.now
         repeated.now) result sink.old sink.new }
+    ensures counted { OnOk result (count.new ≡ told_with count.old item.now) }
 {
     put_own(explained, alloc, said, counts, item, count, text, sink)?;
     put_repeated(limit, counts, item, repeated, text, sink)

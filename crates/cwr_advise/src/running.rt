@@ -3,6 +3,7 @@
 ghost use Rattle.std.specs.Prelude.{◌≡◌, [], true, IfOk, OnOk, IsSomeAnd};
 ghost use Rattle.std.specs.Io.KnownBytes.{GrowsBy};
 ghost use Rattle.cwr_tools.specs.Format.Reports.{CountsReaderFault, CountsWriterFault, ReportsText};
+ghost use Rattle.cwr_tools.specs.Format.Watching.{findings_with};
 ghost use Rattle.cwr_tools.specs.Steps.Reports.{Reports, StandsAfter};
 ghost use Rattle.cwr_tools.specs.Steps.Verdicts.{IsReadLast};
 ghost use Rattle.cwr_advise.specs.Format.AdviceLines.{lines_advised, lines_of_advice, said_in};
@@ -18,8 +19,8 @@ use cwr_advice::Said;
 use cwr_devices::{Sink, SinkFault, Source, Target};
 use cwr_shape::Limits;
 use cwr_tools::{
-    CheckedFront, Front, HandedOut, Report, ToolFault, Totals, Verdict, put_unrefused_line,
-    put_verdict_line, write_report,
+    CheckedFront, Report, ToolFault, Totals, Verdict, put_unrefused_line, put_verdict_line,
+    write_report,
 };
 use cwr_values::Item;
 use std::alloc::Global;
@@ -49,6 +50,7 @@ impl AdviceLines {
         ensures repeated { result.repeats.limit ≡ repeated }
         ensures before { IsBefore result.before [] }
         ensures works { AreKeptOf result.repeats [] }
+        ensures none { result.findings ≡ 0 }
     {
         AdviceLines {
             explained,
@@ -67,10 +69,11 @@ impl Report for AdviceLines {
     ghost use Rattle.cwr_advise.specs.Format.RepeatedWorks.{works_in};
     ghost use Rattle.cwr_advise.specs.Steps.AdvisedItems.{IsBefore};
     ghost use Rattle.cwr_advise.specs.Steps.KeptWorks.{AreKeptOf};
+    ghost use Rattle.cwr_tools.specs.Format.Watching.{findings_with};
 
     type Works = AdvisedSums;
 
-    ghost stands = { λ report of given. (of ≡ lines_advised report.explained report.up_to_fault report.repeats.limit) × IsBefore report.before given × AreKeptOf report.repeats (works_in given) };
+    ghost stands = { λ report of given. (of ≡ lines_advised report.explained report.up_to_fault report.repeats.limit) × IsBefore report.before given × AreKeptOf report.repeats (works_in given) × (report.findings ≡ findings_with 0 given) };
 
     fn works(&self) -> AdvisedSums {
         AdvisedSums::new()
@@ -172,7 +175,9 @@ pub fn advise_up_to_fault<R: Source, W: Target + Drop>(
     ensures told { ReportsText (lines_advised explained true 0) limits (R.remaining reader.old)
         (R.remaining reader.new) W.contents writer result.0 result.1 }
     ensures counted { GrowsBy (W.contents writer) (W.contents result.0) result.2.written }
-    ensures said { IfOk result.1 (StandsAfter (λ given. result.3 ≡ said_in given) limits
+    // What the items before the verdict say, and how many findings they have.
+    ensures said { IfOk result.1 (StandsAfter
+        (λ given. (result.3 ≡ said_in given) × (result.2.findings ≡ findings_with 0 given)) limits
         (R.remaining reader.old) (R.remaining reader.new)) }
     ensures reader_failures { CountsReaderFault result.1 (R.failures reader.old)
         (R.failures reader.new) }
@@ -184,19 +189,10 @@ pub fn advise_up_to_fault<R: Source, W: Target + Drop>(
 {
     let mut lines = AdviceLines::new(alloc, explained, true, 0);
     let (writer, outcome, front) = write_report(&mut lines, true, alloc, limits, reader, writer);
-    let Front {
-        last,
-        totals,
-        written,
-    } = front;
-    let handed_out = HandedOut {
-        totals,
-        findings: lines.findings,
-    };
     let checked = CheckedFront {
-        last,
-        handed_out,
-        written,
+        last: front.last,
+        findings: lines.findings,
+        written: front.written,
     };
     let said = lines.before.said();
     (writer, outcome, checked, said)

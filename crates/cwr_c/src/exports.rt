@@ -1,7 +1,9 @@
 //! What C calls.
 
 ghost use Rattle.std.specs.Prelude.{◌≡◌};
-ghost use Rattle.cwr_calls.specs.Format.Answers.{Checks, Indexes};
+ghost use Rattle.cwr_calls.specs.Format.Answers.{Indexes, IsOutOfRange};
+ghost use Rattle.cwr_calls.specs.Steps.Checked.{Checks};
+ghost use Rattle.cwr_calls.specs.Format.VerdictNumbers.{ended};
 ghost use Rattle.cwr_calls.specs.Format.FieldNumbers.{TellsBlank, TellsCode, TellsField, TellsKind};
 ghost use Rattle.cwr_calls.specs.Format.WrittenTexts.{TellsImported, TellsWritten};
 ghost use Rattle.cwr_calls.specs.Steps.Listed.{TellsFindings};
@@ -35,7 +37,8 @@ pub extern "C" fn cwr_check(
     transaction: u32,
     verdict: &mut CwrVerdict,
 )
-    ensures { Checks records groups transaction text.now verdict.new }
+    ensures told { Checks records groups transaction text.now verdict.new }
+    ensures out_of_range { IsOutOfRange records groups transaction → verdict.new ≡ ended 4 }
 {
     check_text(alloc, text, records, groups, transaction, verdict)
 }
@@ -52,8 +55,9 @@ pub extern "C" fn cwr_findings(
     findings: &mut [CwrFinding],
     verdict: &mut CwrVerdict,
 ) -> usize
-    ensures { TellsFindings records groups transaction text.now findings.old findings.new result
+    ensures told { TellsFindings records groups transaction text.now findings.old findings.new result
         verdict.new }
+    ensures out_of_range { IsOutOfRange records groups transaction → verdict.new ≡ ended 4 }
 {
     findings_in(alloc, text, records, groups, transaction, findings, verdict)
 }
@@ -69,7 +73,8 @@ pub extern "C" fn cwr_index(
     lines: &mut [IndexEntry],
     verdict: &mut CwrVerdict,
 ) -> usize
-    ensures { Indexes records groups transaction text.now lines.old lines.new result verdict.new }
+    ensures told { Indexes records groups transaction text.now lines.old lines.new result verdict.new }
+    ensures out_of_range { IsOutOfRange records groups transaction → verdict.new ≡ ended 4 }
 {
     index_text(text, records, groups, transaction, lines, verdict)
 }
@@ -89,8 +94,9 @@ pub extern "C" fn cwr_report(
     room: &mut [u8],
     verdict: &mut CwrVerdict,
 ) -> usize
-    ensures { TellsReport what records groups transaction text.now room.old room.new result
+    ensures told { TellsReport what records groups transaction text.now room.old room.new result
         verdict.new }
+    ensures out_of_range { IsOutOfRange records groups transaction → verdict.new ≡ ended 4 }
 {
     report_on(
         alloc,
@@ -126,7 +132,7 @@ pub extern "C" fn cwr_field(kind: &[u8], j: u8, place: &mut CwrField, name: &mut
 /// Answers how many bytes it has, and 0 where there are no more, or the field's cells hold something else.
 #[unsafe(no_mangle)]
 pub extern "C" fn cwr_code(kind: &[u8], j: u8, i: u32, code: &mut [u8]) -> usize
-    ensures { TellsCode kind.now j code.old code.new result }
+    ensures { TellsCode kind.now j i code.old code.new result }
 {
     code_text(kind, j, i, code)
 }
@@ -152,7 +158,8 @@ pub extern "C" fn cwr_write(
     room: &mut [u8],
     told: &mut CwrWritten,
 ) -> usize
-    ensures { TellsWritten records groups transaction lines.now room.old room.new result told.new }
+    ensures told { TellsWritten records groups transaction lines.now room.old room.new result told.new }
+    ensures out_of_range { IsOutOfRange records groups transaction → told.new.ending ≡ 7 }
 {
     write_records(alloc, lines, records, groups, transaction, room, told)
 }
@@ -169,7 +176,8 @@ pub extern "C" fn cwr_write_json(
     room: &mut [u8],
     told: &mut CwrWritten,
 ) -> usize
-    ensures { TellsImported records groups transaction room.old room.new result told.new }
+    ensures told { TellsImported records groups transaction room.old room.new result told.new }
+    ensures out_of_range { IsOutOfRange records groups transaction → told.new.ending ≡ 7 }
 {
     write_data(alloc, json, records, groups, transaction, room, told)
 }

@@ -1,4 +1,5 @@
 -- What the code keeps, and what its calls do to that.
+pub mod Checked
 pub mod Reported
 pub mod Listed
 pub mod Writings

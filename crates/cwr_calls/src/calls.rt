@@ -1,6 +1,9 @@
 //! The calls of the C library.
 
-ghost use Rattle.cwr_calls.specs.Format.Answers.{Checks, Indexes};
+ghost use Rattle.std.specs.Prelude.{◌≡◌};
+ghost use Rattle.cwr_calls.specs.Format.Answers.{Indexes, IsOutOfRange};
+ghost use Rattle.cwr_calls.specs.Steps.Checked.{Checks};
+ghost use Rattle.cwr_calls.specs.Format.VerdictNumbers.{ended};
 ghost use Rattle.cwr_calls.specs.Format.FieldNumbers.{TellsBlank, TellsCode, TellsField, TellsKind};
 ghost use Rattle.cwr_calls.specs.Format.WrittenTexts.{TellsImported, TellsWritten};
 ghost use Rattle.cwr_calls.specs.Steps.Listed.{TellsFindings};
@@ -57,7 +60,8 @@ pub fn check_text(
     transaction: u32,
     verdict: &mut CwrVerdict,
 )
-    ensures { Checks records groups transaction text.now verdict.new }
+    ensures told { Checks records groups transaction text.now verdict.new }
+    ensures out_of_range { IsOutOfRange records groups transaction → verdict.new ≡ ended 4 }
 {
     let Ok(limits) = Limits::new(records, groups, transaction) else {
         *verdict = ended(4);
@@ -82,8 +86,9 @@ pub fn findings_in(
     findings: &mut [CwrFinding],
     verdict: &mut CwrVerdict,
 ) -> usize
-    ensures { TellsFindings records groups transaction text.now findings.old findings.new result
+    ensures told { TellsFindings records groups transaction text.now findings.old findings.new result
         verdict.new }
+    ensures out_of_range { IsOutOfRange records groups transaction → verdict.new ≡ ended 4 }
 {
     let Ok(limits) = Limits::new(records, groups, transaction) else {
         *verdict = ended(4);
@@ -112,7 +117,8 @@ pub fn index_text(
     lines: &mut [IndexEntry],
     verdict: &mut CwrVerdict,
 ) -> usize
-    ensures { Indexes records groups transaction text.now lines.old lines.new result verdict.new }
+    ensures told { Indexes records groups transaction text.now lines.old lines.new result verdict.new }
+    ensures out_of_range { IsOutOfRange records groups transaction → verdict.new ≡ ended 4 }
 {
     let Ok(limits) = Limits::new(records, groups, transaction) else {
         *verdict = ended(4);
@@ -137,8 +143,9 @@ pub fn report_on(
     room: &mut [u8],
     verdict: &mut CwrVerdict,
 ) -> usize
-    ensures { TellsReport what records groups transaction text.now room.old room.new result
+    ensures told { TellsReport what records groups transaction text.now room.old room.new result
         verdict.new }
+    ensures out_of_range { IsOutOfRange records groups transaction → verdict.new ≡ ended 4 }
 {
     let Ok(limits) = Limits::new(records, groups, transaction) else {
         *verdict = ended(4);
@@ -189,7 +196,7 @@ pub fn field_place(kind: &[u8], j: u8, place: &mut CwrField, name: &mut [u8]) ->
 /// Puts text number `i`, from 0, of those that cells of field `j` may hold, as far as there is room: a code, a flag or a constant.
 /// Answers how many bytes it has, and 0 where there are no more, or the field's cells hold something else.
 pub fn code_text(kind: &[u8], j: u8, i: u32, code: &mut [u8]) -> usize
-    ensures { TellsCode kind.now j code.old code.new result }
+    ensures { TellsCode kind.now j i code.old code.new result }
 {
     match Kind::of(kind) {
         Some(kind) => put_code(kind, j, i, code),
@@ -219,7 +226,8 @@ pub fn write_records(
     room: &mut [u8],
     told: &mut CwrWritten,
 ) -> usize
-    ensures { TellsWritten records groups transaction lines.now room.old room.new result told.new }
+    ensures told { TellsWritten records groups transaction lines.now room.old room.new result told.new }
+    ensures out_of_range { IsOutOfRange records groups transaction → told.new.ending ≡ 7 }
 {
     let Ok(limits) = Limits::new(records, groups, transaction) else {
         *told = written(7, 0, 0);
@@ -248,7 +256,8 @@ pub fn write_data(
     room: &mut [u8],
     told: &mut CwrWritten,
 ) -> usize
-    ensures { TellsImported records groups transaction room.old room.new result told.new }
+    ensures told { TellsImported records groups transaction room.old room.new result told.new }
+    ensures out_of_range { IsOutOfRange records groups transaction → told.new.ending ≡ 7 }
 {
     let Ok(limits) = Limits::new(records, groups, transaction) else {
         *told = written(7, 0, 0);

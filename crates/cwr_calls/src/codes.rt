@@ -1,11 +1,12 @@
 //! Which texts a cell may hold where these can be counted up, and the line of a record in which nothing was set.
 
-ghost use Rattle.std.specs.Prelude.{◌≡◌, ◌+◌, ◌≤◌, ◌++◌, length, replicate, IfSome, IsSomeAnd};
+ghost use Rattle.std.specs.Prelude.{◌≡◌, ◌+◌, ◌≤◌, ◌++◌, [], ◌∷◌, codes, length, map, option_map, slice_get, replicate, IfSome, IsSomeAnd};
+ghost use Rattle.cwr_fields.specs.Format.Codes.{codes_of};
 ghost use Rattle.cwr_fields.specs.Format.Bytes.{filled};
 ghost use Rattle.cwr_fields.specs.Format.Cells.{Allows};
 ghost use Rattle.cwr_lines.specs.Format.Carried.{carried_at};
 ghost use Rattle.cwr_lines.specs.Format.Records.{blank_cell};
-ghost use Rattle.cwr_calls.specs.Format.FieldNumbers.{PutsCode, blank_line};
+ghost use Rattle.cwr_calls.specs.Format.FieldNumbers.{PutsCode, PutsText, blank_line, listed_texts};
 
 use crate::reports::copy_out;
 use arrayvec::ArrayVec;
@@ -19,7 +20,9 @@ use cwr_fields::{
 use cwr_lines::{Draft, LONGEST_LINE};
 
 /// Code number `i` of a table, from 0.
-fn code_at<C: Coded>(i: usize) -> Option<&'static str> {
+fn code_at<C: Coded>(i: usize) -> Option<&'static str>
+    ensures { option_map (λ code. code.now) result ≡ slice_get (map C.code C.members) i }
+{
     match C::list().get(i) {
         Some((_, code)) => Some(code),
         None => None,
@@ -27,7 +30,9 @@ fn code_at<C: Coded>(i: usize) -> Option<&'static str> {
 }
 
 /// Code number `i` of a sender, from 0.
-fn sender_at(i: usize) -> Option<&'static str> {
+fn sender_at(i: usize) -> Option<&'static str>
+    ensures { option_map (λ code. code.now) result ≡ slice_get (codes_of Table.Sender) i }
+{
     match i {
         0 => Some("PB"),
         1 => Some("SO"),
@@ -38,7 +43,9 @@ fn sender_at(i: usize) -> Option<&'static str> {
 }
 
 /// Flag number `i`, from 0.
-fn flag_at(i: usize) -> Option<&'static str> {
+fn flag_at(i: usize) -> Option<&'static str>
+    ensures { option_map (λ code. code.now) result ≡ slice_get (codes "Y" ∷ codes "N" ∷ codes "U" ∷ []) i }
+{
     match i {
         0 => Some("Y"),
         1 => Some("N"),
@@ -48,7 +55,9 @@ fn flag_at(i: usize) -> Option<&'static str> {
 }
 
 /// Code number `i` of the table, from 0.
-fn table_code_at(table: Table, i: usize) -> Option<&'static str> {
+fn table_code_at(table: Table, i: usize) -> Option<&'static str>
+    ensures { option_map (λ code. code.now) result ≡ slice_get (codes_of table) i }
+{
     match table {
         Table::Sender => sender_at(i),
         Table::TransactionType => code_at::<TransactionType>(i),
@@ -73,7 +82,9 @@ fn table_code_at(table: Table, i: usize) -> Option<&'static str> {
 }
 
 /// Text number `i`, from 0, of those that cells of the type may hold, where these can be counted up.
-fn text_at(ty: CellType, i: usize) -> Option<&'static [u8]> {
+fn text_at(ty: CellType, i: usize) -> Option<&'static [u8]>
+    ensures { option_map (λ text. text.now) result ≡ slice_get (listed_texts ty) i }
+{
     match ty {
         CellType::Code(table) => table_code_at(table, i).map(|code| code.as_bytes()),
         CellType::OptCode(table) => table_code_at(table, i).map(|code| code.as_bytes()),
@@ -86,7 +97,7 @@ fn text_at(ty: CellType, i: usize) -> Option<&'static [u8]> {
 /// Puts a text into the room, as far as there is any, where a cell of the field may hold it. Answers how many bytes it has, and 0 where
 /// none may.
 fn put_fitting(kind: Kind, j: u8, text: &[u8], room: &mut [u8]) -> usize
-    ensures { PutsCode kind j room.old room.new result }
+    ensures { PutsText kind j text.now room.old room.new result }
 {
     match Draft::blank(kind).set(j, text) {
         Ok(()) => copy_out(text, room),
@@ -97,7 +108,7 @@ fn put_fitting(kind: Kind, j: u8, text: &[u8], room: &mut [u8]) -> usize
 /// Puts text number `i`, from 0, of those that cells of field `j` may hold into the room, as far as there is any. Answers how many bytes
 /// it has, and 0 where there are no more, or they can't be counted up.
 pub(crate) fn put_code(kind: Kind, j: u8, i: u32, room: &mut [u8]) -> usize
-    ensures { PutsCode kind j room.old room.new result }
+    ensures { PutsCode kind j i room.old room.new result }
 {
     let Some(place) = field(kind, j) else {
         return 0;

@@ -24,12 +24,13 @@ fn fault_in_c(fault: &WriteFault) -> CwrWritten
     }
 }
 
-/// The words that say why nothing whole was written, as the program has them, without their line feed's line.
-fn words_of(alloc: Global, fault: WriteFault) -> Vec<u8> {
+/// The words that say why nothing whole was written, as the program has them. There are none where memory for them is refused.
+fn words_of(alloc: Global, fault: WriteFault) -> Option<Vec<u8>> {
     let mut sink = Sink::new(Counted::new(Vec::new(alloc)));
-    // What memory doesn't take is left out.
-    let _ = put_write_outcome(&Err(fault), &mut sink);
-    sink.into_inner().into_inner()
+    match put_write_outcome(&Err(fault), &mut sink) {
+        Ok(()) => Some(sink.into_inner().into_inner()),
+        Err(_) => None,
+    }
 }
 
 /// The canonical text of the transmission that lines of JSON are, or the words that say why none was written.
@@ -50,7 +51,10 @@ pub(crate) fn import_text(alloc: Global, limits: Limits, text: &[u8]) -> (Vec<u8
         Ok(_) => (writer.into_inner(), written(0, 0, 0)),
         Err(fault) => {
             let told = fault_in_c(&fault);
-            (words_of(alloc, fault), told)
+            match words_of(alloc, fault) {
+                Some(words) => (words, told),
+                None => (Vec::new(alloc), written(6, 0, 0)),
+            }
         }
     }
 }

@@ -1,7 +1,8 @@
 //! The text that a check, a show, an explanation, an export or a lint of a text in memory writes.
 
-ghost use Rattle.std.specs.Prelude.{◌≡◌};
-ghost use Rattle.cwr_tools.specs.Format.Reports.{lines_of_data, lines_of_explained, lines_of_findings, lines_of_records};
+ghost use Rattle.std.specs.Prelude.{◌≡◌, false, true};
+ghost use Rattle.cwr_lint.specs.Format.Wanted.{wanting};
+ghost use Rattle.cwr_tools.specs.Format.Reports.{lines_of_data, lines_of_findings, lines_of_records};
 ghost use Rattle.cwr_calls.specs.Format.Copies.{CopiesOut};
 ghost use Rattle.cwr_calls.specs.Steps.Reported.{IsExplainedOn, IsJudged, IsLintOn, IsReportOn, IsTextOn, IsWritten, asked_by};
 
@@ -107,7 +108,7 @@ fn data_report(
 /// The report of a lint.
 fn lint_report(alloc: Global, limits: Limits, text: &[u8]) -> (Vec<u8>, Result<Verdict, ToolFault>)
     ensures judged { IsJudged limits text.now result.1 }
-    ensures written { IsWritten (IsLintOn lines_of_findings limits text.now result.0.items) result.1 }
+    ensures written { IsWritten (IsLintOn (wanting false false) limits text.now result.0.items) result.1 }
 {
     let mut reader = InMemory::new(text);
     let writer = Counted::new(Vec::new(alloc));
@@ -123,7 +124,7 @@ fn explained_lint_report(
     text: &[u8],
 ) -> (Vec<u8>, Result<Verdict, ToolFault>)
     ensures judged { IsJudged limits text.now result.1 }
-    ensures written { IsWritten (IsLintOn lines_of_explained limits text.now result.0.items)
+    ensures written { IsWritten (IsLintOn (wanting true false) limits text.now result.0.items)
         result.1 }
 {
     let mut reader = InMemory::new(text);

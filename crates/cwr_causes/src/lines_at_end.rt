@@ -1,12 +1,12 @@
 //! The line that was read last.
 
-ghost use Rattle.std.specs.Prelude.{◌≡◌, ◌≢◌, ◌≤◌, ℕ, List, [], ◌∷◌, ◌++◌, length, true, false, IfSome, IsFalse};
+ghost use Rattle.std.specs.Prelude.{◌≡◌, ◌≢◌, ◌≤◌, ◌<◌, ◌-◌, ◌^◌, ◌==◌, ℕ, List, [], ◌∷◌, ◌++◌, length, true, false, None, IfSome, IsFalse, MatchOption};
 ghost use Rattle.std.specs.List.{list_any};
 ghost use Rattle.cwr_lines.specs.declared.lines.TheConstants.{LONGEST_LINE};
 ghost use Rattle.cwr_lines.specs.declared.lines.LineEnd.{LineEnd};
 ghost use Rattle.cwr_lines.specs.Format.Lines.{is_lf};
 ghost use Rattle.cwr_decode.specs.Steps.LastReads.{HoldsLast, last_held};
-ghost use Rattle.cwr_causes.specs.Steps.LinesAtEnd.{EndsInLine, EndsWithLine, IsAfterFeed, IsLastLine, IsLineAtEnd};
+ghost use Rattle.cwr_causes.specs.Steps.LinesAtEnd.{EndsInLine, EndsWithLine, IsAfterFeed, IsLastLine, IsLineAtEnd, NoLineKnown};
 
 use cwr_decode::LastBytes;
 use cwr_lines::{LineBuf, LineEnd};
@@ -76,7 +76,8 @@ fn last_line(text: &[u8]) -> (&[u8], &[u8])
 /// The last of these lines, each with its line feed. `None` where there is none, or where its begin isn't known: the text is all that was
 /// read, or that line stands after a line feed.
 fn last_of_lines(lines: &[u8], is_all: bool) -> Option<&[u8]>
-    ensures { IfSome result (λ line. EndsInLine lines.now is_all line.now) }
+    ensures { MatchOption result (NoLineKnown lines.now is_all)
+        (λ line. EndsInLine lines.now is_all line.now) }
 {
     let (text, ended) = without_feed(lines);
     if !ended {
@@ -92,8 +93,10 @@ fn last_of_lines(lines: &[u8], is_all: bool) -> Option<&[u8]>
 
 /// Whether all bytes are held that were read.
 fn is_whole(last: &LastBytes) -> bool
-    ensures { result ≡ true → (read : List ℕ) → HoldsLast read last.now
+    ensures whole { result ≡ true → (read : List ℕ) → HoldsLast read last.now
         → read ≡ last_held last.now }
+    ensures part { result ≡ false → (read : List ℕ) → HoldsLast read last.now
+        → length read < 2 ^ 64 - 1 → read ≢ last_held last.now }
 {
     let count = last.as_slice().len() as u64;
     count < u64::MAX && last.read() == count
@@ -102,8 +105,10 @@ fn is_whole(last: &LastBytes) -> bool
 /// The line before the one with which the bytes end, without its line feed. `None` where not all of it is still held, or there is
 /// none.
 pub(crate) fn line_before(last: &LastBytes) -> Option<&[u8]>
-    ensures { (read front line : List ℕ) → HoldsLast read last.now → EndsWithLine read front line
+    ensures told { (read front line : List ℕ) → HoldsLast read last.now → EndsWithLine read front line
         → IfSome result (λ before. EndsInLine front true before.now) }
+    ensures untold { (read front line shown : List ℕ) → (held : HoldsLast read last.now) → EndsWithLine read front line
+        → front ≡ held.before ++ shown → length read < 2 ^ 64 - 1 → result ≡ None → NoLineKnown shown (length held.before == 0) }
 {
     let (text, _) = without_feed(last.as_slice());
     let (front, _) = last_line(text);

@@ -86,3 +86,5 @@ pub mod LastHeld
 pub mod PassedOver
 -- Transactions that a reading passes over are read: what was read so far continues with them.
 pub mod PassedReading
+-- What an item that is read after transactions were passed over keeps of what a reading of one item promises.
+pub mod PassingAnswers

@@ -1,6 +1,7 @@
 -- What the code keeps, and what its calls do to that.
 pub mod Calls
 pub mod Decoding
+pub mod HeldLists
 pub mod LastReads
 pub mod Laws
 pub mod Machines

@@ -1,10 +1,10 @@
 //! Reading a transmission in pieces of any size.
 
-ghost use Rattle.std.specs.Prelude.{◌≡◌, ◌≢◌, ◌≤◌, ◌++◌, [], List, ℕ, length, take, IfSome, IsNone, IsTrue, IsFalse, Option, None, true, false};
+ghost use Rattle.std.specs.Prelude.{◌≡◌, ◌≢◌, ◌↔◌, ◌≤◌, ◌++◌, [], List, ℕ, length, take, IfSome, IsNone, IsTrue, IsFalse, Option, None, true, false};
 ghost use Rattle.cwr_decode.specs.Steps.Calls.{Fed, Feeds};
 ghost use Rattle.cwr_decode.specs.Steps.Decoding.{EndsAgain, FeedsRight, FinishesLast, FinishesRight, IsStageNow, LacksMemory, StandsAfter};
 ghost use Rattle.cwr_decode.specs.Steps.Decoding.{accepted_records, final_answer, has_ended, limits_of};
-ghost use Rattle.cwr_decode.specs.Steps.Machines.{Empties, WaitsOutside, held_list};
+ghost use Rattle.cwr_decode.specs.Steps.Machines.{Empties, TakesRoom, WaitsOutside, held_list};
 ghost use Rattle.cwr_decode.specs.Steps.Passing.{Passes};
 ghost use Rattle.cwr_decode.specs.Steps.Readings.{FeedsOn};
 ghost use Rattle.cwr_decode.specs.Steps.Represents.{RepresentsSome, Represents, items_out};
@@ -82,12 +82,15 @@ impl Decoder {
         self.machine.holds()
     }
 
-    /// Takes an item that nobody needs any more. Where it is a transaction the next one has its room, and asks for memory only where
-    /// that isn't enough.
-    pub fn reuse(&mut self, spent: Option<Item>)
-        ensures { self.new ≡ self.old }
+    /// Takes an item that nobody needs any more, and says whether it keeps the item's room: where it is a transaction within the limit,
+    /// no transaction is open, and nothing was answered for good. The next transaction then has that room in place of any kept before,
+    /// and asks for memory only where it isn't enough. Else the item is dropped. The decoder's one list is the
+    /// open transaction's or a spare one, with whatever room the item has, and no end leaves any.
+    pub fn reuse(&mut self, spent: Option<Item>) -> bool
+        ensures same { self.new ≡ self.old }
+        ensures taken { IsTrue result ↔ TakesRoom self.old spent }
     {
-        self.machine.reuse(spent);
+        self.machine.reuse(spent)
     }
 
     /// Enters the record that waits, where that needs no answer, and says whether a byte is needed now. A no says nothing,
@@ -120,7 +123,8 @@ impl Decoder {
     pub(crate) fn pass<K: Keeper>(&mut self, keeper: &mut K, piece: &[u8]) -> Passed
         requires reading { self.old.state ≡ State.Reading }
         requires fresh { self.old.finished ≡ false }
-        ensures { Passes K.are_clean self.old piece.now result self.new }
+        ensures passes { Passes K.are_clean self.old piece.now result self.new }
+        ensures under_way { RepresentsSome self.old }
     {
         self.machine.pass(keeper, piece)
     }

@@ -1,20 +1,21 @@
 //! The steps of a decoder.
 
-ghost use Rattle.std.specs.Prelude.{List, [], ◌≡◌, length};
+ghost use Rattle.std.specs.Prelude.{List, [], ◌≡◌, ◌↔◌, IsTrue, length};
 ghost use Rattle.cwr_shape.specs.Format.Ranges.{AreInRange};
 ghost use Rattle.cwr_shape.specs.Steps.Stages.{stage_after};
 ghost use Rattle.cwr_shape.specs.Steps.Tallies.{IsTallyOf};
 ghost use Rattle.cwr_shape.specs.declared.symbols.Symbol.{Symbol};
-ghost use Rattle.cwr_decode.specs.Steps.Machines.{FinishesRecord, at_start, held_list, reading, stopped};
+ghost use Rattle.cwr_decode.specs.Steps.Machines.{FinishesRecord, TakesRoom, at_start, held_list, reading, stopped};
 ghost use Rattle.cwr_decode.specs.Steps.Represents.{IsSound};
 ghost use Rattle.cwr_decode.specs.Steps.Calls.{Feeds, Finishes};
 
 use crate::outcomes::{Answer, Outcome};
 use cwr_fields::SpelledPair;
 use cwr_judge::Refusal;
-use cwr_lines::{LineBuf, LinePad, RecordList};
+use cwr_lines::{LineBuf, LinePad};
 use cwr_shape::{Counts, Limits, Stage, Tally};
-use cwr_values::{Item, Transaction};
+use cwr_values::Item;
+use holding::Held;
 use std::alloc::{AllocError, Global};
 use std::marker::Model;
 
@@ -85,10 +86,8 @@ pub struct Machine {
     /// Room for a line that is judged.
     pad: LinePad,
     tally: Tally,
-    /// The records of the open transaction.
-    held: Option<Transaction>,
-    /// Where the next transaction has room.
-    room: RecordList,
+    /// The records of the open transaction, or room for the next one: the one thing here that grows.
+    held: Held,
     /// The sequences of the line before, with their digits.
     expected: SpelledPair,
     state: State,
@@ -117,8 +116,7 @@ impl Machine {
             line: LineBuf::new(),
             pad: LinePad::new(),
             tally: Tally::new(limits),
-            held: None,
-            room: RecordList::new(alloc),
+            held: Held::nothing(alloc),
             expected: SpelledPair::new(),
             state: State::Reading,
             finished: false,
@@ -160,18 +158,20 @@ impl Machine {
         ensures line { result.0 ≡ length self.now.line.bytes }
         ensures transaction { result.1 ≡ length (held_list self.now.held) }
     {
-        match &self.held {
-            Some(transaction) => (self.line.len(), transaction.len()),
-            None => (self.line.len(), 0),
-        }
+        (self.line.len(), self.held.len())
     }
 
-    /// Takes an item that nobody needs any more: where it is a transaction the next one has its room.
-    pub fn reuse(&mut self, spent: Option<Item>)
-        ensures { self.new ≡ self.old }
+    /// Takes an item that nobody needs any more, and says whether the next transaction has its room: where it is a transaction within
+    /// the limit, none is open, and more is read.
+    pub fn reuse(&mut self, spent: Option<Item>) -> bool
+        ensures same { self.new ≡ self.old }
+        ensures taken { IsTrue result ↔ TakesRoom self.old spent }
     {
-        if let Some(Item::Transaction(whole)) = spent {
-            self.room = whole.into_records();
+        match (self.state, spent) {
+            (State::Reading | State::Pending, Some(Item::Transaction(whole))) => {
+                whole.len() <= self.tally.limits().transaction() as usize && self.held.reuse(whole)
+            }
+            _ => false,
         }
     }
 
@@ -180,7 +180,7 @@ impl Machine {
         ensures { self.new ≡ stopped self.old state }
     {
         self.line.clear();
-        self.held = None;
+        self.held = Held::nothing(self.alloc);
         self.state = state;
     }
 

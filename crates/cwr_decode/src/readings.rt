@@ -4,7 +4,7 @@ ghost use Rattle.std.specs.Prelude.{◌≡◌, ◌≤◌, ℕ, List, [], ◌++�
 ghost use Rattle.cwr_decode.specs.Steps.Decoding.{HasWaiting, accepted_records, final_answer, has_ended, limits_of};
 ghost use Rattle.cwr_decode.specs.Steps.Represents.{RepresentsSome, Represents};
 ghost use Rattle.cwr_decode.specs.Steps.Machines.{WaitsOutside, again};
-ghost use Rattle.cwr_decode.specs.Steps.Passing.{CountsPassing, PassesOrFails, ReadsPassing};
+ghost use Rattle.cwr_decode.specs.Steps.Passing.{CountsPassing, PassesOrFails, ReadsPassing, StaysOrPasses};
 ghost use Rattle.cwr_decode.specs.Steps.Readings.{answer_of, CountsQuickly, CountsReader, FeedsOn, FindsNoMemory, Reads, ReadsAgain, ReadsQuickly};
 ghost use Rattle.cwr_decode.specs.Steps.LastReads.{AreHeld, HoldsLast, ReadsLast, counts_of_records, stage_of_records};
 
@@ -152,6 +152,7 @@ fn pass_shown<R: Source, K: Keeper>(
     ensures passes { PassesOrFails K.are_clean decoder.old (R.remaining reader.old) result
         decoder.new (R.remaining reader.new) }
     ensures failures { CountsPassing result (R.failures reader.old) (R.failures reader.new) }
+    ensures stays { StaysOrPasses decoder.old reader.old decoder.new reader.new }
     ensures last { ReadsLast (R.remaining reader.old) (R.remaining reader.new) last.old last.new }
 {
     if !decoder.is_settled() {
@@ -348,12 +349,17 @@ impl<'a, R: Source> Reading<'a, R> {
             self.new.decoder (R.remaining self.new.reader.now) }
         ensures failures { CountsReader result (R.failures self.old.reader.now)
             (R.failures self.new.reader.now) }
+        ensures memory { FindsNoMemory self.old.decoder self.old.reader.now result self.new.decoder
+            self.new.reader.now }
         ensures again { ReadsAgain self.old.decoder self.old.reader.now result self.new.decoder
             self.new.reader.now }
+        ensures input_ended { has_ended self.old.decoder ≡ true
+            → self.new.reader.now ≡ self.old.reader.now }
+        ensures alone { WaitsOutside self.old.decoder → self.new.reader.now ≡ self.old.reader.now }
         ensures last { ReadsLast (R.remaining self.old.reader.now) (R.remaining self.new.reader.now)
             self.old.last self.new.last }
     {
-        self.decoder.reuse(spent);
+        let _taken = self.decoder.reuse(spent);
         self.next_item()
     }
 
@@ -369,6 +375,15 @@ impl<'a, R: Source> Reading<'a, R> {
             result.0 result.1 self.new.decoder (R.remaining self.new.reader.now) }
         ensures failures { CountsReader result.1 (R.failures self.old.reader.now)
             (R.failures self.new.reader.now) }
+        // Out of memory comes only with a record that was being added, as in `next_item`: where none was accepted in this call, nothing was
+        // passed over.
+        ensures memory { FindsNoMemory self.old.decoder self.old.reader.now result.1 self.new.decoder
+            self.new.reader.now }
+        ensures again { ReadsAgain self.old.decoder self.old.reader.now result.1 self.new.decoder
+            self.new.reader.now }
+        ensures input_ended { has_ended self.old.decoder ≡ true
+            → self.new.reader.now ≡ self.old.reader.now }
+        ensures alone { WaitsOutside self.old.decoder → self.new.reader.now ≡ self.old.reader.now }
         ensures last { ReadsLast (R.remaining self.old.reader.now) (R.remaining self.new.reader.now)
             self.old.last self.new.last }
     {

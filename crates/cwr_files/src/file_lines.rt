@@ -1,6 +1,6 @@
 //! Lines with the name of their file, and without those on what is good.
 
-ghost use Rattle.std.specs.Prelude.{◌≡◌, ◌≤◌, ◌<◌, [], length, None, IfOk};
+ghost use Rattle.std.specs.Prelude.{◌≡◌, ◌≤◌, ◌<◌, ◌&&◌, [], length, None, IfOk};
 ghost use Rattle.cwr_devices.specs.Format.Failures.{one_more_failure};
 
 use cwr_devices::{DeviceFault, Target};
@@ -134,7 +134,8 @@ impl<W: Target> Target for FileLines<'_, W> {
     // What is passed on isn't what was written.
     ghost contents = { λ it. None };
 
-    ghost handed_on = { λ it. it.handed_on };
+    // What was passed on was handed on too.
+    ghost handed_on = { λ it. it.handed_on && W.handed_on it.lines };
 
     ghost failures = { λ it. it.failures };
 

@@ -1,9 +1,10 @@
 //! The open transaction's records, as long as it has no fault, and its findings.
 
-ghost use Rattle.std.specs.Prelude.{◌≡◌, ◌⊎◌, ◌&&◌, ◌++◌, ◌∷◌, [], ◌+◌, ◌-◌, ◌≤◌, ◌^◌, min, nat_le, length, true, false, IfOk, None, Some, if◌then◌else◌};
+ghost use Rattle.std.specs.Prelude.{◌≡◌, ◌⊎◌, ◌&&◌, ◌++◌, ◌∷◌, [], ◌+◌, ◌-◌, ◌≤◌, ◌^◌, min, nat_le, length, true, false, IfOk, OnOk, None, Some, if◌then◌else◌};
 ghost use Rattle.cwr_devices.specs.Steps.Sinks.{has_failed};
 ghost use Rattle.cwr_lines.specs.Steps.Held.{held_record};
 ghost use Rattle.cwr_values.specs.Format.Begun.{BeginsWithOneMore};
+ghost use Rattle.cwr_levels.specs.Format.Findings.{findings};
 ghost use Rattle.cwr_lint.specs.Format.FaultsOfLines.{ended_lines, said_if, told_lines};
 ghost use Rattle.cwr_lint.specs.Steps.Runs.{asking_of};
 ghost use Rattle.cwr_lint_lines.specs.Steps.Cells.{held_cut};
@@ -11,7 +12,7 @@ ghost use Rattle.cwr_lint.specs.Steps.CutShort.{IsNoneOr, Leaves};
 ghost use Rattle.cwr_lint.specs.Steps.Puts.{PutsWith};
 ghost use Rattle.cwr_lint_lines.specs.Steps.States.{is_whole};
 ghost use Rattle.cwr_lint_lines.specs.declared.takings.Taking.{Taking};
-ghost use Rattle.cwr_lint.specs.Steps.Walks.{AfterCarried, AfterJudged, AfterRecord, GoesOnWith, ended_by, ended_in, ends_by_taking, ends_transaction};
+ghost use Rattle.cwr_lint.specs.Steps.Walks.{AfterCarried, AfterJudged, AfterRecord, GoesOnWith, ended_by, ended_in, ends_by_taking, ends_transaction, findings_after};
 
 use crate::puts::{Asked, report_number};
 use cwr_advice::Said;
@@ -176,6 +177,8 @@ fn put_told<W: Target>(
         sequence first transaction.now) W.contents W.failures result sink.old sink.new }
     ensures leaves { Leaves (IsNoneOr (told_lines (asking_of asked.now) numbered group sequence
         first transaction.now)) W.contents result sink.old sink.new }
+    ensures counted { OnOk result
+        (told.new ≡ min (told.old + length (findings transaction.now)) (2 ^ 64 - 1)) }
 {
     let explained = is_worded(asked.name.is_some(), numbered);
     match said_if(numbered, asked.said) {
@@ -218,6 +221,8 @@ fn put_findings<W: Target>(
         sink.old sink.new }
     ensures leaves { Leaves (IsNoneOr (ended_lines (asking_of asked.now) (ended_in state.now
         (Some group.now) (Some transaction.now)))) W.contents result sink.old sink.new }
+    ensures counted { OnOk result (told.new ≡ findings_after told.old
+        (ended_in state.now (Some group.now) (Some transaction.now))) }
 {
     let number = group.open_transaction().number;
     let count = transaction.len() as u64;
@@ -248,6 +253,8 @@ fn put_open<W: Target>(
         sink.new }
     ensures leaves { Leaves (IsNoneOr (ended_lines (asking_of asked.now) (ended_in state.now
         state.now.group begun.now))) W.contents result sink.old sink.new }
+    ensures counted { OnOk result (told.new ≡ findings_after told.old
+        (ended_in state.now state.now.group begun.now)) }
 {
     match (&state.group, begun) {
         (Some(group), Some(transaction)) => put_findings(
@@ -277,6 +284,8 @@ pub(crate) fn put_ended<W: Target>(
         (ended_by judged.now state.now begun.now)) W.contents W.failures result sink.old sink.new }
     ensures leaves { Leaves (IsNoneOr (ended_lines (asking_of asked.now)
         (ended_by judged.now state.now begun.now))) W.contents result sink.old sink.new }
+    ensures counted { OnOk result
+        (told.new ≡ findings_after told.old (ended_by judged.now state.now begun.now)) }
 {
     if ends_whole(state, judged) {
         put_open(asked, state, begun, told, sink)

@@ -8,13 +8,14 @@ ghost use Rattle.cwr_causes.specs.Format.Trailing.{TakesMore};
 ghost use Rattle.cwr_tools.specs.Format.Reports.{AddsWords, CountsAfter, CountsReaderFault, CountsWriterFault, CountsWritten, JudgesAccepted};
 ghost use Rattle.cwr_tools.specs.Format.Verdicts.{IsAnswerTo, JudgesText};
 ghost use Rattle.cwr_lines.specs.Steps.Held.{held_body, held_kind};
+ghost use Rattle.cwr_tools.specs.Format.Watching.{findings_with};
 ghost use Rattle.cwr_tools.specs.Steps.Reports.{Reports, StandsAfter};
 ghost use Rattle.cwr_tools.specs.Steps.Verdicts.{IsReadLast};
 ghost use Rattle.cwr_advise.specs.Format.AdviceLines.{said_in};
 ghost use Rattle.cwr_lint.specs.Format.Wanted.{lines_before_fault, lines_linted, said_when, wanting};
 ghost use Rattle.cwr_lint_lines.specs.Format.FaultsAtFields.{fields_end, one_more_line};
 ghost use Rattle.cwr_lint_lines.specs.Steps.Fronts.{state_at};
-ghost use Rattle.cwr_lint.specs.Steps.Walks.{AfterJudged, ended_by, judged_in, state_by};
+ghost use Rattle.cwr_lint.specs.Steps.Walks.{AfterJudged, ended_by, findings_after, judged_in, state_by};
 ghost use Rattle.cwr_fields.specs.Format.Bytes.{is_spaces};
 ghost use Rattle.cwr_lint_lines.specs.Steps.JudgedLines.{IsFaultFrom, IsJudged, ends_by, judged_at, scope_by};
 ghost use Rattle.cwr_lint_lines.specs.Steps.Cells.{held_cut};
@@ -139,6 +140,8 @@ impl LintRun {
         ensures state { self.new.state ≡ self.old.state }
         ensures begun { self.new.begun ≡ self.old.begun }
         ensures faults { self.new.faults ≡ self.old.faults }
+        ensures findings { OnOk result (self.new.findings ≡ findings_after self.old.findings
+            (ended_by judged.now self.old.state self.old.begun)) }
     {
         match put_ended(
             asked,
@@ -169,6 +172,7 @@ impl LintRun {
         ensures lines { self.new.state.lines ≡ one_more_line self.old.state.lines }
         ensures over { self.new.state.over ≡ ends_by judged.now }
         ensures faults { self.new.faults ≡ self.old.faults }
+        ensures findings { self.new.findings ≡ self.old.findings }
     {
         match judged {
             Judged::Known(known) => {
@@ -361,9 +365,9 @@ impl LintRun {
         requires line { IsOfLine raw }
         requires begins { BeginsAt refusal.now self.old }
         ensures tells { TellsRead R.remaining R.failures reader.old reader.new W.contents W.failures
-            (TellsToEnd (asking_of asked.now) self.old.state refusal.now raw)
+            (TellsToEnd (asking_of asked.now) (walk_of self.old) refusal.now raw)
             result sink.old sink.new }
-        ensures leaves { Leaves (TellsUpTo (asking_of asked.now) self.old.state refusal.now raw
+        ensures leaves { Leaves (TellsUpTo (asking_of asked.now) (walk_of self.old) refusal.now raw
             (R.remaining reader.old)) W.contents result sink.old sink.new }
     {
         match self.tell_from(asked, refusal, reader, raw, sink) {
@@ -391,9 +395,9 @@ impl LintRun {
         requires unfailed { has_failed sink.old ≡ false }
         requires begins { BeginsAt refusal.now self.old }
         ensures tells { TellsRead R.remaining R.failures reader.old reader.new W.contents W.failures
-            (TellsRun (asking_of asked.now) self.old.state refusal.now last.now.bytes)
+            (TellsRun (asking_of asked.now) (walk_of self.old) refusal.now last.now.bytes)
             result sink.old sink.new }
-        ensures leaves { LeavesOrUnread (TellsLastUpTo (asking_of asked.now) self.old.state
+        ensures leaves { LeavesOrUnread (TellsLastUpTo (asking_of asked.now) (walk_of self.old)
             refusal.now last.now.bytes (R.remaining reader.old)) W.contents result sink.old
             sink.new }
     {
@@ -454,7 +458,8 @@ fn state_before(last: &LastRead, refusal: &Refusal) -> LintState
     LintState::at(last.stage, &last.counts, lines)
 }
 
-/// Goes on after the first fault, which a check has met and not told, where that has written so many bytes, and answers the verdict.
+/// Goes on after the first fault, which a check has met and not told, where that has told so many findings and
+/// written so many bytes, and answers the verdict.
 fn tell_faults<R: Source, W: Target>(
     asked: &Asked<'_>,
     refusal: Refusal,
@@ -465,10 +470,11 @@ fn tell_faults<R: Source, W: Target>(
     writer: W,
 ) -> (W, Result<Verdict, ToolFault>)
     ensures told { OnOk result.1 (AppendsSuch W.contents writer result.0 (TellsAfter
-        (asking_of asked.now) last.now refusal (R.remaining reader.old) (R.remaining reader.new))) }
+        (asking_of asked.now) last.now findings refusal (R.remaining reader.old)
+        (R.remaining reader.new))) }
     ensures words { AddsWords W.contents writer result.0 }
     ensures leaves { AppendsUpTo W.contents writer result.0 result.1 (TellsAfterUpTo
-        (asking_of asked.now) last.now refusal (R.remaining reader.old)) }
+        (asking_of asked.now) last.now findings refusal (R.remaining reader.old)) }
     ensures counted { CountsAfter W.contents before writer result.0 result.1 }
     ensures taken { TakesMore (R.remaining reader.old) (R.remaining reader.new) }
     ensures answered { IsAnswerTo (Verdict.Refused refusal) result.1 }
@@ -504,7 +510,8 @@ fn check_front<R: Source, W: Target + Drop>(
     ensures judged { JudgesText limits (R.remaining reader.old) result.1 }
     ensures counted { GrowsBy (W.contents writer) (W.contents result.0) result.2.written }
     ensures said { IfOk result.1 (StandsAfter
-        (λ given. result.3 ≡ said_when advised (said_in given)) limits (R.remaining reader.old)
+        (λ given. (result.3 ≡ said_when advised (said_in given))
+        × (result.2.findings ≡ findings_with 0 given)) limits (R.remaining reader.old)
         (R.remaining reader.new)) }
     ensures reader_failures { CountsReaderFault result.1 (R.failures reader.old)
         (R.failures reader.new) }
@@ -575,7 +582,7 @@ pub fn lint<R: Source, W: Target + Drop>(
     );
     let CheckedFront {
         last,
-        handed_out,
+        findings,
         written,
     } = front;
     match checked {
@@ -591,15 +598,7 @@ pub fn lint<R: Source, W: Target + Drop>(
                         name,
                         said,
                     };
-                    tell_faults(
-                        &asked,
-                        refusal,
-                        &last,
-                        handed_out.findings,
-                        written,
-                        reader,
-                        writer,
-                    )
+                    tell_faults(&asked, refusal, &last, findings, written, reader, writer)
                 }
                 None => unreachable!(),
             },

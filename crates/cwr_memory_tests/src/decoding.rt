@@ -177,6 +177,11 @@ fn finish_of_two_groups(rt: HostRuntime) -> Result<(), Fail> {
 }
 
 #[test]
+fn finish_with_a_finding(rt: HostRuntime) -> Result<(), Fail> {
+    check_finish(&rt, TWO_GROUPS_WITH_A_FINDING, 9)
+}
+
+#[test]
 fn reading_of_one_acknowledgement(rt: HostRuntime) -> Result<(), Fail> {
     check_reading(&rt, ONE_ACKNOWLEDGEMENT, (5, 1))
 }

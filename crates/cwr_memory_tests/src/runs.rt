@@ -158,8 +158,18 @@ fn split_of_one_acknowledgement(rt: HostRuntime) -> Result<(), Fail> {
 }
 
 #[test]
+fn split_of_a_work(rt: HostRuntime) -> Result<(), Fail> {
+    check_split(&rt, WORK_OF_ELEVEN, parts(1, 1))
+}
+
+#[test]
 fn split_of_two_groups(rt: HostRuntime) -> Result<(), Fail> {
     check_split(&rt, TWO_GROUPS, parts(2, 3))
+}
+
+#[test]
+fn split_with_a_finding(rt: HostRuntime) -> Result<(), Fail> {
+    check_split(&rt, TWO_GROUPS_WITH_A_FINDING, parts(2, 3))
 }
 
 #[test]
@@ -168,6 +178,16 @@ fn join_of_one_acknowledgement(rt: HostRuntime) -> Result<(), Fail> {
 }
 
 #[test]
+fn join_of_a_work(rt: HostRuntime) -> Result<(), Fail> {
+    check_join(&rt, WORK_OF_ELEVEN, joined(2, 2, 28))
+}
+
+#[test]
 fn join_of_two_groups(rt: HostRuntime) -> Result<(), Fail> {
     check_join(&rt, TWO_GROUPS, joined(4, 6, 22))
+}
+
+#[test]
+fn join_with_a_finding(rt: HostRuntime) -> Result<(), Fail> {
+    check_join(&rt, TWO_GROUPS_WITH_A_FINDING, joined(4, 6, 22))
 }

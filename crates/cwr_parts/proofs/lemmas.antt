@@ -54,6 +54,8 @@ pub mod TransactionsTaken
 pub mod EndsTaken
 -- A split takes an item: what it holds is then that of the next stage, and a part that is whole was handed over.
 pub mod ItemsTaken
+-- What is told of a split of a text leaves open neither which items come before a fault nor what is handed over.
+pub mod OneSplit
 -- The places that a split passes, and the parts that are whole then.
 pub mod StagesPassed
 -- A split continues with each item that is handed out.

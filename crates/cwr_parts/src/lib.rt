@@ -9,6 +9,6 @@ mod split_output;
 mod splitting;
 
 pub use joining::join;
-pub use laws::text_is_split_as_told;
+pub use laws::{one_split_is_told, text_is_split_as_told};
 pub use outcomes::{put_join_outcome, put_split_outcome};
 pub use splitting::split;

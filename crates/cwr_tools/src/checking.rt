@@ -2,15 +2,15 @@
 
 ghost use Rattle.std.specs.Prelude.{◌≡◌, true, IfOk, OnOk, IsSomeAnd};
 ghost use Rattle.std.specs.Io.KnownBytes.{GrowsBy};
-ghost use Rattle.cwr_tools.specs.Format.Watching.{SeesAccepted};
+ghost use Rattle.cwr_tools.specs.Format.Verdicts.{JudgesText};
+ghost use Rattle.cwr_tools.specs.Format.Watching.{SeesAccepted, findings_with};
 ghost use Rattle.cwr_tools.specs.Steps.Verdicts.{IsReadLast};
 ghost use Rattle.cwr_tools.specs.Format.Reports.{CountsReaderFault, CountsWriterFault, ReportsText, lines_of_explained, lines_of_findings};
 ghost use Rattle.cwr_tools.specs.Format.Reports.{lines_up_to_fault};
-ghost use Rattle.cwr_tools.specs.Steps.Reports.{Reports};
+ghost use Rattle.cwr_tools.specs.Steps.Reports.{Reports, StandsAfter};
 
 use crate::finding_lines::FindingLines;
 use crate::reporting::{Front, write_report};
-use crate::totals::HandedOut;
 use crate::verdicts::{ToolFault, Verdict};
 use crate::watch::Watch;
 use cwr_decode::LastRead;
@@ -37,6 +37,8 @@ pub fn check<R: Source, W: Target + Drop>(
     // Of bytes that are known, in the words of the text alone.
     ensures told { ReportsText lines_of_findings limits (R.remaining reader.old)
         (R.remaining reader.new) W.contents writer result.0 result.1 }
+    // The verdict is that on the bytes, unless a device or memory failed.
+    ensures judged { JudgesText limits (R.remaining reader.old) result.1 }
     // No failure is passed over: a device failed only where that is the answer.
     ensures reader_failures { CountsReaderFault result.1 (R.failures reader.old)
         (R.failures reader.new) }
@@ -59,6 +61,8 @@ pub fn check_watched<R: Source, W: Target + Drop>(
         (R.remaining reader.new) W.contents writer result.0 result.1 }
     ensures told { ReportsText lines_of_findings limits (R.remaining reader.old)
         (R.remaining reader.new) W.contents writer result.0 result.1 }
+    // The verdict is that on the bytes, unless a device or memory failed.
+    ensures judged { JudgesText limits (R.remaining reader.old) result.1 }
     // Where the text is accepted, the watch saw the findings in its transmission.
     ensures seen { OnOk result.1 (SeesAccepted limits (R.remaining reader.old) watch.old watch.new) }
     // No failure is passed over: a device failed only where that is the answer.
@@ -110,8 +114,8 @@ pub struct CheckedFront {
     /// What was read last, where there is a verdict: the stage of the accepted records, and the last bytes that the reader lost,
     /// of a refused line all.
     pub last: Option<LastRead>,
-    /// What was handed out before.
-    pub handed_out: HandedOut,
+    /// How many findings were told before. It stays at `u64::MAX`.
+    pub findings: u64,
     /// The bytes that were written. It stays at `u64::MAX`; the text is then at least that long.
     pub written: u64,
 }
@@ -137,19 +141,16 @@ pub fn check_up_to_fault<R: Source, W: Target + Drop>(
     ensures counted { GrowsBy (W.contents writer) (W.contents result.0) result.2.written }
     ensures last { IfOk result.1 (λ verdict. IsSomeAnd result.2.last
         (IsReadLast limits (R.remaining reader.old) (R.remaining reader.new) verdict)) }
+    // The findings in the items before the verdict.
+    ensures findings { IfOk result.1 (StandsAfter (λ given. result.2.findings ≡ findings_with 0 given)
+        limits (R.remaining reader.old) (R.remaining reader.new)) }
 {
     let mut lines = FindingLines::new(explained, true);
     let (writer, outcome, front) = write_report(&mut lines, true, alloc, limits, reader, writer);
-    let Front {
-        last,
-        totals,
-        written,
-    } = front;
-    let findings = lines.told.findings;
     let checked = CheckedFront {
-        last,
-        handed_out: HandedOut { totals, findings },
-        written,
+        last: front.last,
+        findings: lines.told.findings,
+        written: front.written,
     };
     (writer, outcome, checked)
 }

@@ -6,6 +6,7 @@ ghost use Rattle.cwr_devices.specs.Steps.Sinks.{Puts, has_failed, written_of};
 ghost use Rattle.cwr_judge.specs.Format.Items.{item_records};
 ghost use Rattle.cwr_levels.specs.Format.ReportLines.{finding_line};
 ghost use Rattle.cwr_tools.specs.Format.Reports.{has_findings, transaction_lines};
+ghost use Rattle.cwr_tools.specs.Format.Watching.{findings_with};
 ghost use Rattle.cwr_tools.specs.Steps.Watching.{Sees};
 ghost use Rattle.cwr_tools.specs.Steps.Reports.{PutsLines};
 
@@ -69,6 +70,8 @@ fn put_findings_in<W: Target>(
         (transaction_lines explained group sequence first transaction.now) result sink.old sink.new }
     ensures seen { OnOk result
         (Sees told.old.worst told.new.worst (Item.Transaction transaction.now ∷ [])) }
+    ensures counted { OnOk result
+        (told.new.findings ≡ findings_with told.old.findings (Item.Transaction transaction.now ∷ [])) }
 {
     let Ok(found) = findings(alloc, transaction) else {
         return Err(ToolFault::Memory);
@@ -98,8 +101,10 @@ pub fn put_transaction_findings<W: Target>(
 ) -> Result<(), ToolFault>
     requires unfailed { has_failed sink.old ≡ false }
     requires few { explained ≡ true → first + length transaction.now ≤ 100000000 }
-    ensures { PutsLines W.contents W.failures (has_findings (Item.Transaction transaction.now))
+    ensures puts { PutsLines W.contents W.failures (has_findings (Item.Transaction transaction.now))
         (transaction_lines explained group sequence first transaction.now) result sink.old sink.new }
+    ensures counted { OnOk result
+        (count.new ≡ findings_with count.old (Item.Transaction transaction.now ∷ [])) }
 {
     let mut told = Told::new();
     let put = put_findings_in(
@@ -132,6 +137,7 @@ impl FindingLines {
     pub(crate) fn new(explained: bool, up_to_fault: bool) -> FindingLines
         ensures explained { result.explained ≡ explained }
         ensures up_to_fault { result.up_to_fault ≡ up_to_fault }
+        ensures none { result.told.findings ≡ 0 }
         ensures told { result.told.worst ≡ None }
     {
         FindingLines {
@@ -172,11 +178,13 @@ impl Keeper for FindingSums {
 impl Report for FindingLines {
     ghost use Rattle.std.specs.Prelude.{◌≡◌};
     ghost use Rattle.cwr_tools.specs.Steps.Reports.{lines_told};
+    ghost use Rattle.cwr_tools.specs.Format.Watching.{findings_with};
     ghost use Rattle.cwr_tools.specs.Steps.Watching.{IsWorst};
 
     type Works = FindingSums;
 
-    ghost stands = { λ report of given. (of ≡ lines_told report.explained report.up_to_fault) × IsWorst report.told.worst given };
+    ghost stands = { λ report of given. (of ≡ lines_told report.explained report.up_to_fault) × IsWorst report.told.worst given
+        × (report.told.findings ≡ findings_with 0 given) };
 
     fn works(&self) -> FindingSums {
         FindingSums(Sums::new())

@@ -20,6 +20,6 @@ pub use json_lines::json;
 pub use reporting::{Front, put_unrefused_line, put_verdict_line, verdict_of, write_report};
 pub use reports::{NothingKept, Report};
 pub use showing::show;
-pub use totals::{HandedOut, Totals};
+pub use totals::Totals;
 pub use verdicts::{JoinFault, JoinReport, SplitReport, ToolFault, Verdict};
 pub use watch::Watch;

@@ -30,8 +30,6 @@ pub struct Front {
     /// What was read last, where that is held and there is a verdict: the stage of the accepted records, and the last bytes that the
     /// reader lost, of a refused line all.
     pub last: Option<LastRead>,
-    /// The numbers of the items that were handed out.
-    pub totals: Totals,
     /// The bytes that were written. It stays at `u64::MAX`; the text is then at least that long.
     pub written: u64,
 }
@@ -133,12 +131,10 @@ fn put_items<L: Report, R: Source, W: Target>(
             }
             Ok(None) => {
                 front.last = reading.last_read();
-                front.totals = counts;
                 return Ok(counts.good());
             }
             Err(fault) => {
                 front.last = reading.last_read();
-                front.totals = counts;
                 return verdict_of(fault);
             }
         }
@@ -207,7 +203,6 @@ pub fn write_report<L: Report, R: Source, W: Target>(
 {
     let mut front = Front {
         last: None,
-        totals: Totals::new(),
         written: 0,
     };
     let mut sink = Sink::new(writer);

@@ -9,15 +9,6 @@ use crate::verdicts::Verdict;
 use cwr_decode::Passed;
 use cwr_values::Item;
 
-/// What a run has handed out.
-#[derive(Clone, Copy, Debug)]
-pub struct HandedOut {
-    /// The numbers of the items.
-    pub totals: Totals,
-    /// The lines of findings that were put. It stays at `u64::MAX`.
-    pub findings: u64,
-}
-
 /// How many groups, transactions and records were handed out.
 #[derive(Clone, Copy, Debug)]
 pub struct Totals {

@@ -1,6 +1,6 @@
 //! Which findings were told, and whether those of a level came, or of a worse one.
 
-ghost use Rattle.std.specs.Prelude.{◌≡◌, ◌||◌, false, None, Option};
+ghost use Rattle.std.specs.Prelude.{◌≡◌, ◌+◌, ◌-◌, ◌^◌, ◌||◌, false, length, min, None, Option};
 ghost use Rattle.cwr_shape.specs.declared.reasons.Level.{Level};
 ghost use Rattle.cwr_tools.specs.Format.Watching.{has_from, reach};
 ghost use Rattle.cwr_tools.specs.Steps.Watching.{is_reached, is_reached_by};
@@ -72,7 +72,8 @@ pub(crate) struct Told {
 impl Told {
     /// None was.
     pub(crate) fn new() -> Told
-        ensures { result.worst ≡ None }
+        ensures none { result.findings ≡ 0 }
+        ensures worst { result.worst ≡ None }
     {
         Told {
             findings: 0,
@@ -82,7 +83,8 @@ impl Told {
 
     /// These are.
     pub(crate) fn add(&mut self, found: &[Finding])
-        ensures { (asked : Option Level) → is_reached asked self.new.worst
+        ensures counted { self.new.findings ≡ min (self.old.findings + length found.now) (2 ^ 64 - 1) }
+        ensures worst { (asked : Option Level) → is_reached asked self.new.worst
             ≡ (is_reached asked self.old.worst || has_from asked found.now) }
     {
         self.findings = self.findings.saturating_add(found.len() as u64);

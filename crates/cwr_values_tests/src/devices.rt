@@ -91,3 +91,113 @@ fn writers_fail(rt: HostRuntime) {
     check_write(&rt, &mut target, b"A", (Err(DeviceFault), Err(DeviceFault)));
     check_write(&rt, &mut target, b"", (Ok(0), Err(DeviceFault)));
 }
+
+/// A device that fails at one of its calls, and else takes all, or gives the number of the call.
+#[derive(Drop)]
+struct FailsOnce {
+    calls: u8,
+    flushes: u8,
+    /// The number of the call that fails, from 1.
+    at: u8,
+}
+
+impl FailsOnce {
+    /// A device that wasn't called, and fails at the call of that number.
+    fn new(at: u8) -> FailsOnce {
+        FailsOnce {
+            calls: 0,
+            flushes: 0,
+            at,
+        }
+    }
+
+    /// Counts a call, and fails where that is the one.
+    fn call(&mut self) -> io::Result<u8> {
+        self.calls = self.calls.saturating_add(1);
+        if self.calls == self.at {
+            return Err(io::Error::from(ErrorKind::Interrupted));
+        }
+        Ok(self.calls)
+    }
+}
+
+impl Read for FailsOnce {
+    fn read(&mut self, buffer: &mut [u8]) -> io::Result<usize> {
+        let number = self.call()?;
+        match buffer {
+            [first, ..] => {
+                *first = number;
+                Ok(1)
+            }
+            [] => Ok(0),
+        }
+    }
+}
+
+impl Write for FailsOnce {
+    fn write(&mut self, text: &[u8]) -> io::Result<usize> {
+        match self.call() {
+            Ok(_) => Ok(text.len()),
+            Err(fault) => Err(fault),
+        }
+    }
+
+    fn flush(&mut self) -> io::Result<()> {
+        self.flushes = self.flushes.saturating_add(1);
+        match self.call() {
+            Ok(_) => Ok(()),
+            Err(fault) => Err(fault),
+        }
+    }
+}
+
+/// The byte that a source gives, which is consumed.
+fn next_byte<S: Source>(source: &mut S) -> Option<u8> {
+    let byte = source.fill().ok()?.first().copied()?;
+    source.consume(1);
+    Some(byte)
+}
+
+/// Takes three bytes of a reader that fails at the call of that number: these come, one failure is counted, and each fill was one read.
+fn check_failed_read(rt: &impl Abort, at: u8, wanted: [Option<u8>; 3]) {
+    let mut source = ReadAhead::new(FailsOnce::new(at));
+    let given = [
+        next_byte(&mut source),
+        next_byte(&mut source),
+        next_byte(&mut source),
+    ];
+    let failures = source.failures();
+    let calls = source.into_inner().calls;
+    check_equal(rt, (given, failures, calls), (wanted, 1, 3));
+}
+
+#[test]
+fn one_failed_read_is_one_fault(rt: HostRuntime) {
+    check_failed_read(&rt, 1, [None, Some(2), Some(3)]);
+    check_failed_read(&rt, 2, [Some(1), None, Some(3)]);
+    check_failed_read(&rt, 3, [Some(1), Some(2), None]);
+}
+
+/// Writes and hands on twice, to a writer that fails at the call of that number: so it is answered, one failure is counted, and each call
+/// reached the writer once.
+fn check_failed_write(rt: &impl Abort, at: u8, wanted: [bool; 4]) {
+    let mut target = Counted::new(FailsOnce::new(at));
+    let answers = [
+        target.write(b"A").is_ok(),
+        target.flush().is_ok(),
+        target.write(b"B").is_ok(),
+        target.flush().is_ok(),
+    ];
+    let failures = target.failures();
+    let device = target.into_inner();
+    let reached = (device.calls, device.flushes);
+    check_equal(rt, (answers, failures, reached), (wanted, 1, (4, 2)));
+}
+
+#[test]
+fn one_failed_write_is_one_fault(rt: HostRuntime) {
+    check_failed_write(&rt, 1, [false, true, true, true]);
+    check_failed_write(&rt, 2, [true, false, true, true]);
+    check_failed_write(&rt, 3, [true, true, false, true]);
+    check_failed_write(&rt, 4, [true, true, true, false]);
+}

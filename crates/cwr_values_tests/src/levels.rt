@@ -1,28 +1,142 @@
-//! Tests of the levels of worked refusals.
+//! Tests of the levels of refusals.
 
 use cwr_fields::{CellFault, Kind};
-use cwr_shape::Reason::{self, Cell, Limit, Misplaced, Number, UnknownKind};
+use cwr_shape::Reason::{self, Cell, Excess, Limit, Misplaced, Number, UnknownKind};
 use cwr_shape::{Level, LimitKind, Scope, level};
 
-/// The kind of a record, a field, why it is refused, where the record would stand, and the level.
+/// The kind of a record, a field, why it is refused, what was open before it, and the level. Each entry of the table of levels has its
+/// rows.
 #[rattlefmt::skip]
-static REFUSALS: [(Option<Kind>, u8, Reason, Scope, Level); 10] = [
-    (Some(Kind::Grt), 4, Number { expected: 3 }, Scope::Transaction, Level::G),
-    (Some(Kind::Trl), 3, Number { expected: 3 }, Scope::File, Level::E),
-    (Some(Kind::Swr), 3, Number { expected: 3 }, Scope::Transaction, Level::T),
-    (Some(Kind::Hdr), 8, Cell(CellFault::NotADate), Scope::File, Level::E),
-    (Some(Kind::Swr), 5, Cell(CellFault::Blank), Scope::Transaction, Level::R),
-    (Some(Kind::Swr), 12, Cell(CellFault::OverShare), Scope::Transaction, Level::F),
-    (Some(Kind::Grh), 2, Limit(LimitKind::Transaction), Scope::File, Level::G),
-    (Some(Kind::Msg), 1, Limit(LimitKind::Transaction), Scope::Transaction, Level::T),
-    (Some(Kind::Rev), 1, Misplaced, Scope::Group, Level::G),
+static REFUSALS: [(Option<Kind>, u8, Reason, Scope, Level); 117] = [
+    // A record of no kind, or that may not come: what is open.
     (None, 1, UnknownKind, Scope::File, Level::E),
+    (Some(Kind::Rev), 1, Misplaced, Scope::File, Level::E),
+    (Some(Kind::Trl), 1, Misplaced, Scope::File, Level::E),
+    (Some(Kind::Swr), 1, Misplaced, Scope::File, Level::E),
+    (None, 1, UnknownKind, Scope::Group, Level::G),
+    (Some(Kind::Rev), 1, Misplaced, Scope::Group, Level::G),
+    (Some(Kind::Trl), 1, Misplaced, Scope::Group, Level::G),
+    (Some(Kind::Swr), 1, Misplaced, Scope::Group, Level::G),
+    (None, 1, UnknownKind, Scope::Transaction, Level::T),
+    (Some(Kind::Rev), 1, Misplaced, Scope::Transaction, Level::T),
+    (Some(Kind::Trl), 1, Misplaced, Scope::Transaction, Level::T),
+    (Some(Kind::Swr), 1, Misplaced, Scope::Transaction, Level::T),
+    (Some(Kind::Grh), 2, Misplaced, Scope::File, Level::E),
+    (Some(Kind::Ipa), 4, Misplaced, Scope::Transaction, Level::T),
+    // A limit: the file, or for one transaction too long the group at GRH, and else the transaction.
+    (Some(Kind::Hdr), 1, Limit(LimitKind::Records), Scope::File, Level::E),
+    (Some(Kind::Grh), 2, Limit(LimitKind::Records), Scope::File, Level::E),
+    (Some(Kind::Nwr), 1, Limit(LimitKind::Records), Scope::Group, Level::E),
+    (Some(Kind::Msg), 1, Limit(LimitKind::Records), Scope::Transaction, Level::E),
+    (Some(Kind::Grt), 1, Limit(LimitKind::Records), Scope::Transaction, Level::E),
+    (Some(Kind::Grh), 2, Limit(LimitKind::Groups), Scope::File, Level::E),
+    (Some(Kind::Grh), 2, Limit(LimitKind::Transaction), Scope::File, Level::G),
+    (Some(Kind::Agr), 1, Limit(LimitKind::Transaction), Scope::Group, Level::T),
+    (Some(Kind::Nwr), 1, Limit(LimitKind::Transaction), Scope::Transaction, Level::T),
+    (Some(Kind::Msg), 1, Limit(LimitKind::Transaction), Scope::Transaction, Level::T),
+    (Some(Kind::Ipa), 4, Limit(LimitKind::Transaction), Scope::Transaction, Level::T),
+    // A cell, a number or the excess of HDR and TRL, of GRH and GRT, and of the header of a transaction.
+    (Some(Kind::Hdr), 8, Cell(CellFault::Control), Scope::File, Level::E),
+    (Some(Kind::Hdr), 3, Number { expected: 3 }, Scope::File, Level::E),
+    (Some(Kind::Hdr), 10, Excess, Scope::File, Level::E),
+    (Some(Kind::Trl), 2, Cell(CellFault::Control), Scope::File, Level::E),
+    (Some(Kind::Trl), 2, Number { expected: 3 }, Scope::File, Level::E),
+    (Some(Kind::Trl), 5, Excess, Scope::File, Level::E),
+    (Some(Kind::Grh), 4, Cell(CellFault::Control), Scope::File, Level::G),
+    (Some(Kind::Grh), 3, Number { expected: 3 }, Scope::File, Level::G),
+    (Some(Kind::Grh), 7, Excess, Scope::File, Level::G),
+    (Some(Kind::Grt), 3, Cell(CellFault::Control), Scope::Transaction, Level::G),
+    (Some(Kind::Grt), 2, Number { expected: 3 }, Scope::Transaction, Level::G),
+    (Some(Kind::Grt), 7, Excess, Scope::Transaction, Level::G),
+    (Some(Kind::Agr), 5, Cell(CellFault::Control), Scope::Group, Level::T),
+    (Some(Kind::Agr), 2, Number { expected: 3 }, Scope::Group, Level::T),
+    (Some(Kind::Agr), 20, Excess, Scope::Group, Level::T),
+    (Some(Kind::Nwr), 5, Cell(CellFault::Control), Scope::Group, Level::T),
+    (Some(Kind::Nwr), 2, Number { expected: 3 }, Scope::Group, Level::T),
+    (Some(Kind::Nwr), 29, Excess, Scope::Group, Level::T),
+    (Some(Kind::Rev), 5, Cell(CellFault::Control), Scope::Transaction, Level::T),
+    (Some(Kind::Rev), 2, Number { expected: 3 }, Scope::Transaction, Level::T),
+    (Some(Kind::Rev), 29, Excess, Scope::Transaction, Level::T),
+    (Some(Kind::Ack), 6, Cell(CellFault::Control), Scope::Group, Level::T),
+    (Some(Kind::Ack), 2, Number { expected: 3 }, Scope::Group, Level::T),
+    (Some(Kind::Ack), 14, Excess, Scope::Group, Level::T),
+    (Some(Kind::Hdr), 8, Cell(CellFault::NotADate), Scope::File, Level::E),
+    (Some(Kind::Nwr), 4, Cell(CellFault::Blank), Scope::Group, Level::T),
+    (Some(Kind::Trl), 3, Number { expected: 3 }, Scope::File, Level::E),
+    (Some(Kind::Grt), 4, Number { expected: 3 }, Scope::Transaction, Level::G),
+    // Of any other record its sequences: the transaction.
+    (Some(Kind::Ter), 2, Cell(CellFault::NotDigits), Scope::Transaction, Level::T),
+    (Some(Kind::Ter), 3, Cell(CellFault::NotDigits), Scope::Transaction, Level::T),
+    (Some(Kind::Ter), 2, Number { expected: 3 }, Scope::Transaction, Level::T),
+    (Some(Kind::Ter), 3, Number { expected: 3 }, Scope::Transaction, Level::T),
+    (Some(Kind::Ipa), 2, Cell(CellFault::NotDigits), Scope::Transaction, Level::T),
+    (Some(Kind::Ipa), 3, Cell(CellFault::NotDigits), Scope::Transaction, Level::T),
+    (Some(Kind::Ipa), 2, Number { expected: 3 }, Scope::Transaction, Level::T),
+    (Some(Kind::Ipa), 3, Number { expected: 3 }, Scope::Transaction, Level::T),
+    (Some(Kind::Spu), 2, Cell(CellFault::NotDigits), Scope::Transaction, Level::T),
+    (Some(Kind::Spu), 3, Cell(CellFault::NotDigits), Scope::Transaction, Level::T),
+    (Some(Kind::Spu), 2, Number { expected: 3 }, Scope::Transaction, Level::T),
+    (Some(Kind::Spu), 3, Number { expected: 3 }, Scope::Transaction, Level::T),
+    (Some(Kind::Swr), 2, Cell(CellFault::NotDigits), Scope::Transaction, Level::T),
+    (Some(Kind::Swr), 3, Cell(CellFault::NotDigits), Scope::Transaction, Level::T),
+    (Some(Kind::Swr), 2, Number { expected: 3 }, Scope::Transaction, Level::T),
+    (Some(Kind::Swr), 3, Number { expected: 3 }, Scope::Transaction, Level::T),
+    (Some(Kind::Com), 2, Cell(CellFault::NotDigits), Scope::Transaction, Level::T),
+    (Some(Kind::Com), 3, Cell(CellFault::NotDigits), Scope::Transaction, Level::T),
+    (Some(Kind::Com), 2, Number { expected: 3 }, Scope::Transaction, Level::T),
+    (Some(Kind::Com), 3, Number { expected: 3 }, Scope::Transaction, Level::T),
+    (Some(Kind::Msg), 2, Cell(CellFault::NotDigits), Scope::Transaction, Level::T),
+    (Some(Kind::Msg), 3, Cell(CellFault::NotDigits), Scope::Transaction, Level::T),
+    (Some(Kind::Msg), 2, Number { expected: 3 }, Scope::Transaction, Level::T),
+    (Some(Kind::Msg), 3, Number { expected: 3 }, Scope::Transaction, Level::T),
+    (Some(Kind::Ari), 2, Cell(CellFault::NotDigits), Scope::Transaction, Level::T),
+    (Some(Kind::Ari), 3, Cell(CellFault::NotDigits), Scope::Transaction, Level::T),
+    (Some(Kind::Ari), 2, Number { expected: 3 }, Scope::Transaction, Level::T),
+    (Some(Kind::Ari), 3, Number { expected: 3 }, Scope::Transaction, Level::T),
+    // Its excess, or a cell of a type that can't be blank: the record.
+    (Some(Kind::Ter), 6, Excess, Scope::Transaction, Level::R),
+    (Some(Kind::Ipa), 16, Excess, Scope::Transaction, Level::R),
+    (Some(Kind::Spu), 26, Excess, Scope::Transaction, Level::R),
+    (Some(Kind::Opu), 26, Excess, Scope::Transaction, Level::R),
+    (Some(Kind::Spt), 13, Excess, Scope::Transaction, Level::R),
+    (Some(Kind::Swr), 24, Excess, Scope::Transaction, Level::R),
+    (Some(Kind::Owr), 24, Excess, Scope::Transaction, Level::R),
+    (Some(Kind::Swt), 12, Excess, Scope::Transaction, Level::R),
+    (Some(Kind::Pwr), 9, Excess, Scope::Transaction, Level::R),
+    (Some(Kind::Alt), 7, Excess, Scope::Transaction, Level::R),
+    (Some(Kind::Ewt), 17, Excess, Scope::Transaction, Level::R),
+    (Some(Kind::Ver), 17, Excess, Scope::Transaction, Level::R),
+    (Some(Kind::Per), 8, Excess, Scope::Transaction, Level::R),
+    (Some(Kind::Rec), 16, Excess, Scope::Transaction, Level::R),
+    (Some(Kind::Orn), 17, Excess, Scope::Transaction, Level::R),
+    (Some(Kind::Com), 16, Excess, Scope::Transaction, Level::R),
+    (Some(Kind::Msg), 10, Excess, Scope::Transaction, Level::R),
+    (Some(Kind::Ari), 5, Excess, Scope::Transaction, Level::R),
+    (Some(Kind::Swr), 5, Cell(CellFault::Blank), Scope::Transaction, Level::R),
+    (Some(Kind::Spu), 6, Cell(CellFault::Control), Scope::Transaction, Level::R),
+    (Some(Kind::Alt), 4, Cell(CellFault::Blank), Scope::Transaction, Level::R),
+    (Some(Kind::Ter), 5, Cell(CellFault::NotDigits), Scope::Transaction, Level::R),
+    (Some(Kind::Ter), 4, Cell(CellFault::NotACode), Scope::Transaction, Level::R),
+    (Some(Kind::Ipa), 4, Cell(CellFault::NotACode), Scope::Transaction, Level::R),
+    (Some(Kind::Alt), 5, Cell(CellFault::Blank), Scope::Transaction, Level::R),
+    (Some(Kind::Msg), 7, Cell(CellFault::NotACode), Scope::Transaction, Level::R),
+    // A cell of any other type: the field.
+    (Some(Kind::Swr), 6, Cell(CellFault::Control), Scope::Transaction, Level::F),
+    (Some(Kind::Spt), 4, Cell(CellFault::Control), Scope::Transaction, Level::F),
+    (Some(Kind::Ari), 4, Cell(CellFault::Control), Scope::Transaction, Level::F),
+    (Some(Kind::Spu), 4, Cell(CellFault::NotDigits), Scope::Transaction, Level::F),
+    (Some(Kind::Spt), 10, Cell(CellFault::NotDigits), Scope::Transaction, Level::F),
+    (Some(Kind::Rec), 4, Cell(CellFault::NotADate), Scope::Transaction, Level::F),
+    (Some(Kind::Rec), 6, Cell(CellFault::NotATime), Scope::Transaction, Level::F),
+    (Some(Kind::Swr), 12, Cell(CellFault::OverShare), Scope::Transaction, Level::F),
+    (Some(Kind::Swr), 7, Cell(CellFault::NotACode), Scope::Transaction, Level::F),
+    (Some(Kind::Swr), 8, Cell(CellFault::NotACode), Scope::Transaction, Level::F),
 ];
 
 #[test]
-fn levels_of_worked_refusals(rt: HostRuntime) {
+fn levels_of_refusals(rt: HostRuntime) {
     for (kind, field, reason, place, wanted) in &REFUSALS {
         let found = level(*kind, *field, reason, *place);
-        assert_eq!(rt; found, *wanted, "{kind:?} {field} {reason:?}");
+        assert_eq!(rt; found, *wanted, "{kind:?} {field} {reason:?} {place:?}");
     }
 }

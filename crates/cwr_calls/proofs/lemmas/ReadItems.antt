@@ -1,5 +1,5 @@
 -- The items that were read come before the verdict.
-use Rattle.std.proofs.Common.{◌≡◌, ℕ, List, [], ◌++◌, length, Option, Some, None, sym, subst, ◌∙◌, append-nil, inl, inr}
+use Rattle.std.proofs.Common.{◌≡◌, ℕ, List, [], ◌++◌, length, Option, Some, None, sym, ap, subst, ◌∙◌, append-nil, inl, inr}
 use Rattle.std.specs.Prelude.{◌⊎◌, Result, Ok, Err, IfOk, IfSome}
 use Rattle.std.proofs.KnownBytes.{Consumes-trans}
 use Rattle.cwr_shape.specs.declared.limits.Limits.{Limits}
@@ -48,6 +48,7 @@ stops_after limits old new before left after given fault B C h r same = (
       limits_are = r.limits ∙ h.read.limits_are;
     };
     leaves = r.leaves;
+    fresh = λ is. r.fresh (ap (λ (f : ReadFault). Err f) is);
     right = by h.here;
   },
   append-nil given,

@@ -6,12 +6,12 @@ use Rattle.cwr_shape.specs.declared.limits.Limits.{Limits}
 use Rattle.cwr_tools.specs.declared.verdicts.Verdict.{Verdict}
 use Rattle.cwr_tools.specs.declared.verdicts.Verdict.TheVariants.{Good, Refused, Truncated}
 use Rattle.cwr_tools.specs.declared.verdicts.ToolFault.{ToolFault}
-use Rattle.cwr_tools.specs.Format.Reports.{ItemLines, lines_checked, lines_of_explained, text_on}
+use Rattle.cwr_tools.specs.Format.Reports.{ItemLines, lines_of_explained, text_on}
 use Rattle.cwr_tools.specs.Format.Verdicts.{IsVerdictOn, JudgesText}
 use Rattle.cwr_tools.specs.Steps.Reports.{Reports}
 use Rattle.cwr_tools.specs.Format.Verdicts.{IsAnswerAfter}
 use Rattle.cwr_explain.specs.Steps.Explained.{Explains}
-use Rattle.cwr_lint.specs.Format.Wanted.{wanting}
+use Rattle.cwr_lint.specs.Format.Wanted.{Wanted, wanting}
 use Rattle.cwr_lint.specs.Steps.Lints.{Lints, Tells}
 use Rattle.cwr_calls.specs.Steps.Reported.{IsExplainedOn, IsJudged, IsLintOn, IsTextOn, IsWritten}
 
@@ -77,18 +77,51 @@ explained_on_items {W = W} limits name before after text report contents old new
         subst (IsExplainedOn limits text report) (sym same) it
     by (Err f) r same = absurd (cc same)
 
+-- what is appended to an empty writer is appended to nothing
+to_text : (old new : Option (List ℕ)) (report text : List ℕ) → old ≡ Some [] → new ≡ Some report → Appends old new text
+    → Appends (Some []) (Some report) text
+to_text old new report text none has a =
+    subst (λ (n : Option (List ℕ)). Appends (Some []) n text) has (subst (λ (o : Option (List ℕ)). Appends o new text) none a)
+
+tells_to : {W : Type 0} (wanted : Wanted) (limits : Limits) (after : Option (List ℕ)) (text report : List ℕ)
+    (contents : W → Option (List ℕ)) (old new : W) (verdict : Verdict) → contents old ≡ Some [] → contents new ≡ Some report
+    → Tells wanted limits (Some text) after contents old new verdict
+    → Tells wanted limits (Some text) after (λ (t : List ℕ). Some t) [] report verdict
+tells_to wanted limits after text report contents old new (Good groups transactions records) none has h =
+    (h.0, h.1, to_text (contents old) (contents new) report _ none has h.2)
+tells_to wanted limits after text report contents old new (Truncated records) none has h =
+    (h.0, h.1, to_text (contents old) (contents new) report _ none has h.2)
+tells_to wanted limits after text report contents old new (Refused refusal) none has h =
+    record {
+      given = h.given;
+      left = h.left;
+      stopped = h.stopped;
+      more = h.more;
+      taken = h.taken;
+      refused = h.refused;
+      lines = h.lines;
+      over = h.over;
+      text = h.text;
+      last = h.last;
+      tally = h.tally;
+      heard = h.heard;
+      heard_before = h.heard_before;
+      told = h.told;
+      written = to_text (contents old) (contents new) report _ none has h.written;
+      read = h.read;
+      cut = h.cut;
+      ends = h.ends;
+      all = h.all;
+    }
+
 pub lint_on_items : {W : Type 0} (explained : Bool) (limits : Limits) (before after : Option (List ℕ)) (text report : List ℕ)
     (contents : W → Option (List ℕ)) (old new : W) (result : Result Verdict ToolFault)
     → Lints (wanting explained false) limits before after contents old new result → before ≡ Some text → contents old ≡ Some []
     → contents new ≡ Some report → IfOk result (Tells (wanting explained false) limits before after contents old new)
-    → IsWritten (IsLintOn (lines_checked explained) limits text report) result
+    → IsWritten (IsLintOn (wanting explained false) limits text report) result
 lint_on_items explained limits before after text report contents old new (Err fault) l e none has h = tt
-lint_on_items explained limits before after text report contents old new (Ok (Good groups transactions records)) l e none has h =
-    text_on_items (lines_checked explained) limits before after text report contents old new
-    (Ok (Good groups transactions records)) e none has h
-lint_on_items explained limits before after text report contents old new (Ok (Truncated records)) l e none has h =
-    text_on_items (lines_checked explained) limits before after text report contents old new (Ok (Truncated records)) e none has h
-lint_on_items explained limits before after text report contents old new (Ok (Refused refusal)) l e none has h =
-    let there =
-    subst (λ (b : Option (List ℕ)). Tells (wanting explained false) limits b after contents old new (Refused refusal)) e h in
-    (there.given, there.left, there.text, there.stopped, alone (contents old) (contents new) report _ none has there.written)
+lint_on_items explained limits before after text report contents old new (Ok verdict) l e none has h = (
+  after,
+  tells_to (wanting explained false) limits after text report contents old new verdict none has
+      (subst (λ (b : Option (List ℕ)). Tells (wanting explained false) limits b after contents old new verdict) e h),
+)

@@ -1,11 +1,12 @@
 -- The fields of the layouts in numbers, as C sees them.
-use Rattle.std.specs.Prelude.{◌≡◌, ◌⊎◌, ℕ, ◌≤◌, List, ◌++◌, length, map, Option, Some, None, IsSomeAnd, slice_get}
+use Rattle.std.specs.Prelude.{◌≡◌, ◌⊎◌, ℕ, ◌≤◌, List, [], ◌∷◌, codes, ◌++◌, length, map, Option, Some, None, IsSomeAnd, slice_get}
 use Rattle.std.specs.Prelude.{option_and_then, if◌then◌else◌}
 use Rattle.std.specs.List.{concat}
 use Rattle.cwr_fields.specs.declared.cell_types.CellType.{CellType}
 use Rattle.cwr_fields.specs.declared.cell_types.CellType.TheVariants as types
 use Rattle.cwr_fields.specs.Format.Bytes.{filled}
 use Rattle.cwr_fields.specs.Format.Cells.{Allows}
+use Rattle.cwr_fields.specs.Format.Codes.{codes_of, word_text}
 use Rattle.cwr_fields.specs.declared.kinds.Kind.{Kind}
 use Rattle.cwr_fields.specs.Format.Kinds.{all_kinds, kind_of, letters}
 use Rattle.cwr_fields.specs.Format.Layouts.{FieldLayout, field_with_start, fields_after_type}
@@ -65,13 +66,30 @@ TellsBlank kind room line count =
 abbrev pub MayHold : Kind → ℕ → List ℕ → Type 0
 MayHold kind j text = IsSomeAnd (carried_at kind j) (λ f. (length text ≤ f.width) × Allows f.ty (filled f.width text))
 
--- a text that cells of field j may hold, in the room; or none, and then nothing changes
-abbrev pub PutsCode : Kind → ℕ → List ℕ → List ℕ → ℕ → Type 0
-PutsCode kind j room code count =
-    ((count ≡ 0) × (code ≡ room)) ⊎ ((text : List ℕ) × MayHold kind j text × CopiesOut text room code count)
+-- the texts that are listed of a type: its codes, its flags, or its word
+abbrev pub listed_texts : CellType → List (List ℕ)
+listed_texts (types.Code table) = codes_of table
+listed_texts (types.OptCode table) = codes_of table
+listed_texts types.Flag = codes "Y" ∷ codes "N" ∷ codes "U" ∷ []
+listed_texts (types.Constant word) = word_text word ∷ []
+listed_texts ty = []
+
+-- text number i, from 0, of those that are listed of field j
+abbrev pub listed_at : Kind → ℕ → ℕ → Option (List ℕ)
+listed_at kind j i = option_and_then (λ p. slice_get (listed_texts p.1.ty) i) (field_with_start kind j)
+
+-- the text in the room, where cells of field j may hold it; or none, and then nothing changes
+abbrev pub PutsText : Kind → ℕ → List ℕ → List ℕ → List ℕ → ℕ → Type 0
+PutsText kind j text room code count = ((count ≡ 0) × (code ≡ room)) ⊎ (MayHold kind j text × CopiesOut text room code count)
+
+-- text number i of those that cells of field j may hold, in the room; or none, and then nothing changes
+abbrev pub PutsCode : Kind → ℕ → ℕ → List ℕ → List ℕ → ℕ → Type 0
+PutsCode kind j i room code count =
+    ((count ≡ 0) × (code ≡ room))
+    ⊎ ((text : List ℕ) × (listed_at kind j i ≡ Some text) × MayHold kind j text × CopiesOut text room code count)
 
 -- so of the kind that the letters name; 0 where they name none
-abbrev pub TellsCode : List ℕ → ℕ → List ℕ → List ℕ → ℕ → Type 0
-TellsCode letters j room code count =
+abbrev pub TellsCode : List ℕ → ℕ → ℕ → List ℕ → List ℕ → ℕ → Type 0
+TellsCode letters j i room code count =
     ((kind_of letters ≡ None) × (count ≡ 0) × (code ≡ room))
-    ⊎ ((kind : Kind) × (kind_of letters ≡ Some kind) × PutsCode kind j room code count)
+    ⊎ ((kind : Kind) × (kind_of letters ≡ Some kind) × PutsCode kind j i room code count)

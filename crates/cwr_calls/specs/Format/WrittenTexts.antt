@@ -26,7 +26,7 @@ pub record IsCanonicalOf (limits : LimitValues) (lines text : List ℕ) : Type 0
 abbrev pub TellsWritten : ℕ → ℕ → ℕ → List ℕ → List ℕ → List ℕ → ℕ → CwrWritten → Type 0
 TellsWritten records groups transaction lines old new count told =
     ((told.ending ≢ 0) × (count ≡ 0) × (new ≡ old))
-    ⊎ ((told.ending ≡ 0)
+    ⊎ ((told ≡ record { ending = 0; detail = 0; line = 0 })
     × ((text : List ℕ) × IsCanonicalOf (limit_values records groups transaction) lines text × CopiesOut text old new count))
 
 -- the canonical text of a transmission within the limits was written; or words were that say why none was, and where

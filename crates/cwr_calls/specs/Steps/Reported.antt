@@ -1,16 +1,17 @@
 -- What is written of a text, and what C is told of that.
-use Rattle.std.specs.Prelude.{◌≡◌, ◌⊎◌, ℕ, false, true, List, ◌++◌, Option, Some, None, Result, Ok, Err, nat_eq, if◌then◌else◌}
+use Rattle.std.specs.Prelude.{◌≡◌, ◌⊎◌, ℕ, false, true, List, [], ◌++◌, Option, Some, None, Result, Ok, Err, nat_eq, if◌then◌else◌}
 use Rattle.cwr_shape.specs.Format.Ranges.{limit_values}
 use Rattle.cwr_shape.specs.declared.limits.Limits.{Limits}
 use Rattle.cwr_values.specs.declared.items.Item.{Item}
 use Rattle.cwr_tools.specs.declared.verdicts.Verdict.{Verdict}
-use Rattle.cwr_tools.specs.declared.verdicts.Verdict.TheVariants.{Refused}
 use Rattle.cwr_tools.specs.declared.verdicts.ToolFault.{ToolFault}
 use Rattle.cwr_tools.specs.Format.Verdicts.{IsVerdictOn}
 use Rattle.cwr_tools.specs.Format.Reports.{ItemLines, lines_of_data, lines_of_explained, lines_of_findings, lines_of_records}
 use Rattle.cwr_tools.specs.Format.Reports.{text_on}
 use Rattle.cwr_tools.specs.Steps.Verdicts.{IsRightVerdict}
 use Rattle.cwr_json.specs.declared.encodings.Encoding.TheVariants.{Latin1}
+use Rattle.cwr_lint.specs.Format.Wanted.{Wanted, wanting}
+use Rattle.cwr_lint.specs.Steps.Lints.{Tells}
 use Rattle.cwr_calls.specs.declared.reports.Asked.{Asked}
 use Rattle.cwr_calls.specs.declared.reports.Asked.TheVariants as asks
 use Rattle.cwr_calls.specs.declared.verdicts.CwrVerdict.{CwrVerdict}
@@ -44,11 +45,10 @@ abbrev pub IsExplainedOn : Limits → List ℕ → List ℕ → Verdict → Type
 IsExplainedOn limits text report verdict = (given : List Item) × (after : Option (List ℕ)) × (words : List ℕ)
     × IsRightVerdict limits (Some text) verdict after given × (report ≡ text_on lines_of_explained given verdict ++ words)
 
--- of a refused text the faults are told after the lines of these items
-abbrev pub IsLintOn : ItemLines → Limits → List ℕ → List ℕ → Verdict → Type 0
-IsLintOn of limits text report (Refused refusal) = (given : List Item) × (after : Option (List ℕ)) × (told : List ℕ)
-    × IsRightVerdict limits (Some text) (Refused refusal) after given × (report ≡ of.lines given ++ told)
-IsLintOn of limits text report verdict = IsTextOn of limits text report verdict
+-- the report is what a lint of the text that wants so much tells, with that verdict
+abbrev pub IsLintOn : Wanted → Limits → List ℕ → List ℕ → Verdict → Type 0
+IsLintOn wanted limits text report verdict =
+    (after : Option (List ℕ)) × Tells wanted limits (Some text) after (λ (t : List ℕ). Some t) [] report verdict
 
 -- the report that is asked for
 abbrev pub IsReportOn : Asked → Limits → List ℕ → List ℕ → Verdict → Type 0
@@ -57,8 +57,8 @@ IsReportOn asks.Show limits text report verdict = IsTextOn lines_of_records limi
 IsReportOn asks.Explain limits text report verdict = IsExplainedOn limits text report verdict
 IsReportOn asks.Data limits text report verdict = IsTextOn (lines_of_data Latin1 false) limits text report verdict
 IsReportOn asks.NotedData limits text report verdict = IsTextOn (lines_of_data Latin1 true) limits text report verdict
-IsReportOn asks.Lint limits text report verdict = IsLintOn lines_of_findings limits text report verdict
-IsReportOn asks.ExplainedLint limits text report verdict = IsLintOn lines_of_explained limits text report verdict
+IsReportOn asks.Lint limits text report verdict = IsLintOn (wanting false false) limits text report verdict
+IsReportOn asks.ExplainedLint limits text report verdict = IsLintOn (wanting true false) limits text report verdict
 
 -- where there is a verdict, the report on it was written
 abbrev pub IsWritten : (Verdict → Type 0) → Result Verdict ToolFault → Type 0

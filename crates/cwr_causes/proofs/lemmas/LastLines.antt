@@ -1,9 +1,9 @@
 -- A text ends with one line at most, and the last bytes of a text show it.
 use Rattle.std.proofs.Common.{◌≡◌, ◌≢◌, ℕ, ◌+◌, ◌-◌, ◌<◌, ◌≤◌, Bool, true, false, List, [], ◌∷◌, ◌++◌, length, take, drop, refl}
 use Rattle.std.proofs.Common.{sym, ap, subst, ◌∙◌, arith, inl, inr, append_assoc, append-nil}
-use Rattle.std.specs.Prelude.{◌⊎◌, ◌↔◌, ◌||◌, ◌==◌, IsFalse, Option, None, Some, IfSome}
+use Rattle.std.specs.Prelude.{◌⊎◌, ◌↔◌, ◌||◌, ◌==◌, IsFalse, Option, None, Some, IfSome, MatchOption}
 use Rattle.std.specs.List.{list_any}
-use Rattle.std.proofs.lemmas.Bool.{false≢true, true≢false}
+use Rattle.std.proofs.lemmas.Bool.{eqb-true, false≢true, true≢false}
 use Rattle.std.proofs.lemmas.List.{append_cancel_right, drop-append-le, length-append, length-take-le, nil_from_length, take_all}
 use Rattle.std.proofs.lemmas.List.{take-append-drop}
 use Rattle.std.proofs.Math.Seq.{drop-append_seam}
@@ -15,7 +15,7 @@ use Rattle.cwr_decode.specs.declared.last_bytes.LastBytes.{LastBytes}
 use Rattle.cwr_decode.specs.Steps.LastReads.{HoldsLast, bytes_read, last_held}
 use Rattle.cwr_decode.specs.Steps.Represents.{EndsInLf}
 use Rattle.cwr_causes.specs.declared.lines_at_end.LineAtEnd.{LineAtEnd}
-use Rattle.cwr_causes.specs.Steps.LinesAtEnd.{EndsInLine, EndsWithLine, IsAfterFeed, IsBeforeLine, IsFound, IsLastLine}
+use Rattle.cwr_causes.specs.Steps.LinesAtEnd.{EndsInLine, EndsWithLine, IsAfterFeed, IsBeforeLine, IsFound, IsLastLine, NoLineKnown}
 
 abbrev pub NoLf : List ℕ → Type 0
 NoLf line = IsFalse (list_any is_lf line)
@@ -298,3 +298,66 @@ before_found view o read front line bytes text lines found last ended is_all hel
     by false f p q before b =
         before_open read front line lines found last is_all before held ends (λ xs e. q refl xs (same ∙ e))
         (subst (λ (l : List ℕ). IsLastLine l lines found) (p refl ∙ same) h) b all
+
+-- ---- where no line before is told
+
+pub where_some : {A : Type 0} (N : Type 0) (S : A → Type 0) (o : Option A) → MatchOption o N S → IfSome o S
+where_some N S None h = tt
+where_some N S (Some x) h = h
+
+pub where_none : {A : Type 0} (N : Type 0) (S : A → Type 0) (o : Option A) → MatchOption o N S → o ≡ None → N
+where_none N S None h e = h
+where_none N S (Some x) h e = absurd (cc e)
+
+-- no line ends without a line feed
+pub no_line_open : (lines : List ℕ) (is_all : Bool) → ((xs : List ℕ) → lines ≢ xs ++ 10 ∷ []) → NoLineKnown lines is_all
+no_line_open lines is_all other line h = other (h.front ++ line) h.split
+
+-- of the first line that is held the begin isn't known, where others stand before it
+pub no_line_first : (lines text front line : List ℕ) → lines ≡ text ++ 10 ∷ [] → IsLastLine text front line → length front ≡ 0
+    → NoLineKnown lines false
+no_line_first lines text front line e l empty other h = by (h.known refl)
+  where
+    same : front ≡ h.front
+    same =
+        (one_line front line h.front other
+        (sym l.split ∙ append_cancel_right text (h.front ++ other) (10 ∷ []) (sym e ∙ h.split)) l.no_lf h.no_lf l.begins h.begins).0
+
+    by : EndsInLf h.front → ⊥
+    by (g, is) = absurd (omega (arith, empty, ap length same, ap length is, length-append g (10 ∷ [])))
+
+-- what is held before the line is what was found before it
+shown_is : (before shown lines front : List ℕ) → before ++ lines ≡ front → front ≡ before ++ shown → lines ≡ shown
+shown_is before shown lines front e f =
+    sym (drop-append_seam before lines) ∙ ap (drop (length before)) (e ∙ f) ∙ drop-append_seam before shown
+
+none_known : (read shown lines : List ℕ) (last : LastBytes) (is_all : Bool) → (held : HoldsLast read last) → lines ≡ shown
+    → (is_all ≡ false → read ≢ last_held last) → NoLineKnown lines is_all → NoLineKnown shown (length held.before == 0)
+none_known read shown lines last is_all held same part none line h = none line (record {
+  front = h.front;
+  split = same ∙ h.split;
+  no_lf = h.no_lf;
+  begins = h.begins;
+  known = λ e. by (length held.before == 0) refl e;
+})
+  where
+    by : (b : Bool) → (length held.before == 0) ≡ b → is_all ≡ false → EndsInLf h.front
+    by true zero e =
+        absurd (part e (held.split
+        ∙ ap (λ (l : List ℕ). l ++ last_held last) (nil_from_length held.before (eqb-true (length held.before) 0 zero))))
+    by false some e = h.known some
+
+pub before_untold : (read front line shown bytes text lines found : List ℕ) (last : LastBytes) (ended is_all : Bool)
+    → (held : HoldsLast read last) → EndsWithLine read front line → front ≡ held.before ++ shown → bytes ≡ last_held last
+    → (ended ≡ true → bytes ≡ text ++ 10 ∷ []) → (ended ≡ false → text ≡ bytes)
+    → (ended ≡ false → (xs : List ℕ) → bytes ≢ xs ++ 10 ∷ []) → IsLastLine text lines found
+    → (is_all ≡ false → read ≢ last_held last) → NoLineKnown lines is_all → NoLineKnown shown (length held.before == 0)
+before_untold read front line shown bytes text lines found last ended is_all held ends split same fed whole other h part none =
+    none_known read shown lines last is_all held (shown_is held.before shown lines front (by ended fed whole other) split) part none
+  where
+    by : (e : Bool) → (e ≡ true → bytes ≡ text ++ 10 ∷ []) → (e ≡ false → text ≡ bytes)
+        → (e ≡ false → (xs : List ℕ) → bytes ≢ xs ++ 10 ∷ []) → held.before ++ lines ≡ front
+    by true f p q = (held_ended read front line text found last held ends (sym same ∙ f refl) (after_of text lines found h)).0
+    by false f p q =
+        let there = subst (λ (l : List ℕ). IsLastLine l lines found) (p refl ∙ same) h in
+        (held_open read front line found last held ends (λ xs e. q refl xs (same ∙ e)) (after_of (last_held last) lines found there)).0

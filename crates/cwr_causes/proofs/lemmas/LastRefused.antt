@@ -1,5 +1,5 @@
 -- What is said of the line with which the bytes end that were read.
-use Rattle.std.proofs.Common.{◌≡◌, ℕ, Bool, true, List, Bor, option_map, subst}
+use Rattle.std.proofs.Common.{◌≡◌, ℕ, Bool, true, List, Bor, option_map, refl, subst}
 use Rattle.std.specs.Prelude.{Option, Some, None, IfSome}
 use Rattle.cwr_fields.specs.declared.kinds.Kind.{Kind}
 use Rattle.cwr_judge.specs.declared.refusals.Refusal.{Refusal}
@@ -41,3 +41,7 @@ pub seen_before : (P : List ℕ → Type 0) (before : Option (Bor (List ℕ))) �
     → IfSome (option_map (λ b. b.now) before) P
 seen_before P None h = tt
 seen_before P (Some b) h = h
+
+pub unseen_before : (before : Option (Bor (List ℕ))) → option_map (λ b. b.now) before ≡ None → before ≡ None
+unseen_before None e = refl
+unseen_before (Some b) e = absurd (cc e)

@@ -50,3 +50,7 @@ pub record IsFound (read front line : List ℕ) (found : LineAtEnd) : Type 0 whe
 abbrev pub IsLineAtEnd : LastBytes → LineAtEnd → Type 0
 IsLineAtEnd last found =
     (read front line : List ℕ) → HoldsLast read last → EndsWithLine read front line → IsFound read front line found
+
+-- with these lines, each with its line feed, no line ends whose begin is known
+abbrev pub NoLineKnown : List ℕ → Bool → Type 0
+NoLineKnown lines is_all = (line : List ℕ) → ¬ EndsInLine lines is_all line

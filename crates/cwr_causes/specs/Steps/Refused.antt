@@ -1,5 +1,5 @@
 -- A refused line as it is kept.
-use Rattle.std.specs.Prelude.{◌≡◌, ℕ, ◌≤◌, Bool, true, false, List, [], ◌∷◌, ◌++◌, length, IsFalse, IfSome, Option, None, Some, option_map}
+use Rattle.std.specs.Prelude.{◌≡◌, ℕ, ◌-◌, ◌^◌, ◌<◌, ◌==◌, ◌≤◌, Bool, true, false, List, [], ◌∷◌, ◌++◌, length, IsFalse, IfSome, Option, None, Some, option_map}
 use Rattle.std.specs.List.{concat, list_any}
 use Rattle.cwr_lines.specs.Format.Lines.{is_lf, longest_line}
 use Rattle.cwr_lines.specs.declared.lines.LineEnd.TheVariants.{Line}
@@ -20,7 +20,7 @@ use Rattle.cwr_shape.specs.declared.stages.Stage.{Stage}
 use Rattle.cwr_causes.specs.Format.ComingTexts.{coming_words}
 use Rattle.cwr_causes.specs.Format.TruncatedTexts.{end_words, last_cut_off_words}
 use Rattle.cwr_causes.specs.Steps.Coming.{coming_at, words_at}
-use Rattle.cwr_causes.specs.Steps.LinesAtEnd.{EndsInLine, EndsWithLine, IsLineAtEnd}
+use Rattle.cwr_causes.specs.Steps.LinesAtEnd.{EndsInLine, EndsWithLine, IsLineAtEnd, NoLineKnown}
 use Rattle.cwr_decode.specs.Steps.LastReads.{HoldsLast}
 use Rattle.cwr_causes.specs.declared.causes.Refused.{Refused}
 use Rattle.cwr_causes.specs.Format.Refusals.{RefusedLine, first_kind, head_words, refused_field, refused_level_words}
@@ -77,10 +77,13 @@ abbrev pub ExplainsLine : Limits → Option Stage → RefusedLine → List ℕ �
 ExplainsLine limits stage r old new =
     (cell : Option (List ℕ)) × HasCell r cell × (new ≡ old ++ refusal_words limits stage r cell)
 
--- the line is that with which the bytes that were read end, and the line before it, where that is known, is the one before
+-- The line before that with which the bytes end that were read is the one before it, where it is told. Where it isn't, no line ends with what
+-- is held before that line, whose begin is known.
 abbrev pub IsLineBefore : LastBytes → Option (List ℕ) → Type 0
 IsLineBefore last before =
-    (read front line : List ℕ) → HoldsLast read last → EndsWithLine read front line → IfSome before (EndsInLine front true)
+    ((read front line : List ℕ) → HoldsLast read last → EndsWithLine read front line → IfSome before (EndsInLine front true))
+    × ((read front line shown : List ℕ) → (held : HoldsLast read last) → EndsWithLine read front line → front ≡ held.before ++ shown
+    → length read < 2 ^ 64 - 1 → before ≡ None → NoLineKnown shown (length held.before == 0))
 
 -- the line goes on after what is shown
 abbrev pub goes_on : Beyond → Bool

@@ -166,17 +166,23 @@ judged_grows t new out xs ended st (inl a) =
     let kept : new.tally.counts.records ≡ a.tally.counts.records = ap (λ (q : TallyValue). q.counts.records) e.tally in
     let more : t.tally.counts.records < new.tally.counts.records =
     omega (arith, before, next, kept, length-append xs (a.symbol ∷ [])) in
-    (omega (arith, more), λ z. more)
+    record { kept = omega (arith, more); memory = λ z. more; item = λ it z. more }
 judged_grows t new None xs ended st (inr r) = absurd r.reports
 judged_grows t new (Some o) xs ended st (inr r) =
     let kept : new.tally.counts.records ≡ t.tally.counts.records =
     ap (λ (q : Standing). q.tally.counts.records) r.reports.stops in
-    (omega (arith, kept), λ z. absurd (refused z))
+    record { kept = omega (arith, kept); memory = λ z. absurd (refused z); item = λ it z. absurd (no_item it z) }
   where
     refused : Some o ≡ Some outcomes.Memory → ⊥
     refused z =
         let same : o ≡ outcomes.Memory = cc z in
         let other : outcomes.Refused r.reports.refusal ≡ outcomes.Memory = sym r.reports.reported ∙ same in
+        cc other
+
+    no_item : (it : Item) → Some o ≡ Some (outcomes.Item it) → ⊥
+    no_item it z =
+        let same : o ≡ outcomes.Item it = cc z in
+        let other : outcomes.Refused r.reports.refusal ≡ outcomes.Item it = sym r.reports.reported ∙ same in
         cc other
 
 pub never_more : (t new : Standing) (out : Option Outcome) → t.line.ended ≢ Open → Judges t out new → out ≡ Some outcomes.More → ⊥
@@ -284,5 +290,5 @@ advanced_open d t piece used s fresh takes held is ended =
           };
       more = λ e. all;
       none = tt;
-      grows = λ input given st. (omega arith, λ e. absurd (cc e));
+      grows = λ input given st. record { kept = omega arith; memory = λ e. absurd (cc e); item = λ it e. absurd (cc e) };
     })

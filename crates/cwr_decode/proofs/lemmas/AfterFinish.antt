@@ -33,8 +33,8 @@ ends_finish old new o e = record {
       if_some (again old.state) (λ p. (Some o ≡ None) × (new ≡ end_input old)) (λ p. (o ≡ p) × (new ≡ end_input old))
       (λ p h. absurd (nothing h.0)) e.stays;
   more = λ q. e.more (ap (λ (x : Outcome). Some x) q);
-  memory = λ q l input given st few. absurd (omega (arith, few, (e.grows input given st).1 (ap (λ (x : Outcome). Some x) q)));
-  kept = λ input given st. (e.grows input given st).0;
+  memory = λ q l input given st few. absurd (omega (arith, few, (e.grows input given st).memory (ap (λ (x : Outcome). Some x) q)));
+  kept = λ input given st. (e.grows input given st).kept;
 }
   where
     nothing : Some o ≡ None → ⊥
@@ -59,7 +59,7 @@ settles_finish old mid new o e s =
       again = by (again old.state) refl e.stays;
       more = λ q. settles_more mid.state mid new (subst (λ (x : Outcome). Settles mid.state mid (Some x) new) q s);
       memory = λ q l input given st few. (e.waits (settles_pending mid.state mid new o (e.none l) s), refl);
-      kept = λ input given st. omega (arith, (e.grows input given st).0, m.counts);
+      kept = λ input given st. omega (arith, (e.grows input given st).kept, m.counts);
     }
   where
     by : (q : Option Outcome) → again old.state ≡ q → IfSome q (λ p. (no_answer ≡ None) × (mid ≡ end_input old))
@@ -140,7 +140,7 @@ cut_finish old mid after new count e s stop n =
       again = by (again old.state) refl e.stays live;
       more = λ q. absurd (cc q);
       memory = λ q. absurd (cc q);
-      kept = λ input given st. omega (arith, (e.grows input given st).0, m.counts);
+      kept = λ input given st. omega (arith, (e.grows input given st).kept, m.counts);
     })
   where
     here : (input : List ℕ) (given : List Item) → Represents old input given → Represents after input given

@@ -154,7 +154,7 @@ ends_without old new ready c = subst (TakesEnd old None) (sym c.0) (record {
   more = λ e. absurd (cc e);
   none = λ l. l;
   waits = λ e. e;
-  grows = λ input given st. (omega arith, λ e. absurd (cc e));
+  grows = λ input given st. record { kept = omega arith; memory = λ e. absurd (cc e); item = λ it e. absurd (cc e) };
   stays = all_so (again old.state) (refl, refl);
 })
   where

@@ -98,7 +98,7 @@ fed_more old d new piece used n f a = record {
   inside = f.inside;
   grows =
       λ input given st. omega
-      (arith, f.grows input given st, (a.grows (input ++ take used piece) given (f.carries.stands input given st)).0);
+      (arith, f.grows input given st, (a.grows (input ++ take used piece) given (f.carries.stands input given st)).kept);
 }
 
 pub fed_on : (old d new : Standing) (piece : List ℕ) (used n : ℕ) → Fed old piece used d → Fed d (drop used piece) n new
@@ -146,7 +146,11 @@ fed_through old d new piece used n o f a = record {
   grows = λ input given st.
       let before : old.tally.counts.records ≤ d.tally.counts.records = f.grows input given st in
       let after = a.grows (input ++ take used piece) given (f.carries.stands input given st) in
-      (omega (arith, before, after.0), λ e. omega (arith, before, after.1 e));
+      record {
+        kept = omega (arith, before, after.kept);
+        memory = λ e. omega (arith, before, after.memory e);
+        item = λ it e. omega (arith, before, after.item it e);
+      };
 }
 
 pub fed_out : (old d new : Standing) (piece : List ℕ) (used n : ℕ) (o : Outcome) → Fed old piece used d
@@ -172,11 +176,11 @@ fed_out old d new piece used n o f a = record {
   memory = λ q l input given st few.
       let before : old.tally.counts.records ≤ d.tally.counts.records = f.grows input given st in
       let more : d.tally.counts.records < new.tally.counts.records =
-      (a.grows (input ++ take used piece) given (f.carries.stands input given st)).1 (ap (λ (x : Outcome). Some x) q) in
+      (a.grows (input ++ take used piece) given (f.carries.stands input given st)).memory (ap (λ (x : Outcome). Some x) q) in
       absurd (omega (arith, few, before, more));
   kept =
       λ input given st. omega
-      (arith, f.grows input given st, (a.grows (input ++ take used piece) given (f.carries.stands input given st)).0);
+      (arith, f.grows input given st, (a.grows (input ++ take used piece) given (f.carries.stands input given st)).kept);
 }
 
 -- what was settled before the piece goes before it

@@ -1,6 +1,6 @@
 -- What a decoder answers to bytes of a reader, as what is read.
 use Rattle.std.proofs.Common.{◌≡◌, ℕ, zero, suc, ◌≤◌, Bool, true, false, List, [], ◌++◌, length, take, drop, Option, Some, None}
-use Rattle.std.proofs.Common.{refl, sym, ap, subst, ◌∙◌, append-nil, true≢false}
+use Rattle.std.proofs.Common.{refl, sym, ap, subst, ◌∙◌, append-nil, arith, true≢false}
 use Rattle.std.specs.Prelude.{Result, Err, IfSome, IfNone}
 use Rattle.std.proofs.KnownBytes.{starts_with_rest, Consumes-nil, Consumes-kept}
 use Rattle.std.proofs.lemmas.List.{length-take-le}
@@ -89,9 +89,10 @@ pub reads_settled : (old new : Standing) (used : ℕ) (outcome : Outcome) (answe
     old.finished (input ++ take used []) (seen_input old.finished input []) (given ++ items_out outcome))
     → Leaves outcome new.state → Empties outcome new → IfSome (again old.state) (λ o. outcome ≡ o)
     → (outcome ≡ outcomes.Memory → IsLive old.state → RunsOutOfMemory old used new)
-    → new.finished ≡ old.finished → new.tally.limits ≡ old.tally.limits → RepresentsSome old → (left : Option (List ℕ))
+    → new.finished ≡ old.finished → old.tally.counts.records ≤ new.tally.counts.records → new.tally.limits ≡ old.tally.limits
+    → RepresentsSome old → (left : Option (List ℕ))
     → Reads old left answer new left
-reads_settled old new used outcome answer e within stands right leaves empties same memory finished limits way left =
+reads_settled old new used outcome answer e within stands right leaves empties same memory finished kept limits way left =
     reads_called old left outcome answer new left e way (record {
       bytes = take used [];
       ahead = [];
@@ -109,6 +110,7 @@ reads_settled old new used outcome answer e within stands right leaves empties s
       again = same;
       memory = λ is live. wants_of old new used [] within (memory is live);
       at_end = λ spent. still_spent left spent;
+      kept = kept;
       limits = limits;
     }) where
       still_spent : (l : Option (List ℕ)) → IsSpent old l → IfSome l (λ _. IsSpent new l)
@@ -132,9 +134,10 @@ pub reads_fed : (old new : Standing) (left after : Option (List ℕ)) (piece : L
     old.finished (input ++ take used piece) (seen_input old.finished input piece) (given ++ items_out outcome))
     → Leaves outcome new.state → Empties outcome new → IfSome (again old.state) (λ o. outcome ≡ o)
     → (outcome ≡ outcomes.Memory → IsLive old.state → RunsOutOfMemory old used new)
-    → new.finished ≡ old.finished → new.tally.limits ≡ old.tally.limits → Reads old left answer new after
+    → new.finished ≡ old.finished → old.tally.counts.records ≤ new.tally.counts.records → new.tally.limits ≡ old.tally.limits
+    → Reads old left answer new after
 reads_fed old new left after piece used outcome answer e way fresh shown within consumed stands right leaves empties same memory
-    finished limits =
+    finished kept limits =
     reads_called old left outcome answer new after e way (record {
       bytes = take used piece;
       ahead = piece;
@@ -151,6 +154,7 @@ reads_fed old new left after piece used outcome answer e way fresh shown within 
       again = same;
       memory = λ is live. wants_of old new used piece within (memory is live);
       at_end = λ spent. not_ended left;
+      kept = kept;
       limits = limits;
     }) where
       not_ended : (l : Option (List ℕ)) → IfSome l (λ _. IsSpent new after)
@@ -182,13 +186,13 @@ pub reads_finished : (old new : Standing) (left after : Option (List ℕ)) (outc
     → IsRight old.tally.limits outcome true input input (given ++ items_out outcome))
     → Leaves outcome new.state → Empties outcome new → IfSome (again old.state) (λ o. outcome ≡ o)
     → (outcome ≡ outcomes.Memory → IsLive old.state → RunsOutOfMemory old 0 new)
-    → new.tally.limits ≡ old.tally.limits → Reads old left answer new after
-reads_finished old new left after outcome answer e way end kept stands right leaves empties same memory limits =
+    → old.tally.counts.records ≤ new.tally.counts.records → new.tally.limits ≡ old.tally.limits → Reads old left answer new after
+reads_finished old new left after outcome answer e way end keeps stands right leaves empties same memory kept limits =
     reads_called old left outcome answer new after e way (record {
       bytes = [];
       ahead = [];
       input_ended = true;
-      consumed = Consumes-kept left left after [] (Consumes-nil left) kept;
+      consumed = Consumes-kept left left after [] (Consumes-nil left) keeps;
       stands =
           λ input given h. subst (λ (l : List ℕ). Represents new l (given ++ items_out outcome)) (sym (append-nil input))
           (stands input given h);
@@ -201,7 +205,8 @@ reads_finished old new left after outcome answer e way end kept stands right lea
       empties = empties;
       again = same;
       memory = memory;
-      at_end = λ spent. kept_end new left after kept end;
+      at_end = λ spent. kept_end new left after keeps end;
+      kept = kept;
       limits = limits;
     })
 
@@ -218,9 +223,9 @@ reader_right : (limits : LimitValues) (left : Option (List ℕ)) (used input : L
 reader_right limits None used input given = tt
 reader_right limits (Some rest) used input given = record { ends = tt; comes = tt }
 
-pub reads_failed : (d : Standing) (left after : Option (List ℕ)) → d.state ≡ states.Reading → Keeps left after
-    → Reads d left (Err faults.Reader) d after
-reads_failed d left after reading kept = record {
+pub reads_failed : (d : Standing) (left after : Option (List ℕ)) → d.state ≡ states.Reading → d.finished ≡ false
+    → Keeps left after → Reads d left (Err faults.Reader) d after
+reads_failed d left after reading fresh kept = record {
   bytes = [];
   consumed = Consumes-kept left left after [] (Consumes-nil left) kept;
   stands =
@@ -232,6 +237,8 @@ reads_failed d left after reading kept = record {
   none = λ is. absurd (cc is);
   memory = λ is. absurd (cc is);
   input_ended = kept_spent d left after kept;
+  kept = omega arith;
+  fresh = λ is. fresh;
   limits = refl;
 }
 

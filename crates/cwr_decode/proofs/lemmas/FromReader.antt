@@ -98,6 +98,15 @@ memory_only (outcomes.Truncated records) e = absurd (cc e)
 memory_only outcomes.Memory e = refl
 memory_only outcomes.Done e = absurd (cc e)
 
+-- no answer of a decoder is reported as a fault of the reader
+never_reader : (outcome : Outcome) → answer_of outcome ≡ Some (Err faults.Reader) → ⊥
+never_reader outcomes.More e = cc e
+never_reader (outcomes.Item item) e = cc e
+never_reader (outcomes.Refused refusal) e = cc e
+never_reader (outcomes.Truncated records) e = cc e
+never_reader outcomes.Memory e = cc e
+never_reader outcomes.Done e = cc e
+
 -- where a refused line ends, reported of all of the input
 ends_line : (input_ended : Bool) (used seen more text : List ℕ) → text ≡ seen ++ more → MayFollow input_ended more
     → (input_ended ≡ true → used ≡ seen) → EndsLine input_ended used seen → EndsLineOf used text
@@ -168,6 +177,7 @@ pub record Calls (old : Standing) (left : Option (List ℕ)) (outcome : Outcome)
     pub again : IfSome (again old.state) (λ o. outcome ≡ o)
     pub memory : outcome ≡ outcomes.Memory → IsLive old.state → RunsOutOfMemory old (length bytes) new
     pub at_end : IsSpent old left → IfSome left (λ _. IsSpent new after)
+    pub kept : old.tally.counts.records ≤ new.tally.counts.records
     pub limits : new.tally.limits ≡ old.tally.limits
 
 reported_items : (outcome : Outcome) (answer : Answer) → answer_of outcome ≡ Some answer → items_read answer ≡ items_out outcome
@@ -210,6 +220,8 @@ reads_called old left outcome answer new after e way c = record {
       (λ live. c.right live way.input way.given way.stands);
   memory = λ is live. c.memory (memory_only outcome (e ∙ ap (λ (a : Answer). Some a) is)) live;
   input_ended = c.at_end;
+  kept = c.kept;
+  fresh = λ is. absurd (never_reader outcome (e ∙ ap (λ (a : Answer). Some a) is));
   limits = c.limits;
 } where
   rights : (l : Option (List ℕ)) (input : List ℕ) (given : List Item)
@@ -327,6 +339,8 @@ reads_after n answer a p b q c r f g = record {
       λ is live few. absurd
       (wants_more b c (length g.bytes) f.reading (g.memory is (ap again f.reading)) (omega (arith, f.kept, few)));
   input_ended = λ spent. spent_after p q r f.bytes c f.consumed (g.input_ended (not_ended b q f.fresh));
+  kept = omega (arith, f.kept, g.kept);
+  fresh = g.fresh;
   limits = g.limits ∙ f.limits;
 } where
   reading_ends : states.Reading ≡ states.Ended → ⊥

@@ -169,6 +169,7 @@ fault_read limits old new before left after given fault B C h r same = record {
   given = given ++ [];
   read = run_reads limits old new before left after given (Err fault) h.read r;
   leaves = r.leaves;
+  fresh = λ is. r.fresh (ap (λ (f : ReadFault). Err f) is);
   right = by h.here;
 } where
   none_left : (e : old.state ≡ states.Ended) → ⊥

@@ -2,7 +2,7 @@
 use Rattle.std.proofs.Common.{◌≡◌, ℕ, ◌+◌, ◌-◌, ◌≤◌, ◌<◌, Bool, true, false, List, [], ◌∷◌, ◌++◌, length, map, take, drop}
 use Rattle.std.proofs.Common.{Option, Some, None, refl, sym, ap, subst, ◌∙◌, append_assoc, append-nil, arith, inl, inr}
 use Rattle.std.proofs.Common.{true≢false}
-use Rattle.std.specs.Prelude.{◌≢◌, sum_by, slice_get, IfSome}
+use Rattle.std.specs.Prelude.{◌≢◌, sum_by, IfSome}
 use Rattle.std.specs.List.{AllByRecursion}
 use Rattle.std.proofs.KnownBytes.{Consumes-nil, Consumes-trans}
 use Rattle.std.specs.Io.KnownBytes.{Consumes}
@@ -63,6 +63,7 @@ passes_none P d piece ready = record {
   live = λ l. l;
   finished = refl;
   limits = refl;
+  grows = λ input given st. record { kept = omega arith; more = λ other. absurd (other refl) };
 }
 
 pub passes_more : (P : List RecordValue → Type 0) (old self new : Standing) (piece : List ℕ) (passed : Passed) (n records : ℕ)
@@ -87,20 +88,19 @@ passes_more P old self new piece passed n records so_far p clean counted a = rec
   live = λ l. ap again a.carries.leaves;
   finished = a.carries.finished ∙ p.finished;
   limits = a.carries.limits ∙ p.limits;
+  grows = λ input given st.
+      let before = p.grows input given st in
+      let one =
+      (a.grows (input ++ take passed.used piece) (given ++ map items.Transaction p.wholes) (p.stands input given st)).item (items.Transaction so_far) refl in
+      record { kept = omega (arith, before.kept, one); more = λ other. omega (arith, before.kept, one) };
 }
 
 -- ---- the open transaction
 
 -- a transaction of one record, at the start of a line
-pub held_header : (d : Standing) (records : List RecordValue) (header : RecordValue) → d.line.ended ≡ Open
-    → length d.line.bytes ≡ 0 → d.held ≡ Some records → length records ≡ 1 → slice_get records 0 ≡ Some header
-    → d.state ≡ states.Reading
-    → d ≡ at_line d.finished d.tally (header ∷ [])
-held_header d [] header unended none held one first s = absurd (cc first)
-held_header d (x ∷ y ∷ records) header unended none held one first s = absurd (omega (arith, one))
-held_header d (x ∷ []) header unended none held one first s =
-    let same : x ≡ header = cc first in
-    let is : d.held ≡ Some (header ∷ []) = held ∙ ap (λ (r : RecordValue). Some (r ∷ [])) same in
+pub held_header : (d : Standing) (header : RecordValue) → d.line.ended ≡ Open → length d.line.bytes ≡ 0
+    → d.held ≡ Some (header ∷ []) → d.state ≡ states.Reading → d ≡ at_line d.finished d.tally (header ∷ [])
+held_header d header unended none is s =
     λ i. record { line = empty_open d.line unended none i; tally = d.tally; held = is i; state = s i; finished = d.finished }
 
 pub waiting_header : (d : Standing) (header : RecordValue) → d.held ≡ None → held_record d.line ≡ Some header

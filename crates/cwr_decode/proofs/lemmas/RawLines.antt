@@ -14,6 +14,12 @@ split_line (b ∷ line) rest h =
     let p = or_parts (is_lf b) (list_any is_lf line) h in
     slice_split-cons_no is_lf b (line ++ 10 ∷ rest) p.0 ∙ ap (onto_first b) (split_line line rest p.1)
 
+split_open : (bytes : List ℕ) → NoLf bytes → slice_split is_lf bytes ≡ bytes ∷ []
+split_open [] h = refl
+split_open (b ∷ bytes) h =
+    let p = or_parts (is_lf b) (list_any is_lf bytes) h in
+    slice_split-cons_no is_lf b bytes p.0 ∙ ap (onto_first b) (split_open bytes p.1)
+
 raw_line : (line rest : List ℕ) → NoLf line → raw_lines (line ++ 10 ∷ rest) ≡ line ∷ raw_lines rest
 raw_line line rest h =
     let parts : List (List ℕ) = slice_split is_lf rest in
@@ -26,6 +32,10 @@ raw_begins [] rest h = refl
 raw_begins (line ∷ lines) rest h =
     ap raw_lines (text_of-cons line lines rest) ∙ raw_line line (text_of lines ++ rest) h.0
     ∙ ap (λ (l : List (List ℕ)). line ∷ l) (raw_begins lines rest h.1)
+
+-- a line that has no line feed yet is none of them
+pub raw_open : (bytes : List ℕ) → NoLf bytes → raw_lines bytes ≡ []
+raw_open bytes h = ap (λ (ps : List (List ℕ)). take (length ps - 1) ps) (split_open bytes h)
 
 -- so is the line after them
 pub raw_after : (lines : List (List ℕ)) (line rest : List ℕ) → AllByRecursion NoLf lines → NoLf line

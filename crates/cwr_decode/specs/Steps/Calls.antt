@@ -15,9 +15,11 @@ use Rattle.cwr_decode.specs.Steps.Represents.{Represents, IsStopped, IsRight, it
 abbrev pub IsLive : State → Type 0
 IsLive state = again state ≡ None
 
--- no accepted record is forgotten, and out of memory comes with one more
-abbrev pub Grows : ℕ → Option Outcome → ℕ → Type 0
-Grows old out new = (old ≤ new) × (out ≡ Some Memory → old < new)
+-- no accepted record is forgotten, and out of memory and an item each come with one more
+pub record Grows (old : ℕ) (out : Option Outcome) (new : ℕ) : Type 0 where
+  pub kept : old ≤ new
+  pub memory : out ≡ Some Memory → old < new
+  pub item : (it : Item) → out ≡ Some (outcomes.Item it) → old < new
 
 -- Out of memory comes only with a record that was being added: where none was accepted, it was the one that waited, and no
 -- byte was used.

@@ -1,5 +1,5 @@
 -- What a decoder holds, and what each of its steps does.
-use Rattle.std.specs.Prelude.{◌≡◌, ◌≢◌, ◌⊎◌, ℕ, ◌+◌, Bool, true, false, List, [], ◌∷◌, ◌++◌, length, map, Option, Some, None}
+use Rattle.std.specs.Prelude.{◌≡◌, ◌≢◌, ◌⊎◌, ℕ, ◌+◌, ◌≤◌, Bool, true, false, List, [], ◌∷◌, ◌++◌, length, map, Option, Some, None}
 use Rattle.std.specs.Prelude.{IfSome, IsSomeAnd, Result, Ok, Err, MatchOption, MatchResult}
 use Rattle.std.specs.List.{AllByRecursion}
 use Rattle.std.specs.declared.alloc.AllocError.{AllocError}
@@ -12,7 +12,7 @@ use Rattle.cwr_lines.specs.Steps.Held.{HeldLine, IsHeld, Takes, held_excess, hel
 use Rattle.cwr_shape.specs.declared.symbols.Symbol.{Symbol}
 use Rattle.cwr_shape.specs.declared.stages.Stage.{Stage}
 use Rattle.cwr_shape.specs.Format.Levels.{level_of}
-use Rattle.cwr_shape.specs.Format.Ranges.{AreInRange}
+use Rattle.cwr_shape.specs.Format.Ranges.{AreInRange, LimitValues}
 use Rattle.cwr_shape.specs.Format.NextSymbols.{scope_after}
 use Rattle.cwr_shape.specs.Steps.Left.{StandsInside}
 use Rattle.cwr_shape.specs.Steps.Tallies.{TallyValue, IsTallyOf}
@@ -90,6 +90,15 @@ abbrev pub Empties : Outcome → Standing → Type 0
 Empties (outcomes.Item (items.Transaction records)) d = d.held ≡ None
 Empties (outcomes.Item item) d = (d.line.bytes ≡ []) × (d.held ≡ None)
 Empties outcome d = Unit {0}
+
+-- the item is a transaction within the limit
+abbrev pub IsWithinLimit : LimitValues → Option Item → Type 0
+IsWithinLimit limits (Some (items.Transaction records)) = length records ≤ limits.transaction
+IsWithinLimit limits item = ⊥
+
+-- the next transaction has the room of the item's: no transaction is open, and more is read
+abbrev pub TakesRoom : Standing → Option Item → Type 0
+TakesRoom d spent = (again d.state ≡ None) × (d.held ≡ None) × IsWithinLimit d.tally.limits spent
 
 -- ---- one step
 

@@ -1,5 +1,5 @@
 -- Whole transactions that are passed over: their lines are judged where they stand, and a keeper keeps of them what it must.
-use Rattle.std.specs.Prelude.{◌≡◌, ◌⊎◌, ℕ, ◌+◌, ◌≤◌, Bool, List, [], ◌∷◌, ◌++◌, length, map, take, drop, sum_by, Option, Some}
+use Rattle.std.specs.Prelude.{◌≡◌, ◌≢◌, ◌⊎◌, ℕ, ◌+◌, ◌<◌, ◌≤◌, Bool, false, List, [], ◌∷◌, ◌++◌, length, map, take, drop, sum_by, Option, Some}
 use Rattle.std.specs.Prelude.{None, IfSome, Result, Err}
 use Rattle.std.specs.List.{AllByRecursion}
 use Rattle.std.specs.Io.KnownBytes.{Consumes}
@@ -16,8 +16,8 @@ use Rattle.cwr_decode.specs.declared.machine.Passed.{Passed}
 use Rattle.cwr_decode.specs.declared.machine.State.TheVariants.{Reading, Pending}
 use Rattle.cwr_decode.specs.declared.readings.ReadFault.{ReadFault}
 use Rattle.cwr_decode.specs.declared.readings.ReadFault.TheVariants.{Reader}
-use Rattle.cwr_decode.specs.Steps.Calls.{Fed, IsLive}
-use Rattle.cwr_decode.specs.Steps.Machines.{EntersHeld, FindsCut, IsReady, JudgesFront, Standing, again}
+use Rattle.cwr_decode.specs.Steps.Calls.{Fed, IsLive, OfRepresented}
+use Rattle.cwr_decode.specs.Steps.Machines.{EntersHeld, FindsCut, IsReady, JudgesFront, Standing, WaitsOutside, again}
 use Rattle.cwr_decode.specs.Steps.Readings.{IsSpent, Reads, answer_of}
 use Rattle.cwr_decode.specs.Steps.Represents.{Represents}
 
@@ -76,6 +76,11 @@ pub record BeginsWaiting {K : Type 0} (stands_for : K → List RecordValue → T
   pub stands : stands_for kept (header ∷ [])
   pub enters : EntersHeld (held_record d.line) d None (at_line d.finished d.tally (header ∷ []))
 
+-- no accepted record is forgotten, and the state changes only with one more
+pub record GrowsWith (old new : Standing) : Type 0 where
+  pub kept : old.tally.counts.records ≤ new.tally.counts.records
+  pub more : new.state ≢ old.state → old.tally.counts.records < new.tally.counts.records
+
 -- Whole transactions were passed over, each of which is as it should be: so many bytes of the piece are theirs.
 pub record Passes (are_clean : List RecordValue → Type 0) (old : Standing) (piece : List ℕ) (passed : Passed)
     (new : Standing) : Type 0 where
@@ -90,6 +95,7 @@ pub record Passes (are_clean : List RecordValue → Type 0) (old : Standing) (pi
   pub live : IsLive old.state → IsLive new.state
   pub finished : new.finished ≡ old.finished
   pub limits : new.tally.limits ≡ old.tally.limits
+  pub grows : OfRepresented old (λ input given. GrowsWith old new)
 
 -- how far a pass has come: whole transactions were passed over, and then lines of the open one were judged
 pub record IsPassing {K : Type 0} (stands_for : K → List RecordValue → Type 0) (are_clean : List RecordValue → Type 0)
@@ -135,6 +141,19 @@ abbrev pub PassesOrFails : (List RecordValue → Type 0) → Standing → Option
     → Type 0
 PassesOrFails are_clean old left None new after = Reads old left (Err Reader) new after × IsLive old.state
 PassesOrFails are_clean old left (Some passed) new after = PassesOver are_clean old left passed new after
+
+-- The decoder reads, or read on with an accepted record more: nothing was answered for good, the input hasn't ended, and no record
+-- waited that is an item of its own.
+pub record PassesOn (old new : Standing) : Type 0 where
+  pub live : IsLive old.state
+  pub fresh : old.finished ≡ false
+  pub inside : ¬ WaitsOutside old
+  pub kept : old.tally.counts.records ≤ new.tally.counts.records
+  pub more : new.state ≢ Reading → old.tally.counts.records < new.tally.counts.records
+
+-- nothing changed, or the decoder read on
+abbrev pub StaysOrPasses : {R : Type 0} → Standing → R → Standing → R → Type 0
+StaysOrPasses old before new after = ((new ≡ old) × (after ≡ before)) ⊎ PassesOn old new
 
 -- a reader's failures count one more where it failed, and else they stay
 abbrev pub CountsPassing : Option Passed → ℕ → ℕ → Type 0

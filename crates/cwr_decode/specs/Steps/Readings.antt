@@ -106,6 +106,8 @@ pub record Reads (old : Standing) (left : Option (List ℕ)) (answer : Result (O
   pub none : answer ≡ Ok None → old.state ≡ states.Ended
   pub memory : answer ≡ Err faults.Memory → IsLive old.state → RunsOutOfMemory old (length bytes) new
   pub input_ended : IsSpent old left → IfSome left (λ _. IsSpent new after)
+  pub kept : old.tally.counts.records ≤ new.tally.counts.records
+  pub fresh : answer ≡ Err faults.Reader → new.finished ≡ false
   pub limits : new.tally.limits ≡ old.tally.limits
 
 -- what is read by quick tests

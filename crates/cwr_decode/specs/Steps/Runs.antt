@@ -1,5 +1,5 @@
 -- What a decoder and its reader are at while items are read, and where a run stops.
-use Rattle.std.specs.Prelude.{◌≡◌, ◌⊎◌, ℕ, ◌+◌, List, [], ◌∷◌, ◌++◌, length, Option, Some, IfSome, Err}
+use Rattle.std.specs.Prelude.{◌≡◌, ◌⊎◌, ℕ, ◌+◌, false, List, [], ◌∷◌, ◌++◌, length, Option, Some, IfSome, Err}
 use Rattle.std.specs.Io.KnownBytes.{Consumes}
 use Rattle.cwr_fields.specs.Format.Growth.{Outgrows}
 use Rattle.cwr_shape.specs.Format.Ranges.{LimitValues}
@@ -7,7 +7,7 @@ use Rattle.cwr_values.specs.declared.items.Item.{Item}
 use Rattle.cwr_decode.specs.declared.machine.State.{State}
 use Rattle.cwr_decode.specs.declared.machine.State.TheVariants.{Ended}
 use Rattle.cwr_decode.specs.declared.readings.ReadFault.{ReadFault}
-use Rattle.cwr_decode.specs.declared.readings.ReadFault.TheVariants.{Memory}
+use Rattle.cwr_decode.specs.declared.readings.ReadFault.TheVariants.{Reader, Memory}
 use Rattle.cwr_decode.specs.declared.endings.End.TheVariants as ends
 use Rattle.cwr_decode.specs.Format.Headline.{EndsSo}
 use Rattle.cwr_decode.specs.Steps.Machines.{Standing}
@@ -39,12 +39,13 @@ pub record IsReadingOn (limits : LimitValues) (d : Standing) (before now : Optio
   pub here : IsLive d.state ⊎ EndsWhole limits d.state before (length read.input) given
 
 -- These items were read before the fault, and the decoder stopped for what is reported. Out of memory it stops with a record
--- that was accepted within a transaction.
+-- that was accepted within a transaction, and where the reader failed the input hasn't ended.
 pub record StopsRun (limits : LimitValues) (fault : ReadFault) (before after : Option (List ℕ)) : Type 0 where
   pub decoder : Standing
   pub given : List Item
   pub read : HasRead limits decoder before after given
   pub leaves : LeavesRead (Err fault) decoder.state
+  pub fresh : fault ≡ Reader → decoder.finished ≡ false
   pub right : IfSome before (λ text. IsRightOf limits (Err fault) read.input text given)
 
 -- memory was refused for a list or a value of the items that were read, of which there is one at least

@@ -73,13 +73,10 @@ impl Machine {
         requires reading { self.now.state ≡ State.Reading }
         ensures { IsTrue result → BeginsHeld K.stands_for self.now keeper.new }
     {
-        let Some(transaction) = &self.held else {
-            return false;
-        };
-        if self.line.len() > 0 || transaction.len() != 1 {
+        if self.line.len() > 0 {
             return false;
         }
-        match transaction.record(0) {
+        match self.held.lone_header() {
             Some(header) => keeper.begin(&header),
             None => false,
         }
@@ -219,7 +216,7 @@ impl Machine {
         ensures { self.new ≡ waiting self.old.finished tally self.old.line }
     {
         self.tally = tally;
-        self.held.take();
+        self.held.close(self.alloc);
         self.state = State::Pending;
     }
 

@@ -6,7 +6,7 @@ ghost use Rattle.cwr_decode.specs.Steps.Machines.{AreHeld, FindsCut, FindsFront,
 ghost use Rattle.cwr_decode.specs.Steps.Represents.{IsSound};
 ghost use Rattle.cwr_decode.specs.Steps.Calls.{Advances, Fed};
 
-use super::holding::{adds_known, stays_open};
+use super::holding::{Held, HeldList, adds_known, stays_open};
 use super::{Found, Machine, State};
 use crate::kind_types::{
     Ack, Agr, Alt, Com, Ewt, Ipa, Msg, Nwr, OfKind, Opu, Orn, Owr, Per, Pwr, Rec, Rev, Spt, Spu,
@@ -24,7 +24,7 @@ use cwr_values::{Item, Transaction};
 #[inline(always)]
 fn enter_cut(
     tally: &mut Tally,
-    held: &mut Option<Transaction>,
+    held: &mut Held,
     expected: &mut SpelledPair,
     cut: &CutLine<'_>,
 ) -> Found
@@ -37,7 +37,7 @@ fn enter_cut(
     if !is_in_transaction(kind) {
         return Found::Nothing;
     }
-    let Some(transaction) = held else {
+    let HeldList::Open(transaction) = &mut held.list else {
         return Found::Nothing;
     };
     let before = *tally;

@@ -47,17 +47,11 @@ impl Machine {
             }
         };
         let continues = stays_open(&before, &self.tally);
-        if let Some(whole) = hand_out(continues, &mut self.held) {
+        if let Some(whole) = hand_out(continues, &mut self.held, self.alloc) {
             self.state = State::Pending;
             return Some(Outcome::Item(Item::Transaction(whole)));
         }
-        let outcome = add_accepted(
-            self.alloc,
-            &mut self.room,
-            &mut self.held,
-            accepted,
-            self.tally.stage(),
-        );
+        let outcome = add_accepted(self.alloc, &mut self.held, accepted, self.tally.stage());
         self.finish_record(outcome)
     }
 

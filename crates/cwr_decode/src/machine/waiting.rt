@@ -4,7 +4,7 @@ ghost use Rattle.std.specs.Prelude.{◌≡◌, None, IsTrue, IsFalse, IfSome};
 ghost use Rattle.cwr_lines.specs.Steps.Held.{held_record};
 ghost use Rattle.cwr_decode.specs.Steps.Machines.{EntersHeld, HasRecord, FitsHeld, FitsWaiting, IsReady, Settles};
 
-use super::holding::{add, add_accepted};
+use super::holding::add_accepted;
 use super::{Machine, State};
 use crate::outcomes::Outcome;
 use cwr_fields::is_in_transaction;
@@ -17,13 +17,7 @@ impl Machine {
         ensures { EntersHeld (held_record self.old.line) self.old result self.new }
     {
         let accepted = self.line.cut().known_record();
-        let outcome = add_accepted(
-            self.alloc,
-            &mut self.room,
-            &mut self.held,
-            accepted,
-            self.tally.stage(),
-        );
+        let outcome = add_accepted(self.alloc, &mut self.held, accepted, self.tally.stage());
         self.finish_record(outcome)
     }
 
@@ -39,13 +33,7 @@ impl Machine {
         if !is_in_transaction(accepted.kind()) {
             return false;
         }
-        match add(
-            self.alloc,
-            &mut self.room,
-            &mut self.held,
-            accepted,
-            self.tally.stage(),
-        ) {
+        match self.held.add(self.alloc, accepted, self.tally.stage()) {
             Ok(()) => {
                 self.begin_line();
                 true

@@ -1,10 +1,9 @@
 -- What was told where a device or memory failed.
-use Rattle.std.proofs.Common.{◌≡◌, ℕ, suc, ◌+◌, ◌-◌, ◌≤◌, min, Bool, true, false, List, [], ◌∷◌, ◌++◌, Option, Some, None}
+use Rattle.std.proofs.Common.{◌≡◌, ℕ, suc, ◌+◌, ◌-◌, ◌≤◌, min, Bool, true, false, List, [], ◌∷◌, ◌++◌, Option, Some}
 use Rattle.std.proofs.Common.{refl, sym, ap, subst, ◌∙◌, arith, inl, inr, append_assoc, append-nil}
 use Rattle.std.specs.Prelude.{◌⊎◌, ◌^◌, Result, Ok, Err, IfOk}
 use Rattle.std.specs.Io.KnownBytes.{Appends, Keeps}
 use Rattle.std.proofs.KnownBytes.{Consumes-nil, Consumes-trans}
-use Rattle.cwr_lines.specs.Format.Records.{RecordValue}
 use Rattle.cwr_lines.specs.Steps.Held.{HeldLine}
 use Rattle.cwr_decode.specs.declared.last_bytes.LastBytes.{LastBytes}
 use Rattle.cwr_devices.specs.declared.sinks.Sink.{Sink}
@@ -17,7 +16,6 @@ use Rattle.cwr_tools.specs.declared.verdicts.ToolFault.{ToolFault}
 use Rattle.cwr_tools.specs.declared.verdicts.ToolFault.TheVariants as faults
 use Rattle.cwr_tools.specs.Steps.Reports.{PutsLines}
 use Rattle.cwr_lint_lines.specs.declared.judging.Judged.{Judged}
-use Rattle.cwr_lint_lines.specs.declared.states.LintState.{LintState}
 use Rattle.cwr_lint_lines.specs.Format.FaultsAtFields.{JudgedLine, LineCut, fields_end}
 use Rattle.cwr_lint_lines.specs.Steps.Cells.{held_cut}
 use Rattle.cwr_lint_lines.specs.Steps.JudgedLines.{IsFaultFrom, judged_as, judged_at, scope_by}
@@ -30,7 +28,7 @@ use Rattle.cwr_lint.specs.Steps.CutShort.{TellsUpTo, UnlessWriter, WalksPart}
 use Rattle.cwr_lint.specs.Steps.LinesRead.{GoesOn, ReadsLine, held_raw, spelled}
 use Rattle.cwr_lint.specs.Steps.Lints.{EndsRun, counted}
 use Rattle.cwr_lint.specs.Steps.Puts.{tool_result}
-use Rattle.cwr_lint.specs.Steps.Runs.{BeginsAt, TellsOfLine, TellsRun, TellsToEnd, walk_of}
+use Rattle.cwr_lint.specs.Steps.Runs.{TellsOfLine, TellsRun, TellsToEnd, walk_of}
 use Rattle.cwr_lint.specs.Steps.Walks.{Walk, WalksLine, ended_by}
 use Rattle.cwr_lint.proofs.lemmas.RawLines.{goes_both, goes_line, goes_none, raw_cut}
 use Rattle.cwr_lint.proofs.lemmas.Running.{RunSoFar, all_more}
@@ -182,21 +180,23 @@ pub faults_part : (asked : Asking) (l : JudgedLine) (ended : Option EndedTransac
 faults_part asked l ended from found lines e s = inr (lines, s, ap (λ (l : List ℕ). l ++ lines) e)
 
 -- the same line, judged at the state
-pub part_at : (asked : Asking) (h : HeldLine) (judged : Judged) (from : ℕ) (state : LintState) (begun : Option (List RecordValue))
-    (text : List ℕ) → judged ≡ judged_as state (held_cut h)
-    → TellsPart asked (judged_at state.lines (scope_by state.group) h judged) (ended_by judged state begun) from text
-    → WalksPart asked (record { state = state; begun = begun }) (held_cut h) from text
-part_at asked h judged from state begun text e t =
+pub part_at : (asked : Asking) (h : HeldLine) (judged : Judged) (from : ℕ) (old : Walk) (text : List ℕ)
+    → judged ≡ judged_as old.state (held_cut h)
+    → TellsPart asked (judged_at old.state.lines (scope_by old.state.group) h judged) (ended_by judged old.state old.begun) from text
+    → WalksPart asked old (held_cut h) from text
+part_at asked h judged from old text e t =
     subst
-    (λ (j : Judged). TellsPart asked (judged_at state.lines (scope_by state.group) h j) (ended_by j state begun) from text) e t
+    (λ (j : Judged). TellsPart asked (judged_at old.state.lines (scope_by old.state.group) h j) (ended_by j old.state old.begun)
+    from text) e t
 
 -- all of a line is a part of it
-pub whole_part : (asked : Asking) (h : HeldLine) (judged : Judged) (from count : ℕ) (state : LintState)
-    (begun : Option (List RecordValue)) (text : List ℕ) → judged ≡ judged_as state (held_cut h)
-    → TellsOfLine asked (judged_at state.lines (scope_by state.group) h judged) (ended_by judged state begun) from count text
-    → WalksPart asked (record { state = state; begun = begun }) (held_cut h) from text
-whole_part asked h judged from count state begun text e t =
-    part_at asked h judged from state begun text e
+pub whole_part : (asked : Asking) (h : HeldLine) (judged : Judged) (from count : ℕ) (old : Walk) (text : List ℕ)
+    → judged ≡ judged_as old.state (held_cut h)
+    → TellsOfLine asked (judged_at old.state.lines (scope_by old.state.group) h judged) (ended_by judged old.state old.begun) from
+    count text
+    → WalksPart asked old (held_cut h) from text
+whole_part asked h judged from count old text e t =
+    part_at asked h judged from old text e
     (inr (t.1.lines, (fields_end (held_cut h).kind, omega arith, t.0, t.1.tells), t.1.whole))
 
 -- the refusal, and a part of what else is wrong with its line
@@ -282,9 +282,9 @@ run_part asked left mid ended before old between count text more p (inr q) =
 
 -- the line of the refusal, and those after it
 pub from_part : (asked : Asking) (refusal : Refusal) (left : Option (List ℕ)) (raw : RawLine) (old : LintRun) (text : List ℕ)
-    → BeginsAt refusal old → TakesFromPart asked refusal raw old left text
-    → TellsUpTo asked old.state refusal raw left text
-from_part asked refusal left raw old text begins (inl f) = record {
+    → TakesFromPart asked refusal raw old left text
+    → TellsUpTo asked (walk_of old) refusal raw left text
+from_part asked refusal left raw old text (inl f) = record {
   bytes = [];
   mid = left;
   taken = Consumes-nil left;
@@ -294,13 +294,10 @@ from_part asked refusal left raw old text begins (inl f) = record {
   no_lf = tt;
   told = λ refused holds. inl (
     refl,
-    subst (λ (c : LineCut). IsFirstPart asked (record { state = old.state; begun = None }) refusal c text)
-        (raw_cut refused raw holds)
-        (subst (λ (b : Option (List RecordValue)). IsFirstPart asked (record { state = old.state; begun = b }) refusal
-        (held_cut (held_raw raw)) text) begins.begun f),
+    subst (λ (c : LineCut). IsFirstPart asked (walk_of old) refusal c text) (raw_cut refused raw holds) f,
   );
 }
-from_part asked refusal left raw old text begins (inr (between, beside, first, later, rest, e)) = record {
+from_part asked refusal left raw old text (inr (between, beside, first, later, rest, e)) = record {
   bytes = rest.bytes;
   mid = rest.mid;
   taken = rest.taken;
@@ -315,11 +312,8 @@ from_part asked refusal left raw old text begins (inr (between, beside, first, l
     beside = first.beside;
     between = walk_of between;
     tells_others =
-        subst (λ (c : LineCut). WalksLine asked (record { state = old.state; begun = None }) c
-        (min (refusal.field + 1) (2 ^ 8 - 1)) first.takes.told first.beside (walk_of between)) (raw_cut refused raw holds)
-        (subst (λ (b : Option (List RecordValue)). WalksLine asked (record { state = old.state; begun = b })
-        (held_cut (held_raw raw)) (min (refusal.field + 1) (2 ^ 8 - 1)) first.takes.told first.beside
-        (walk_of between)) begins.begun first.takes.walks);
+        subst (λ (c : LineCut). WalksLine asked (walk_of old) c (min (refusal.field + 1) (2 ^ 8 - 1)) first.takes.told first.beside
+        (walk_of between)) (raw_cut refused raw holds) first.takes.walks;
     later = later;
     walks = rest.walks;
     whole = e ∙ ap (λ (l : List ℕ). l ++ later) first.whole;
@@ -327,7 +321,7 @@ from_part asked refusal left raw old text begins (inr (between, beside, first, l
 }
 
 -- all was told, and of the sums a part
-pub sums_part : (asked : Asking) (begins : LintState) (refusal : Refusal) (left after : Option (List ℕ)) (raw : RawLine)
+pub sums_part : (asked : Asking) (begins : Walk) (refusal : Refusal) (left after : Option (List ℕ)) (raw : RawLine)
     (text end more : List ℕ) → TellsToEnd asked begins refusal raw left after (text ++ end) → IsFrontOf end more
     → TellsUpTo asked begins refusal raw left (text ++ more)
 sums_part asked begins refusal left after raw text end more t f = record {
@@ -347,7 +341,7 @@ sums_part asked begins refusal left after raw text end more t f = record {
 }
 
 -- all was told, with the sums
-pub run_whole : (asked : Asking) (begins : LintState) (refusal : Refusal) (last : LastBytes) (left after : Option (List ℕ))
+pub run_whole : (asked : Asking) (begins : Walk) (refusal : Refusal) (last : LastBytes) (left after : Option (List ℕ))
     (text : List ℕ) → TellsRun asked begins refusal last left after text → TellsLastUpTo asked begins refusal last left text
 run_whole asked begins refusal last left after text t = record {
   between = t.between;

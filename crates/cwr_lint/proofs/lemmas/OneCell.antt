@@ -46,7 +46,7 @@ use Rattle.cwr_decode.specs.Steps.Represents.{text_of}
 use Rattle.cwr_lint_lines.specs.Steps.Fronts.{state_at}
 use Rattle.cwr_lint.specs.Steps.LinesRead.{IsTextOf}
 use Rattle.cwr_lint.specs.Steps.OneCells.{OneCellIsTold}
-use Rattle.cwr_lint.specs.Steps.Walks.{Walk}
+use Rattle.cwr_lint.specs.Steps.Walks.{Walk, begins_at}
 use Rattle.cwr_lint.proofs.lemmas.FairStates.{Fair}
 use Rattle.cwr_lint.proofs.lemmas.GoodFronts.{CountsFit, Reaches, comes_next, fair_at, fresh_at, front_continues, front_itself}
 use Rattle.cwr_lint.proofs.lemmas.GoodFronts.{one_stage, reaches}
@@ -186,7 +186,7 @@ over_at_end limits v last range whole within stands =
 -- ---- just that cell
 
 pub one_cell : OneCellIsTold
-one_cell asked limits text left refusal tally refused lines last over bytes written before wrong kind k d short is_refused taken
+one_cell asked limits text left refusal tally found refused lines last over bytes written before wrong kind k d short is_refused taken
     read cut told =
     (rec_is, field_is, first.2.nothing, later)
   where
@@ -263,7 +263,7 @@ one_cell asked limits text left refusal tally refused lines last over bytes writ
         (front_itself limits (map symbol_of front) (symbol_of r ∷ map symbol_of place.front.more) whole_symbols)
 
     begins : Walk
-    begins = record { state = state_at tally.stage tally.counts (refusal.rec - 1); begun = None }
+    begins = begins_at (state_at tally.stage tally.counts (refusal.rec - 1)) found
 
     -- the tally is that of the front
     xs : List Symbol

@@ -11,7 +11,6 @@ use Rattle.cwr_judge.specs.declared.refusals.Refusal.{Refusal}
 use Rattle.cwr_levels.specs.Format.ReportLines.{faults_line}
 use Rattle.cwr_lint.specs.declared.linting.LintRun.{LintRun}
 use Rattle.cwr_lint.specs.declared.raw_lines.RawLine.{RawLine}
-use Rattle.cwr_lines.specs.Format.Records.{RecordValue}
 use Rattle.cwr_lint_lines.specs.Format.FaultsAtFields.{LineCut, cut_of, one_more_line}
 use Rattle.cwr_lint.specs.Format.FaultsOfLines.{Asking, count_after}
 use Rattle.cwr_lint.specs.Steps.Walks.{Walk, WalksLine, WalksLines}
@@ -227,10 +226,10 @@ from_taken asked refusal left after raw old between new beside later p q =
     record { between = between; beside = beside; first = p; later = later; rest = q; whole = refl }
 
 pub told_to_end : (asked : Asking) (refusal : Refusal) (left after : Option (List ℕ)) (raw : RawLine) (old new : LintRun)
-    (findings : ℕ) (text end : List ℕ) → BeginsAt refusal old → TakesFrom asked refusal raw old new left after text
-    → IsEndText new.state.over new.faults findings new.state.lines end
-    → TellsToEnd asked old.state refusal raw left after (text ++ end)
-told_to_end asked refusal left after raw old new findings text end begins p e = record {
+    (text end : List ℕ) → BeginsAt refusal old → TakesFrom asked refusal raw old new left after text
+    → IsEndText new.state.over new.faults new.findings new.state.lines end
+    → TellsToEnd asked (walk_of old) refusal raw left after (text ++ end)
+told_to_end asked refusal left after raw old new text end begins p e = record {
   bytes = p.rest.takes.bytes;
   taken = p.rest.takes.taken;
   lines = p.rest.takes.lines;
@@ -246,17 +245,13 @@ told_to_end asked refusal left after raw old new findings text end begins p e = 
     beside = p.first.beside;
     between = walk_of p.between;
     tells_others =
-        subst (λ (c : LineCut). WalksLine asked (record { state = old.state; begun = None }) c
-        (min (refusal.field + 1) (2 ^ 8 - 1)) p.first.takes.told p.first.beside (walk_of p.between)) (raw_cut refused raw holds)
-        (subst (λ (b : Option (List RecordValue)). WalksLine asked (record { state = old.state; begun = b })
-        (held_cut (held_raw raw)) (min (refusal.field + 1) (2 ^ 8 - 1)) p.first.takes.told p.first.beside
-        (walk_of p.between)) begins.begun p.first.takes.walks);
+        subst (λ (c : LineCut). WalksLine asked (walk_of old) c (min (refusal.field + 1) (2 ^ 8 - 1)) p.first.takes.told
+        p.first.beside (walk_of p.between)) (raw_cut refused raw holds) p.first.takes.walks;
     later = p.rest.takes.told;
     after = p.later;
     last = walk_of new;
     tells_later = p.rest.takes.walks;
     over_is = refl;
-    findings = findings;
     whole = whole;
   };
   ends = λ over refused holds. ends_at refused holds (p.rest.takes.over over);
@@ -275,18 +270,18 @@ told_to_end asked refusal left after raw old new findings text end begins p e = 
   faults_are = omega (arith, p.rest.takes.faults few, p.first.takes.faults, begins.faults)
 
   end_is : end ≡ truncated_unless new.state.over (count_after (one_more_line (refusal.rec - 1)) p.rest.takes.lines)
-      ++ faults_line (min (1 + length p.first.takes.told + length p.rest.takes.told) (2 ^ 64 - 1)) findings
+      ++ faults_line (min (1 + length p.first.takes.told + length p.rest.takes.told) (2 ^ 64 - 1)) new.findings
       (count_after (one_more_line (refusal.rec - 1)) p.rest.takes.lines)
-  end_is = e ∙ ap (λ (k : ℕ). truncated_unless new.state.over k ++ faults_line new.faults findings k) lines_are
+  end_is = e ∙ ap (λ (k : ℕ). truncated_unless new.state.over k ++ faults_line new.faults new.findings k) lines_are
       ∙ ap (λ (k : ℕ). truncated_unless new.state.over (count_after (one_more_line (refusal.rec - 1)) p.rest.takes.lines)
-      ++ faults_line k findings (count_after (one_more_line (refusal.rec - 1)) p.rest.takes.lines)) faults_are
+      ++ faults_line k new.findings (count_after (one_more_line (refusal.rec - 1)) p.rest.takes.lines)) faults_are
 
   text_is : text ≡ p.first.line ++ p.first.beside ++ p.later
   text_is = p.whole ∙ ap (λ (l : List ℕ). l ++ p.later) p.first.whole
 
   whole : text ++ end ≡ p.first.line ++ p.first.beside ++ p.later
       ++ truncated_unless new.state.over (count_after (one_more_line (refusal.rec - 1)) p.rest.takes.lines)
-      ++ faults_line (min (1 + length p.first.takes.told + length p.rest.takes.told) (2 ^ 64 - 1)) findings
+      ++ faults_line (min (1 + length p.first.takes.told + length p.rest.takes.told) (2 ^ 64 - 1)) new.findings
       (count_after (one_more_line (refusal.rec - 1)) p.rest.takes.lines)
   whole =
       ap (λ (l : List ℕ). l ++ end) text_is ∙ ap (λ (l : List ℕ). (p.first.line ++ p.first.beside ++ p.later) ++ l) end_is

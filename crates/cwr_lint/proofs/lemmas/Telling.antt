@@ -22,7 +22,7 @@ use Rattle.cwr_lint_lines.specs.Format.FaultsAtFields.{JudgedLine, LineCut, fiel
 use Rattle.cwr_lint.specs.Format.FaultsOfLines.{Asking, EndedTransaction, IsFaultText, Tells, TellsLine, TellsMore, ended_lines}
 use Rattle.cwr_lint_lines.specs.Steps.JudgedLines.{IsFaultFrom, IsJudged, ends_by, judged_as, judged_at, scope_by}
 use Rattle.cwr_lint_lines.specs.Steps.Cells.{held_cut}
-use Rattle.cwr_lint.specs.Steps.Walks.{AfterJudged, ended_at, ended_by, is_quiet, judged_line, state_by}
+use Rattle.cwr_lint.specs.Steps.Walks.{AfterJudged, ended_at, ended_by, findings_after, is_quiet, judged_line, state_by}
 use Rattle.cwr_lint.specs.Steps.Puts.{PutsAfter, PutsWith}
 use Rattle.cwr_lint.specs.Steps.Runs.{TakesFirst, TakesLine, TellsOfLine, TellsSoMany, more_faults}
 use Rattle.cwr_lint.proofs.lemmas.TextsPut.{none_put, put_both, put_err, put_ok}
@@ -202,8 +202,9 @@ pub line_taken : (asked : Asking) (h : HeldLine) (judged : Judged) (from count :
     → good ≡ ((count == 0) && (from == 1)) → new.state ≡ state_by judged old.state (held_cut h)
     → AfterJudged good judged (is_some new.state.stage) old.begun (held_cut h) new.begun
     → new.state.lines ≡ one_more_line old.state.lines → new.faults ≡ more_faults old.faults count
-    → new.state.over ≡ ends_by judged → TakesLine asked (held_cut h) from old new text
-line_taken asked h judged from count good old new text j same t quiet state begun lines faults over = record {
+    → new.state.over ≡ ends_by judged → new.findings ≡ findings_after old.findings (ended_by judged old.state old.begun)
+    → TakesLine asked (held_cut h) from old new text
+line_taken asked h judged from count good old new text j same t quiet state begun lines faults over findings = record {
   told = t.0;
   walks = record {
     tells = tells_at asked h judged from old.state old.begun t.0 text same t.1;
@@ -214,6 +215,7 @@ line_taken asked h judged from count good old new text j same t quiet state begu
         same
         (subst (λ (b : Bool). AfterJudged b judged (is_some new.state.stage) old.begun (held_cut h) new.begun)
         (quiet ∙ ap (λ (b : Bool). b && (from == 1)) (quiet_by count t.0 t.2)) begun);
+    findings = findings ∙ ap (λ (k : Judged). findings_after old.findings (ended_by k old.state old.begun)) same;
   };
   lines = lines;
   faults = faults ∙ ap (more_faults old.faults) t.2;

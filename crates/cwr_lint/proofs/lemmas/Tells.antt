@@ -24,7 +24,7 @@ use Rattle.cwr_lint.specs.Steps.CutShort.{AppendsUpTo, IsToldUpTo, IsUnread, Tel
 use Rattle.cwr_lint.specs.Steps.LinesRead.{GoesOn, HoldsRaw, IsAllRead, IsTextOf, ReadsLast, spelled}
 use Rattle.cwr_lint.specs.Steps.Runs.{TellsRun}
 use Rattle.cwr_lint_lines.specs.Steps.Fronts.{state_at}
-use Rattle.cwr_lint.specs.Steps.Walks.{IsTold}
+use Rattle.cwr_lint.specs.Steps.Walks.{IsTold, Walk, begins_at}
 use Rattle.cwr_shape.specs.declared.stages.Stage.{Stage}
 use Rattle.cwr_shape.specs.declared.tallies.Counts.{Counts}
 use Rattle.std.proofs.KnownBytes.{Appends-nil, Appends-trans, Consumes-nil, Consumes-trans}
@@ -32,6 +32,7 @@ use Rattle.cwr_shape.specs.declared.limits.Limits.{Limits}
 use Rattle.cwr_judge.specs.declared.refusals.Refusal.{Refusal}
 use Rattle.cwr_causes.specs.Format.Trailing.{TakesMore}
 use Rattle.cwr_tools.specs.Format.Reports.{AddsWords, ItemLines, JudgesAccepted, text_on}
+use Rattle.cwr_tools.specs.Format.Watching.{findings_with}
 use Rattle.cwr_tools.specs.Format.Verdicts.{IsAnswerAfter, IsAnswerTo, JudgesText}
 use Rattle.cwr_tools.specs.declared.verdicts.Verdict.{Verdict}
 use Rattle.cwr_tools.specs.declared.verdicts.Verdict.TheVariants.{Good, Refused, Truncated}
@@ -107,25 +108,31 @@ refused_text : (advised explained : Bool) (given : List Item) (refusal : Refusal
 refused_text false explained given refusal = append-nil ((lines_with false explained).lines given)
 refused_text true explained given refusal = append-nil ((lines_with true explained).lines given)
 
--- what is asked for, by what was heard before the same stop
-pub record Hears (wanted : Wanted) (limits : Limits) (before left : Option (List ℕ)) (refusal : Refusal) (asking : Asking) : Type
-    0 where
+-- what is asked for, and how many findings were told, by what was heard before the same stop
+pub record Hears (wanted : Wanted) (limits : Limits) (before left : Option (List ℕ)) (refusal : Refusal) (asking : Asking)
+    (found : ℕ) : Type 0 where
   pub heard : List Item
   pub stopped : StopsAfter limits (read_faults.Refused refusal) before left heard
   pub asks : asking ≡ asking_for wanted (said_in heard)
+  pub counted : found ≡ findings_with 0 heard
+
+-- what is held at the first fault, where the stage, the counts and the findings are the same
+begins_same : {stage other : Stage} {counts more : Counts} {found told : ℕ} (n : ℕ) → stage ≡ other → counts ≡ more
+    → found ≡ told → begins_at (state_at stage counts n) found ≡ begins_at (state_at other more n) told
+begins_same n e f g = λ i. begins_at (state_at (e i) (f i) n) (g i)
 
 -- the faults follow
 built : {W : Type 0} (wanted : Wanted) (limits : Limits) (before left after : Option (List ℕ)) (contents : W → Option (List ℕ))
-    (old between new : W) (refusal : Refusal) (asking : Asking) (last : LastRead) (text : List ℕ)
+    (old between new : W) (refusal : Refusal) (asking : Asking) (found : ℕ) (last : LastRead) (text : List ℕ)
     → Reports (lines_up_to wanted) limits before left contents old between (Ok (Refused refusal))
     → (s : StopsAt limits (read_faults.Refused refusal) before left last)
-    → (x : Hears wanted limits before left refusal asking)
-    → (t : TellsRun asking (state_at last.stage last.counts (refusal.rec - 1)) refusal last.bytes left after text)
+    → (x : Hears wanted limits before left refusal asking found)
+    → (t : TellsRun asking (begins_at (state_at last.stage last.counts (refusal.rec - 1)) found) refusal last.bytes left after text)
     → Appends (contents between) (contents new) text
     → (refused : List ℕ) → HoldsRaw refused t.raw → IfSome before (λ known. (bytes : List ℕ) × Consumes before after bytes
     × AreLinesRead refusal s.0.decoder.tally t.tells.last bytes refused t.tells.lines)
     → TellsFaults wanted limits before after contents old new refusal
-built wanted limits before left after contents old between new refusal asking last text h s x t written refused holds read =
+built wanted limits before left after contents old between new refusal asking found last text h s x t written refused holds read =
     record {
       given = h.0;
       left = left;
@@ -141,12 +148,10 @@ built wanted limits before left after contents old between new refusal asking la
       heard = x.heard;
       heard_before = x.stopped;
       told =
-          subst (λ (a : Asking). IsTold a (state_at s.0.decoder.tally.stage s.0.decoder.tally.counts (refusal.rec - 1)) refusal
-          refused t.tells.lines t.tells.over text) x.asks
-          (subst (λ (c : Counts). IsTold asking (state_at s.0.decoder.tally.stage c (refusal.rec - 1)) refusal refused t.tells.lines
-          t.tells.over text) s.3
-          (subst (λ (g : Stage). IsTold asking (state_at g last.counts (refusal.rec - 1)) refusal refused t.tells.lines t.tells.over
-          text) s.1 (t.tells.told refused holds)));
+          subst (λ (w : Walk). IsTold (asking_for wanted (said_in x.heard)) w refusal refused t.tells.lines t.tells.over text)
+          (begins_same (refusal.rec - 1) s.1 s.3 x.counted)
+          (subst (λ (a : Asking). IsTold a (begins_at (state_at last.stage last.counts (refusal.rec - 1)) found) refusal refused
+          t.tells.lines t.tells.over text) x.asks (t.tells.told refused holds));
       written =
           subst (λ (l : List ℕ). Appends (contents old) (contents new) (l ++ text))
           (refused_text wanted.advised wanted.explained h.0 refusal)
@@ -223,32 +228,32 @@ lines_read limits known left between after refusal last raw more lines ended s r
       ∙ sym (text_of-push stopped.lines (stopped.line.bytes ++ found.0))
 
 tells_faults : {W : Type 0} (wanted : Wanted) (limits : Limits) (before left after : Option (List ℕ))
-    (contents : W → Option (List ℕ)) (old between new : W) (refusal : Refusal) (asking : Asking) (last : LastRead) (text : List ℕ)
+    (contents : W → Option (List ℕ)) (old between new : W) (refusal : Refusal) (asking : Asking) (found : ℕ) (last : LastRead) (text : List ℕ)
     → Reports (lines_up_to wanted) limits before left contents old between (Ok (Refused refusal))
-    → StopsAt limits (read_faults.Refused refusal) before left last → Hears wanted limits before left refusal asking
-    → TellsRun asking (state_at last.stage last.counts (refusal.rec - 1)) refusal last.bytes left after text
+    → StopsAt limits (read_faults.Refused refusal) before left last → Hears wanted limits before left refusal asking found
+    → TellsRun asking (begins_at (state_at last.stage last.counts (refusal.rec - 1)) found) refusal last.bytes left after text
     → Appends (contents between) (contents new) text
     → Tells wanted limits before after contents old new (Refused refusal)
-tells_faults wanted limits None left after contents old between new refusal asking last text h s x t written =
-    built wanted limits None left after contents old between new refusal asking last text h s x t written t.held.line t.held.holds
+tells_faults wanted limits None left after contents old between new refusal asking found last text h s x t written =
+    built wanted limits None left after contents old between new refusal asking found last text h s x t written t.held.line t.held.holds
     tt
-tells_faults wanted limits (Some known) left after contents old between new refusal asking last text h s x t written =
-    let found =
+tells_faults wanted limits (Some known) left after contents old between new refusal asking found last text h s x t written =
+    let parts =
     lines_read limits known left t.between after refusal last t.raw t.tells.bytes t.tells.lines t.tells.last s t.read t.tells.taken
     t.tells.goes t.tells.no_lf in
-    built wanted limits (Some known) left after contents old between new refusal asking last text h s x t written found.0 found.1
-    (found.2, found.3, found.4)
+    built wanted limits (Some known) left after contents old between new refusal asking found last text h s x t written parts.0 parts.1
+    (parts.2, parts.3, parts.4)
 
 -- what is told up to a fault
-built_up_to : (wanted : Wanted) (limits : Limits) (before left : Option (List ℕ)) (refusal : Refusal) (asking : Asking)
+built_up_to : (wanted : Wanted) (limits : Limits) (before left : Option (List ℕ)) (refusal : Refusal) (asking : Asking) (found : ℕ)
     (last : LastRead) (text : List ℕ) → (s : StopsAt limits (read_faults.Refused refusal) before left last)
-    → Hears wanted limits before left refusal asking
-    → (t : TellsLastUpTo asking (state_at last.stage last.counts (refusal.rec - 1)) refusal last.bytes left text)
+    → Hears wanted limits before left refusal asking found
+    → (t : TellsLastUpTo asking (begins_at (state_at last.stage last.counts (refusal.rec - 1)) found) refusal last.bytes left text)
     → (refused : List ℕ) → HoldsRaw refused t.raw
     → IfSome before (λ known. (bytes : List ℕ) × (now : Option (List ℕ)) × Consumes before now bytes
     × AreLinesRead refusal s.0.decoder.tally t.tells.last bytes refused t.tells.lines)
     → TellsUpToFault wanted limits before left refusal text
-built_up_to wanted limits before left refusal asking last text s x t refused holds read = record {
+built_up_to wanted limits before left refusal asking found last text s x t refused holds read = record {
   refused = refused;
   lines = t.tells.lines;
   last = t.tells.last;
@@ -256,44 +261,42 @@ built_up_to wanted limits before left refusal asking last text s x t refused hol
   heard = x.heard;
   heard_before = x.stopped;
   told =
-      subst (λ (a : Asking). IsToldUpTo a (state_at s.0.decoder.tally.stage s.0.decoder.tally.counts (refusal.rec - 1)) refusal
-      refused t.tells.lines text) x.asks
-      (subst (λ (c : Counts). IsToldUpTo asking (state_at s.0.decoder.tally.stage c (refusal.rec - 1)) refusal refused t.tells.lines
-      text) s.3
-      (subst (λ (g : Stage). IsToldUpTo asking (state_at g last.counts (refusal.rec - 1)) refusal refused t.tells.lines text) s.1
-      (t.tells.told refused holds)));
+      subst (λ (w : Walk). IsToldUpTo (asking_for wanted (said_in x.heard)) w refusal refused t.tells.lines text)
+      (begins_same (refusal.rec - 1) s.1 s.3 x.counted)
+      (subst (λ (a : Asking). IsToldUpTo a (begins_at (state_at last.stage last.counts (refusal.rec - 1)) found) refusal refused
+      t.tells.lines text) x.asks (t.tells.told refused holds));
   read = read;
 }
 
-tells_up_to : (wanted : Wanted) (limits : Limits) (before left : Option (List ℕ)) (refusal : Refusal) (asking : Asking)
+tells_up_to : (wanted : Wanted) (limits : Limits) (before left : Option (List ℕ)) (refusal : Refusal) (asking : Asking) (found : ℕ)
     (last : LastRead) (fault : ToolFault) → StopsAt limits (read_faults.Refused refusal) before left last
-    → Hears wanted limits before left refusal asking → (text : List ℕ)
-    → IsUnread fault text ⊎ TellsAfterUpTo asking last refusal left text
+    → Hears wanted limits before left refusal asking found → (text : List ℕ)
+    → IsUnread fault text ⊎ TellsAfterUpTo asking last found refusal left text
     → IsUnread fault text ⊎ TellsUpToFault wanted limits before left refusal text
-tells_up_to wanted limits before left refusal asking last fault s x text (inl e) = inl e
-tells_up_to wanted limits None left refusal asking last fault s x text (inr t) =
-    inr (built_up_to wanted limits None left refusal asking last text s x t t.held.line t.held.holds tt)
-tells_up_to wanted limits (Some known) left refusal asking last fault s x text (inr t) =
-    let found =
+tells_up_to wanted limits before left refusal asking found last fault s x text (inl e) = inl e
+tells_up_to wanted limits None left refusal asking found last fault s x text (inr t) =
+    inr (built_up_to wanted limits None left refusal asking found last text s x t t.held.line t.held.holds tt)
+tells_up_to wanted limits (Some known) left refusal asking found last fault s x text (inr t) =
+    let parts =
     lines_read limits known left t.between t.tells.mid refusal last t.raw t.tells.bytes t.tells.lines t.tells.last s t.read
     t.tells.taken t.tells.goes t.tells.no_lf in
-    inr (built_up_to wanted limits (Some known) left refusal asking last text s x t found.0 found.1
-    (found.2, t.tells.mid, found.3, found.4))
+    inr (built_up_to wanted limits (Some known) left refusal asking found last text s x t parts.0 parts.1
+    (parts.2, t.tells.mid, parts.3, parts.4))
 
 -- where the answer is a verdict
 pub tells_after : {W : Type 0} (wanted : Wanted) (limits : Limits) (before left after : Option (List ℕ))
-    (contents : W → Option (List ℕ)) (old between new : W) (refusal : Refusal) (asking : Asking) (last : LastRead)
+    (contents : W → Option (List ℕ)) (old between new : W) (refusal : Refusal) (asking : Asking) (found : ℕ) (last : LastRead)
     (result : Result Verdict ToolFault)
     → Reports (lines_up_to wanted) limits before left contents old between (Ok (Refused refusal))
-    → StopsAt limits (read_faults.Refused refusal) before left last → Hears wanted limits before left refusal asking
+    → StopsAt limits (read_faults.Refused refusal) before left last → Hears wanted limits before left refusal asking found
     → IsAnswerTo (Refused refusal) result → OnOk result ((text : List ℕ)
-    × TellsRun asking (state_at last.stage last.counts (refusal.rec - 1)) refusal last.bytes left after text
+    × TellsRun asking (begins_at (state_at last.stage last.counts (refusal.rec - 1)) found) refusal last.bytes left after text
     × Appends (contents between) (contents new) text)
     → IfOk result (Tells wanted limits before after contents old new)
-tells_after wanted limits before left after contents old between new refusal asking last (Ok verdict) h s x answered told =
+tells_after wanted limits before left after contents old between new refusal asking found last (Ok verdict) h s x answered told =
     subst (Tells wanted limits before after contents old new) (sym answered)
-    (tells_faults wanted limits before left after contents old between new refusal asking last told.0 h s x told.1 told.2)
-tells_after wanted limits before left after contents old between new refusal asking last (Err fault) h s x answered told = tt
+    (tells_faults wanted limits before left after contents old between new refusal asking found last told.0 h s x told.1 told.2)
+tells_after wanted limits before left after contents old between new refusal asking found last (Err fault) h s x answered told = tt
 
 -- a check and words after it
 lints_after : {W : Type 0} (wanted : Wanted) (limits : Limits) (before left after : Option (List ℕ))
@@ -380,43 +383,43 @@ unrefused_at flag wanted limits before after contents old new checked verdict sa
     (subst (Reports (lines_up_to flag) limits before after contents old new) e h))
 
 pub refused_at : {W : Type 0} (flag wanted : Wanted) (limits : Limits) (before left after : Option (List ℕ))
-    (contents : W → Option (List ℕ)) (old between new : W) (refusal : Refusal) (asking : Asking) (last : LastRead)
+    (contents : W → Option (List ℕ)) (old between new : W) (refusal : Refusal) (asking : Asking) (found : ℕ) (last : LastRead)
     (checked result : Result Verdict ToolFault)
     → flag ≡ wanted → Reports (lines_up_to flag) limits before left contents old between checked
-    → StopsAt limits (read_faults.Refused refusal) before left last → Hears wanted limits before left refusal asking
+    → StopsAt limits (read_faults.Refused refusal) before left last → Hears wanted limits before left refusal asking found
     → checked ≡ Ok (Refused refusal)
     → IsAnswerTo (Refused refusal) result → OnOk result ((text : List ℕ)
-    × TellsRun asking (state_at last.stage last.counts (refusal.rec - 1)) refusal last.bytes left after text
+    × TellsRun asking (begins_at (state_at last.stage last.counts (refusal.rec - 1)) found) refusal last.bytes left after text
     × Appends (contents between) (contents new) text)
     → IfOk result (Tells wanted limits before after contents old new)
-refused_at flag wanted limits before left after contents old between new refusal asking last checked result same h s x e answered
+refused_at flag wanted limits before left after contents old between new refusal asking found last checked result same h s x e answered
     told =
-    tells_after wanted limits before left after contents old between new refusal asking last result
+    tells_after wanted limits before left after contents old between new refusal asking found last result
     (subst (λ (b : Wanted). Reports (lines_up_to b) limits before left contents old between (Ok (Refused refusal))) same
     (subst (Reports (lines_up_to flag) limits before left contents old between) e h)) s x answered told
 
 pub faults_at : {W : Type 0} (flag wanted : Wanted) (limits : Limits) (before left after : Option (List ℕ))
-    (contents : W → Option (List ℕ)) (old between new : W) (refusal : Refusal) (asking : Asking) (last : LastRead)
+    (contents : W → Option (List ℕ)) (old between new : W) (refusal : Refusal) (asking : Asking) (found : ℕ) (last : LastRead)
     (checked result : Result Verdict ToolFault)
     → flag ≡ wanted → Reports (lines_up_to flag) limits before left contents old between checked
-    → StopsAt limits (read_faults.Refused refusal) before left last → Hears wanted limits before left refusal asking
+    → StopsAt limits (read_faults.Refused refusal) before left last → Hears wanted limits before left refusal asking found
     → checked ≡ Ok (Refused refusal) → AddsWords contents between new
-    → AppendsUpTo contents between new result (TellsAfterUpTo asking last refusal left) → TakesMore left after
+    → AppendsUpTo contents between new result (TellsAfterUpTo asking last found refusal left) → TakesMore left after
     → IsAnswerTo (Refused refusal) result → Lints wanted limits before after contents old new result
-faults_at flag wanted limits before left after contents old between new refusal asking last checked (Ok verdict) same h s x e words
+faults_at flag wanted limits before left after contents old between new refusal asking found last checked (Ok verdict) same h s x e words
     cut more answered =
     lints_after wanted limits before left after contents old between new checked (Ok verdict) words.0
     (subst (λ (b : Wanted). Reports (lines_up_to b) limits before left contents old between checked) same h) words.1 more
     (subst (λ (r : Result Verdict ToolFault). IsAnswerAfter r (Ok verdict)) (sym e) answered) tt
-faults_at flag wanted limits before left after contents old between new refusal asking last checked (Err fault) same h s x e words
+faults_at flag wanted limits before left after contents old between new refusal asking found last checked (Err fault) same h s x e words
     cut more answered =
     lints_after wanted limits before left after contents old between new checked (Err fault) cut.0
     (subst (λ (b : Wanted). Reports (lines_up_to b) limits before left contents old between checked) same h) cut.2 more
     (subst (λ (r : Result Verdict ToolFault). IsAnswerAfter r (Err fault)) (sym e) answered)
     (subst (λ (r : Result Verdict ToolFault). AreWordsUpTo wanted limits before left r fault cut.0) (sym e)
-    (cut_as (λ text. IsUnread fault text ⊎ TellsAfterUpTo asking last refusal left text)
+    (cut_as (λ text. IsUnread fault text ⊎ TellsAfterUpTo asking last found refusal left text)
     (λ text. IsUnread fault text ⊎ TellsUpToFault wanted limits before left refusal text) fault cut.0
-    (tells_up_to wanted limits before left refusal asking last fault s x) cut.1))
+    (tells_up_to wanted limits before left refusal asking found last fault s x) cut.1))
 
 -- the verdict on an accepted text, and what is written of it
 judges_accepted : {W : Type 0} (of : ItemLines) (limits : Limits) (before after : Option (List ℕ))
@@ -493,42 +496,46 @@ read_last limits before left checked refusal found last h e f =
 pub known_ok : (checked : Result Verdict ToolFault) (v w : Verdict) → checked ≡ Ok v → v ≡ w → checked ≡ Ok w
 known_ok checked v w p q = subst (λ (x : Verdict). checked ≡ Ok x) q p
 
--- ---- what the header says
+-- ---- what the header says, and the findings
+
+-- what was said and how many findings were told, by the items before the stop
+abbrev pub SaysAfter : Bool → Option Said → ℕ → List Item → Type 0
+SaysAfter advised said found given = (said ≡ said_when advised (said_in given)) × (found ≡ findings_with 0 given)
 
 said_at : (verdict : Verdict) (refusal : Refusal) (wanted : Wanted) (limits : Limits) (before left : Option (List ℕ))
-    (asking : Asking) (said : Option Said) → verdict ≡ Refused refusal → asking ≡ record
+    (asking : Asking) (said : Option Said) (found : ℕ) → verdict ≡ Refused refusal → asking ≡ record
     { explained = wanted.explained; said = said }
-    → StandsAfter (λ given. said ≡ said_when wanted.advised (said_in given)) limits before left verdict
-    → Hears wanted limits before left refusal asking
-said_at verdict refusal wanted limits before left asking said e asks h =
-    let stands : StandsAfter (λ given. said ≡ said_when wanted.advised (said_in given)) limits before left (Refused refusal) =
-    subst (λ (v : Verdict). StandsAfter (λ given. said ≡ said_when wanted.advised (said_in given)) limits before left v) e
-    h in
+    → StandsAfter (SaysAfter wanted.advised said found) limits before left verdict
+    → Hears wanted limits before left refusal asking found
+said_at verdict refusal wanted limits before left asking said found e asks h =
+    let stands : StandsAfter (SaysAfter wanted.advised said found) limits before left (Refused refusal) =
+    subst (λ (v : Verdict). StandsAfter (SaysAfter wanted.advised said found) limits before left v) e h in
     record {
       heard = stands.0;
       stopped = stands.1;
-      asks = asks ∙ ap (λ (o : Option Said). record { explained = wanted.explained; said = o }) stands.2;
+      asks = asks ∙ ap (λ (o : Option Said). record { explained = wanted.explained; said = o }) stands.2.0;
+      counted = stands.2.1;
     }
 
 pub hears : (checked : Result Verdict ToolFault) (refusal : Refusal) (wanted : Wanted) (limits : Limits)
-    (before left : Option (List ℕ)) (asking : Asking) (said : Option Said) → checked ≡ Ok (Refused refusal) → asking ≡ record
-    { explained = wanted.explained; said = said }
-    → IfOk checked (StandsAfter (λ given. said ≡ said_when wanted.advised (said_in given)) limits before left)
-    → Hears wanted limits before left refusal asking
-hears checked refusal wanted limits before left asking said e asks h =
-    said_at (Refused refusal) refusal wanted limits before left asking said refl asks (subst (λ (r : Result Verdict
-    ToolFault). IfOk r (StandsAfter (λ given. said ≡ said_when wanted.advised (said_in given)) limits before left)) e h)
+    (before left : Option (List ℕ)) (asking : Asking) (said : Option Said) (found : ℕ) → checked ≡ Ok (Refused refusal)
+    → asking ≡ record { explained = wanted.explained; said = said }
+    → IfOk checked (StandsAfter (SaysAfter wanted.advised said found) limits before left)
+    → Hears wanted limits before left refusal asking found
+hears checked refusal wanted limits before left asking said found e asks h =
+    said_at (Refused refusal) refusal wanted limits before left asking said found refl asks
+    (subst (λ (r : Result Verdict ToolFault). IfOk r (StandsAfter (SaysAfter wanted.advised said found) limits before left)) e h)
 
 -- where no advice is wanted nothing is said
-pub nothing_said_when : (of : ItemLines) {W : Type 0} (checked : Result Verdict ToolFault) (limits : Limits)
-    (before left : Option (List ℕ)) (contents : W → Option (List ℕ)) (old new : W) → Reports of limits before left contents old
-    new checked
-    → IfOk checked (StandsAfter (λ (given : List Item). None ≡ said_when false (said_in given)) limits before left)
-nothing_said_when of (Ok verdict) limits before left contents old new h = (h.0, h.1, refl)
-nothing_said_when of (Err fault) limits before left contents old new h = tt
+pub nothing_said_when : (checked : Result Verdict ToolFault) (limits : Limits) (before left : Option (List ℕ)) (found : ℕ)
+    → IfOk checked (StandsAfter (λ (given : List Item). found ≡ findings_with 0 given) limits before left)
+    → IfOk checked (StandsAfter (SaysAfter false None found) limits before left)
+nothing_said_when (Ok verdict) limits before left found h = (h.0, h.1, (refl, h.2))
+nothing_said_when (Err fault) limits before left found h = tt
 
 pub something_said_when : (checked : Result Verdict ToolFault) (limits : Limits) (before left : Option (List ℕ)) (said : Said)
-    → IfOk checked (StandsAfter (λ (given : List Item). said ≡ said_in given) limits before left)
-    → IfOk checked (StandsAfter (λ (given : List Item). Some said ≡ said_when true (said_in given)) limits before left)
-something_said_when (Ok verdict) limits before left said h = (h.0, h.1, ap Some h.2)
-something_said_when (Err fault) limits before left said h = tt
+    (found : ℕ)
+    → IfOk checked (StandsAfter (λ (given : List Item). (said ≡ said_in given) × (found ≡ findings_with 0 given)) limits before left)
+    → IfOk checked (StandsAfter (SaysAfter true (Some said) found) limits before left)
+something_said_when (Ok verdict) limits before left said found h = (h.0, h.1, (ap Some h.2.0, h.2.1))
+something_said_when (Err fault) limits before left said found h = tt

@@ -1,6 +1,6 @@
 -- What a lint has told where a device or memory failed.
 use Rattle.std.specs.Prelude.{◌≡◌, ◌⊎◌, ℕ, ◌+◌, ◌-◌, ◌^◌, ◌≤◌, min, Bool, true, false, IsFalse, List, [], ◌∷◌, ◌++◌}
-use Rattle.std.specs.Prelude.{Option, None, Result, Ok, Err}
+use Rattle.std.specs.Prelude.{Option, Result, Ok, Err}
 use Rattle.std.specs.List.{AllByRecursion, list_any}
 use Rattle.std.specs.Io.KnownBytes.{Appends, Consumes}
 use Rattle.cwr_lines.specs.Format.Lines.{is_lf}
@@ -12,7 +12,6 @@ use Rattle.cwr_devices.specs.Steps.Sinks.{HasWritten, has_failed}
 use Rattle.cwr_tools.specs.declared.verdicts.Verdict.{Verdict}
 use Rattle.cwr_tools.specs.declared.verdicts.ToolFault.{ToolFault}
 use Rattle.cwr_tools.specs.declared.verdicts.ToolFault.TheVariants.{Reader, Writer}
-use Rattle.cwr_lint_lines.specs.declared.states.LintState.{LintState}
 use Rattle.cwr_lint_lines.specs.Format.FaultsAtFields.{JudgedLine, LineCut, cut_of, fields_end}
 use Rattle.cwr_lint_lines.specs.Steps.Cells.{held_cut}
 use Rattle.cwr_lint_lines.specs.Steps.Fronts.{state_at}
@@ -21,7 +20,7 @@ use Rattle.cwr_lint.specs.declared.raw_lines.RawLine.{RawLine}
 use Rattle.cwr_lint.specs.Format.FaultsOfLines.{Asking, EndedTransaction, IsFaultText, Tells, ended_lines}
 use Rattle.cwr_lint.specs.Steps.LinesRead.{GoesOn, HoldsRaw, IsOfLine, ReadsLast, ReadsLine, held_raw}
 use Rattle.cwr_lint.specs.Steps.Runs.{TakesFirst, walk_of}
-use Rattle.cwr_lint.specs.Steps.Walks.{IsTold, Walk, WalksLine, WalksLines, ended_at, judged_line}
+use Rattle.cwr_lint.specs.Steps.Walks.{IsTold, Walk, WalksLine, WalksLines, begins_at, ended_at, judged_line}
 
 -- ---- texts that were put
 
@@ -120,10 +119,10 @@ pub record IsLaterPart (asked : Asking) (old : Walk) (refusal : Refusal) (cut : 
 
 -- What is told up to a fault, where these lines were read after the refused one: of its line a part, or all, and of the last one a part;
 -- or all is told of all, and of the sums a part.
-abbrev pub IsToldUpTo : Asking → LintState → Refusal → List ℕ → List (List ℕ) → List ℕ → Type 0
+abbrev pub IsToldUpTo : Asking → Walk → Refusal → List ℕ → List (List ℕ) → List ℕ → Type 0
 IsToldUpTo asked begins refusal refused lines text =
-    ((lines ≡ []) × IsFirstPart asked (record { state = begins; begun = None }) refusal (cut_of refused) text)
-    ⊎ IsLaterPart asked (record { state = begins; begun = None }) refusal (cut_of refused) lines text
+    ((lines ≡ []) × IsFirstPart asked begins refusal (cut_of refused) text)
+    ⊎ IsLaterPart asked begins refusal (cut_of refused) lines text
     ⊎ ((over : Bool) × (whole : List ℕ) × IsTold asked begins refusal refused lines over whole × IsFrontOf whole text)
 
 -- ---- the steps of a run
@@ -158,8 +157,8 @@ TakesFromPart asked refusal raw old left text =
     ⊎ ((between : LintRun) × (beside : List ℕ) × TakesFirst asked refusal (held_cut (held_raw raw)) old between beside
     × (later : List ℕ) × TakesSome asked left raw.ended between later × (text ≡ beside ++ later))
 
--- what is told up to a fault, of the line that is held as it was refused, where that state was held, and of those after it
-pub record TellsUpTo (asked : Asking) (begins : LintState) (refusal : Refusal) (raw : RawLine) (left : Option (List ℕ))
+-- what is told up to a fault, of the line that is held as it was refused, where that was held, and of those after it
+pub record TellsUpTo (asked : Asking) (begins : Walk) (refusal : Refusal) (raw : RawLine) (left : Option (List ℕ))
     (text : List ℕ) : Type 0 where
   pub bytes : List ℕ
   pub mid : Option (List ℕ)
@@ -171,7 +170,7 @@ pub record TellsUpTo (asked : Asking) (begins : LintState) (refusal : Refusal) (
   pub told : (refused : List ℕ) → HoldsRaw refused raw → IsToldUpTo asked begins refusal refused lines text
 
 -- the line that was refused is the one that was read last
-pub record TellsLastUpTo (asked : Asking) (begins : LintState) (refusal : Refusal) (last : LastBytes) (left : Option (List ℕ))
+pub record TellsLastUpTo (asked : Asking) (begins : Walk) (refusal : Refusal) (last : LastBytes) (left : Option (List ℕ))
     (text : List ℕ) : Type 0 where
   pub between : Option (List ℕ)
   pub raw : RawLine
@@ -179,10 +178,10 @@ pub record TellsLastUpTo (asked : Asking) (begins : LintState) (refusal : Refusa
   pub read : ReadsLast left between last raw
   pub tells : TellsUpTo asked begins refusal raw between text
 
--- so it is told from where the records had come before the refused line, of which the last bytes are held
-abbrev pub TellsAfterUpTo : Asking → LastRead → Refusal → Option (List ℕ) → List ℕ → Type 0
-TellsAfterUpTo asked last refusal left text =
-    TellsLastUpTo asked (state_at last.stage last.counts (refusal.rec - 1)) refusal last.bytes left text
+-- so it is told from where the records had come before the refused line, of which the last bytes are held, and after so many findings
+abbrev pub TellsAfterUpTo : Asking → LastRead → ℕ → Refusal → Option (List ℕ) → List ℕ → Type 0
+TellsAfterUpTo asked last found refusal left text =
+    TellsLastUpTo asked (begins_at (state_at last.stage last.counts (refusal.rec - 1)) found) refusal last.bytes left text
 
 -- ---- a whole lint
 

@@ -14,6 +14,7 @@ use Rattle.cwr_shape.specs.Steps.Tallies.{TallyValue, IsTallyOf}
 use Rattle.cwr_values.specs.Format.Begins.{rows_so_far}
 use Rattle.cwr_values.specs.Format.Values.{symbol_of}
 use Rattle.cwr_tools.specs.Format.Verdicts.{IsAnswerAfter}
+use Rattle.cwr_tools.specs.Format.Watching.{findings_with}
 use Rattle.cwr_tools.specs.declared.verdicts.Verdict.{Verdict}
 use Rattle.cwr_tools.specs.declared.verdicts.Verdict.TheVariants.{Refused}
 use Rattle.cwr_tools.specs.declared.verdicts.ToolFault.{ToolFault}
@@ -26,7 +27,7 @@ use Rattle.cwr_lint.specs.Format.Wanted.{Wanted, asking_for, lines_linted, lines
 use Rattle.cwr_lint.specs.Steps.CutShort.{IsCutText, IsToldUpTo, IsUnread}
 use Rattle.cwr_lint.specs.Steps.LinesRead.{IsTextOf}
 use Rattle.cwr_lint.specs.Steps.Runs.{EndsAtTrl}
-use Rattle.cwr_lint.specs.Steps.Walks.{IsTold}
+use Rattle.cwr_lint.specs.Steps.Walks.{IsTold, begins_at}
 
 -- These bytes were read: the text of lines, of which this one is refused, and those follow it. The lines before it are those of records, which
 -- the tally counts.
@@ -42,7 +43,7 @@ pub record AreLinesRead (refusal : Refusal) (tally : TallyValue) (last : Bool) (
   pub text : IsTextOf last bytes (front ++ refused ∷ lines)
 
 -- What is told up to a fault of a device or of memory: of the line that is refused, from what was counted of the records before, and of
--- lines after it, with advice by what was heard before the same stop. Where the text's bytes are known these are its first lines.
+-- lines after it, with advice and after the findings by what was heard before the same stop. Where the text's bytes are known these are its first lines.
 pub record TellsUpToFault (wanted : Wanted) (limits : Limits) (before left : Option (List ℕ)) (refusal : Refusal) (text : List ℕ)
     : Type 0 where
   pub refused : List ℕ
@@ -51,8 +52,8 @@ pub record TellsUpToFault (wanted : Wanted) (limits : Limits) (before left : Opt
   pub tally : TallyValue
   pub heard : List Item
   pub heard_before : StopsAfter limits (read_faults.Refused refusal) before left heard
-  pub told : IsToldUpTo (asking_for wanted (said_in heard)) (state_at tally.stage tally.counts (refusal.rec - 1)) refusal refused
-      lines text
+  pub told : IsToldUpTo (asking_for wanted (said_in heard))
+      (begins_at (state_at tally.stage tally.counts (refusal.rec - 1)) (findings_with 0 heard)) refusal refused lines text
   pub read : IfSome before (λ known. (bytes : List ℕ) × (now : Option (List ℕ)) × Consumes before now bytes
       × AreLinesRead refusal tally last bytes refused lines)
 
@@ -82,7 +83,7 @@ pub record Lints {W : Type 0} (wanted : Wanted) (limits : Limits) (before after 
   pub leaves : IfErr result (λ fault. AreWordsUpTo wanted limits before left checked fault words)
 
 -- The text was refused so, after these items, and their lines were written and then what is told of the line that is refused and of those after
--- it, from what was counted of the records before, and with advice by what was heard before the same stop. Where the text's bytes are known these are its lines, up to a TRL or to its end.
+-- it, from what was counted of the records before, and with advice and the count of findings by what was heard before the same stop. Where the text's bytes are known these are its lines, up to a TRL or to its end.
 pub record TellsFaults {W : Type 0} (wanted : Wanted) (limits : Limits) (before after : Option (List ℕ))
     (contents : W → Option (List ℕ)) (old new : W) (refusal : Refusal) : Type 0 where
   pub given : List Item
@@ -98,8 +99,8 @@ pub record TellsFaults {W : Type 0} (wanted : Wanted) (limits : Limits) (before 
   pub tally : TallyValue
   pub heard : List Item
   pub heard_before : StopsAfter limits (read_faults.Refused refusal) before left heard
-  pub told : IsTold (asking_for wanted (said_in heard)) (state_at tally.stage tally.counts (refusal.rec - 1)) refusal refused
-      lines over text
+  pub told : IsTold (asking_for wanted (said_in heard))
+      (begins_at (state_at tally.stage tally.counts (refusal.rec - 1)) (findings_with 0 heard)) refusal refused lines over text
   pub written : Appends (contents old) (contents new) ((lines_linted wanted).lines given ++ text)
   pub read : IfSome before
       (λ known. (bytes : List ℕ) × Consumes before after bytes × AreLinesRead refusal tally last bytes refused lines)

@@ -1,6 +1,6 @@
 -- What the steps of a lint tell, and what they count.
 use Rattle.std.specs.Prelude.{◌≡◌, ◌⊎◌, ℕ, ◌+◌, ◌-◌, ◌^◌, ◌≤◌, min, Bool, true, false, IsFalse, List, [], ◌∷◌, ◌++◌, length}
-use Rattle.std.specs.Prelude.{Option, Some, None, IfSome}
+use Rattle.std.specs.Prelude.{Option, Some, IfSome}
 use Rattle.std.specs.List.{AllByRecursion, list_any}
 use Rattle.std.specs.Option.{is_some}
 use Rattle.std.specs.Io.KnownBytes.{Consumes, IsAtEnd}
@@ -18,7 +18,7 @@ use Rattle.cwr_lint_lines.specs.declared.states.LintState.{LintState}
 use Rattle.cwr_lint_lines.specs.Format.FaultsAtFields.{JudgedLine, LineCut, cut_of, one_more_line}
 use Rattle.cwr_lint.specs.Format.FaultsOfLines.{Asking, EndedTransaction, IsFaultText, Tells, TellsLine, count_after}
 use Rattle.cwr_lint.specs.Format.Told.{truncated_unless}
-use Rattle.cwr_lint.specs.Steps.Walks.{IsTold, Walk, WalksLine, WalksLines, ended_by, judged_in}
+use Rattle.cwr_lint.specs.Steps.Walks.{IsTold, Walk, WalksLine, WalksLines, begins_at, ended_by, judged_in}
 use Rattle.cwr_lint_lines.specs.Steps.Cells.{held_cut}
 use Rattle.cwr_lint.specs.Steps.LinesRead.{GoesOn, HoldsRaw, IsAllRead, IsOfLine, ReadsLast, ReadsLine, held_raw}
 use Rattle.cwr_decode.specs.declared.last_bytes.LastBytes.{LastBytes}
@@ -49,7 +49,7 @@ TellsJudged asked state begun line judged from =
 
 -- what a run holds between two lines
 abbrev pub walk_of : LintRun → Walk
-walk_of run = record { state = run.state; begun = run.begun }
+walk_of run = record { state = run.state; begun = run.begun; findings = run.findings }
 
 -- more faults were counted; the count stays at the largest number of 64 bits
 abbrev pub more_faults : ℕ → ℕ → ℕ
@@ -133,15 +133,14 @@ pub record TakesFrom (asked : Asking) (refusal : Refusal) (raw : RawLine) (old n
   pub rest : TakesAll asked raw.ended between new left after later
   pub whole : text ≡ beside ++ later
 
--- the first fault is counted, and the lines before its own; of no transaction the records are known
+-- the first fault is counted, and the lines before its own
 pub record BeginsAt (refusal : Refusal) (run : LintRun) : Type 0 where
-  pub begun : run.begun ≡ None
   pub lines : run.state.lines ≡ refusal.rec - 1
   pub faults : run.faults ≡ 1
   pub over : run.state.over ≡ false
 
--- All that is told, of the line that is held as it was refused, where that state was held, and of those after it.
-pub record TellsToEnd (asked : Asking) (begins : LintState) (refusal : Refusal) (raw : RawLine) (left after : Option (List ℕ))
+-- All that is told, of the line that is held as it was refused, where that was held, and of those after it.
+pub record TellsToEnd (asked : Asking) (begins : Walk) (refusal : Refusal) (raw : RawLine) (left after : Option (List ℕ))
     (text : List ℕ) : Type 0 where
   pub bytes : List ℕ
   pub taken : Consumes left after bytes
@@ -156,7 +155,7 @@ pub record TellsToEnd (asked : Asking) (begins : LintState) (refusal : Refusal) 
   pub all : over ≡ false → (raw.ended ≡ false) ⊎ IsAllRead left after bytes
 
 -- the line that was refused is the one that was read last
-pub record TellsRun (asked : Asking) (begins : LintState) (refusal : Refusal) (last : LastBytes) (left after : Option (List ℕ))
+pub record TellsRun (asked : Asking) (begins : Walk) (refusal : Refusal) (last : LastBytes) (left after : Option (List ℕ))
     (text : List ℕ) : Type 0 where
   pub between : Option (List ℕ)
   pub raw : RawLine
@@ -168,7 +167,7 @@ pub record TellsRun (asked : Asking) (begins : LintState) (refusal : Refusal) (l
 abbrev pub IsEndText : Bool → ℕ → ℕ → ℕ → List ℕ → Type 0
 IsEndText over faults findings n text = text ≡ truncated_unless over n ++ faults_line faults findings n
 
--- so it is told from where the records had come before the refused line, of which the last bytes are held
-abbrev pub TellsAfter : Asking → LastRead → Refusal → Option (List ℕ) → Option (List ℕ) → List ℕ → Type 0
-TellsAfter asked last refusal left after text =
-    TellsRun asked (state_at last.stage last.counts (refusal.rec - 1)) refusal last.bytes left after text
+-- so it is told from where the records had come before the refused line, of which the last bytes are held, and after so many findings
+abbrev pub TellsAfter : Asking → LastRead → ℕ → Refusal → Option (List ℕ) → Option (List ℕ) → List ℕ → Type 0
+TellsAfter asked last found refusal left after text =
+    TellsRun asked (begins_at (state_at last.stage last.counts (refusal.rec - 1)) found) refusal last.bytes left after text

@@ -5,6 +5,7 @@ use Rattle.cwr_lines.specs.Format.Records.{RecordValue, IsRecord}
 use Rattle.cwr_lines.specs.Steps.Held.{HeldLine, carried_by}
 use Rattle.cwr_values.specs.Format.Begun.{BeginsWithOneMore}
 use Rattle.cwr_judge.specs.declared.refusals.Refusal.{Refusal}
+use Rattle.cwr_levels.specs.Format.Findings.{findings}
 use Rattle.cwr_levels.specs.Format.ReportLines.{faults_line}
 use Rattle.cwr_lint.specs.Format.Told.{truncated_unless}
 use Rattle.cwr_lint_lines.specs.declared.judging.Judged.{Judged}
@@ -91,12 +92,22 @@ abbrev pub is_quiet : List Refusal → Bool
 is_quiet [] = true
 is_quiet (f ∷ told) = false
 
+-- how many findings were told, with those of the transaction that ends more; the count stays at the largest number of 64 bits
+abbrev pub findings_after : ℕ → Option EndedTransaction → ℕ
+findings_after before None = before
+findings_after before (Some t) = min (before + length (findings t.records)) (2 ^ 64 - 1)
+
 -- ---- lines, one after another
 
--- what is held between two lines
+-- what is held between two lines, and how many findings were told
 pub record Walk : Type 0 where
   pub state : LintState
   pub begun : Option (List RecordValue)
+  pub findings : ℕ
+
+-- what is held where a check has met the first fault, and has told so many findings
+abbrev pub begins_at : LintState → ℕ → Walk
+begins_at state found = record { state = state; begun = None; findings = found }
 
 -- What is told of one more line, at its fields from one on, and what is held after it.
 pub record WalksLine (asked : Asking) (old : Walk) (l : LineCut) (from : ℕ) (told : List Refusal) (text : List ℕ)
@@ -104,6 +115,7 @@ pub record WalksLine (asked : Asking) (old : Walk) (l : LineCut) (from : ℕ) (t
   pub tells : TellsLine asked (judged_line old.state l) (ended_at old.state old.begun l) from told text
   pub state : new.state ≡ next_state old.state l
   pub begun : AfterJudged (is_quiet told && (from == 1)) (judged_as old.state l) (is_some new.state.stage) old.begun l new.begun
+  pub findings : new.findings ≡ findings_after old.findings (ended_at old.state old.begun l)
 
 -- what is told of lines, and what is held after them
 abbrev pub WalksLines : Asking → Walk → List (List ℕ) → List Refusal → List ℕ → Walk → Type 0
@@ -115,22 +127,22 @@ WalksLines asked old (line ∷ lines) told text new =
     × (told ≡ here ++ later) × (text ≡ first ++ rest)
 
 -- The line of the refusal; the other faults of the line that is refused, which is this one; those of the lines after it; and how many
--- faults and findings there are, in how many lines. Words stand under a fault where they are asked for. At the line that is refused that state is held.
-pub record IsTold (asked : Asking) (begins : LintState) (refusal : Refusal) (refused : List ℕ) (lines : List (List ℕ))
+-- faults and findings there are, in how many lines. Words stand under a fault where they are asked for. At the line that is refused that is held, and so many findings were told
+-- before.
+pub record IsTold (asked : Asking) (begins : Walk) (refusal : Refusal) (refused : List ℕ) (lines : List (List ℕ))
     (over : Bool) (text : List ℕ) : Type 0 where
   pub line : List ℕ
   pub first : IsFaultText asked refusal line
   pub others : List Refusal
   pub beside : List ℕ
   pub between : Walk
-  pub tells_others : WalksLine asked (record { state = begins; begun = None }) (cut_of refused)
+  pub tells_others : WalksLine asked begins (cut_of refused)
       (min (refusal.field + 1) (2 ^ 8 - 1)) others beside between
   pub later : List Refusal
   pub after : List ℕ
   pub last : Walk
   pub tells_later : WalksLines asked between lines later after last
   pub over_is : over ≡ last.state.over
-  pub findings : ℕ
   pub whole : let n = count_after (one_more_line (refusal.rec - 1)) lines in
       text ≡ line ++ beside ++ after ++ truncated_unless over n
-      ++ faults_line (min (1 + length others + length later) (2 ^ 64 - 1)) findings n
+      ++ faults_line (min (1 + length others + length later) (2 ^ 64 - 1)) last.findings n

@@ -180,7 +180,7 @@ not_limited : {P R W : Type 0} (limits : Limits) (limit : LimitKind) (contents :
 not_limited limits limit contents remaining earlier hand after old new ws joined p whole e fits h =
     let given : List Item = h.given ++ h.item ∷ [] in
     let own =
-    own_begins limits h.handed_out.0 (remaining hand) after given p.own p.has_own.0 p.has_own.1 h.handed_out.1 p.has_own.2
+    own_begins limits h.handed_out.0 (remaining hand) after given p.own p.has_own.0 p.has_own.1 h.handed_out.1.read p.has_own.2
     p.has_own.3 in
     let all : AreJoined (p.before ++ p.own ∷ p.after) joined =
     subst (λ (l : List TransmissionValue). AreJoined l joined) p.split e in

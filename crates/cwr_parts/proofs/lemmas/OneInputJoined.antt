@@ -151,7 +151,7 @@ item_refused limits first d new before left after contents failures count old j 
     (subst (λ (l : List Item). IsBarredFirst (encoder_limits j.encoder) (λ P. Continues P (map symbol_of (records_in l)))
     (bars.Limit limit)) (append_assoc items kept own ∙ ap (λ (l : List Item). items ++ l) (split_filter first h.given item))
     (a.0 start (items ++ kept) (h.on.more start items k))) in
-    (h.given, item, (new, reading.read), subst (λ (x : Joined _). JoinsOn contents failures kept old x) (sym a.1) h.on, barred)
+    (h.given, item, (new, reading), subst (λ (x : Joined _). JoinsOn contents failures kept old x) (sym a.1) h.on, barred)
 item_refused limits first d new before left after contents failures count old j next item (tool_faults.Writer n) same h reading
     a =
     let kept = filter (is_joined first) h.given in
@@ -165,7 +165,7 @@ item_refused limits first d new before left after contents failures count old j 
       failed = a.failed ∙ ap one_more_failure h.on.quiet;
       limits = a.limits ∙ h.on.limits;
     } in
-    (h.given ++ item ∷ [], (new, reading.read), fails)
+    (h.given ++ item ∷ [], (new, reading), fails)
 item_refused limits first d new before left after contents failures count old j next item tool_faults.Reader same h reading a =
     absurd a
 item_refused limits first d new before left after contents failures count old j next item tool_faults.Memory same h reading a =

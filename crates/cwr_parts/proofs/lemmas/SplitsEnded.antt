@@ -146,8 +146,8 @@ output_stopped limits n d new before left after told count begin s o later item 
         (remains_after limits n first.value h.given (item ∷ first.more) some first.whole first.within first.split)))
 
     by : (x : ToolFault) → IsOutputFault x → Splits limits n before after (told.texts begin) (told.texts later) (Err x)
-    by (tool_faults.Writer written) k = (h.given, item, (new, reading.read), runs)
-    by tool_faults.Output k = (h.given, item, (new, reading.read), runs)
+    by (tool_faults.Writer written) k = (h.given, item, (new, reading), runs)
+    by tool_faults.Output k = (h.given, item, (new, reading), runs)
     by tool_faults.Reader k = absurd k
     by tool_faults.Memory k = absurd k
     by (tool_faults.Refused refusal) k = absurd k

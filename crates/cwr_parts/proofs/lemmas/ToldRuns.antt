@@ -6,7 +6,6 @@ use Rattle.cwr_values.specs.Format.Values.{TransmissionValue}
 use Rattle.cwr_values.specs.Format.Rows.{canonical_text}
 use Rattle.cwr_judge.specs.Format.Ends.{IsAccepted, IsNotAccepted, IsRefused, IsTruncated}
 use Rattle.cwr_judge.proofs.lemmas.Accepted.{accepted_once}
-use Rattle.cwr_decode.specs.declared.readings.ReadFault.TheVariants as read_faults
 use Rattle.cwr_devices.specs.Format.Outputs.{AddsTexts}
 use Rattle.cwr_tools.specs.declared.verdicts.JoinFault.{JoinFault}
 use Rattle.cwr_tools.specs.declared.verdicts.JoinReport.{JoinReport}
@@ -19,7 +18,7 @@ use Rattle.cwr_parts.specs.Format.Splitting.{IsOfSplitDevice, JudgesSplit, Split
 use Rattle.cwr_parts.specs.Format.Told.{IsJoinedText, JoinsSoFar, JoinsTexts, SplitsText}
 use Rattle.cwr_parts.specs.Steps.Joins.{IsTextSoFar, Joins, StopsBy}
 use Rattle.cwr_parts.specs.Steps.Splitting.{Splits}
-use Rattle.cwr_parts.proofs.lemmas.ToldItems.{handed_before, next_before, refused_before, stopped_before, truncated_before}
+use Rattle.cwr_parts.proofs.lemmas.ToldItems.{handed_before, memory_before, reader_before, refused_before, truncated_before}
 
 -- ---- a split
 
@@ -28,17 +27,17 @@ pub splits_text : (limits : Limits) (n : ℕ) (before after : Option (List ℕ))
     → SplitsText limits n before after old new result
 splits_text limits n before after old new (Ok report) h = h
 splits_text limits n before after old new (Err Reader) h =
-    (h.0, stopped_before limits Reader read_faults.Reader before after h.0 h.1 (λ text k. k), h.2)
+    (h.0, reader_before limits before after h.0 h.1, h.2)
 splits_text limits n before after old new (Err Memory) h =
-    (h.0, stopped_before limits Memory read_faults.Memory before after h.0 h.1 (λ text k. k), h.2)
+    (h.0, memory_before limits before after h.0 h.1, h.2)
 splits_text limits n before after old new (Err (Refused refusal)) h =
     (h.0, refused_before limits refusal before after h.0 h.1, h.2)
 splits_text limits n before after old new (Err (Truncated records)) h =
     (h.0, truncated_before limits records before after h.0 h.1, h.2)
 splits_text limits n before after old new (Err (Writer written)) h =
-    (h.0, next_before limits (Writer written) before after h.0 h.1 h.2 (λ text k. k), h.3)
+    (h.0, h.1, handed_before limits (Writer written) before after (h.0 ++ h.1 ∷ []) h.2 (λ text read given k. k), h.3)
 splits_text limits n before after old new (Err Output) h =
-    (h.0, next_before limits Output before after h.0 h.1 h.2 (λ text k. k), h.3)
+    (h.0, h.1, handed_before limits Output before after (h.0 ++ h.1 ∷ []) h.2 (λ text read given k. k), h.3)
 splits_text limits n before after old new (Err (Limit limit)) h = absurd h
 
 -- what is told is right of the text
@@ -95,7 +94,7 @@ joined_text : {R : Type 0} (limits : Limits) (written : ℕ) (inputs : List Tran
     → IsTextSoFar limits inputs before after text ⊎ (IsWholeText limits inputs before after text × (later ≡ []))
     → IsJoinedText limits (Writer written) inputs before after later text
 joined_text limits written inputs before after later text (inl t) =
-    inl (t.given, handed_before limits (Writer written) before after t.given t.handed_out (λ _ k. k), t.part)
+    inl (t.given, handed_before limits (Writer written) before after t.given t.handed_out (λ text read given k. k), t.part)
 joined_text limits written inputs before after later text (inr t) = inr t
 
 so_far : {R W : Type 0} (limits : Limits) (fault : ToolFault) (contents : W → Option (List ℕ)) (inputs : List TransmissionValue)
@@ -104,12 +103,12 @@ so_far : {R W : Type 0} (limits : Limits) (fault : ToolFault) (contents : W → 
     → JoinsSoFar limits fault contents inputs before after later old new
 so_far limits Reader contents inputs before after later old new h = record {
   given = h.given;
-  before_it = stopped_before limits Reader read_faults.Reader before after h.given h.stops (λ text k. k);
+  before_it = reader_before limits before after h.given h.stops;
   written = h.written;
 }
 so_far limits Memory contents inputs before after later old new h = record {
   given = h.given;
-  before_it = stopped_before limits Memory read_faults.Memory before after h.given h.stops (λ text k. k);
+  before_it = memory_before limits before after h.given h.stops;
   written = h.written;
 }
 so_far limits (Refused refusal) contents inputs before after later old new h =
@@ -119,7 +118,7 @@ so_far limits (Truncated records) contents inputs before after later old new h =
 so_far limits (Limit limit) contents inputs before after later old new h = record {
   given = h.given;
   item = h.item;
-  before_it = handed_before limits (Limit limit) before after (h.given ++ h.item ∷ []) h.handed_out (λ text k. k);
+  before_it = handed_before limits (Limit limit) before after (h.given ++ h.item ∷ []) h.handed_out (λ text read given k. k);
   barred = h.barred;
   written = h.written;
 }

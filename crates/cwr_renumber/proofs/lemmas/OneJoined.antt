@@ -167,7 +167,7 @@ accepted_one {R = R} limits remaining contents old olds before now (Some text) j
 
 items_of : {R : Type 0} (limits : Limits) (fault : ToolFault) (o after : Option (List ℕ)) (later : List R) (text : List ℕ)
     → IsJoinedText limits fault [] o after later text → IsTextOfItems limits fault o text
-items_of limits fault o after later text (inl part) = inl part
+items_of limits fault o after later text (inl part) = inl (after, part.0, part.1, part.2)
 items_of limits fault o after later text (inr whole) = inr (after, whole.0)
 
 left_so_far : {R W : Type 0} (limits : Limits) (fault : ToolFault) (contents : W → Option (List ℕ)) (o after : Option (List ℕ))
@@ -175,12 +175,12 @@ left_so_far : {R W : Type 0} (limits : Limits) (fault : ToolFault) (contents : W
     → LeavesItems limits o contents before now fault
 left_so_far limits (faults.Writer written) contents o after later before now h =
     (h.0, items_of limits (faults.Writer written) o after later h.0 h.1, h.2)
-left_so_far limits (faults.Limit limit) contents o after later before now h = h
+left_so_far limits (faults.Limit limit) contents o after later before now h = (after, h)
 left_so_far limits faults.Output contents o after later before now h = h
-left_so_far limits (faults.Refused refusal) contents o after later before now h = h
-left_so_far limits (faults.Truncated records) contents o after later before now h = h
-left_so_far limits faults.Reader contents o after later before now h = h
-left_so_far limits faults.Memory contents o after later before now h = h
+left_so_far limits (faults.Refused refusal) contents o after later before now h = (after, h)
+left_so_far limits (faults.Truncated records) contents o after later before now h = (after, h)
+left_so_far limits faults.Reader contents o after later before now h = (after, h)
+left_so_far limits faults.Memory contents o after later before now h = (after, h)
 
 left_of_one : {R W : Type 0} (limits : Limits) (remaining : R → Option (List ℕ)) (failures : R → ℕ)
     (contents : W → Option (List ℕ)) (old : R) (after : List R) (before now : W) (stopped : JoinFault)

@@ -41,7 +41,8 @@ RenumbersAccepted limits before contents old new result =
 -- the canonical text of the records of items before a fault, without TRL, or of all
 abbrev pub IsTextOfItems : Limits → ToolFault → Option (List ℕ) → List ℕ → Type 0
 IsTextOfItems limits fault before text =
-    ((given : List Item) × ComeBefore limits fault before given × IsPart limits (joined_records [] given) text)
+    ((after : Option (List ℕ)) × (given : List Item) × ComeBefore limits fault before after given
+    × IsPart limits (joined_records [] given) text)
     ⊎ ((after : Option (List ℕ)) × IsWholeText limits [] before after text)
 
 -- Where a text isn't accepted, or a device or memory failed, its items before that are written, and no TRL. Where the writer failed, so
@@ -49,9 +50,11 @@ IsTextOfItems limits fault before text =
 abbrev pub LeavesItems : {W : Type 0} → Limits → Option (List ℕ) → (W → Option (List ℕ)) → W → W → ToolFault → Type 0
 LeavesItems limits before contents old new (Writer written) =
     (text : List ℕ) × IsTextOfItems limits (Writer written) before text × HasFront contents (contents old) new text written
-LeavesItems limits before contents old new (Limit limit) = JoinsUpToLimit limits limit contents [] before old new
+LeavesItems limits before contents old new (Limit limit) =
+    (after : Option (List ℕ)) × JoinsUpToLimit limits limit contents [] before after old new
 LeavesItems limits before contents old new Output = ⊥
-LeavesItems limits before contents old new fault = JoinsUpTo limits fault contents [] before old new
+LeavesItems limits before contents old new fault =
+    (after : Option (List ℕ)) × JoinsUpTo limits fault contents [] before after old new
 
 -- so it is of the text with its numbers put right
 abbrev pub LeavesRenumbered : {W : Type 0} → Limits → Option (List ℕ) → (W → Option (List ℕ)) → W → W → ToolFault → Type 0

@@ -2,6 +2,7 @@
 use Rattle.std.proofs.Common.{◌≡◌, ℕ, zero, suc, ◌+◌, ◌≤◌, Bool, true, false, ◌||◌, List, [], ◌∷◌, ◌++◌, drop, Option, Some, None}
 use Rattle.std.proofs.Common.{slice_get, refl, sym, ap, ◌∙◌, arith}
 use Rattle.std.specs.Prelude.{nat_le}
+use Rattle.std.proofs.lemmas.List.Sums.{sum_by-append, sum_by-cons}
 use Rattle.std.proofs.lemmas.Bool.{le-leb, leb-true}
 use Rattle.std.specs.List.{list_any}
 use Rattle.cwr_shape.specs.declared.reasons.Level.{Level}
@@ -10,7 +11,7 @@ use Rattle.cwr_values.specs.declared.items.Item.{Item}
 use Rattle.cwr_values.specs.declared.items.Item.TheVariants as items
 use Rattle.cwr_levels.specs.declared.rules.Finding.{Finding}
 use Rattle.cwr_levels.specs.Format.Findings.{findings}
-use Rattle.cwr_tools.specs.Format.Watching.{any_from, has_from, is_from, item_has_from, reach}
+use Rattle.cwr_tools.specs.Format.Watching.{any_from, findings_with, has_from, is_from, item_findings, item_has_from, reach}
 use Rattle.cwr_tools.specs.Steps.Watching.{IsWorst, Sees, is_reached, is_reached_by}
 
 -- one of the others, or this one
@@ -119,6 +120,20 @@ worst_passed worst given t none is asked =
 pub worst_other : (worst : Option Level) (given : List Item) (item : Item)
     → ((asked : Option Level) → item_has_from asked item ≡ false) → IsWorst worst given → IsWorst worst (given ++ item ∷ [])
 worst_other worst given item none is asked = is asked ∙ sym (none_more given item asked (none asked))
+
+-- ---- how many they are
+
+-- so many with those of an item more
+pub findings_more : (old new : ℕ) (given : List Item) (item : Item) → old ≡ findings_with 0 given
+    → new ≡ findings_with old (item ∷ []) → new ≡ findings_with 0 (given ++ item ∷ [])
+findings_more old new given item before adds =
+    omega (arith, before, adds, sum_by-append item_findings given (item ∷ []))
+
+-- an item without findings adds none
+pub findings_none_more : (count : ℕ) (given : List Item) (item : Item) → item_findings item ≡ 0 → count ≡ findings_with 0 given
+    → count ≡ findings_with 0 (given ++ item ∷ [])
+findings_none_more count given item none before =
+    omega (arith, before, none, sum_by-append item_findings given (item ∷ []), sum_by-cons item_findings item [])
 
 -- what one transaction adds
 pub sees_one : (old new : Option Level) (t : List RecordValue)

@@ -60,6 +60,7 @@ stops_after limits old new before left after given fault B C h r same = (
       limits_are = r.limits ∙ h.read.limits_are;
     };
     leaves = r.leaves;
+    fresh = λ is. r.fresh (ap (λ (f : ReadFault). Err f) is);
     right = by h.here;
   },
   append-nil given,
@@ -114,7 +115,7 @@ pub first_fault : {W : Type 0} (of : ItemLines) (end : Verdict → List ℕ) (li
 first_fault of end limits d before now contents failures (tool_faults.Writer n) old sink reading empty p = (
   [],
   of.lines [],
-  inl ((d, reading.read), refl),
+  inl ((d, reading), refl),
   record { written = p.0.written (contents (writer_of old)) [] empty; counted = p.1; failed = p.0.counts },
 )
 first_fault of end limits d before now contents failures tool_faults.Memory old sink reading empty p =
@@ -180,14 +181,14 @@ pub item_fault : {W : Type 0} (of : ItemLines) (stands : List Item → Type 0) (
     → PutsReport of end limits before after contents failures (Err fault) old next
 item_fault of stands end limits d new before left after contents failures c old sink next item tool_faults.Memory h reading p = (
   h.given,
-  inr (item, p.2.0, (new, reading.read)),
+  inr (item, p.2.0, (new, reading)),
   subst (λ (s : Sink _). HasPut contents failures (of.lines h.given) old s) (sym p.2.1) h.put,
 )
 item_fault of stands end limits d new before left after contents failures c old sink next item (tool_faults.Writer n) h reading
     p = (
       h.given ++ item ∷ [],
       of.lines (h.given ++ item ∷ []),
-      inl ((new, reading.read), refl),
+      inl ((new, reading), refl),
       record {
         written =
             subst (λ (l : List ℕ). HasWritten contents (contents (writer_of old)) l next) (sym p.1)

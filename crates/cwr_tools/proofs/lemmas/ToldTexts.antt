@@ -20,6 +20,7 @@ use Rattle.cwr_judge.specs.Format.Items.{AreFirstItems}
 use Rattle.cwr_judge.specs.Steps.Open.{items_so_far}
 use Rattle.cwr_judge.proofs.lemmas.Accepted.{accepted_once}
 use Rattle.cwr_judge.proofs.lemmas.LineRecords.{as_many}
+use Rattle.cwr_judge.proofs.lemmas.RecordsBefore.{rows_well}
 use Rattle.cwr_decode.specs.declared.machine.State.{State}
 use Rattle.cwr_decode.specs.declared.readings.ReadFault.{ReadFault}
 use Rattle.cwr_decode.specs.declared.readings.ReadFault.TheVariants as read_faults
@@ -58,6 +59,7 @@ of_lines tally lines records text rest given count read e items_are counted =
     ap (λ (n : ℕ). take n (raw_lines (closed text))) many ∙ lines_first rows lines text rest read.rows e in
     record {
       rows = rows;
+      each = rows_well [] records read.in_order;
       lines = subst (λ (ls : List (List ℕ)). AllZip IsLineOf rows ls) (sym first) read.rows;
       given_are = items_are;
     }
@@ -139,7 +141,7 @@ first_lacking : (of : ItemLines) (limits : Limits) (before after : Option (List 
     → LacksMemory of limits before after given → AreFirstItems limits given
 first_lacking of limits before after given (inl t) = first_stopped limits read_faults.Memory before after given t
 first_lacking of limits before after given (inr t) =
-    let all = first_read limits t.2.0 before after (given ++ t.0 ∷ []) t.2.1 in
+    let all = first_read limits t.2.0 before after (given ++ t.0 ∷ []) t.2.1.read in
     record {
       value = all.value;
       whole = all.whole;
@@ -150,7 +152,7 @@ first_lacking of limits before after given (inr t) =
 
 text_so_far : (of : ItemLines) (limits : Limits) (before after : Option (List ℕ)) (given : List Item) (text : List ℕ)
     → IsReported of limits before after given text → IsTextSoFar of limits before text
-text_so_far of limits before after given text (inl t) = inl (given, first_read limits t.0.0 before after given t.0.1, t.1)
+text_so_far of limits before after given text (inl t) = inl (given, first_read limits t.0.0 before after given t.0.1.read, t.1)
 text_so_far of limits None after given text (inr t) = inr (given, t.0, tt, t.2)
 text_so_far of limits (Some known) after given text (inr t) =
     inr (given, t.0, verdict_after limits known t.0 after given t.1, t.2)

@@ -19,7 +19,7 @@ use Rattle.cwr_tools.specs.declared.verdicts.Verdict.TheVariants.{Good, Refused,
 use Rattle.cwr_tools.specs.declared.verdicts.ToolFault.{ToolFault}
 use Rattle.cwr_tools.specs.declared.watch.Watch.{Watch}
 use Rattle.cwr_tools.specs.Format.Verdicts.{IsVerdictOf}
-use Rattle.cwr_tools.specs.Format.Watching.{SeesAccepted, watched}
+use Rattle.cwr_tools.specs.Format.Watching.{SeesAccepted, findings_with, watched}
 use Rattle.cwr_tools.specs.Steps.Verdicts.{IsRightVerdict, StopsAfter}
 use Rattle.cwr_tools.specs.Steps.Counts.{IsCount}
 use Rattle.cwr_tools.specs.Steps.Reports.{StandsAfter}
@@ -91,3 +91,13 @@ pub sees_accepted : (limits : Limits) (before after : Option (List ℕ)) (old ne
 sees_accepted limits before after old new worst stands (Ok verdict) e is h =
     sees limits before after old new verdict h.0 h.1 (e ∙ sees_worst old worst h.0 (is h.0 h.2))
 sees_accepted limits before after old new worst stands (Err fault) e is h = tt
+
+-- ---- how many findings were told
+
+-- so many after the verdict
+pub findings_after : (limits : Limits) (before after : Option (List ℕ)) (count : ℕ) (stands : List Item → Type 0)
+    (result : Result Verdict ToolFault) → ((given : List Item) → stands given → count ≡ findings_with 0 given)
+    → IfOk result (StandsAfter stands limits before after)
+    → IfOk result (StandsAfter (λ given. count ≡ findings_with 0 given) limits before after)
+findings_after limits before after count stands (Ok verdict) is h = (h.0, h.1, is h.0 h.2)
+findings_after limits before after count stands (Err fault) is h = tt

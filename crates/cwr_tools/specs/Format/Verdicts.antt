@@ -1,8 +1,8 @@
 -- The verdict on the bytes that a reader has.
 use Rattle.std.specs.Prelude.{◌≡◌, ℕ, ◌-◌, List, drop, take, Option, Some, IfSome, Result, Ok, Err}
-use Rattle.std.specs.List.{AllZip}
+use Rattle.std.specs.List.{AllByRecursion, AllZip}
 use Rattle.cwr_lines.specs.Format.Lines.{IsLineOf, closed, raw_lines}
-use Rattle.cwr_lines.specs.Format.Records.{Row}
+use Rattle.cwr_lines.specs.Format.Records.{IsRow, Row}
 use Rattle.cwr_shape.specs.declared.limits.Limits.{Limits}
 use Rattle.cwr_values.specs.declared.items.Item.{Item}
 use Rattle.cwr_values.specs.Format.Values.{TransmissionValue}
@@ -24,9 +24,10 @@ IsVerdictOn limits text (Good groups transactions records) =
 IsVerdictOn limits text (Refused refusal) = IsRefused limits text refusal
 IsVerdictOn limits text (Truncated records) = IsTruncated limits text records
 
--- the items are those that the text's first lines give, so many: each is the line of a row
+-- the items are those that the text's first lines give, so many: each is the line of a row, and of no other
 pub record AreItemsOfLines (text : List ℕ) (count : ℕ) (given : List Item) : Type 0 where
   pub rows : List Row
+  pub each : AllByRecursion IsRow rows
   pub lines : AllZip IsLineOf rows (take count (raw_lines (closed text)))
   pub given_are : given ≡ items rows
 

@@ -1,5 +1,5 @@
--- Whether items have a finding of a level, or of a worse one.
-use Rattle.std.specs.Prelude.{◌≡◌, ℕ, Bool, false, nat_le, ◌||◌, List, Option, Some, None, IfSome}
+-- How many findings items have, and whether one has a level, or a worse one.
+use Rattle.std.specs.Prelude.{◌≡◌, ℕ, ◌+◌, ◌-◌, ◌^◌, min, Bool, false, nat_le, ◌||◌, List, length, sum_by, Option, Some, None, IfSome}
 use Rattle.std.specs.List.{list_any}
 use Rattle.cwr_shape.specs.declared.limits.Limits.{Limits}
 use Rattle.cwr_shape.specs.declared.reasons.Level.{Level}
@@ -38,6 +38,15 @@ item_has_from level item = false
 -- and of those of some transaction among items
 abbrev pub any_from : Option Level → List Item → Bool
 any_from level items = list_any (item_has_from level) items
+
+-- how many findings an item has
+abbrev pub item_findings : Item → ℕ
+item_findings (Transaction t) = length (findings t)
+item_findings item = 0
+
+-- the number with those of these items; it stays at the highest that it can be
+abbrev pub findings_with : ℕ → List Item → ℕ
+findings_with before items = min (before + sum_by item_findings items) (2 ^ 64 - 1)
 
 -- with what came in these items
 abbrev pub watched : Watch → List Item → Watch

@@ -11,7 +11,7 @@ use Rattle.cwr_judge.specs.Format.Items.{opens_group}
 use Rattle.cwr_json.specs.declared.notes.Notes.{Notes}
 use Rattle.cwr_decode.specs.declared.readings.ReadFault.TheVariants as read_faults
 use Rattle.cwr_decode.specs.Steps.Machines.{Standing}
-use Rattle.cwr_decode.specs.Steps.Runs.{HasRead}
+use Rattle.cwr_decode.specs.Steps.Runs.{IsReadingOn}
 use Rattle.cwr_devices.specs.declared.sinks.Sink.{Sink}
 use Rattle.cwr_devices.specs.Steps.Sinks.{HasWritten, Puts, has_failed, writer_of, written_of}
 use Rattle.cwr_encode.specs.Format.Finishing.{HasFront}
@@ -27,9 +27,9 @@ use Rattle.cwr_tools.specs.Steps.Counts.{IsCount}
 
 -- ---- what a whole run has written
 
--- these items were handed out so far
+-- these items were handed out so far, and more may come, or they are all
 abbrev pub HasHandedOut : Limits → Option (List ℕ) → Option (List ℕ) → List Item → Type 0
-HasHandedOut limits before after given = (decoder : Standing) × HasRead limits decoder before after given
+HasHandedOut limits before after given = (decoder : Standing) × IsReadingOn limits decoder before after given
 
 -- the text on the items so far, or on all items and the verdict
 abbrev pub IsReported : ItemLines → Limits → Option (List ℕ) → Option (List ℕ) → List Item → List ℕ → Type 0

@@ -17,8 +17,8 @@ use Rattle.cwr_advise.proofs.lemmas.AdvicePut.{first_fault, found_first, found_s
 use Rattle.cwr_advise.proofs.lemmas.SaidBefore.{said_some}
 use Rattle.cwr_advise.proofs.item_advice.put_advised_in.Goals as goal
 
-pub returns-in_err-put_transaction_findings : goal.returns-in_err-put_transaction_findings
-returns-in_err-put_transaction_findings g c =
+pub returns-in_err-put_transaction_findings-clause-puts : goal.returns-in_err-put_transaction_findings-clause-puts
+returns-in_err-put_transaction_findings-clause-puts g c =
     let t = c.args.transaction.now in
     subst (λ (r : Result (Unit {0}) ToolFault). PutsLines g.W.Target.contents g.W.Target.failures (has_advice t)
     (advised_transaction c.args.explained c.args.said c.args.group c.args.sequence c.args.first t) r c.args.sink.now
@@ -30,10 +30,10 @@ returns-in_err-put_transaction_findings g c =
     c.put_transaction_findings.new.sink c.in_err-put_transaction_findings.field-0.0
     (found_first (length (findings t)) (length (advice_of (before_all_days Unsaid) t) + length
     (advice_of (before_all_days Utf8) t) + length
-    (advice_of (before_all_days Other) t))) c.in_err-put_transaction_findings.ensures)
+    (advice_of (before_all_days Other) t))) c.in_err-put_transaction_findings.ensures.puts)
 
-pub returns-in_default : goal.returns-in_default
-returns-in_default g c =
+pub returns-in_default-clause-puts : goal.returns-in_default-clause-puts
+returns-in_default-clause-puts g c =
     let t = c.args.transaction.now in (
       found_second (length (findings t)) (length (advice_of (before_all_days Unsaid) t) + length
           (advice_of (before_all_days Utf8) t) + length (advice_of (before_all_days Other) t))
@@ -41,8 +41,8 @@ returns-in_default g c =
       refl,
     )
 
-pub returns : goal.returns
-returns g c =
+pub returns-clause-puts : goal.returns-clause-puts
+returns-clause-puts g c =
     let t = c.args.transaction.now in
     subst (λ (found : List Advice). PutsLines g.W.Target.contents g.W.Target.failures (has_advice t) (transaction_lines
     c.args.explained c.args.group c.args.sequence c.args.first t ++ flat_map
@@ -53,4 +53,4 @@ returns g c =
     (transaction_lines c.args.explained c.args.group c.args.sequence c.args.first t)
     (flat_map (noted_advice c.args.group c.args.sequence c.args.first t) c.as_slice.result.now) c.args.sink.now
     c.put_transaction_findings.new.sink c.put_advice.new.sink tt c.put_advice.result
-    c.in_ok-put_transaction_findings.ensures c.put_advice.ensures)
+    c.in_ok-put_transaction_findings.ensures.puts c.put_advice.ensures)

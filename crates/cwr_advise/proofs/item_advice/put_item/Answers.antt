@@ -9,20 +9,20 @@ use Rattle.cwr_advise.specs.Steps.KeptWorks.{repeated_at}
 use Rattle.cwr_advise.proofs.lemmas.AdvicePut.{first_fault, then_put}
 use Rattle.cwr_advise.proofs.item_advice.put_item.Goals as goal
 
-pub returns-in_err-put_own : goal.returns-in_err-put_own
-returns-in_err-put_own g c =
+pub returns-in_err-put_own-clause-puts : goal.returns-in_err-put_own-clause-puts
+returns-in_err-put_own-clause-puts g c =
     let one = advised_at c.args.explained c.args.said c.args.counts.now c.args.item.now in
     let two = repeated_at c.args.limit c.args.counts.now c.args.item.now c.args.repeated.now in
     subst (λ (r : Result (Unit {0}) ToolFault). PutsLines g.W.Target.contents g.W.Target.failures (has_advised c.args.item.now)
     (one ++ two) r c.args.sink.now c.put_own.new.sink)
     (sym (same_fault c.from_residual.result c.in_err-put_own.field-0.0 c.from_residual.ensures.1))
     (first_fault g.W.Target.contents g.W.Target.failures (has_advised c.args.item.now) (has_advised c.args.item.now) one two
-    c.args.sink.now c.put_own.new.sink c.in_err-put_own.field-0.0 (λ h. h) c.in_err-put_own.ensures)
+    c.args.sink.now c.put_own.new.sink c.in_err-put_own.field-0.0 (λ h. h) c.in_err-put_own.ensures.puts)
 
-pub returns : goal.returns
-returns g c =
+pub returns-clause-puts : goal.returns-clause-puts
+returns-clause-puts g c =
     let one = advised_at c.args.explained c.args.said c.args.counts.now c.args.item.now in
     let two = repeated_at c.args.limit c.args.counts.now c.args.item.now c.args.repeated.now in
     then_put g.W.Target.contents g.W.Target.failures (has_advised c.args.item.now) (has_advised c.args.item.now) one two
-    c.args.sink.now c.put_own.new.sink c.put_repeated.new.sink tt c.put_repeated.result c.in_ok-put_own.ensures
+    c.args.sink.now c.put_own.new.sink c.put_repeated.new.sink tt c.put_repeated.result c.in_ok-put_own.ensures.puts
     c.put_repeated.ensures

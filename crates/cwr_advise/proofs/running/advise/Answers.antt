@@ -8,14 +8,14 @@ pub write_report-writer-requires : goal.write_report-writer-requires
 write_report-writer-requires g c = (
   lines_of_advice c.args.repeated,
   begun_lines c.new-lines.result true false c.args.repeated c.new-lines.ensures.explained
-      c.new-lines.ensures.up_to_fault c.new-lines.ensures.repeated c.new-lines.ensures.before c.new-lines.ensures.works,
+      c.new-lines.ensures.up_to_fault c.new-lines.ensures.repeated c.new-lines.ensures.before c.new-lines.ensures.works c.new-lines.ensures.none,
 )
 
 pub returns-clause-reported : goal.returns-clause-reported
 returns-clause-reported g c =
     c.write_report-writer.ensures.reported (lines_of_advice c.args.repeated) (begun_lines c.new-lines.result true false
     c.args.repeated c.new-lines.ensures.explained c.new-lines.ensures.up_to_fault c.new-lines.ensures.repeated
-    c.new-lines.ensures.before c.new-lines.ensures.works)
+    c.new-lines.ensures.before c.new-lines.ensures.works c.new-lines.ensures.none)
 
 pub returns-clause-told : goal.returns-clause-told
 returns-clause-told g c =

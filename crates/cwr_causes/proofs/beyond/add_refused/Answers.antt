@@ -1,7 +1,7 @@
 use Rattle.std.proofs.Common.{Some, true}
 use Rattle.cwr_causes.specs.Steps.LinesAtEnd.{EndsInLine}
 use Rattle.cwr_causes.proofs.lemmas.SaidInParts.{on_ok}
-use Rattle.cwr_causes.proofs.lemmas.LastRefused.{of_last, seen_before}
+use Rattle.cwr_causes.proofs.lemmas.LastRefused.{of_last, seen_before, unseen_before}
 use Rattle.cwr_causes.proofs.beyond.add_refused.Goals as goal
 
 pub returns : goal.returns
@@ -11,9 +11,12 @@ returns c =
       line = c.line_at_end-line.result;
       is_last = c.line_at_end-line.ensures;
       before = _;
-      is_before =
-          λ read front line held ends. seen_before (EndsInLine front true) c.line_before.result
-          (c.line_before.ensures read front line held ends);
+      is_before = (
+        λ read front line held ends. seen_before (EndsInLine front true) c.line_before.result
+            (c.line_before.ensures.told read front line held ends),
+        λ read front line shown held ends split few none. c.line_before.ensures.untold read front line shown held ends split few
+            (unseen_before c.line_before.result none),
+      );
       explains =
           of_last c.args.limits.now (Some c.args.last.now.stage) c.args.name.now c.args.refusal.now c.line_at_end-line.result _ c.args.beyond _ _ _ _ _ c.kind_of.ensures
           c.goes_on.ensures c.ahead.ensures h;

@@ -17,5 +17,5 @@ returns-clause-reads c = reported_some c.answer.result _ (λ answer e.
     reads_settled c.args.decoder.now c.feed.new.self c.feed.result.used c.feed.result.outcome answer (sym c.answer.ensures ∙ e)
     c.feed.ensures.used
     c.feed.ensures.represents c.feed.ensures.right c.feed.ensures.leaves c.feed.ensures.empties
-    (same_fed _ _ _ _ c.feed.ensures.again) c.feed.ensures.memory c.feed.ensures.input_ended c.feed.ensures.limits
-    c.feed.ensures.some)
+    (same_fed _ _ _ _ c.feed.ensures.again) c.feed.ensures.memory c.feed.ensures.input_ended c.feed.ensures.kept
+    c.feed.ensures.limits c.feed.ensures.some)

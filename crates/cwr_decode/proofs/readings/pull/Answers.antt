@@ -9,7 +9,7 @@ use Rattle.cwr_decode.proofs.lemmas.FedFromReader.{same_finished, reported_none,
 use Rattle.cwr_decode.proofs.readings.pull.Goals as goal
 
 pub returns-in-Err-clause-reads : goal.returns-in-Err-clause-reads
-returns-in-Err-clause-reads g c = reads_failed c.args.decoder.now _ _ c.requires.reading c.fill.follows.holds-at-none.0
+returns-in-Err-clause-reads g c = reads_failed c.args.decoder.now _ _ c.requires.reading c.requires.fresh c.fill.follows.holds-at-none.0
 
 pub returns-then-is_empty-clause-reads : goal.returns-then-is_empty-clause-reads
 returns-then-is_empty-clause-reads g c = reported_some c.answer.result _ (λ answer e.
@@ -18,7 +18,7 @@ returns-then-is_empty-clause-reads g c = reported_some c.answer.result _ (λ ans
     (at_end _ c.in-Ok.piece.now c.in-Ok.ensures.end (eqb-true (length c.in-Ok.piece.now) 0 (sym c.if-is_empty.ensures)))
     c.fill.follows.holds-at-none.0
     c.finish.ensures.represents c.finish.ensures.right c.finish.ensures.leaves c.finish.ensures.empties
-    (same_finished _ _ _ c.finish.ensures.again) c.finish.ensures.memory c.finish.ensures.limits)
+    (same_finished _ _ _ c.finish.ensures.again) c.finish.ensures.memory c.finish.ensures.kept c.finish.ensures.limits)
 
 pub returns-clause-stood : goal.returns-clause-stood
 returns-clause-stood g c = reported_none c.answer-2.result _ (λ e. c.feed-step.ensures.some)
@@ -50,7 +50,7 @@ returns-clause-reads g c = reported_some c.answer-2.result _ (λ answer e.
     c.feed-step.ensures.used c.consume.ensures.bytes)
     c.feed-step.ensures.represents c.feed-step.ensures.right c.feed-step.ensures.leaves c.feed-step.ensures.empties
     (same_fed _ _ _ _ c.feed-step.ensures.again) c.feed-step.ensures.memory c.feed-step.ensures.input_ended
-    c.feed-step.ensures.limits)
+    c.feed-step.ensures.kept c.feed-step.ensures.limits)
 
 pub returns-then-is_empty-clause-last : goal.returns-then-is_empty-clause-last
 returns-then-is_empty-clause-last g c =

@@ -12,7 +12,7 @@ use Rattle.cwr_decode.proofs.lemmas.FedFromReader.{reads_failed, reads_fed}
 use Rattle.cwr_decode.proofs.readings.pull_quickly.Goals as goal
 
 pub returns-in-Err-clause-reads : goal.returns-in-Err-clause-reads
-returns-in-Err-clause-reads g c = reads_failed c.args.decoder.now _ _ c.requires.reading c.fill.follows.holds-at-none.0
+returns-in-Err-clause-reads g c = reads_failed c.args.decoder.now _ _ c.requires.reading c.requires.fresh c.fill.follows.holds-at-none.0
 
 pub returns-in-Some-clause-reads : goal.returns-in-Some-clause-reads
 returns-in-Some-clause-reads g c =
@@ -28,7 +28,7 @@ returns-in-Some-clause-reads g c =
     f.within c.consume.ensures.bytes)
     f.carries.stands f.right f.carries.leaves (f.carries.empties way.input way.given way.stands)
     (subst (λ (s : State). IfSome (again s) (λ o. out ≡ o)) (sym c.requires.reading) tt) (λ is. absurd (cc is)) f.carries.finished
-    f.carries.limits
+    (f.kept way.input way.given way.stands) f.carries.limits
 
 pub returns-in-None-clause-reads : goal.returns-in-None-clause-reads
 returns-in-None-clause-reads g c =

@@ -21,7 +21,7 @@ returns-in-Some-clause-puts g c =
     c.args.transaction.now) _ c.put_advised.result c.args.sink.now c.put_advised.new.sink
     (told_with (asking_of c.args.asked.now) c.is_worded-explained.result c.args.numbered c.in-Some.said c.args.group
     c.args.sequence c.args.first c.args.transaction.now explained (sym c.said_if.ensures ∙ c.in-Some.is))
-    c.requires.unfailed c.put_advised.ensures
+    c.requires.unfailed c.put_advised.ensures.puts
 
 pub returns-in-Some-clause-leaves : goal.returns-in-Some-clause-leaves
 returns-in-Some-clause-leaves g c =
@@ -31,7 +31,7 @@ returns-in-Some-clause-leaves g c =
     c.args.transaction.now) _ c.put_advised.result c.args.sink.now c.put_advised.new.sink
     (told_with (asking_of c.args.asked.now) c.is_worded-explained.result c.args.numbered c.in-Some.said c.args.group
     c.args.sequence c.args.first c.args.transaction.now explained (sym c.said_if.ensures ∙ c.in-Some.is))
-    c.requires.unfailed c.put_advised.ensures
+    c.requires.unfailed c.put_advised.ensures.puts
 
 pub returns-in-None-clause-puts : goal.returns-in-None-clause-puts
 returns-in-None-clause-puts g c =
@@ -41,7 +41,7 @@ returns-in-None-clause-puts g c =
     c.put_transaction_findings.result c.args.sink.now c.put_transaction_findings.new.sink
     (told_without (asking_of c.args.asked.now) c.is_worded-explained.result c.args.numbered c.args.group c.args.sequence
     c.args.first c.args.transaction.now explained (sym c.said_if.ensures ∙ c.in-None.is))
-    c.requires.unfailed c.put_transaction_findings.ensures
+    c.requires.unfailed c.put_transaction_findings.ensures.puts
 
 pub returns-in-None-clause-leaves : goal.returns-in-None-clause-leaves
 returns-in-None-clause-leaves g c =
@@ -51,4 +51,4 @@ returns-in-None-clause-leaves g c =
     c.put_transaction_findings.result c.args.sink.now c.put_transaction_findings.new.sink
     (told_without (asking_of c.args.asked.now) c.is_worded-explained.result c.args.numbered c.args.group c.args.sequence
     c.args.first c.args.transaction.now explained (sym c.said_if.ensures ∙ c.in-None.is))
-    c.requires.unfailed c.put_transaction_findings.ensures
+    c.requires.unfailed c.put_transaction_findings.ensures.puts

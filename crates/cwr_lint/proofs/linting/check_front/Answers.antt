@@ -1,22 +1,33 @@
-use Rattle.std.proofs.Common.{◌≡◌, Bool, true, Some, sym, subst}
+use Rattle.std.proofs.Common.{Bool, true, Some, None, sym, subst}
 use Rattle.std.specs.Prelude.{IfOk}
 use Rattle.cwr_tools.specs.Format.Reports.{lines_up_to_fault}
 use Rattle.cwr_tools.specs.Steps.Reports.{Reports, StandsAfter}
 use Rattle.cwr_tools.proofs.lemmas.RightReports.{judged_text}
-use Rattle.cwr_advise.specs.Format.AdviceLines.{lines_advised, said_in}
-use Rattle.cwr_lint.specs.Format.Wanted.{lines_before_fault, said_when}
-use Rattle.cwr_lint.proofs.lemmas.Tells.{something_said_when}
+use Rattle.cwr_advise.specs.Format.AdviceLines.{lines_advised}
+use Rattle.cwr_lint.specs.Format.Wanted.{lines_before_fault}
+use Rattle.cwr_lint.proofs.lemmas.Tells.{SaysAfter, nothing_said_when, something_said_when}
 use Rattle.cwr_lint.proofs.linting.check_front.Goals as goal
 
 pub returns-in-true-clause-said : goal.returns-in-true-clause-said
 returns-in-true-clause-said g c =
     subst (λ (b : Bool). IfOk c.advise_up_to_fault-writer.result.1 (StandsAfter
-    (λ given. Some c.advise_up_to_fault-writer.result.3 ≡ said_when b (said_in given)) c.args.limits
+    (SaysAfter b (Some c.advise_up_to_fault-writer.result.3) c.advise_up_to_fault-writer.result.2.findings) c.args.limits
     (g.R.Source.remaining c.args.reader.now) (g.R.Source.remaining c.advise_up_to_fault-writer.new.reader)))
     (sym c.in-true.is)
     (something_said_when c.advise_up_to_fault-writer.result.1 c.args.limits (g.R.Source.remaining c.args.reader.now)
     (g.R.Source.remaining c.advise_up_to_fault-writer.new.reader) c.advise_up_to_fault-writer.result.3
+    c.advise_up_to_fault-writer.result.2.findings
     c.advise_up_to_fault-writer.ensures.said)
+
+pub returns-in-false-clause-said : goal.returns-in-false-clause-said
+returns-in-false-clause-said g c =
+    subst (λ (b : Bool). IfOk c.check_up_to_fault-writer.result.1 (StandsAfter
+    (SaysAfter b None c.check_up_to_fault-writer.result.2.findings) c.args.limits
+    (g.R.Source.remaining c.args.reader.now) (g.R.Source.remaining c.check_up_to_fault-writer.new.reader)))
+    (sym c.in-false.is)
+    (nothing_said_when c.check_up_to_fault-writer.result.1 c.args.limits (g.R.Source.remaining c.args.reader.now)
+    (g.R.Source.remaining c.check_up_to_fault-writer.new.reader) c.check_up_to_fault-writer.result.2.findings
+    c.check_up_to_fault-writer.ensures.findings)
 
 pub returns-in-false-clause-reported : goal.returns-in-false-clause-reported
 returns-in-false-clause-reported g c =

@@ -25,7 +25,7 @@ returns-in-Some-clause-lints g c =
     (g.R.Source.remaining c.tell_faults.new.reader) g.W.Target.contents c.args.writer c.check_front-writer.result.0
     c.tell_faults.result.0 c.in-Refused.refusal
     (asking_of (record { alloc = c.args.alloc; limits = c.args.limits; name = c.args.name; said = c.check_front-writer.result.3 }))
-    c.in-Some.last c.check_front-writer.result.1 c.tell_faults.result.1
+    c.check_front-writer.result.2.findings c.in-Some.last c.check_front-writer.result.1 c.tell_faults.result.1
     (ap (λ (b : Bool). wanting b c.args.advised) c.is_some.ensures) c.check_front-writer.ensures.reported
     (read_last c.args.limits (g.R.Source.remaining c.args.reader.now) (g.R.Source.remaining c.check_front-writer.new.reader)
     c.check_front-writer.result.1 c.in-Refused.refusal c.check_front-writer.result.2.last c.in-Some.last
@@ -35,7 +35,7 @@ returns-in-Some-clause-lints g c =
     (hears c.check_front-writer.result.1 c.in-Refused.refusal (wanting (is_some c.args.name) c.args.advised) c.args.limits
     (g.R.Source.remaining c.args.reader.now) (g.R.Source.remaining c.check_front-writer.new.reader)
     (asking_of (record { alloc = c.args.alloc; limits = c.args.limits; name = c.args.name; said = c.check_front-writer.result.3 }))
-    c.check_front-writer.result.3
+    c.check_front-writer.result.3 c.check_front-writer.result.2.findings
     (known_ok c.check_front-writer.result.1 c.in-Ok.verdict (Refused c.in-Refused.refusal) c.in-Ok.is c.in-Refused.is) refl
     c.check_front-writer.ensures.said) (known_ok c.check_front-writer.result.1 c.in-Ok.verdict (Refused c.in-Refused.refusal)
     c.in-Ok.is c.in-Refused.is) c.tell_faults.ensures.words c.tell_faults.ensures.leaves c.tell_faults.ensures.taken
@@ -48,7 +48,7 @@ returns-in-Some-clause-tells g c =
     (g.R.Source.remaining c.tell_faults.new.reader) g.W.Target.contents c.args.writer c.check_front-writer.result.0
     c.tell_faults.result.0 c.in-Refused.refusal
     (asking_of (record { alloc = c.args.alloc; limits = c.args.limits; name = c.args.name; said = c.check_front-writer.result.3 }))
-    c.in-Some.last c.check_front-writer.result.1 c.tell_faults.result.1
+    c.check_front-writer.result.2.findings c.in-Some.last c.check_front-writer.result.1 c.tell_faults.result.1
     (ap (λ (b : Bool). wanting b c.args.advised) c.is_some.ensures) c.check_front-writer.ensures.reported
     (read_last c.args.limits (g.R.Source.remaining c.args.reader.now) (g.R.Source.remaining c.check_front-writer.new.reader)
     c.check_front-writer.result.1 c.in-Refused.refusal c.check_front-writer.result.2.last c.in-Some.last
@@ -58,7 +58,7 @@ returns-in-Some-clause-tells g c =
     (hears c.check_front-writer.result.1 c.in-Refused.refusal (wanting (is_some c.args.name) c.args.advised) c.args.limits
     (g.R.Source.remaining c.args.reader.now) (g.R.Source.remaining c.check_front-writer.new.reader)
     (asking_of (record { alloc = c.args.alloc; limits = c.args.limits; name = c.args.name; said = c.check_front-writer.result.3 }))
-    c.check_front-writer.result.3
+    c.check_front-writer.result.3 c.check_front-writer.result.2.findings
     (known_ok c.check_front-writer.result.1 c.in-Ok.verdict (Refused c.in-Refused.refusal) c.in-Ok.is c.in-Refused.is) refl
     c.check_front-writer.ensures.said) (known_ok c.check_front-writer.result.1 c.in-Ok.verdict (Refused c.in-Refused.refusal)
     c.in-Ok.is c.in-Refused.is) c.tell_faults.ensures.answered c.tell_faults.ensures.told

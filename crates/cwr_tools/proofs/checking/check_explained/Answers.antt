@@ -12,6 +12,7 @@ write_report-writer-requires g c = (
   (
     ap₂ lines_told (sym c.new-lines.ensures.explained) (sym c.new-lines.ensures.up_to_fault),
     worst_none _ c.new-lines.ensures.told,
+    c.new-lines.ensures.none,
   ),
 )
 
@@ -21,6 +22,7 @@ returns-clause-reported g c =
       ap₂ lines_told (sym c.new-lines.ensures.explained)
           (sym c.new-lines.ensures.up_to_fault),
       worst_none _ c.new-lines.ensures.told,
+      c.new-lines.ensures.none,
     )
 
 pub returns-clause-told : goal.returns-clause-told
@@ -35,4 +37,5 @@ returns-clause-seen g c =
     here. here.1) (c.write_report-writer.ensures.stands lines_of_explained (
       ap₂ lines_told (sym c.new-lines.ensures.explained) (sym c.new-lines.ensures.up_to_fault),
       worst_none _ c.new-lines.ensures.told,
+      c.new-lines.ensures.none,
     ))

@@ -2,6 +2,7 @@ use Rattle.std.proofs.Common.{ap₂, sym}
 use Rattle.cwr_tools.specs.Format.Reports.{lines_of_findings}
 use Rattle.cwr_tools.specs.Steps.Reports.{lines_told}
 use Rattle.cwr_tools.proofs.lemmas.FindingsWatched.{worst_none}
+use Rattle.cwr_tools.proofs.lemmas.RightReports.{judged_text}
 use Rattle.cwr_tools.proofs.lemmas.ToldTexts.{reports_text}
 use Rattle.cwr_tools.proofs.lemmas.WatchedRuns.{sees_accepted}
 use Rattle.cwr_tools.proofs.checking.check_watched.Goals as goal
@@ -12,6 +13,7 @@ write_report-writer-requires g c = (
   (
     ap₂ lines_told (sym c.new-lines.ensures.explained) (sym c.new-lines.ensures.up_to_fault),
     worst_none _ c.new-lines.ensures.told,
+    c.new-lines.ensures.none,
   ),
 )
 
@@ -21,6 +23,7 @@ returns-clause-reported g c =
       ap₂ lines_told (sym c.new-lines.ensures.explained)
           (sym c.new-lines.ensures.up_to_fault),
       worst_none _ c.new-lines.ensures.told,
+      c.new-lines.ensures.none,
     )
 
 pub returns-clause-told : goal.returns-clause-told
@@ -35,4 +38,10 @@ returns-clause-seen g c =
     here. here.1) (c.write_report-writer.ensures.stands lines_of_findings (
       ap₂ lines_told (sym c.new-lines.ensures.explained) (sym c.new-lines.ensures.up_to_fault),
       worst_none _ c.new-lines.ensures.told,
+      c.new-lines.ensures.none,
     ))
+
+pub returns-clause-judged : goal.returns-clause-judged
+returns-clause-judged g c =
+    judged_text lines_of_findings c.args.limits _ _ g.W.Target.contents c.args.writer c.write_report-writer.result.0
+    c.write_report-writer.result.1 (returns-clause-told g c)

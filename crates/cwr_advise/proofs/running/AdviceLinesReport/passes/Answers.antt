@@ -1,9 +1,10 @@
-use Rattle.std.proofs.Common.{◌≡◌, ℕ, ◌++◌, ◌∷◌, [], refl, subst, sym, ◌∙◌}
+use Rattle.std.proofs.Common.{◌≡◌, ℕ, ◌++◌, ◌∷◌, [], length, refl, ap, subst, sym, ◌∙◌}
 use Rattle.std.proofs.lemmas.Bool.{eqb-true}
 use Rattle.cwr_values.specs.declared.items.Item.TheVariants.{Transaction}
 use Rattle.cwr_tools.specs.Format.Reports.{ItemLines}
 use Rattle.cwr_advise.specs.Format.AdviceLines.{advised_lines, said_in}
 use Rattle.cwr_advise.specs.Format.RepeatedWorks.{works_in}
+use Rattle.cwr_advise.proofs.lemmas.Begun.{none_told}
 use Rattle.cwr_advise.proofs.lemmas.LinesOfAdvice.{advised_passed}
 use Rattle.cwr_advise.proofs.lemmas.SaidBefore.{said_still}
 use Rattle.cwr_advise.proofs.lemmas.WorksKept.{kept_nothing}
@@ -22,5 +23,6 @@ returns c = λ told of given t clean here.
         here.0,
         here.1 ∙ said_still given (Transaction t) refl,
         kept_nothing self.repeats (works_in given) (works_in (given ++ Transaction t ∷ [])) zero here.2,
+        none_told self.findings given (Transaction t) (ap length clean.0) here.3,
       ),
     )

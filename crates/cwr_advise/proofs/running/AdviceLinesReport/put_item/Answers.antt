@@ -1,4 +1,4 @@
-use Rattle.std.proofs.Common.{ℕ, ◌++◌, refl, subst, sym}
+use Rattle.std.proofs.Common.{ℕ, ◌++◌, refl, rules, subst, sym}
 use Rattle.std.specs.Prelude.{Result, Err, Ok}
 use Rattle.std.proofs.lemmas.Bool.{or_left, or_right}
 use Rattle.cwr_tools.specs.declared.verdicts.ToolFault.{ToolFault}
@@ -11,6 +11,7 @@ use Rattle.cwr_advise.specs.Format.RepeatedWorks.{keeps_number}
 use Rattle.cwr_advise.specs.Steps.AdvisedItems.{advised_at}
 use Rattle.cwr_advise.specs.Steps.KeptWorks.{repeated_at}
 use Rattle.cwr_advise.proofs.lemmas.AdvicePut.{more_memory}
+use Rattle.cwr_advise.proofs.lemmas.Begun.{told_more}
 use Rattle.cwr_advise.proofs.lemmas.LinesOfAdvice.{advised_more, advised_next}
 use Rattle.cwr_advise.proofs.running.AdviceLinesReport.put_item.Goals as goal
 
@@ -43,7 +44,7 @@ returns-in_err-put_item-clause-puts g c = λ of given counted here.
     (subst (λ (limit : ℕ). PutsLines g.W.Target.contents g.W.Target.failures (has_advised item) (advised_at self.explained
     c.said.result c.args.counts.now item ++ repeated_at limit c.args.counts.now item c.in-Ok.repeated) (Err
     c.in_err-put_item.field-0.0) c.args.sink.now c.put_item.new.sink)
-    c.limit-limit.ensures c.in_err-put_item.ensures)))
+    c.limit-limit.ensures c.in_err-put_item.ensures.puts)))
 
 pub returns-clause-puts : goal.returns-clause-puts
 returns-clause-puts g c = λ of given counted here.
@@ -59,4 +60,12 @@ returns-clause-puts g c = λ of given counted here.
     (subst (λ (limit : ℕ). PutsLines g.W.Target.contents g.W.Target.failures (has_advised item) (advised_at self.explained
     c.said.result c.args.counts.now item ++ repeated_at limit c.args.counts.now item c.in-Ok.repeated) (Ok
     tt) c.args.sink.now c.put_item.new.sink)
-    c.limit-limit.ensures c.in_ok-put_item.ensures)
+    c.limit-limit.ensures c.in_ok-put_item.ensures.puts)
+
+pub returns-clause-stands : goal.returns-clause-stands
+returns-clause-stands g c = λ of given counted here. (
+  search rules,
+  search rules,
+  search rules,
+  told_more c.args.self.now.findings c.put_item.new.count given c.args.item.now here.3 c.in_ok-put_item.ensures.counted,
+)

@@ -7,6 +7,7 @@ use Rattle.cwr_decode.specs.Steps.Readings.{answer_of}
 use Rattle.cwr_decode.proofs.lemmas.AnsweredAtOnce.{if_some}
 use Rattle.cwr_decode.proofs.lemmas.LastHeld.{reads_both}
 use Rattle.cwr_decode.proofs.lemmas.PassedOver.{passes_nothing}
+use Rattle.cwr_decode.proofs.lemmas.PassingAnswers.{again_passing, live_still, memory_passing}
 use Rattle.cwr_decode.proofs.readings.Reading+R.next_item_passing.Goals as goal
 
 pub returns-in-Some-clause-last : goal.returns-in-Some-clause-last
@@ -36,3 +37,14 @@ returns-in-None-clause-reads g c = record {
       ≡ c.args.self.now.decoder) × (g.R.Source.remaining c.pass_shown.new.reader
       ≡ g.R.Source.remaining c.args.self.now.reader.now))) (sym c.in-None.ensures.passes.1) tt;
 }
+
+pub returns-in-Some-clause-memory : goal.returns-in-Some-clause-memory
+returns-in-Some-clause-memory g c =
+    memory_passing c.args.self.now.decoder c.pass_shown.new.decoder c.next_item.new.self.decoder c.args.self.now.reader.now
+    c.pass_shown.new.reader c.next_item.new.self.reader.now c.next_item.result c.in-Some.ensures.stays
+    (live_still _ _ _ _ _ _ c.in-Some.ensures.passes) c.next_item.ensures.reads.kept c.next_item.ensures.memory
+
+pub returns-in-Some-clause-again : goal.returns-in-Some-clause-again
+returns-in-Some-clause-again g c =
+    again_passing c.args.self.now.decoder c.pass_shown.new.decoder c.next_item.new.self.decoder c.args.self.now.reader.now
+    c.pass_shown.new.reader c.next_item.new.self.reader.now c.next_item.result c.in-Some.ensures.stays c.next_item.ensures.again

@@ -1,15 +1,15 @@
 use Rattle.std.proofs.Common.{[]}
 use Rattle.cwr_lint.specs.Steps.CutShort.{TellsLastUpTo, TellsUpTo}
-use Rattle.cwr_lint.specs.Steps.Runs.{asking_of, TellsRun, TellsToEnd}
+use Rattle.cwr_lint.specs.Steps.Runs.{asking_of, TellsRun, TellsToEnd, walk_of}
 use Rattle.cwr_lint.proofs.lemmas.CutShort.{leaves_read, unread}
 use Rattle.cwr_lint.proofs.lemmas.TextsTold.{read_failed, read_first}
 use Rattle.cwr_lint.proofs.linting.LintRun.run.Goals as goal
 
 pub returns-in-Ok-clause-tells : goal.returns-in-Ok-clause-tells
 returns-in-Ok-clause-tells g c =
-    read_first (λ u. TellsToEnd (asking_of c.args.asked.now) c.args.self.now.state c.args.refusal.now
+    read_first (λ u. TellsToEnd (asking_of c.args.asked.now) (walk_of c.args.self.now) c.args.refusal.now
     c.in-Ok.raw (g.R.Source.remaining c.of_last.new.reader) (g.R.Source.remaining c.tell_to_end.new.reader)) (λ u. TellsRun
-    (asking_of c.args.asked.now) c.args.self.now.state c.args.refusal.now c.args.last.now.bytes
+    (asking_of c.args.asked.now) (walk_of c.args.self.now) c.args.refusal.now c.args.last.now.bytes
     (g.R.Source.remaining c.args.reader.now) (g.R.Source.remaining c.tell_to_end.new.reader)) (g.R.Source.remaining
     c.args.reader.now) (g.R.Source.remaining c.of_last.new.reader) (g.R.Source.remaining
     c.tell_to_end.new.reader) (g.R.Source.failures c.args.reader.now) (g.R.Source.failures
@@ -34,8 +34,8 @@ returns-in-Err-clause-tells g c = (
 
 pub returns-in-Ok-clause-leaves : goal.returns-in-Ok-clause-leaves
 returns-in-Ok-clause-leaves g c =
-    leaves_read (TellsUpTo (asking_of c.args.asked.now) c.args.self.now.state c.args.refusal.now c.in-Ok.raw
-    (g.R.Source.remaining c.of_last.new.reader)) (TellsLastUpTo (asking_of c.args.asked.now) c.args.self.now.state
+    leaves_read (TellsUpTo (asking_of c.args.asked.now) (walk_of c.args.self.now) c.args.refusal.now c.in-Ok.raw
+    (g.R.Source.remaining c.of_last.new.reader)) (TellsLastUpTo (asking_of c.args.asked.now) (walk_of c.args.self.now)
     c.args.refusal.now c.args.last.now.bytes (g.R.Source.remaining c.args.reader.now)) g.W.Target.contents c.tell_to_end.result
     c.args.sink.now c.tell_to_end.new.sink
     (λ text tells. record {
@@ -48,5 +48,5 @@ returns-in-Ok-clause-leaves g c =
 
 pub returns-in-Err-clause-leaves : goal.returns-in-Err-clause-leaves
 returns-in-Err-clause-leaves g c =
-    unread (TellsLastUpTo (asking_of c.args.asked.now) c.args.self.now.state c.args.refusal.now c.args.last.now.bytes
+    unread (TellsLastUpTo (asking_of c.args.asked.now) (walk_of c.args.self.now) c.args.refusal.now c.args.last.now.bytes
     (g.R.Source.remaining c.args.reader.now)) g.W.Target.contents c.args.sink.now c.requires.unfailed

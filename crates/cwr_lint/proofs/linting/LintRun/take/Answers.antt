@@ -37,7 +37,7 @@ returns-in-Ok-step-clause-puts g c =
     c.step.new.self.begun) c.in-Ok.ensures.begun c.in-Ok-step.ensures.begun)
     (c.in-Ok-step.ensures.lines ∙ ap (λ (s : LintState). one_more_line s.lines) c.in-Ok.ensures.state)
     (c.in-Ok-step.ensures.faults ∙ c.saturating_add-self.ensures ∙ ap (λ n. more_faults n c.in-Ok.told) c.in-Ok.ensures.faults)
-    c.in-Ok-step.ensures.over) c.in-Ok.ensures.puts
+    c.in-Ok-step.ensures.over (c.in-Ok-step.ensures.findings ∙ c.in-Ok.ensures.findings)) c.in-Ok.ensures.puts
 
 pub returns-in-Err-step-clause-puts : goal.returns-in-Err-step-clause-puts
 returns-in-Err-step-clause-puts g c =
@@ -54,13 +54,13 @@ returns-in-Err-clause-leaves g c =
     (ended_by c.of-judged.result c.args.self.now.state c.args.self.now.begun) c.args.from) (WalksPart (asking_of c.args.asked.now)
     (walk_of c.args.self.now) (held_cut c.args.line.now) c.args.from) g.W.Target.contents c.in-Err.fault c.args.sink.now
     c.tell_all.new.sink
-    (λ text part. part_at (asking_of c.args.asked.now) c.args.line.now c.of-judged.result c.args.from c.args.self.now.state
-    c.args.self.now.begun text c.of-judged.ensures.is part) c.in-Err.ensures.leaves
+    (λ text part. part_at (asking_of c.args.asked.now) c.args.line.now c.of-judged.result c.args.from (walk_of c.args.self.now)
+    text c.of-judged.ensures.is part) c.in-Err.ensures.leaves
 
 pub returns-in-Err-step-clause-leaves : goal.returns-in-Err-step-clause-leaves
 returns-in-Err-step-clause-leaves g c =
     leaves_whole (WalksPart (asking_of c.args.asked.now) (walk_of c.args.self.now) (held_cut c.args.line.now) c.args.from)
     g.W.Target.contents c.in-Ok.ensures.puts.0 c.args.sink.now c.tell_all.new.sink c.in-Ok.ensures.puts.1.written
     c.in-Ok.ensures.puts.1.unfailed
-    (whole_part (asking_of c.args.asked.now) c.args.line.now c.of-judged.result c.args.from c.in-Ok.told c.args.self.now.state
-    c.args.self.now.begun c.in-Ok.ensures.puts.0 c.of-judged.ensures.is c.in-Ok.ensures.puts.2)
+    (whole_part (asking_of c.args.asked.now) c.args.line.now c.of-judged.result c.args.from c.in-Ok.told
+    (walk_of c.args.self.now) c.in-Ok.ensures.puts.0 c.of-judged.ensures.is c.in-Ok.ensures.puts.2)

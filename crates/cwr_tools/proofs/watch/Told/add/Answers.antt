@@ -13,6 +13,7 @@ loop-finding-preserved c =
     c.in-Some.ensures.lookup.3.0 c.in-Some.ensures.lookup.1) in
     record {
       within = omega (arith, c.in-Some.ensures.lookup.3.0);
+      counted = c.loop-finding.invariant.counted;
       worst = λ asked.
           ap (λ (b : Bool). b || has_from asked (drop (c.loop-finding.i + 1) c.args.found.now)) (c.worse.ensures asked)
           ∙ or_assoc (is_reached asked c.loop-finding.self.worst) (is_reached_by asked c.in-Some.finding.now.level)

@@ -1,4 +1,4 @@
-use Rattle.std.proofs.Common.{◌≡◌, ◌-◌, ◌≤◌, ◌||◌, length, drop, Option}
+use Rattle.std.proofs.Common.{◌≡◌, ◌+◌, ◌-◌, ◌^◌, ◌≤◌, ◌||◌, length, drop, min, Option}
 use Rattle.cwr_shape.specs.declared.reasons.Level.{Level}
 use Rattle.cwr_tools.specs.Format.Watching.{has_from}
 use Rattle.cwr_tools.specs.Steps.Watching.{is_reached}
@@ -7,6 +7,7 @@ use Rattle.cwr_tools.proofs.watch.Told.add.Given as goal
 abbrev pub invariant-loop-finding : goal.invariant-loop-finding
 invariant-loop-finding l = record {
   within : l.i ≤ length l.found;
+  counted : l.self.findings ≡ min (l.fn.self.findings + length l.found) (2 ^ 64 - 1);
   worst : (asked : Option Level) → (is_reached asked l.self.worst || has_from asked (drop l.i l.found))
       ≡ (is_reached asked l.fn.self.worst || has_from asked l.found);
 }
