@@ -121,9 +121,9 @@ COMMANDS
        Names are joined by semicolons, those of writers with the last name
        first. The shares of each right are added up, in percent.
 
-   cwr acks [OPTIONS] [FILE]
-       Tells what became of each transaction that the acknowledgements in a
-       transmission answer. The verdict goes to standard error.
+   cwr acks [OPTIONS] [FILE]...
+       Tells what became of each transaction that the acknowledgements in
+       transmissions answer. The verdict goes to standard error.
 
        Each acknowledgement has a line. It begins with the status, so that
        `grep` and `sort` find what is rejected, and goes on with the group and
@@ -137,21 +137,55 @@ COMMANDS
        acknowledgement. What each status means stands below, under
        Acknowledgements.
 
+       Of several files each line has the file's name and a colon before it,
+       indented ones too. Each whole file has its line of counts, and the last
+       line has the sums. Standard error has the verdicts with their names,
+       and the line that `cwr check` writes last. A file that fails doesn't
+       stop the others. The status is the worst of all.
+
        --sent SENT
-              Matches them with the transmission in the file SENT, by group
-              and sequence. It is read first. Where it is refused or cut off,
-              its verdict goes to standard error, and nothing else is told.
-              What is told of a match stands under Output. Memory holds a few
-              bytes of each of its transactions. With `-` as SENT another file
-              is to be named as FILE.
+              Matches them with the transmission in the file SENT. It may
+              stand more than once. An acknowledgement names the creation date
+              and time of the transmission that it answers, and in it a group,
+              a sequence, a type and the submitter's number. All of these are
+              compared. Where its date is blank or zeros, or its time blank,
+              all SENT are asked. A blank number is the same as any. What is
+              told of a match stands under Output. All SENT are read first.
+              Where one is refused or cut off, its verdict goes to standard
+              error, and nothing else is told. Memory holds less than 64 bytes
+              of each of their transactions, and 40 for each sender that
+              answers it. Standard input may stand for one file of all that
+              are named.
+
+       --by-place
+              Doesn't compare the creation date and time: for recipients that
+              put in others. It asks for `--sent`.
+
+       --state
+              Writes a table in place of the lines (RFC 4180, UTF-8). Each
+              transaction of SENT has a row for each sender that answers it,
+              or one where nobody does. A row has what was answered last, by
+              the processing date, and what that comes to. Its columns are
+              `sent`, `group`, `transaction`, `type`, `submitter`, `society`,
+              `status`, `processed`, `recipient`, `level` and `state`. The
+              sums go to standard error, also where a file isn't whole. It
+              asks for `--sent`.
+
+       --fail-on STATES
+              Status 1 where a row of that table has one of these states,
+              whether it is printed or not. Commas stand between them:
+              accepted, pending, rejected, conflict, duplicate,
+              claim-rejected, no-participation, unanswered. Without it the
+              status says only whether all was read. It asks for `--sent`.
 
        --json
               Writes lines of JSON. Each acknowledgement is an object with
               `status`, `words`, `group`, `transaction`, `type` and its list
               of `messages`, and with `level`, `submitter`, `recipient` and
               `title` where there are any. Cells are shown as by `cwr json`.
-              The lines of `--sent` and of counts stand under Output. All keys
-              are in docs/ACKS.md of the repository.
+              The lines of `--sent` and of counts stand under Output. With
+              `--state` each row is an object. All keys are in docs/ACKS.md of
+              the repository.
 
    cwr write [OPTIONS] [FILE]
        Writes the transmission that lines of JSON are, with all its numbers.
@@ -310,14 +344,31 @@ OUTPUT
        whole:
 
        ACKS N CO C DU D ...
-              There are N acknowledgements, and so many of each status.
+              There are N acknowledgements, and so many of each status. Of
+              several files this line without a name has the sums of all that
+              were told.
 
        With `--sent` it writes these under an acknowledgement, and what isn't
-       answered before the counts:
+       answered before the last counts:
+
+       UNKEYED group G transaction T TYPE ...
+              It has no creation date or no time. All SENT were asked.
 
        UNSENT group G transaction T TYPE ...
               No transaction of SENT is the one that it answers: it answers
               another transmission, or SENT is another file.
+
+       UNCLEAR group G transaction T TYPE ...
+              It agrees with transactions of several SENT. None of them counts
+              as answered.
+
+       RETYPED group G transaction T TYPE ... sent VALUE
+              The transaction at that place was sent with the type VALUE. It
+              doesn't count as answered.
+
+       RENUMBERED group G transaction T TYPE ... sent VALUE
+              The transaction at that place was sent with the number VALUE. It
+              doesn't count as answered.
 
        RETITLED group G transaction T TYPE ...
               The transaction was sent with another title. The titles' checks
@@ -325,18 +376,32 @@ OUTPUT
               SENT is another file.
 
        AGAIN group G transaction T TYPE ...
-              An acknowledgement before it answers the same transaction. The
-              later one counts.
+              An acknowledgement before it, by the same sender, answers the
+              same transaction. `--state` tells which one counts.
 
-       UNANSWERED group G transaction T TYPE
-              No acknowledgement answers this transaction of SENT. `cwr csv
-              works SENT` has the title of each work by its group and
-              transaction.
+       UNANSWERED group G transaction T TYPE submitter N
+              No acknowledgement answers this transaction of SENT, which has
+              this number. With several SENT the name of its file and a colon
+              stand before it.
 
-       With `--json` the first three are `\"unsent\":true`, `\"retitled\":true`
-       and `\"again\":true` in the object of the acknowledgement. What isn't
-       answered is `{\"unanswered\":{\"group\":G,\"transaction\":T,\"type\":TYPE}}`,
-       and the counts are `{\"acks\":N,\"statuses\":{\"CO\":C,\"DU\":D,...}}`.
+       With several SENT the line of an acknowledgement that answers a
+       transaction ends in `sent` and the name of its file.
+
+       With `--json` these are members of the object of the acknowledgement:
+       `\"unkeyed\":true`, `\"unsent\":true`, `\"unclear\":true`, `\"retyped\":VALUE`,
+       `\"renumbered\":VALUE`, `\"retitled\":true` and `\"again\":true`. What isn't
+       answered is
+       `{\"unanswered\":{\"group\":G,\"transaction\":T,\"type\":TYPE,\"submitter\":N}}`,
+       and the counts are `{\"acks\":N,\"statuses\":{\"CO\":C,\"DU\":D,...}}`. With
+       several files `\"file\":NAME` comes first, and with several SENT
+       `\"sent\":NAME`.
+
+       With `--state` the last line on standard error is this one:
+
+       STATE sent N accepted A pending P ...
+              SENT have N transactions, and so many rows have each state. Last
+              stand how many acknowledgements are `unsent`, with what is
+              RETYPED and RENUMBERED, `unclear` and `unkeyed`.
 
        `cwr write` writes one of these to standard error:
 
@@ -356,18 +421,20 @@ ACKNOWLEDGEMENTS
        CO     conflict: Shares don't go together with those of another claim.
               Settle it with who made that.
 
-       DU     duplicate: The work was sent before. Nothing, unless it is
-              another work.
+       DU     duplicate: The work was sent before. What was new in this one
+              wasn't taken: send a REV.
 
-       RA     transaction accepted: It passed the checks. Whether it is
-              registered is told later.
+       RA     transaction accepted: It is accepted for processing, and not
+              registered yet. Keep asking.
 
-       AS     registration accepted: Nothing: it was taken as it was sent.
+       AS     registration accepted: It was taken as it was sent. Keep the
+              recipient's number.
 
        AC     registration accepted with changes: Compare what was changed:
               the messages or the copy tell it.
 
-       SR     registration accepted, ready for payment: Nothing.
+       SR     registration accepted, ready for payment: Keep the recipient's
+              number.
 
        CR     registration accepted with changes, ready for payment: Compare
               what was changed.
@@ -377,7 +444,25 @@ ACKNOWLEDGEMENTS
        NP     no participation: The submitter has none in the recipient's
               territory. Look whether the territories are right.
 
-       RC     claim rejected: Ask the recipient why, where no message says it.
+       RC     claim rejected: The claim was rejected, not the work. Ask the
+              recipient why, where no message says it.
+
+       In the table of `--state` AS, AC, SR and CR are `accepted`, RA is
+       `pending`, RJ `rejected`, CO `conflict`, DU `duplicate`, RC
+       `claim-rejected` and NP `no-participation`. Of several answers by one
+       sender the one with the latest processing date counts, and of equal
+       dates one that isn't RA. Then the one counts whose file was created
+       later, and then the last one read.
+
+       How societies fill in acknowledgements isn't known here, and they may
+       differ. One may repeat the creation date and time of what it answers,
+       put in others, or leave them blank. It may leave the submitter's number
+       blank, or write it otherwise. It may answer in one file or in several,
+       with RA first or without, and again later or never. Nor is it known
+       whether its processing date is that of the decision. So look at a
+       society's first files by hand. Many lines with UNSENT, RENUMBERED or
+       UNKEYED say that it has another habit. More of this stands in
+       docs/ACKS.md of the repository.
 
        The level of a message says what is rejected: E the file, G the group,
        T the transaction, R the record, F the field.
@@ -461,28 +546,49 @@ EXAMPLES
            $ cwr check --fail-on R findings.cwr > /dev/null; echo $?
            1
 
-       What the acknowledgements of a file say, and what is rejected:
+       What a file of acknowledgements rejects, and why:
 
-           $ cwr acks answers.cwr 2> /dev/null | sed -n '/^RJ/,/^[^R ]/p' | sed '$d'
-           RJ rejected: group 2 transaction 0 REV level T submitter W0002 title RED HILL
-             level T type T record 1 SWR validation 061: WRITER SHARES DO NOT ADD UP
-             level R type R record 2 SWR validation 017: INTERESTED PARTY IS UNKNOWN
-           $ cwr acks answers.cwr 2> /dev/null | tail -n 1
-           ACKS 4 CO 1 DU 0 RA 0 AS 1 AC 1 SR 0 CR 0 RJ 1 NP 0 RC 0
+           $ cwr acks acks_2_991.cwr 2> /dev/null | sed -n '/^RJ/,/^[^R ]/p' | sed '$d'
+           RJ rejected: group 2 transaction 1 NWR level T submitter AV-000002 title THE SALT ROAD
+             level T type T record 3 SWR validation 061: WRITER SHARES DIFFER FROM THOSE OF AN EARLIER CLAIM
+             level R type R record 6 SWR validation 017: SHARE OF THIS WRITER IS NOT THE ONE THAT WAS AGREED ON
+           $ cwr acks acks_2_991.cwr 2> /dev/null | tail -n 1
+           ACKS 6 CO 1 DU 0 RA 0 AS 3 AC 1 SR 0 CR 0 RJ 1 NP 0 RC 0
 
-       What of it was never sent, and what wasn't answered?
+       Two months, two societies: which acknowledgements have no key or
+       another number, and what nobody answered?
 
-           $ cwr acks answers.cwr --sent works.cwr 2> /dev/null | grep '^UN'
-           UNSENT group 7 transaction 3 NWR submitter W0900 title OLD SONG
-           UNANSWERED group 2 transaction 1 REV
+           $ cwr acks acks_*.cwr --sent sent_january.cwr --sent sent_february.cwr 2> /dev/null | grep -E 'UN[A-Z]+ED|RE[A-Z]+ED'
+           acks_3_992.cwr: UNKEYED group 1 transaction 0 NWR submitter AV-000005 title A HOUSE OF WEATHER
+           acks_4_991.cwr: RENUMBERED group 1 transaction 1 NWR submitter AV-000016 title COPPER AND RAIN sent AV-000006
+           sent_february.cwr: UNANSWERED group 1 transaction 2 NWR submitter AV-000007
 
-       The same as lines of JSON, without those of the second, third and
-       fourth acknowledgement:
+       What became of each work that isn't accepted everywhere, and the sums:
 
-           $ cwr acks --json answers.cwr --sent works.cwr 2> /dev/null | sed 2,4d
-           {\"status\":\"AS\",\"words\":\"registration accepted\",\"group\":1,\"transaction\":0,\"type\":\"NWR\",\"submitter\":\"W0001\",\"recipient\":\"T1000001\",\"title\":\"BLUE RIVER\",\"messages\":[]}
-           {\"unanswered\":{\"group\":2,\"transaction\":1,\"type\":\"REV\"}}
-           {\"acks\":4,\"statuses\":{\"CO\":1,\"DU\":0,\"RA\":0,\"AS\":1,\"AC\":1,\"SR\":0,\"CR\":0,\"RJ\":1,\"NP\":0,\"RC\":0}}
+           $ cwr acks --state acks_*.cwr --sent sent_january.cwr --sent sent_february.cwr 2> /dev/null | grep -v accepted | cut -d, -f1,5-8,10,11
+           sent,submitter,society,status,processed,level,state
+           sent_january.cwr,AV-000001,SO 992,NP,20260206,,no-participation
+           sent_january.cwr,AV-000002,SO 991,RJ,20260128,T,rejected
+           sent_january.cwr,AV-000004,SO 991,CO,20260128,T,conflict
+           sent_january.cwr,AV-000004,SO 992,DU,20260206,,duplicate
+           sent_february.cwr,AV-000006,SO 991,RA,20260218,,pending
+           sent_february.cwr,AV-000007,,,,,unanswered
+           $ cwr acks --state acks_*.cwr --sent sent_january.cwr --sent sent_february.cwr 2>&1 > /dev/null | tail -n 2
+           FILES 4 good 4 refused 0 truncated 0 failed 0
+           STATE sent 10 accepted 8 pending 1 rejected 1 conflict 1 duplicate 1 claim-rejected 0 no-participation 1 unanswered 1 unsent 1 unclear 0 unkeyed 1
+
+       A status for a script, where something is rejected or claimed twice:
+
+           $ cwr acks --fail-on rejected,conflict acks_*.cwr --sent sent_january.cwr > /dev/null 2>&1; echo $?
+           1
+
+       The same as lines of JSON, here what answers nothing and what isn't
+       answered:
+
+           $ cwr acks --json acks_4_991.cwr --sent sent_february.cwr 2> /dev/null | sed 1,3d
+           {\"status\":\"RJ\",\"words\":\"rejected\",\"group\":1,\"transaction\":1,\"type\":\"NWR\",\"level\":\"T\",\"submitter\":\"AV-000016\",\"title\":\"COPPER AND RAIN\",\"renumbered\":\"AV-000006\",\"messages\":[{\"level\":\"T\",\"type\":\"T\",\"record\":0,\"record_type\":\"NWR\",\"text\":\"THIS NUMBER IS ANOTHER SUBMITTER'S\"}]}
+           {\"unanswered\":{\"group\":1,\"transaction\":2,\"type\":\"NWR\",\"submitter\":\"AV-000007\"}}
+           {\"acks\":4,\"statuses\":{\"CO\":0,\"DU\":0,\"RA\":1,\"AS\":1,\"AC\":1,\"SR\":0,\"CR\":0,\"RJ\":1,\"NP\":0,\"RC\":0}}
 
        A file from which a work was cut out by hand:
 

@@ -1,6 +1,6 @@
 //! The program between its words and its devices.
 
-ghost use Rattle.std.specs.Prelude.{◌≡◌, ◌≢◌, ◌≤◌, ◌||◌, map, option_map, true, false, None, IfOk, if◌then◌else◌};
+ghost use Rattle.std.specs.Prelude.{◌≡◌, ◌≢◌, ◌≤◌, ◌||◌, [], map, option_map, true, false, None, IfOk, if◌then◌else◌};
 ghost use Rattle.std.specs.IoError.{error_kind};
 ghost use Rattle.std.specs.declared.io.ErrorKind.TheVariants.{OutOfMemory as lacks_memory};
 ghost use Rattle.clap.specs.Values.{kind_of};
@@ -206,6 +206,29 @@ fn judge<'a, R: Files + AllocGlobal, I: Read + Drop, P: Pace, O: Write + Drop, E
     report_file(rt, asked, telling, name, standard, pace, output, error)
 }
 
+/// Tells what the acknowledgements of files say, or those on standard input, or what became of what was sent.
+fn tell_acks<'a, R: Files + AllocGlobal, I: Read + Drop, P: Pace, O: Write + Drop, E: Write>(
+    rt: &R,
+    asked: &Asked,
+    answering: &Answering<'_, 'a>,
+    standard: I,
+    pace: &mut P,
+    output: O,
+    error: &mut E,
+) -> Result<Status, Fault<'a>>
+    requires { asked.now.wanted.fail_on ≡ None }
+    ensures { are_standard (map (λ name. name.now) answering.now.files.now) ≡ true
+        → answering.now.sent.now ≡ []
+        → EndsOnInput asked.now.limits asked.now.wanted (I.remaining standard) result }
+{
+    if answering.sent.is_empty() && answering.files.len() < 2 {
+        let telling = Telling::Answers(answering.form);
+        let file = answering.files.first().copied();
+        return report_file(rt, asked, telling, file, standard, pace, output, error);
+    }
+    match_answers(rt, asked, answering, standard, pace, output, error)
+}
+
 /// The table that has rows of these.
 fn table_of(rows: Rows) -> Table
     ensures { result ≡ table_of rows }
@@ -309,21 +332,22 @@ fn perform<'a, R: Files + AllocGlobal, I: Read + Drop, P: Pace, O: Write + Drop,
             return report_file(rt, &asked, telling, *file, standard, pace, output, error);
         }
         Work::Acks {
-            file,
+            files,
             sent,
             as_json,
+            by_place,
+            state,
+            fail_on,
         } => {
-            let form = form_of(*as_json);
-            if let Some(sent) = *sent {
-                let files = Answering {
-                    form,
-                    file: *file,
-                    sent,
-                };
-                return match_answers(rt, &asked, &files, standard, pace, output, error);
-            }
-            let told = Telling::Answers(form);
-            return report_file(rt, &asked, told, *file, standard, pace, output, error);
+            let answering = Answering {
+                form: form_of(*as_json),
+                files: files.as_slice(),
+                sent: sent.as_slice(),
+                by_place: *by_place,
+                state: *state,
+                fail_on: *fail_on,
+            };
+            return tell_acks(rt, &asked, &answering, standard, pace, output, error);
         }
         Work::Write {
             file,

@@ -1,16 +1,18 @@
 //! Transmissions that are judged, shown, or written as data.
 
 ghost use Rattle.std.specs.Prelude.{◌≡◌, ◌||◌, true, false, not, IfOk, Ok, OnErr, OnOk, None};
-ghost use Rattle.cwr_tools.specs.Format.Reports.{CountsWriterFault};
+ghost use Rattle.cwr_acks.specs.Format.AckLines.{lines_of_acks};
+ghost use Rattle.cwr_tools.specs.Format.Reports.{CountsReaderFault, CountsWriterFault, ReportsText};
+ghost use Rattle.cwr_tools.specs.Steps.Reports.{Reports};
 ghost use Rattle.cwr_tools.specs.Format.Verdicts.{JudgesText};
 ghost use Rattle.cwr_tools.specs.Format.Watching.{SeesAccepted};
 ghost use Rattle.cwr.specs.Format.Endings.{EndsOnInput};
 ghost use Rattle.cwr_files.specs.Steps.Inputs.{remaining_of};
-ghost use Rattle.cwr.specs.Steps.Tellings.{CountsInput, CountsReading, CountsWriting, TellsText};
+ghost use Rattle.cwr.specs.Steps.Tellings.{CountsInput, CountsReading, CountsWriting, TellsText, telling_alone};
 ghost use Rattle.cwr_transform.specs.Steps.Looks.{CountsLook};
 ghost use Rattle.cwr.specs.Steps.Looks.{JudgesOn, LooksAfter, LooksOnce, judgement_in, look_of, tells_findings};
 
-use cwr_acks::{Form, acks};
+use cwr_acks::{Form, Manner, acks};
 use cwr_advise::advise;
 use cwr_causes::Trailing;
 use cwr_csv::{Table, csv};
@@ -118,6 +120,32 @@ fn look_of(found: Option<Trailing>) -> Look
     }
 }
 
+/// Writes what the acknowledgements of one transmission say, matched with nothing. The writer comes back.
+fn acks_alone<R: Source, W: Target + Drop>(
+    alloc: Global,
+    limits: Limits,
+    form: Form,
+    reader: &mut R,
+    writer: W,
+) -> (W, Result<Verdict, ToolFault>)
+    ensures reported { Reports (lines_of_acks (telling_alone form) None) limits
+        (R.remaining reader.old) (R.remaining reader.new) W.contents writer result.0 result.1 }
+    ensures told { ReportsText (lines_of_acks (telling_alone form) None) limits
+        (R.remaining reader.old) (R.remaining reader.new) W.contents writer result.0 result.1 }
+    ensures handed_on { OnOk result.1 (W.handed_on result.0 ≡ true) }
+    ensures reader_failures { CountsReaderFault result.1 (R.failures reader.old)
+        (R.failures reader.new) }
+    ensures writer_failures { CountsWriterFault result.1 (W.failures writer) (W.failures result.0) }
+{
+    let manner = Manner {
+        form,
+        file: None,
+        names: &[],
+    };
+    let (writer, _, _, outcome) = acks(alloc, limits, manner, None, reader, writer);
+    (writer, outcome)
+}
+
 /// Reads a transmission, writes what is told of it, and looks what stands after it. The writer comes back.
 fn tell<R: Source, W: Target + Drop>(
     alloc: Global,
@@ -171,7 +199,7 @@ fn tell<R: Source, W: Target + Drop>(
             (writer, outcome, look)
         }
         Telling::Answers(form) => {
-            let (writer, outcome) = acks(alloc, limits, form, None, reader, writer);
+            let (writer, outcome) = acks_alone(alloc, limits, form, reader, writer);
             let look = look_after(reader, &outcome);
             (writer, outcome, look)
         }

@@ -15,18 +15,18 @@ use std::rt::Files;
 
 /// How many files had which verdict.
 #[derive(Clone, Copy, Debug)]
-struct Sums {
+pub(crate) struct Sums {
     good: u64,
     refused: u64,
     truncated: u64,
     failed: u64,
     /// The worst status.
-    status: Status,
+    pub(crate) status: Status,
 }
 
 impl Sums {
     /// No file was judged.
-    fn new() -> Sums {
+    pub(crate) fn new() -> Sums {
         Sums {
             good: 0,
             refused: 0,
@@ -37,7 +37,7 @@ impl Sums {
     }
 
     /// Counts a file that was judged.
-    fn count(&mut self, judgement: &Judgement) {
+    pub(crate) fn count(&mut self, judgement: &Judgement) {
         let count = match judgement.verdict {
             Verdict::Good { .. } => &mut self.good,
             Verdict::Refused(_) => &mut self.refused,
@@ -48,13 +48,13 @@ impl Sums {
     }
 
     /// Counts a file that failed.
-    fn count_failed(&mut self) {
+    pub(crate) fn count_failed(&mut self) {
         self.failed = self.failed.saturating_add(1);
         self.status = Status::Fault;
     }
 
     /// The line of the sums.
-    fn line(&self, alloc: Global, files: usize) -> Result<String, Fault<'static>> {
+    pub(crate) fn line(&self, alloc: Global, files: usize) -> Result<String, Fault<'static>> {
         let Sums {
             good,
             refused,

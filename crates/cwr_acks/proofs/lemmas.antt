@@ -1,10 +1,8 @@
 -- A text without bytes is put by doing nothing.
 pub mod NothingPut
--- The cells of records, and their lengths.
+-- The lengths of cells, and parts of texts.
 pub mod NamedParts
--- The fields of acknowledgements and of messages.
-pub mod AckFields
--- The status that a header names, and the counts of statuses with one item more.
+-- The counts of statuses with one item more.
 pub mod Statuses
 -- The text of data, member by member, and of what holds them.
 pub mod PrintedParts
@@ -12,7 +10,7 @@ pub mod PrintedParts
 pub mod PrintedAcks
 -- The lines of items are those of all but the last, and then those of the last.
 pub mod LinesOfItems
--- The lines of an acknowledgement are its opening, its messages and its closing, and those of a transaction go by its header.
-pub mod AnswerLines
--- The table of what was sent is that of its facts, marked by the acknowledgements so far.
-pub mod Matched
+-- Where nothing is read any more, the list was walked whole.
+pub mod PastEnds
+-- The lines of one item more, as a report puts them.
+pub mod OneItem

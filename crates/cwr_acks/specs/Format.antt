@@ -1,6 +1,4 @@
 -- What is promised, in the words of the format.
-pub mod Acknowledgements
-pub mod SentAnswers
 pub mod AckTexts
 pub mod AckData
 pub mod AckLines

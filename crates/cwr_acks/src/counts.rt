@@ -1,11 +1,11 @@
 //! How many acknowledgements there are of each status.
 
-ghost use Rattle.std.specs.Prelude.{◌≡◌};
+ghost use Rattle.std.specs.Prelude.{◌≡◌, ℕ, ◌+◌, ◌-◌, ◌^◌, ◌<◌, length, min, slice_index};
 ghost use Rattle.cwr_values.specs.declared.items.Item.TheVariants as items;
-ghost use Rattle.cwr_acks.specs.Format.Acknowledgements.{has_status, is_answer};
+ghost use Rattle.cwr_delivery.specs.Format.Acknowledgements.{has_status, is_answer};
 ghost use Rattle.cwr_acks.specs.Steps.AckSteps.{HasRoom, answers_with, no_answers};
 
-use crate::facts::{has_status, is_answer};
+use cwr_delivery::{has_status, is_answer};
 use cwr_fields::TransactionStatus;
 use cwr_values::{Item, Transaction};
 
@@ -25,21 +25,38 @@ pub(crate) const STATUSES: [TransactionStatus; 10] = [
 
 /// How many acknowledgements there were.
 #[derive(Clone, Copy, Debug)]
-pub(crate) struct Answers {
+pub struct Answers {
     /// All of them.
-    pub(crate) all: u32,
+    pub all: u64,
     /// Those of each status, in the order of the table.
-    pub(crate) by_status: [u32; 10],
+    pub by_status: [u64; 10],
 }
 
 impl Answers {
     /// There were none.
-    pub(crate) fn new() -> Self
+    pub fn new() -> Self
         ensures { result ≡ no_answers }
     {
         Answers {
             all: 0,
             by_status: [0; 10],
+        }
+    }
+
+    /// Both together. Each number stays at `u64::MAX`.
+    pub fn add(&self, other: &Answers) -> Self
+        ensures all { result.all ≡ min (self.now.all + other.now.all) (2 ^ 64 - 1) }
+        ensures ten { length result.by_status ≡ 10 }
+        ensures each { (k : ℕ) → k < 10 → slice_index result.by_status k ≡ min
+            (slice_index self.now.by_status k + slice_index other.now.by_status k) (2 ^ 64 - 1) }
+    {
+        let mut by_status = [0; 10];
+        for i in 0..10 {
+            by_status[i] = self.by_status[i].saturating_add(other.by_status[i]);
+        }
+        Answers {
+            all: self.all.saturating_add(other.all),
+            by_status,
         }
     }
 

@@ -1,14 +1,13 @@
 //! The forms in which it is told what acknowledgements say, and the texts in each.
 
-ghost use Rattle.std.specs.Prelude.{◌≡◌, length, true};
-ghost use Rattle.cwr_acks.specs.Format.Acknowledgements.{is_ack, is_message};
-ghost use Rattle.cwr_acks.specs.Format.AckLines.{unanswered_in};
-ghost use Rattle.cwr_acks.specs.Steps.AckSteps.{counts_in, message_as, opening_in};
+ghost use Rattle.std.specs.Prelude.{◌≡◌, option_map, slice_get, true};
+ghost use Rattle.cwr_delivery.specs.Format.Acknowledgements.{is_ack, is_message};
+ghost use Rattle.cwr_acks.specs.Format.AckLines.{telling_of};
+ghost use Rattle.cwr_acks.specs.Steps.AckSteps.{ack_in, message_as};
 
-use crate::counts::Answers;
 use crate::line_texts::LineText;
-use crate::matching::Notes;
-use cwr_fields::{Kind, MessageLevel};
+use cwr_delivery::Notes;
+use cwr_fields::MessageLevel;
 use cwr_lines::RecordRef;
 
 /// How it is told what acknowledgements say.
@@ -20,17 +19,38 @@ pub enum Form {
     Json,
 }
 
+/// How it is told what acknowledgements say: in what form, and under which names of files, each as `shown_name` has it.
+#[derive(Clone, Copy, Debug)]
+pub struct Manner<'a> {
+    /// In what form.
+    pub form: Form,
+    /// The name of their transmission's file, where there are several files; none where there is one.
+    pub file: Option<&'a [u8]>,
+    /// The names of the files of what was sent, where there are several; else none.
+    pub names: &'a [Vec<u8>],
+}
+
+impl<'a> Manner<'a> {
+    /// The name of transmission `i`, from 0, of what was sent, where that is told.
+    pub(crate) fn name(&self, i: usize) -> Option<&'a [u8]>
+        ensures { option_map (λ n. n.now) result ≡ slice_get (telling_of self.now).names i }
+    {
+        let name = self.names.get(i)?;
+        Some(name.as_slice())
+    }
+}
+
 impl LineText {
-    /// Sets what stands before the messages of an acknowledgement that have that worst level.
-    pub(crate) fn set_opening(
+    /// Sets the text of an acknowledgement whose messages have that worst level, but for the names of files.
+    pub(crate) fn set_ack_in(
         &mut self,
         form: Form,
-        notes: Notes,
+        notes: &Option<Notes>,
         shown: &RecordRef<'_>,
         worst: Option<MessageLevel>,
     )
         requires { is_ack shown.now ≡ true }
-        ensures { self.new ≡ opening_in form notes shown.now worst }
+        ensures { self.new ≡ ack_in form notes.now shown.now worst }
     {
         match form {
             Form::Words => self.set_ack(shown, worst),
@@ -46,27 +66,6 @@ impl LineText {
         match form {
             Form::Words => self.set_message(shown),
             Form::Json => self.set_message_data(later, shown),
-        }
-    }
-
-    /// Sets the line of a transaction of that kind that isn't answered.
-    pub(crate) fn set_unanswered_in(&mut self, form: Form, group: u64, sequence: u64, kind: Kind)
-        ensures { self.new ≡ unanswered_in form group sequence kind }
-    {
-        match form {
-            Form::Words => self.set_unanswered(group, sequence, kind),
-            Form::Json => self.set_unanswered_data(group, sequence, kind),
-        }
-    }
-
-    /// Sets the line of counts.
-    pub(crate) fn set_counts_in(&mut self, form: Form, answers: &Answers)
-        requires { length answers.now.by_status ≡ 10 }
-        ensures { self.new ≡ counts_in form answers.now }
-    {
-        match form {
-            Form::Words => self.set_counts(answers),
-            Form::Json => self.set_counts_data(answers),
         }
     }
 }

@@ -3,13 +3,17 @@
 
 mod counts;
 mod data_texts;
-mod facts;
 mod forms;
 mod item_lines;
 mod line_texts;
 mod matching;
+mod names;
+mod rest;
 mod running;
 mod unanswered;
 
-pub use forms::Form;
+pub use counts::Answers;
+pub use forms::{Form, Manner};
+pub use names::shown_name;
+pub use rest::put_rest;
 pub use running::acks;

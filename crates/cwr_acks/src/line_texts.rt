@@ -1,21 +1,22 @@
 //! The text of a line for people, part by part.
 
 ghost use Rattle.std.specs.Prelude.{◌≡◌, ◌+◌, ◌≤◌, [], ◌++◌, decimal, length, true};
-ghost use Rattle.cwr_acks.specs.Format.Acknowledgements.{is_ack, is_message};
-ghost use Rattle.cwr_acks.specs.Format.AckTexts.{ack_line, cell_part, level_part, marked_line, message_line, number_part, original_text, status_part};
-ghost use Rattle.cwr_acks.specs.Format.AckTexts.{status_text, unanswered_text, words_of};
+ghost use Rattle.cwr_delivery.specs.Format.Acknowledgements.{is_ack, is_message};
+ghost use Rattle.cwr_acks.specs.Format.AckTexts.{ack_text, cell_part, level_part, marked_line, message_line, number_part, original_text, status_part};
+ghost use Rattle.cwr_acks.specs.Format.AckTexts.{status_text, unanswered_text, value_part, words_of};
 ghost use Rattle.cwr_acks.specs.Steps.AckSteps.{counts_text};
 ghost use Rattle.cwr_fields.specs.Format.MessageCodes.{status_code};
 
 use crate::counts::{Answers, STATUSES};
-use crate::facts::{
+use arrayvec::ArrayVec;
+use cwr_delivery::{
     GROUP, LEVEL, MESSAGE, MESSAGE_TYPE, ORIGINAL_TYPE, RECIPIENT_NUMBER, RECORD, RECORD_TYPE,
     SEQUENCE, STATUS, SUBMITTER_NUMBER, TITLE, VALIDATION, status_of,
 };
-use arrayvec::ArrayVec;
-use cwr_fields::{Coded, Kind, MessageLevel, TransactionStatus, is_spaces, letters, trimmed};
+use cwr_fields::{Coded, MessageLevel, TransactionStatus, is_spaces, letters, trimmed};
 use cwr_levels::{cell, number_of};
 use cwr_lines::RecordRef;
+use cwr_sent::SentFacts;
 use itoa::Buffer;
 use std::marker::Model;
 
@@ -134,8 +135,21 @@ fn push_level(text: &mut Text, worst: Option<MessageLevel>)
     }
 }
 
+/// Appends what stands for an acknowledgement in what was sent.
+fn push_value(text: &mut Text, value: &[u8])
+    requires { length text.old.items + 6 + length value.now ≤ LONGEST }
+    ensures value { text.new.items ≡ text.old.items ++ value_part value.now }
+    ensures len { length text.new.items ≤ length text.old.items + 6 + length value.now }
+{
+    if value.is_empty() {
+        return;
+    }
+    push(text, b" sent ");
+    push(text, value);
+}
+
 /// Appends a status, and how many acknowledgements have it.
-fn push_count(text: &mut Text, status: TransactionStatus, count: u32)
+fn push_count(text: &mut Text, status: TransactionStatus, count: u64)
     requires { length text.old.items + 24 ≤ LONGEST }
     ensures value { text.new.items ≡ text.old.items ++ status_part (status_code status) count }
     ensures len { length text.new.items ≤ length text.old.items + 24 }
@@ -143,7 +157,7 @@ fn push_count(text: &mut Text, status: TransactionStatus, count: u32)
     push(text, b" ");
     push(text, status.code().as_bytes());
     push(text, b" ");
-    push_number(text, u64::from(count));
+    push_number(text, count);
 }
 
 /// A buffer for the text of one line. It takes no memory.
@@ -177,10 +191,10 @@ impl LineText {
         self.text.as_slice()
     }
 
-    /// Sets the line of an acknowledgement whose messages have that worst level.
+    /// Sets the text of an acknowledgement whose messages have that worst level.
     pub(crate) fn set_ack(&mut self, shown: &RecordRef<'_>, worst: Option<MessageLevel>)
         requires { is_ack shown.now ≡ true }
-        ensures { self.new ≡ ack_line shown.now worst }
+        ensures { self.new ≡ ack_text shown.now worst }
     {
         let text = &mut self.text;
         text.clear();
@@ -191,7 +205,6 @@ impl LineText {
         push_cell_part(text, b" submitter ", cell(shown, SUBMITTER_NUMBER));
         push_cell_part(text, b" recipient ", cell(shown, RECIPIENT_NUMBER));
         push_cell_part(text, b" title ", cell(shown, TITLE));
-        push(text, b"\n");
     }
 
     /// Sets the line of a message.
@@ -213,11 +226,12 @@ impl LineText {
         push(text, b"\n");
     }
 
-    /// Sets a line of a word on an acknowledgement.
-    pub(crate) fn set_marked(&mut self, word: &[u8], shown: &RecordRef<'_>)
+    /// Sets a line of a word on an acknowledgement, with what stands for it in what was sent.
+    pub(crate) fn set_marked(&mut self, word: &[u8], shown: &RecordRef<'_>, value: &[u8])
         requires ack { is_ack shown.now ≡ true }
         requires short { length word.now ≤ 20 }
-        ensures { self.new ≡ marked_line word.now shown.now }
+        requires shorter { length value.now ≤ 20 }
+        ensures { self.new ≡ marked_line word.now shown.now value.now }
     {
         let text = &mut self.text;
         text.clear();
@@ -225,12 +239,13 @@ impl LineText {
         push_original(text, shown);
         push_cell_part(text, b" submitter ", cell(shown, SUBMITTER_NUMBER));
         push_cell_part(text, b" title ", cell(shown, TITLE));
+        push_value(text, value);
         push(text, b"\n");
     }
 
-    /// Sets the line of a transaction of that kind that isn't answered.
-    pub(crate) fn set_unanswered(&mut self, group: u64, sequence: u64, kind: Kind)
-        ensures { self.new ≡ unanswered_text group sequence kind }
+    /// Sets the line of a transaction that isn't answered.
+    pub(crate) fn set_unanswered(&mut self, group: u64, sequence: u64, facts: &SentFacts)
+        ensures { self.new ≡ unanswered_text group sequence facts.now }
     {
         let text = &mut self.text;
         text.clear();
@@ -239,7 +254,8 @@ impl LineText {
         push(text, b" transaction ");
         push_number(text, sequence);
         push(text, b" ");
-        push(text, letters(kind));
+        push(text, letters(facts.kind));
+        push_cell_part(text, b" submitter ", &facts.number);
         push(text, b"\n");
     }
 
@@ -251,7 +267,7 @@ impl LineText {
         let text = &mut self.text;
         text.clear();
         push(text, b"ACKS ");
-        push_number(text, u64::from(answers.all));
+        push_number(text, answers.all);
         for i in 0..10 {
             push_count(text, STATUSES[i], answers.by_status[i]);
         }

@@ -1,115 +1,63 @@
 //! Acknowledgements matched with what was sent.
 
-ghost use Rattle.std.specs.Prelude.{◌≡◌, Some, true, option_map};
-ghost use Rattle.cwr_sent.specs.Format.SentRows.{rows};
-ghost use Rattle.cwr_acks.specs.Format.Acknowledgements.{is_ack};
-ghost use Rattle.cwr_acks.specs.Format.SentAnswers.{are_different, wants_answer};
-ghost use Rattle.cwr_acks.specs.Steps.AckSteps.{entry_for, marked_by, marked_with, notes_by, notes_in, rows_if};
+ghost use Rattle.std.specs.Prelude.{◌≡◌, ◌&&◌, IfOk, OnErr, OnOk, is_some, true};
+ghost use Rattle.cwr_values.specs.declared.items.Item.TheVariants as items;
+ghost use Rattle.cwr_delivery.specs.Steps.Deliveries.{held_in};
+ghost use Rattle.cwr_acks.specs.Format.AckLines.{keeps_of};
+ghost use Rattle.cwr_acks.specs.Steps.AckSteps.{held_if, kept_if, kept_with, kept_with_transaction, notes_if, notes_of_transaction, notes_with};
 
-use crate::facts::{group_of, is_ack, named_check, sequence_of};
-use cwr_fields::Kind;
-use cwr_lines::RecordRef;
-use cwr_sent::{Entry, Sent, SentFacts};
+use cwr_delivery::{Delivery, Notes, is_ack};
 use cwr_values::{Item, Transaction};
+use std::alloc::AllocError;
 
-/// What is told of an acknowledgement beside what it says.
-#[derive(Clone, Copy, Debug)]
-pub(crate) struct Notes {
-    /// What it answers was never sent.
-    pub(crate) unsent: bool,
-    /// That was sent with another title.
-    pub(crate) retitled: bool,
-    /// That was answered before.
-    pub(crate) again: bool,
-}
-
-/// Whether two checks are of different titles, neither of which is blank.
-fn are_different(one: u32, other: u32) -> bool
-    ensures { result ≡ are_different one other }
-{
-    one != 0 && other != 0 && one != other
-}
-
-/// Whether a transaction that was sent wants an answer: no acknowledgement does.
-pub(crate) fn wants_answer(facts: &SentFacts) -> bool
-    ensures { result ≡ wants_answer facts.now }
-{
-    facts.kind != Kind::Ack
-}
-
-/// What was sent of the transaction that an acknowledgement names.
-fn entry_for(sent: &Sent, head: &RecordRef<'_>) -> Option<Entry>
-    requires { is_ack head.now ≡ true }
-    ensures { result ≡ entry_for (rows sent.now) head.now }
-{
-    let group = group_of(head);
-    if group == 0 {
-        return None;
-    }
-    let entry = sent.entry(group - 1, sequence_of(head))?;
-    if wants_answer(&entry.facts) {
-        Some(entry)
-    } else {
-        None
-    }
-}
-
-/// What is told of an acknowledgement of a transaction that was sent, or of one that wasn't.
-fn notes_by(found: Option<Entry>, head: &RecordRef<'_>) -> Notes
-    requires { is_ack head.now ≡ true }
-    ensures { result ≡ notes_by found head.now }
-{
-    match found {
-        Some(entry) => Notes {
-            unsent: false,
-            retitled: are_different(entry.facts.title, named_check(head)),
-            again: entry.answered,
-        },
-        None => Notes {
-            unsent: true,
-            retitled: false,
-            again: false,
-        },
-    }
-}
-
-/// What is told of an acknowledgement, where it is matched with what was sent.
-pub(crate) fn notes_of(sent: &Option<Sent>, head: &RecordRef<'_>) -> Notes
-    requires { is_ack head.now ≡ true }
-    ensures { result ≡ notes_in (rows_if sent.now) head.now }
-{
-    match sent {
-        Some(sent) => notes_by(entry_for(sent, head), head),
-        None => Notes {
-            unsent: false,
-            retitled: false,
-            again: false,
-        },
-    }
-}
-
-/// Marks what a transaction answers, if that is an acknowledgement.
-fn mark_by(sent: &mut Sent, transaction: &Transaction)
-    ensures { rows sent.new ≡ marked_by (rows sent.old) transaction.now }
+/// Keeps a transaction, if that is an acknowledgement. Answers what is told of it beside what it says.
+fn keep_transaction(
+    delivery: &mut Delivery,
+    transaction: &Transaction,
+) -> Result<Option<Notes>, AllocError>
+    ensures kept { OnOk result
+        (held_in delivery.new ≡ kept_with_transaction (held_in delivery.old) transaction.now) }
+    ensures notes { IfOk result
+        (λ notes. notes ≡ notes_of_transaction (held_in delivery.old) transaction.now) }
+    ensures asks { OnErr result (keeps_of (items.Transaction transaction.now) ≡ true) }
 {
     let Some(head) = transaction.record(0) else {
-        return;
+        return Ok(None);
     };
     if !is_ack(&head) {
-        return;
+        return Ok(None);
     }
-    let group = group_of(&head);
-    if group > 0 {
-        sent.mark(group - 1, sequence_of(&head));
+    Ok(Some(delivery.take(&head, transaction)?))
+}
+
+/// Keeps of an item what a delivery keeps. Answers what is told of an acknowledgement beside what it says.
+fn keep_item(delivery: &mut Delivery, item: &Item) -> Result<Option<Notes>, AllocError>
+    ensures kept { OnOk result (held_in delivery.new ≡ kept_with (held_in delivery.old) item.now) }
+    ensures notes { IfOk result (λ notes. notes ≡ notes_with (held_in delivery.old) item.now) }
+    ensures asks { OnErr result (keeps_of item.now ≡ true) }
+{
+    match item {
+        Item::Opened(opening) => {
+            delivery.open(&opening.view())?;
+            Ok(None)
+        }
+        Item::Transaction(transaction) => keep_transaction(delivery, transaction),
+        Item::GroupOpened(_) | Item::GroupClosed(_) | Item::Ended => Ok(None),
     }
 }
 
-/// Marks what an item answers.
-pub(crate) fn mark_with(sent: &mut Option<Sent>, item: &Item)
-    ensures { rows_if sent.new
-        ≡ option_map (λ table. marked_with table item.now) (rows_if sent.old) }
+/// The same, where acknowledgements are matched with what was sent.
+pub(crate) fn keep_item_if(
+    delivery: &mut Option<Delivery>,
+    item: &Item,
+) -> Result<Option<Notes>, AllocError>
+    ensures kept { OnOk result (held_if delivery.new ≡ kept_if (held_if delivery.old) item.now) }
+    ensures notes { IfOk result (λ notes. notes ≡ notes_if (held_if delivery.old) item.now) }
+    // Memory is asked for only where something is kept.
+    ensures asks { OnErr result ((is_some delivery.old && keeps_of item.now) ≡ true) }
 {
-    if let (Some(sent), Item::Transaction(transaction)) = (sent, item) {
-        mark_by(sent, transaction);
+    match delivery {
+        Some(delivery) => keep_item(delivery, item),
+        None => Ok(None),
     }
 }

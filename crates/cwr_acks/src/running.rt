@@ -1,18 +1,17 @@
 //! Whole runs over a text: its acknowledgements.
 
-ghost use Rattle.std.specs.Prelude.{◌≡◌, true, IfOk, IfSome, OnOk};
+ghost use Rattle.std.specs.Prelude.{◌≡◌, [], OnOk, Option, true};
 ghost use Rattle.cwr_tools.specs.Format.Reports.{CountsReaderFault, CountsWriterFault, ReportsText};
-ghost use Rattle.cwr_tools.specs.Steps.Reports.{Reports};
-ghost use Rattle.cwr_acks.specs.Format.AckLines.{lines_of_acks};
-ghost use Rattle.cwr_acks.specs.Format.SentAnswers.{IsFresh, facts_if};
+ghost use Rattle.cwr_acks.specs.Format.AckLines.{IsToldSo, Matched, Telling, lines_of_acks};
+ghost use Rattle.cwr_acks.specs.Steps.AckSteps.{IsKept, ReportsAcks, held_if};
 
 use crate::counts::Answers;
-use crate::forms::Form;
+use crate::forms::Manner;
 use crate::item_lines::put_item;
 use crate::line_texts::LineText;
-use crate::matching::mark_with;
+use crate::matching::keep_item_if;
+use cwr_delivery::Delivery;
 use cwr_devices::{Sink, SinkFault, Source, Target};
-use cwr_sent::Sent;
 use cwr_shape::Limits;
 use cwr_tools::{NothingKept, Report, ToolFault, Totals, Verdict, write_report};
 use cwr_values::Item;
@@ -20,25 +19,25 @@ use std::alloc::Global;
 
 /// The lines of acknowledgements, and nothing for the verdict.
 #[derive(Drop)]
-struct AnswerLines {
-    form: Form,
-    /// What was sent, marked by the acknowledgements so far.
-    sent: Option<Sent>,
+struct AnswerLines<'a> {
+    manner: Manner<'a>,
+    /// What was sent, and what is kept of the acknowledgements so far.
+    delivery: Option<Delivery>,
     /// How many there were.
     answers: Answers,
     /// In which a line is made.
     text: LineText,
 }
 
-impl Report for AnswerLines {
-    ghost use Rattle.std.specs.Prelude.{◌≡◌, List, Option};
-    ghost use Rattle.cwr_sent.specs.declared.facts.SentFacts.{SentFacts};
-    ghost use Rattle.cwr_acks.specs.Format.AckLines.{lines_of_acks};
-    ghost use Rattle.cwr_acks.specs.Steps.AckSteps.{IsAnswers, IsMatched, rows_if};
+impl Report for AnswerLines<'_> {
+    ghost use Rattle.std.specs.Prelude.{◌≡◌, Option};
+    ghost use Rattle.cwr_delivery.specs.Steps.Deliveries.{Held};
+    ghost use Rattle.cwr_acks.specs.Format.AckLines.{telling_of};
+    ghost use Rattle.cwr_acks.specs.Steps.AckSteps.{answers_of, held_after, held_if, lines_of_held};
 
     type Works = NothingKept;
 
-    ghost stands = { λ report of given. (facts : Option (List (List SentFacts))) × (of ≡ lines_of_acks report.form facts) × IsMatched (rows_if report.sent) facts given × IsAnswers report.answers given };
+    ghost stands = { λ report of given. (held : Option Held) × (of ≡ lines_of_held (telling_of report.manner) held) × (held_if report.delivery ≡ held_after held given) × (report.answers ≡ answers_of given) };
 
     fn works(&self) -> NothingKept {
         NothingKept
@@ -59,16 +58,19 @@ impl Report for AnswerLines {
         item: &Item,
         sink: &mut Sink<W>,
     ) -> Result<(), ToolFault> {
+        let Ok(notes) = keep_item_if(&mut self.delivery, item) else {
+            return Err(ToolFault::Memory);
+        };
         put_item(
-            self.form,
-            &self.sent,
+            &self.manner,
+            &self.delivery,
+            &notes,
             &self.answers,
             item,
             &mut self.text,
             sink,
         )?;
         self.answers.count_answer(item);
-        mark_with(&mut self.sent, item);
         Ok(())
     }
 
@@ -78,39 +80,45 @@ impl Report for AnswerLines {
 }
 
 /// Writes what the acknowledgements of a transmission say: a line for each and one for each of its messages, or an object of JSON for
-/// each. It reads the transmission up to its end or to where it is refused. Where it is whole a line with their counts is last. Of the
-/// verdict nothing is written; it is answered. The writer comes back.
+/// each; matched with what was sent, where a delivery is given. It reads the transmission up to its end or to where it is refused. Where
+/// it is whole a line with their counts is last, and before that, where there is one file alone, what isn't answered. Of the verdict
+/// nothing is written; it is answered. The writer comes back, with the delivery and how many acknowledgements there were.
 ///
 /// The verdict and the faults are those of a check. Where the text is refused or ends too early, the lines are those of the items
-/// before. It holds one transaction and the text of one line, whatever the input.
+/// before. It holds one transaction and the text of one line, whatever the input, and what the delivery keeps.
 pub fn acks<R: Source, W: Target + Drop>(
     alloc: Global,
     limits: Limits,
-    form: Form,
-    sent: Option<Sent>,
+    manner: Manner<'_>,
+    delivery: Option<Delivery>,
     reader: &mut R,
     writer: W,
-) -> (W, Result<Verdict, ToolFault>)
-    requires { IfSome sent IsFresh }
-    // Of any reader, by what was read of it.
-    ensures reported { Reports (lines_of_acks form (facts_if sent)) limits (R.remaining reader.old)
-        (R.remaining reader.new) W.contents writer result.0 result.1 }
+) -> (W, Option<Delivery>, Answers, Result<Verdict, ToolFault>)
+    // Of any reader, by what was read of it, and by what was sent and what was read before, where the delivery is as these leave it.
+    ensures reported { ReportsAcks manner.entry delivery limits (R.remaining reader.old)
+        (R.remaining reader.new) W.contents writer result.0 result.3 }
     // Of bytes that are known, in the words of the text alone.
-    ensures told { ReportsText (lines_of_acks form (facts_if sent)) limits (R.remaining reader.old)
-        (R.remaining reader.new) W.contents writer result.0 result.1 }
+    ensures told { (telling : Telling) (matched : Option Matched) → IsToldSo telling manner.entry
+        → IsKept (held_if delivery) matched [] → ReportsText (lines_of_acks telling matched) limits
+        (R.remaining reader.old) (R.remaining reader.new) W.contents writer result.0 result.3 }
     // No failure is passed over: a device failed only where that is the answer.
-    ensures reader_failures { CountsReaderFault result.1 (R.failures reader.old)
+    ensures reader_failures { CountsReaderFault result.3 (R.failures reader.old)
         (R.failures reader.new) }
-    ensures writer_failures { CountsWriterFault result.1 (W.failures writer) (W.failures result.0) }
+    ensures writer_failures { CountsWriterFault result.3 (W.failures writer) (W.failures result.0) }
     // All that was written was handed on.
-    ensures handed_on { OnOk result.1 (W.handed_on result.0 ≡ true) }
+    ensures handed_on { OnOk result.3 (W.handed_on result.0 ≡ true) }
 {
     let mut lines = AnswerLines {
-        form,
-        sent,
+        manner,
+        delivery,
         answers: Answers::new(),
         text: LineText::new(),
     };
     let (writer, outcome, _) = write_report(&mut lines, false, alloc, limits, reader, writer);
-    (writer, outcome)
+    let AnswerLines {
+        delivery,
+        answers,
+        ..
+    } = lines;
+    (writer, delivery, answers, outcome)
 }

@@ -27,8 +27,14 @@ pub const CSV: &str = "csv";
 /// The name of the subcommand that tells what acknowledgements say.
 pub const ACKS: &str = "acks";
 
-/// The id of the file of the transmission that acknowledgements answer.
+/// The id of the files of the transmissions that acknowledgements answer.
 pub const SENT: &str = "sent";
+
+/// The id of the flag by which an acknowledgement may answer any of them.
+pub const BY_PLACE: &str = "by-place";
+
+/// The id of the flag that asks for a table of what became of each transaction.
+pub const STATE: &str = "state";
 
 /// The id of the flag that asks for lines of JSON.
 pub const AS_JSON: &str = "json";
@@ -72,7 +78,7 @@ pub const REPEATED: &str = "repeated";
 /// The id of the flag that leaves out what is good.
 pub const QUIET: &str = "quiet";
 
-/// The id of the level of findings that end a run as a refusal does.
+/// The id of the level of findings, or of the states, that end a run as a refusal does.
 pub const FAIL_ON: &str = "fail-on";
 
 /// The id of the flag that wants nothing after a transmission.
@@ -135,8 +141,15 @@ enum Form {
     },
     /// `--ID LEVEL`, one of the levels.
     Level,
-    /// `--ID NAME`, where NAME is this.
-    Name(&'static str),
+    /// `--ID NAME`, where NAME is this, any number of times.
+    Names(&'static str),
+    /// `--ID`, only beside the option of that id.
+    FlagBeside(&'static str),
+    /// `--ID NAME`, where NAME is this, only beside the option of that id.
+    NameBeside {
+        name: &'static str,
+        other: &'static str,
+    },
     /// `-LETTER ID`.
     Letter(char),
     /// `-LETTER ID`, a whole number from 1 to the most, which may not be left out.
@@ -154,6 +167,16 @@ enum Form {
     Needed,
     /// Names of files, of which there is one at least.
     NeededFiles,
+}
+
+impl Form {
+    /// The id of the option that has to stand beside it.
+    fn other(self) -> Option<&'static str> {
+        match self {
+            Form::FlagBeside(other) | Form::NameBeside { other, .. } => Some(other),
+            _ => None,
+        }
+    }
 }
 
 /// A word of a subcommand.
@@ -334,18 +357,37 @@ const TABULATED: [Word; 2] = [
 ];
 
 /// The words of what acknowledgements say.
-const ANSWERED: [Word; 3] = [
-    ONE,
+const ANSWERED: [Word; 6] = [
     Word {
         id: SENT,
-        form: Form::Name("SENT"),
-        help: "The transmission that they answer: tells what of it isn't answered, and what wasn't sent",
+        form: Form::Names("SENT"),
+        help: "A transmission that they answer, once or more: tells what of it isn't answered, and what wasn't sent",
     },
     Word {
         id: AS_JSON,
         form: Form::Flag,
         help: "Writes lines of JSON, an object for each acknowledgement",
     },
+    Word {
+        id: BY_PLACE,
+        form: Form::FlagBeside(SENT),
+        help: "An acknowledgement may answer each SENT, whatever creation date and time it has",
+    },
+    Word {
+        id: STATE,
+        form: Form::FlagBeside(SENT),
+        help: "Writes a table of states in the place of the lines: what became of each transaction of SENT",
+    },
+    Word {
+        id: FAIL_ON,
+        form: Form::NameBeside {
+            name: "STATES",
+            other: SENT,
+        },
+        help: "Status 1 where a row of the table of states has one of these, with commas between them \
+            [possible values: accepted, pending, rejected, conflict, duplicate, claim-rejected, no-participation, unanswered]",
+    },
+    MANY,
 ];
 
 /// The words of the import.
@@ -471,7 +513,7 @@ const SUBCOMMANDS: [Subcommand; 13] = [
     },
     Subcommand {
         name: ACKS,
-        about: "Tells what the acknowledgements of a transmission say, and its verdict to standard error",
+        about: "Tells what the acknowledgements of transmissions say, and the verdicts to standard error",
         common: Common::Reading,
         own: &ANSWERED,
     },
@@ -508,10 +550,10 @@ const SUBCOMMANDS: [Subcommand; 13] = [
 ];
 
 /// A word, as `clap` has it.
-fn argument<'a>(alloc: Global, word: Word) -> Arg<'a> {
+fn argument<'a>(alloc: Global, word: Word) -> Result<Arg<'a>, AllocError> {
     let arg = Arg::new(alloc, word.id).help(word.help);
-    match word.form {
-        Form::Flag => arg.long(word.id).action(ArgAction::SetTrue),
+    let arg = match word.form {
+        Form::Flag | Form::FlagBeside(_) => arg.long(word.id).action(ArgAction::SetTrue),
         Form::Limit {
             least,
             most,
@@ -525,7 +567,8 @@ fn argument<'a>(alloc: Global, word: Word) -> Arg<'a> {
             .long(word.id)
             .value_name("LEVEL")
             .value_parser(&LEVELS[..]),
-        Form::Name(name) => arg.long(word.id).value_name(name),
+        Form::Names(name) => arg.long(word.id).value_name(name).action(ArgAction::Append),
+        Form::NameBeside { name, .. } => arg.long(word.id).value_name(name),
         Form::Letter(letter) => arg.short(letter).value_name(word.id),
         Form::Count { letter, most } => arg
             .short(letter)
@@ -537,6 +580,10 @@ fn argument<'a>(alloc: Global, word: Word) -> Arg<'a> {
         Form::Files => arg.num_args(1..),
         Form::Needed => arg.required(true),
         Form::NeededFiles => arg.required(true).num_args(1..),
+    };
+    match word.form.other() {
+        Some(other) => arg.requires_arg(other),
+        None => Ok(arg),
     }
 }
 
@@ -547,7 +594,7 @@ fn with<'a>(
     words: &[Word],
 ) -> Result<Command<'a>, AllocError> {
     for word in words {
-        command = command.arg(argument(alloc, *word))?;
+        command = command.arg(argument(alloc, *word)?)?;
     }
     Ok(command)
 }
@@ -591,13 +638,20 @@ In the place of REFUSED `cwr lint` writes a line for each fault, and then:
 `cwr renumber` without OUT; GOOD then has the numbers of what is written. So does `cwr acks`, whose last line has counts:
   ACKS N CO C DU D ...                       so many acknowledgements, and so many of each status
 
-With --sent it writes what was never sent, or with another title, or is answered again, and before ACKS what isn't answered:
+With --sent it writes which of them name no date and time, which answer no transaction of SENT, or one with another title or once
+more, and before ACKS what isn't answered:
+  UNKEYED group G transaction T TYPE ...
   UNSENT group G transaction T TYPE ...
+  UNCLEAR group G transaction T TYPE ...
+  RETYPED group G transaction T TYPE ... sent VALUE
+  RENUMBERED group G transaction T TYPE ... sent VALUE
   RETITLED group G transaction T TYPE ...
   AGAIN group G transaction T TYPE ...
-  UNANSWERED group G transaction T TYPE
+  UNANSWERED group G transaction T TYPE submitter N
 
-With --json it writes all this as lines of JSON, an object for each acknowledgement.
+With --json it writes all this as lines of JSON, an object for each acknowledgement. With --state it writes a table in its place, and
+last to standard error:
+  STATE sent N accepted A pending P ...      so many transactions of SENT, rows of each state, and acknowledgements that answer none
 
 `cwr write` writes to standard error:
   WRITTEN lines L bytes B                    the transmission is written
@@ -624,6 +678,7 @@ Examples: cwr check works.cwr
           cwr advise works.cwr
           cwr csv works works.cwr
           cwr acks acknowledgement.cwr
+          cwr acks --sent works.cwr --state acknowledgement.cwr
           cwr split -n 1000 works.cwr part-
           cwr join whole.cwr part-00000001 part-00000002";
 

@@ -14,7 +14,8 @@ fn count_kept(rt: &(impl Abort + AllocGlobal), text: &[u8]) -> Option<(usize, us
     match read_sent(rt.alloc(), largest(), &mut InMemory::new(text)) {
         Ok(sent) => {
             let groups = sent.groups();
-            Some((groups, sent.group(groups.saturating_sub(1)).len()))
+            let of_the_last = groups.last().map_or(0, |group| group.len());
+            Some((groups.len(), of_the_last))
         }
         Err(fault) => {
             check_equal(rt, fault, ReadFault::Memory);

@@ -1,8 +1,8 @@
 //! What is kept of a transaction that was sent.
 
-ghost use Rattle.std.specs.Prelude.{◌≡◌, ◌<◌, ◌^◌, option_map, slice_get};
+ghost use Rattle.std.specs.Prelude.{◌≡◌, ◌<◌, ◌^◌, length, option_map, slice_get};
 ghost use Rattle.cwr_fields.specs.Format.Bytes.{trimmed};
-ghost use Rattle.cwr_sent.specs.Format.SentFacts.{facts_of, header_check, is_work_header, title_check, title_of};
+ghost use Rattle.cwr_sent.specs.Format.SentFacts.{facts_of, header_check, header_number, is_work_header, submitter_number, title_check, title_of};
 
 use cwr_fields::{Kind, trimmed};
 use cwr_levels::{cell, is_of};
@@ -12,6 +12,15 @@ use cwr_values::Transaction;
 /// NWR, REV: title.
 const TITLE: u8 = 4;
 
+/// NWR, REV: submitter work number.
+const WORK_NUMBER: u8 = 6;
+
+/// AGR: submitter agreement number.
+const AGREEMENT_NUMBER: u8 = 4;
+
+/// What stands for a number that isn't there.
+const NO_NUMBER: [u8; 14] = [b' '; 14];
+
 /// What is kept of a transaction that was sent.
 #[derive(Clone, Copy, Debug)]
 pub struct SentFacts {
@@ -19,6 +28,8 @@ pub struct SentFacts {
     pub kind: Kind,
     /// The check of its title, or 0 without one.
     pub title: u32,
+    /// Its submitter's number of the work or the agreement, filled up with spaces.
+    pub number: [u8; 14],
 }
 
 /// The check of a title. Equal titles have the same, and others hardly ever.
@@ -60,6 +71,39 @@ fn header_check(transaction: &Transaction) -> u32
     }
 }
 
+/// Bytes of that width, copied.
+fn copied(cell: &[u8]) -> [u8; 14]
+    requires { length cell.now ≡ 14 }
+    ensures { result ≡ cell.now }
+{
+    let mut copy = NO_NUMBER;
+    copy.copy_from_slice(cell);
+    copy
+}
+
+/// The submitter's number of a transaction with that header.
+fn number_of_head(head: &RecordRef<'_>) -> [u8; 14]
+    ensures { result ≡ submitter_number head.now }
+{
+    if is_work(head) {
+        copied(cell(head, WORK_NUMBER))
+    } else if is_of(head, Kind::Agr) {
+        copied(cell(head, AGREEMENT_NUMBER))
+    } else {
+        NO_NUMBER
+    }
+}
+
+/// The submitter's number of a transaction.
+fn header_number(transaction: &Transaction) -> [u8; 14]
+    ensures { result ≡ header_number transaction.now }
+{
+    match transaction.record(0) {
+        Some(head) => number_of_head(&head),
+        None => NO_NUMBER,
+    }
+}
+
 impl SentFacts {
     /// What is kept of a transaction.
     pub(crate) fn of(transaction: &Transaction) -> Self
@@ -68,6 +112,7 @@ impl SentFacts {
         SentFacts {
             kind: transaction.kind(),
             title: header_check(transaction),
+            number: header_number(transaction),
         }
     }
 }

@@ -4,8 +4,8 @@ ghost use Rattle.std.specs.Prelude.{◌≡◌, IfOk, IfErr, MatchResult};
 ghost use Rattle.cwr_decode.specs.Format.Runs.{TakesFront};
 ghost use Rattle.cwr_decode.specs.Steps.Readings.{CountsFault};
 ghost use Rattle.cwr_decode.specs.Steps.Runs.{StopsReading};
-ghost use Rattle.cwr_sent.specs.Format.SentFacts.{facts_in};
-ghost use Rattle.cwr_sent.specs.Format.SentRows.{facts_in_rows, fresh_rows, rows};
+ghost use Rattle.cwr_sent.specs.Format.SentFacts.{content_of};
+ghost use Rattle.cwr_sent.specs.Format.SentRows.{IsFresh, content_in};
 ghost use Rattle.cwr_values.specs.Format.Values.{TransmissionValue};
 
 use crate::tables::Sent;
@@ -22,9 +22,9 @@ pub fn read_sent<R: Source>(
 ) -> Result<Sent, ReadFault>
     ensures takes { IfOk result (λ sent. (v : TransmissionValue)
         × TakesFront limits (R.remaining reader.old) v (R.remaining reader.new)
-        × (rows sent ≡ fresh_rows (facts_in v))) }
+        × (content_in sent ≡ content_of v)) }
     // None of them is answered.
-    ensures fresh { IfOk result (λ sent. rows sent ≡ fresh_rows (facts_in_rows (rows sent))) }
+    ensures fresh { IfOk result IsFresh }
     ensures stops { IfErr result
         (λ fault. StopsReading limits fault (R.remaining reader.old) (R.remaining reader.new)) }
     ensures failures { MatchResult result (λ _. R.failures reader.new ≡ R.failures reader.old)

@@ -1,106 +1,109 @@
-//! The table of what was sent, in which is marked what was answered.
+//! The table of what was sent, in which the answers are kept.
 
-ghost use Rattle.std.specs.Prelude.{◌≡◌, [], ◌∷◌, ◌++◌, OnOk, length, slice_get, unwrap_or};
-ghost use Rattle.cwr_sent.specs.Format.SentRows.{rows};
-ghost use Rattle.cwr_sent.specs.Steps.SentTables.{entry_at, filled_in, filled_with, marked};
+ghost use Rattle.std.specs.Prelude.{◌≡◌, [], ◌∷◌, ◌++◌, IfOk, OnOk, OnErr};
+ghost use Rattle.cwr_sent.specs.Format.SentFacts.{facts_at};
+ghost use Rattle.cwr_sent.specs.Format.GroupRows.{fresh};
+ghost use Rattle.cwr_sent.specs.Format.SentRows.{content_in, shown_in};
+ghost use Rattle.cwr_sent.specs.Steps.SentTables.{filled_in, filled_with, is_again_at, kept_shown, nothing_filled};
 
+use crate::answers::{AnsweringFile, KeptAnswer};
+use crate::created::{Created, NEVER};
 use crate::facts::SentFacts;
+use crate::groups::SentGroup;
 use cwr_values::Item;
 use std::alloc::{AllocError, Global};
 use std::mem;
 
-/// A transaction that was sent.
-#[derive(Clone, Copy, Debug)]
-pub struct Entry {
-    /// What is kept of it.
-    pub facts: SentFacts,
-    /// An acknowledgement named it.
-    pub answered: bool,
-}
-
-/// The transactions of a transmission that was sent, by their groups.
+/// The transactions of a transmission that was sent, by their groups, and the answers to them.
 #[derive(Drop)]
 pub struct Sent {
     alloc: Global,
-    groups: Vec<Vec<Entry>>,
-    /// Those of the open group.
-    pending: Vec<Entry>,
+    created: Created,
+    groups: Vec<SentGroup>,
+    /// The open group.
+    pending: SentGroup,
 }
 
 impl Sent {
     /// None so far.
     pub(crate) fn new(alloc: Global) -> Self
-        ensures { filled_in result ≡ record { closed = []; open_one = [] } }
+        ensures { filled_in result ≡ nothing_filled }
     {
         Sent {
             alloc,
+            created: NEVER,
             groups: Vec::new(alloc),
-            pending: Vec::new(alloc),
+            pending: SentGroup::new(alloc),
         }
     }
 
     /// Closes the open group.
     fn close(&mut self) -> Result<(), AllocError>
-        ensures closed { OnOk result ((filled_in self.new).closed
-            ≡ (filled_in self.old).closed ++ (filled_in self.old).open_one ∷ []) }
-        ensures none { OnOk result ((filled_in self.new).open_one ≡ []) }
+        ensures created { self.new.created ≡ self.old.created }
+        ensures closed { OnOk result ((shown_in self.new).groups
+            ≡ (shown_in self.old).groups ++ self.old.pending ∷ []) }
+        ensures none { OnOk result (self.new.pending ≡ fresh []) }
     {
-        let group = mem::replace(&mut self.pending, Vec::new(self.alloc));
+        let group = mem::replace(&mut self.pending, SentGroup::new(self.alloc));
         self.groups.push(group)?;
         Ok(())
     }
 
     /// Takes one item more.
     pub(crate) fn add(&mut self, item: &Item) -> Result<(), AllocError>
-        ensures { OnOk result (filled_in self.new ≡ filled_with (filled_in self.old) item.now) }
+        requires { self.old.pending.answers ≡ [] }
+        ensures filled { OnOk result (filled_in self.new ≡ filled_with (filled_in self.old) item.now) }
     {
         match item {
-            Item::Transaction(transaction) => {
-                self.pending.push(Entry {
-                    facts: SentFacts::of(transaction),
-                    answered: false,
-                })?;
+            Item::Opened(opening) => {
+                self.created = Created::of(&opening.view());
                 Ok(())
             }
+            Item::Transaction(transaction) => self.pending.push(SentFacts::of(transaction)),
             Item::GroupClosed(_) => self.close(),
-            Item::Opened(_) | Item::GroupOpened(_) | Item::Ended => Ok(()),
+            Item::GroupOpened(_) | Item::Ended => Ok(()),
         }
     }
 
-    /// How many groups there are.
-    pub fn groups(&self) -> usize
-        ensures { result ≡ length (rows self.now) }
+    /// When it was created.
+    pub fn created(&self) -> Created
+        ensures { result ≡ self.now.created }
     {
-        self.groups.len()
+        self.created
     }
 
-    /// The entries of group `group`, from 0; none where it isn't there.
-    pub fn group(&self, group: usize) -> &[Entry]
-        ensures { result.now ≡ unwrap_or (slice_get (rows self.now) group) [] }
+    /// Its groups.
+    pub fn groups(&self) -> &[SentGroup]
+        ensures { result.now ≡ (shown_in self.now).groups }
     {
-        match self.groups.get(group) {
-            Some(row) => row.as_slice(),
-            None => &[],
+        self.groups.as_slice()
+    }
+
+    /// What is kept of transaction `t` of group `g`, both from 0.
+    pub fn facts(&self, g: usize, t: usize) -> Option<SentFacts>
+        ensures { result ≡ facts_at (content_in self.now) g t }
+    {
+        self.groups.get(g)?.facts(t)
+    }
+
+    /// Takes an answer to transaction `t` of group `g`, where that is there: in the place of the one by the same sender, where that doesn't
+    /// count over it. Answers whether there was one. Where memory is refused, nothing is changed.
+    pub fn keep(
+        &mut self,
+        files: &[AnsweringFile],
+        g: usize,
+        t: usize,
+        new: &KeptAnswer,
+    ) -> Result<bool, AllocError>
+        ensures kept { OnOk result
+            (shown_in self.new ≡ kept_shown files.now g t new.now (shown_in self.old)) }
+        ensures again { IfOk result
+            (λ again. again ≡ is_again_at files.now g t new.now (shown_in self.old).groups) }
+        ensures unchanged { OnErr result (shown_in self.new ≡ shown_in self.old) }
+    {
+        match self.groups.get_mut(g) {
+            Some(group) if t < group.len() => group.keep(files, t, new),
+            _ => Ok(false),
         }
-    }
-
-    /// Entry `sequence` of group `group`, both from 0.
-    pub fn entry(&self, group: usize, sequence: usize) -> Option<Entry>
-        ensures { result ≡ entry_at (rows self.now) group sequence }
-    {
-        self.groups.get(group)?.get(sequence).copied()
-    }
-
-    /// Marks that entry as answered, where it is there.
-    pub fn mark(&mut self, group: usize, sequence: usize)
-        ensures { rows self.new ≡ marked (rows self.old) group sequence }
-    {
-        let Some(row) = self.groups.get_mut(group) else {
-            return;
-        };
-        let Some(entry) = row.get_mut(sequence) else {
-            return;
-        };
-        entry.answered = true;
     }
 }

@@ -2,20 +2,21 @@
 
 ghost use Rattle.std.specs.Prelude.{◌≡◌, map, None, Some, IfOk, IfSome, IsOkAnd, IsSomeAnd, codes, false, true, if◌then◌else◌};
 ghost use Rattle.std.specs.Str.{bytes_eq};
-ghost use Rattle.clap.specs.Words.{found_of, has_subcommand};
+ghost use Rattle.clap.specs.Words.{first_value, found_of, has_subcommand};
 ghost use Rattle.cwr_shape.specs.Format.Ranges.{limit_values};
-ghost use Rattle.cwr_words.specs.Format.Words.{AreLimitsOf, AreNamesOf, IsAskedBy, IsJudgingOf, IsOwnWork, IsPlainCheck, IsWorkOf, level_named, rows_named};
+ghost use Rattle.cwr_words.specs.Format.Words.{AreLimitsOf, AreNamesOf, AreValuesOf, IsAskedBy, IsJudgingOf, IsOwnWork, IsPlainCheck, IsWorkOf, level_named, rows_named, states_given};
 
 use clap::error::ErrorKind;
 use clap::{ArgMatches, Error};
 use cwr_fields::Kind;
 use cwr_grammar::{
-    ACKS, ADVICE, ADVISE, AS_JSON, CSV, EXPLAIN, EXPLAINED, FAIL_ON, FILE, GROUPS, JOIN, JSON,
-    KIND, LINE, LINT, MANUAL, NEW, NO_PROGRESS, NUMBER, NUMBERS, OUT, PREFIX, PROGRESS, QUIET,
-    RECORDS, RENUMBER, REPEATED, SENT, SHOW, SPLIT, TRANSACTION, UTF8, WHOLE, WORKS, WRITE,
-    command,
+    ACKS, ADVICE, ADVISE, AS_JSON, BY_PLACE, CSV, EXPLAIN, EXPLAINED, FAIL_ON, FILE, GROUPS, JOIN,
+    JSON, KIND, LINE, LINT, MANUAL, NEW, NO_PROGRESS, NUMBER, NUMBERS, OUT, PREFIX, PROGRESS,
+    QUIET, RECORDS, RENUMBER, REPEATED, SENT, SHOW, SPLIT, STATE, TRANSACTION, UTF8, WHOLE, WORKS,
+    WRITE, command,
 };
 use cwr_shape::{Level, Limits};
+use cwr_states::States;
 use std::alloc::{AllocError, Global};
 use std::convert::AsStr;
 use std::num::NonZeroU32;
@@ -83,14 +84,20 @@ pub enum Work<'a> {
         /// The name of the transmission's file, or none for that on standard input.
         file: Option<&'a str>,
     },
-    /// What the acknowledgements of one say is told.
+    /// What the acknowledgements of transmissions say is told.
     Acks {
-        /// The name of the transmission's file, or none for that on standard input.
-        file: Option<&'a str>,
-        /// The name of the file of the transmission that they answer, or none where they are matched with none.
-        sent: Option<&'a str>,
+        /// The names of the transmissions' files, in their order; without one standard input is read.
+        files: Vec<&'a str>,
+        /// The names of the files of the transmissions that they answer, in their order; without one they are matched with none.
+        sent: Vec<&'a str>,
         /// As lines of JSON.
         as_json: bool,
+        /// Each may answer any of the transmissions that were sent, whatever creation date and time it has.
+        by_place: bool,
+        /// As a table of what became of each transaction that was sent.
+        state: bool,
+        /// A row of that table with one of these states ends the run as a refusal does.
+        fail_on: States,
     },
     /// A transmission is written from lines of JSON.
     Write {
@@ -170,15 +177,27 @@ fn limits_of(name: &str, matches: &ArgMatches<'_>) -> Option<Limits>
     Limits::new(records, groups, transaction).ok()
 }
 
+/// The values of the word of that id.
+fn values_of<'a>(
+    alloc: Global,
+    given: &ArgMatches<'a>,
+    id: &str,
+) -> Result<Vec<&'a str>, AllocError>
+    ensures { IfOk result
+        (λ values. AreValuesOf (found_of given.now) id.now (map (λ value. value.now) values.items)) }
+{
+    match given.get_strs(id) {
+        Some(values) => values.to_vec(alloc),
+        None => Ok(Vec::new(alloc)),
+    }
+}
+
 /// The names that stand for the files.
 fn names_in<'a>(alloc: Global, given: &ArgMatches<'a>) -> Result<Vec<&'a str>, AllocError>
     ensures { IfOk result
         (λ names. AreNamesOf (found_of given.now) (map (λ name. name.now) names.items)) }
 {
-    match given.get_strs(FILE) {
-        Some(names) => names.to_vec(alloc),
-        None => Ok(Vec::new(alloc)),
-    }
+    values_of(alloc, given, FILE)
 }
 
 /// The level that a letter is.
@@ -262,15 +281,31 @@ fn table_in<'a>(given: &ArgMatches<'a>) -> Option<Work<'a>>
     })
 }
 
-/// The work of telling what acknowledgements say.
-fn acks_in<'a>(given: &ArgMatches<'a>) -> Work<'a>
-    ensures { IsOwnWork (codes "acks") (found_of given.now) result }
+/// The states that end a run as a refusal does. `None` where a name is no state's.
+fn states_in(given: &ArgMatches<'_>) -> Option<States>
+    ensures { result ≡ states_given (first_value (found_of given.now) (codes "fail-on")) }
 {
-    Work::Acks {
-        file: given.get_str(FILE),
-        sent: given.get_str(SENT),
-        as_json: given.get_flag(AS_JSON),
+    match given.get_str(FAIL_ON) {
+        Some(names) => States::read(names),
+        None => Some(States::none()),
     }
+}
+
+/// The work of telling what acknowledgements say. `None` where the name of a state is none.
+fn acks_in<'a>(alloc: Global, given: &ArgMatches<'a>) -> Result<Option<Work<'a>>, AllocError>
+    ensures { IfOk result (λ found. IfSome found (IsOwnWork (codes "acks") (found_of given.now))) }
+{
+    let Some(fail_on) = states_in(given) else {
+        return Ok(None);
+    };
+    Ok(Some(Work::Acks {
+        files: names_in(alloc, given)?,
+        sent: values_of(alloc, given, SENT)?,
+        as_json: given.get_flag(AS_JSON),
+        by_place: given.get_flag(BY_PLACE),
+        state: given.get_flag(STATE),
+        fail_on,
+    }))
 }
 
 /// The work of an import. `None` where the bound on lines is missing or out of its range.
@@ -343,7 +378,7 @@ fn work_in<'a>(
     } else if name == CSV {
         Ok(table_in(given))
     } else if name == ACKS {
-        Ok(Some(acks_in(given)))
+        acks_in(alloc, given)
     } else if name == WRITE {
         Ok(import_in(given))
     } else if name == JOIN {
@@ -401,16 +436,26 @@ fn task_in<'a>(alloc: Global, matches: &ArgMatches<'a>) -> Result<Option<Task<'a
     }
 }
 
+/// What is told where a name is no state's. It lists the names of all states.
+const NO_STATE: &str = "\
+a word for '--fail-on <STATES>' is no state
+  [possible values: accepted, pending, rejected, conflict, duplicate, claim-rejected, no-participation, unanswered]";
+
+/// What is told where a word is missing or out of its range, and `clap` took it.
+fn refusal_of(matches: &ArgMatches<'_>) -> &'static str {
+    match matches.subcommand() {
+        Some((ACKS, _)) => NO_STATE,
+        // `clap` has judged the numbers already, but its clauses don't say so of a subcommand's.
+        _ => "a word is missing, or a number is out of its range",
+    }
+}
+
 /// What the words ask for, the program's name first, or what to tell the user in its place.
 pub fn task_of<'a, S: AsStr>(alloc: Global, words: &'a [S]) -> Result<Task<'a>, Error> {
     let mut command = command(alloc)?;
     let matches = command.try_get_matches_from_mut(words)?;
     match task_in(alloc, &matches)? {
         Some(task) => Ok(task),
-        // `clap` has judged the numbers already, but its clauses don't say so of a subcommand's.
-        None => Err(command.error(
-            ErrorKind::ValueValidation,
-            "a word is missing, or a number is out of its range",
-        )?),
+        None => Err(command.error(ErrorKind::ValueValidation, refusal_of(&matches))?),
     }
 }

@@ -20,7 +20,7 @@ fn asked(rt: &(impl Abort + AllocGlobal), words: &[&str]) -> Option<(String, Lim
 
 /// Words, what they ask for, and its limits.
 #[rattlefmt::skip]
-static ASKED: [(&[&str], &str, Numbers); 26] = [
+static ASKED: [(&[&str], &str, Numbers); 28] = [
     (&["cwr"], "Check(Judging { files: [], quiet: false, fail_on: None })", LARGEST),
     (&["cwr", "check"], "Check(Judging { files: [], quiet: false, fail_on: None })", LARGEST),
     (&["cwr", "show"], "Show(None)", LARGEST),
@@ -35,9 +35,11 @@ static ASKED: [(&[&str], &str, Numbers); 26] = [
     (&["cwr", "json", "--utf8", "a.cwr"], "Json { file: Some(\"a.cwr\"), numbers: false, utf8: true }", LARGEST),
     (&["cwr", "csv", "SWR"], "Csv { rows: Records(Swr), file: None }", LARGEST),
     (&["cwr", "csv", "works", "a.cwr"], "Csv { rows: Works, file: Some(\"a.cwr\") }", LARGEST),
-    (&["cwr", "acks"], "Acks { file: None, sent: None, as_json: false }", LARGEST),
-    (&["cwr", "acks", "a.cwr", "--sent", "b.cwr"], "Acks { file: Some(\"a.cwr\"), sent: Some(\"b.cwr\"), as_json: false }", LARGEST),
-    (&["cwr", "acks", "--json", "a.cwr"], "Acks { file: Some(\"a.cwr\"), sent: None, as_json: true }", LARGEST),
+    (&["cwr", "acks"], "Acks { files: [], sent: [], as_json: false, by_place: false, state: false, fail_on: States { accepted: false, pending: false, rejected: false, conflict: false, duplicate: false, claim_rejected: false, no_participation: false, unanswered: false } }", LARGEST),
+    (&["cwr", "acks", "--json", "a.cwr", "-"], "Acks { files: [\"a.cwr\", \"-\"], sent: [], as_json: true, by_place: false, state: false, fail_on: States { accepted: false, pending: false, rejected: false, conflict: false, duplicate: false, claim_rejected: false, no_participation: false, unanswered: false } }", LARGEST),
+    (&["cwr", "acks", "a.cwr", "--sent", "b.cwr"], "Acks { files: [\"a.cwr\"], sent: [\"b.cwr\"], as_json: false, by_place: false, state: false, fail_on: States { accepted: false, pending: false, rejected: false, conflict: false, duplicate: false, claim_rejected: false, no_participation: false, unanswered: false } }", LARGEST),
+    (&["cwr", "acks", "--sent", "c.cwr", "a.cwr", "--by-place", "--sent=b.cwr", "--state"], "Acks { files: [\"a.cwr\"], sent: [\"c.cwr\", \"b.cwr\"], as_json: false, by_place: true, state: true, fail_on: States { accepted: false, pending: false, rejected: false, conflict: false, duplicate: false, claim_rejected: false, no_participation: false, unanswered: false } }", LARGEST),
+    (&["cwr", "acks", "--fail-on", "conflict,rejected", "--sent", "-", "a.cwr"], "Acks { files: [\"a.cwr\"], sent: [\"-\"], as_json: false, by_place: false, state: false, fail_on: States { accepted: false, pending: false, rejected: true, conflict: true, duplicate: false, claim_rejected: false, no_participation: false, unanswered: false } }", LARGEST),
     (&["cwr", "write", "--utf8", "-o", "b.cwr", "--line=9", "a.jsonl"], "Write { file: Some(\"a.jsonl\"), out: Some(\"b.cwr\"), line: 9, utf8: true }", LARGEST),
     (&["cwr", "show", "--groups", "3"], "Show(None)", (99_999_999, 3, 999_999)),
     (&["cwr", "split", "-n", "1", "a.cwr", "part-"], "Split { transactions: 1, file: \"a.cwr\", prefix: \"part-\", only_new: false }", LARGEST),
@@ -61,11 +63,17 @@ fn work_that_is_asked_for(rt: HostRuntime) {
 
 /// Words that are missing or out of range.
 #[rattlefmt::skip]
-static WRONG: [&[&str]; 13] = [
+static WRONG: [&[&str]; 19] = [
     &["cwr", "csv"],
     &["cwr", "csv", "swr"],
     &["cwr", "check", "--fail-on", "X"],
     &["cwr", "show", "a.cwr", "b.cwr"],
+    &["cwr", "acks", "a.cwr", "--sent"],
+    &["cwr", "acks", "a.cwr", "--state"],
+    &["cwr", "acks", "a.cwr", "--by-place"],
+    &["cwr", "acks", "a.cwr", "--fail-on", "rejected"],
+    &["cwr", "acks", "a.cwr", "--sent", "b.cwr", "--fail-on", "refused"],
+    &["cwr", "acks", "a.cwr", "--sent", "b.cwr", "--fail-on", "rejected,"],
     &["cwr", "split"],
     &["cwr", "split", "a.cwr", "part-"],
     &["cwr", "split", "-n", "1", "a.cwr"],
@@ -81,5 +89,29 @@ static WRONG: [&[&str]; 13] = [
 fn words_that_are_missing_or_out_of_range(rt: HostRuntime) {
     for words in &WRONG {
         assert!(rt; asked(&rt, words).is_none(), "{words:?}");
+    }
+}
+
+/// What is told in the place of a task.
+fn told(rt: &(impl Abort + AllocGlobal), words: &[&str]) -> Option<String> {
+    let answer = task_of(rt.alloc(), words).err()?;
+    let text = format!(in rt.alloc(); "{answer}");
+    Some(text.expect(rt, "no memory"))
+}
+
+/// Words that are wrong, and what is told of them.
+#[rattlefmt::skip]
+static TOLD: [(&[&str], &str); 4] = [
+    (&["cwr", "acks", "a.cwr", "--state"], "--sent <SENT>"),
+    (&["cwr", "acks", "a.cwr", "--by-place"], "--sent <SENT>"),
+    (&["cwr", "acks", "a.cwr", "--fail-on", "rejected"], "--sent <SENT>"),
+    (&["cwr", "acks", "a.cwr", "--sent", "b.cwr", "--fail-on", "refused"], "accepted, pending, rejected, conflict, duplicate, claim-rejected, no-participation, unanswered"),
+];
+
+#[test]
+fn what_is_told_of_wrong_words(rt: HostRuntime) {
+    for (words, part) in &TOLD {
+        let text = told(&rt, words).expect(&rt, "a task");
+        assert!(rt; text.contains(*part), "{text}");
     }
 }

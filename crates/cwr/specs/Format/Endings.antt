@@ -1,5 +1,5 @@
 -- What the end of a run over an input means for the program.
-use Rattle.std.specs.Prelude.{◌≡◌, Bool, true, List, ℕ, map, Option, None, Some, IfSome, option_map, Result, Ok, Err}
+use Rattle.std.specs.Prelude.{◌≡◌, Bool, true, List, [], ℕ, map, Option, None, Some, IfSome, option_map, Result, Ok, Err}
 use Rattle.cwr_shape.specs.declared.limits.Limits.{Limits}
 use Rattle.cwr_words.specs.declared.words.Work.{Work}
 use Rattle.cwr_words.specs.declared.words.Work.TheVariants.{Check, Show, Explain, Lint, Advise, Json, Csv, Acks}
@@ -35,8 +35,8 @@ IsOfInput (Explain judging) = are_standard (map (λ name. name.now) judging.file
 IsOfInput (Show file) = is_standard (option_map (λ name. name.now) file) ≡ true
 IsOfInput (Json file numbers utf8) = is_standard (option_map (λ name. name.now) file) ≡ true
 IsOfInput (Csv rows file) = is_standard (option_map (λ name. name.now) file) ≡ true
-IsOfInput (Acks file None as_json) = is_standard (option_map (λ name. name.now) file) ≡ true
-IsOfInput (Acks file (Some sent) as_json) = ⊥
+IsOfInput (Acks files sent as_json by_place state fail_on) =
+    (are_standard (map (λ name. name.now) files.items) ≡ true) × (sent.items ≡ [])
 IsOfInput (Lint files quiet explained advised) = are_standard (map (λ name. name.now) files.items) ≡ true
 IsOfInput (Advise files repeated) = are_standard (map (λ name. name.now) files.items) ≡ true
 IsOfInput work = ⊥

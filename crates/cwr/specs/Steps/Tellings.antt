@@ -1,5 +1,5 @@
 -- What is written of a transmission, and which failures of its devices are counted.
-use Rattle.std.specs.Prelude.{◌≡◌, ℕ, List, Option, None, IfOk, Result, Ok, Err}
+use Rattle.std.specs.Prelude.{◌≡◌, [], ℕ, List, Option, None, IfOk, Result, Ok, Err}
 use Rattle.std.specs.Option.{is_some}
 use Rattle.cwr_devices.specs.Format.Failures.{one_more_failure}
 use Rattle.cwr_shape.specs.declared.limits.Limits.{Limits}
@@ -8,7 +8,9 @@ use Rattle.cwr_tools.specs.declared.verdicts.ToolFault.{ToolFault}
 use Rattle.cwr_tools.specs.declared.verdicts.ToolFault.TheVariants.{Writer}
 use Rattle.cwr_tools.specs.Format.Reports.{CountsReaderFault, lines_of_data, lines_of_findings, lines_of_records}
 use Rattle.cwr_tools.specs.Steps.Reports.{Reports}
+use Rattle.cwr_acks.specs.declared.forms.Form.{Form}
 use Rattle.cwr_acks.specs.Format.AckLines.{lines_of_acks}
+use Rattle.cwr_acks.specs.Format.AckLines.{Telling as AckTelling}
 use Rattle.cwr_advise.specs.Format.AdviceLines.{lines_of_advice}
 use Rattle.cwr_csv.specs.Format.TableLines.{lines_of_table}
 use Rattle.cwr_explain.specs.Steps.Explained.{Explains}
@@ -19,6 +21,14 @@ use Rattle.cwr_transform.specs.Steps.Looks.{CountsLook}
 use Rattle.cwr.specs.declared.reports.Judgement.{Judgement}
 use Rattle.cwr.specs.declared.reports.Telling.{Telling}
 use Rattle.cwr.specs.declared.reports.Telling.TheVariants as tellings
+
+-- how it is told what acknowledgements say where there is one file, and nothing that was sent
+abbrev pub telling_alone : Form → AckTelling
+telling_alone form = record {
+  form = form;
+  file = None;
+  names = [];
+}
 
 -- the lines that are asked for were written, while the input was read from the one state to the other
 abbrev pub TellsUpTo : {W : Type 0} → Telling → Limits → Option (List ℕ) → Option (List ℕ) → (W → Option (List ℕ)) → W → W
@@ -37,7 +47,7 @@ TellsUpTo (tellings.Data encoding numbers) limits before after contents old new 
 TellsUpTo (tellings.Rows table) limits before after contents old new outcome =
     Reports (lines_of_table table) limits before after contents old new outcome
 TellsUpTo (tellings.Answers form) limits before after contents old new outcome =
-    Reports (lines_of_acks form None) limits before after contents old new outcome
+    Reports (lines_of_acks (telling_alone form) None) limits before after contents old new outcome
 TellsUpTo (tellings.Advice repeated) limits before after contents old new outcome =
     Reports (lines_of_advice repeated) limits before after contents old new outcome
 

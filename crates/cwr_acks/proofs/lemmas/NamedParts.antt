@@ -1,34 +1,21 @@
--- The cells of records, and their lengths.
+-- The lengths of cells, and parts of texts.
 use Prim.Native.String.{String}
-use Rattle.std.proofs.Common.{◌≡◌, ℕ, ◌+◌, ◌≤◌, Bool, true, false, cond, List, [], ◌∷◌, ◌++◌, length, take, Option, Some, None}
+use Rattle.std.proofs.Common.{◌≡◌, ℕ, ◌+◌, ◌≤◌, cond, List, [], ◌∷◌, ◌++◌, length, Option, Some, None}
 use Rattle.std.proofs.Common.{refl, sym, ap, subst, ◌∙◌, arith, append_assoc}
-use Rattle.std.specs.Prelude.{option_map, unwrap_or, slice_get, ◌||◌}
+use Rattle.std.specs.Prelude.{option_map, unwrap_or, slice_get}
 use Rattle.std.specs.Option.{option_and_then}
-use Rattle.std.specs.List.{flat_map, list_any}
-use Rattle.std.proofs.lemmas.List.Folds.{list_any-append}
+use Rattle.std.specs.List.{flat_map}
 use Rattle.cwr_fields.specs.Format.Bytes.{trimmed}
-use Rattle.cwr_lines.specs.Format.Records.{RecordValue, IsRecord, cell_named}
+use Rattle.cwr_lines.specs.Format.Records.{RecordValue, IsRecord}
 use Rattle.cwr_lines.specs.Format.Carried.{carried_before, record_cell}
 use Rattle.cwr_fields.specs.Format.Layouts.{FieldLayout, field_at, field_with_start}
 use Rattle.cwr_fields.proofs.lemmas.FieldStarts.{field_at-start}
 use Rattle.cwr_encode.proofs.lemmas.Numbered.{numbered}
 use Rattle.cwr_levels.specs.Format.Fields.{IsField}
-use Rattle.cwr_levels.proofs.lemmas.NamedCells.{cell_width, named_cell}
-use Rattle.cwr_levels.proofs.lemmas.OneMore.{take_more}
+use Rattle.cwr_delivery.proofs.lemmas.NamedCells.{cell_long}
 use Rattle.cwr_json.specs.Steps.FormTexts.{NoLow}
 use Rattle.cwr_json.proofs.lemmas.FieldsShown.{length-trimmed-le, short_line}
 use Rattle.cwr_json.proofs.lemmas.MembersOfFields.{high_cell}
-
--- the cell of a field is that of its name
-pub cell_is : (name : String) (r : RecordValue) (j wide : ℕ) (cell : List ℕ) → cell ≡ unwrap_or (record_cell r j) []
-    → IsField name r.kind j wide → IsRecord r
-    → cell ≡ cell_named name r
-cell_is name r j wide cell e field fits = e ∙ named_cell name r.kind j wide r field refl fits
-
-pub cell_long : (name : String) (r : RecordValue) (j wide : ℕ) (cell : List ℕ) → cell ≡ unwrap_or (record_cell r j) []
-    → IsField name r.kind j wide
-    → IsRecord r → length cell ≡ wide
-cell_long name r j wide cell e field fits = ap length e ∙ cell_width name r.kind j wide r field refl fits
 
 -- without trailing spaces it is no longer
 pub trimmed_long : (name : String) (r : RecordValue) (j wide : ℕ) (cell shown : List ℕ) → cell ≡ unwrap_or (record_cell r j) []
@@ -83,25 +70,7 @@ pub six_parts : (text a b c d e f : List ℕ)
     → (((((text ++ a) ++ b) ++ c) ++ d) ++ e) ++ f ≡ text ++ (((((a ++ b) ++ c) ++ d) ++ e) ++ f)
 six_parts text a b c d e f = simp append_assoc
 
--- ---- one record more
-
-pub or_false : (a : Bool) → (a || false) ≡ a
-or_false true = refl
-or_false false = refl
-
-pub or_true : (a : Bool) → (a || true) ≡ true
-or_true true = refl
-or_true false = refl
-
-pub any_more : {X : Type 0} (p : X → Bool) (xs : List X) (i : ℕ) (x : X) → Some x ≡ slice_get xs i
-    → list_any p (take (i + 1) xs) ≡ (list_any p (take i xs) || p x)
-any_more p xs i x e =
-    ap (list_any p) (take_more xs i x (sym e)) ∙ list_any-append p (take i xs) (x ∷ [])
-    ∙ ap (λ (b : Bool). list_any p (take i xs) || b) (or_false (p x))
-
-pub any_first : {X : Type 0} (p : X → Bool) (xs : List X) (x : X) → Some x ≡ slice_get xs 0 → p x ≡ list_any p (take 1 xs)
-any_first p [] x e = absurd (cc e)
-any_first p (y ∷ xs) x e = let same : y ≡ x = cc e in ap p (sym same) ∙ sym (or_false (p y))
+-- ---- texts
 
 -- texts that don't depend on their numbers
 pub numbered_alike : {X : Type 0} (f : X → List ℕ) (n : ℕ) (xs : List X) → numbered (λ k x. f x) n xs ≡ flat_map f xs

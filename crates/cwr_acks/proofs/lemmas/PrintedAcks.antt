@@ -1,9 +1,9 @@
 -- The lines of JSON are their data, printed.
 use Rattle.std.proofs.Common.{◌≡◌, ℕ, Bool, true, false, cond, List, [], ◌∷◌, ◌++◌, drop, Option, Some, None, refl, sym, ap, ◌∙◌}
-use Rattle.std.proofs.Common.{append_assoc}
-use Rattle.std.specs.Prelude.{◌||◌, codes, count_by, decimal, map, zip}
+use Rattle.std.proofs.Common.{append-nil, append_assoc, subst}
+use Rattle.std.specs.Prelude.{◌||◌, codes, decimal, map, option_map, zip}
 use Rattle.json.specs.Token.{Token}
-use Rattle.json.specs.Json.{array, item, number, object, string}
+use Rattle.json.specs.Json.{array, item, no_members, number, object, string}
 use Rattle.json.specs.Tree.{items_tokens, json_tokens}
 use Rattle.json.specs.Print.{escape, escape_byte, print_from, quoted}
 use Rattle.cwr_fields.specs.declared.message_codes.TransactionStatus.{TransactionStatus}
@@ -14,26 +14,25 @@ use Rattle.cwr_fields.specs.declared.kinds.Kind.{Kind}
 use Rattle.cwr_fields.specs.declared.kinds.Kind.TheVariants.{Hdr}
 use Rattle.cwr_fields.specs.Format.Kinds.{letters}
 use Rattle.cwr_lines.specs.Format.Records.{RecordValue, cell_named}
-use Rattle.cwr_values.specs.declared.items.Item.{Item}
 use Rattle.cwr_json.specs.declared.encodings.Encoding.TheVariants.{Latin1}
 use Rattle.cwr_json.specs.Format.Encodings.{characters}
+use Rattle.cwr_sent.specs.declared.facts.SentFacts.{SentFacts}
+use Rattle.cwr_delivery.specs.declared.outcomes.Notes.{Notes}
+use Rattle.cwr_delivery.specs.Format.Acknowledgements.{is_message, status_in, worst_level}
+use Rattle.cwr_delivery.specs.Format.Answering.{group_of, sequence_of}
 use Rattle.cwr_acks.specs.declared.forms.Form.TheVariants as forms
-use Rattle.cwr_acks.specs.declared.matching.Notes.{Notes}
-use Rattle.cwr_acks.specs.Format.Acknowledgements.{has_status, is_answer, is_message, status_in, worst_level}
 use Rattle.cwr_acks.specs.Format.AckTexts.{number_part, status_words, words_of}
 use Rattle.cwr_acks.specs.Format.AckData.{ack_data, counts_data, data_line, message_data, message_items, place_data}
-use Rattle.cwr_acks.specs.Format.AckData.{unanswered_data, with_counts}
-use Rattle.cwr_acks.specs.Format.SentAnswers.{group_of, sequence_of}
+use Rattle.cwr_acks.specs.Format.AckData.{unanswered_data, with_cell_if, with_counts}
 use Rattle.cwr_acks.specs.Steps.AckSteps.{message_in}
-use Rattle.cwr_acks.specs.Steps.DataTexts.{ack_opening, cell_member, cell_member_if, comma_if, count_key, count_members}
-use Rattle.cwr_acks.specs.Steps.DataTexts.{counts_data_text, level_member, mark_part, message_part, shown_cell}
-use Rattle.cwr_acks.specs.Steps.DataTexts.{unanswered_data_text}
-use Rattle.cwr_acks.proofs.lemmas.NamedParts.{or_false, or_true}
+use Rattle.cwr_acks.specs.Steps.DataTexts.{ack_members, cell_member, cell_member_if, comma_if, count_key, count_members}
+use Rattle.cwr_acks.specs.Steps.DataTexts.{counts_data_text, level_member, message_part, name_member, notes_members_if}
+use Rattle.cwr_acks.specs.Steps.DataTexts.{shown_cell, unanswered_members}
+use Rattle.cwr_delivery.proofs.lemmas.NamedCells.{or_false, or_true}
 use Rattle.cwr_acks.proofs.lemmas.PrintedParts.{Begins, Follows, array_shown, begins_alone, begins_member, cell_follows}
-use Rattle.cwr_acks.proofs.lemmas.PrintedParts.{cell_follows_if}
-use Rattle.cwr_acks.proofs.lemmas.PrintedParts.{cell_shown, follows_last, follows_none, level_follows, line_shown, mark_follows}
-use Rattle.cwr_acks.proofs.lemmas.PrintedParts.{number_follows, number_follows_if, number_shown, object_listed, object_shown}
-use Rattle.cwr_acks.proofs.lemmas.PrintedParts.{string_shown, text_follows}
+use Rattle.cwr_acks.proofs.lemmas.PrintedParts.{cell_follows_if, cell_shown, follows_last, follows_none, level_follows}
+use Rattle.cwr_acks.proofs.lemmas.PrintedParts.{line_shown, notes_follow, number_follows, number_follows_if, number_shown}
+use Rattle.cwr_acks.proofs.lemmas.PrintedParts.{object_listed, object_shown, opens_member, opens_name, text_follows}
 
 -- ---- what stands for itself
 
@@ -118,17 +117,19 @@ items_listed later (r ∷ t) rest = one_listed later r t rest (is_message r) (it
 
 -- ---- an acknowledgement
 
-regroup_ack : (o p w1 w q g1 g t1 t y l s r ti u re ag m1 m b c e : List ℕ)
-    → (o ++ ((p ++ ((w1 ++ (w ++ q))
-    ++ ((g1 ++ g) ++ ((t1 ++ t) ++ (y ++ (l ++ (s ++ (r ++ (ti ++ (u ++ (re ++ (ag ++ (m1 ++ (m ++ b)))))))))))))) ++ c)) ++ e
-    ≡ (((((((((((((o ++ p) ++ w1) ++ w) ++ q) ++ ((((g1 ++ g) ++ t1) ++ t) ++ y)) ++ l) ++ s) ++ r) ++ ti) ++ ((u ++ re) ++ ag))
-    ++ m1) ++ m) ++ (b ++ (c ++ e)))
-regroup_ack o p w1 w q g1 g t1 t y l s r ti u re ag m1 m b c e = simp append_assoc
+regroup_ack : (o fi se p w1 w q g1 g t1 t y l s r ti nt m1 m b c e : List ℕ)
+    → (o ++ ((fi ++ (se ++ (p ++ ((w1 ++ (w ++ q))
+    ++ ((g1 ++ g) ++ ((t1 ++ t) ++ (y ++ (l ++ (s ++ (r ++ (ti ++ (nt ++ (m1 ++ (m ++ b)))))))))))))) ++ c)) ++ e
+    ≡ (((((o ++ fi) ++ se) ++ (((((((((((p ++ w1) ++ w) ++ q) ++ ((((g1 ++ g) ++ t1) ++ t) ++ y)) ++ l) ++ s) ++ r) ++ ti) ++ nt)
+    ++ m1))) ++ []) ++ m) ++ (b ++ (c ++ e))
+regroup_ack o fi se p w1 w q g1 g t1 t y l s r ti nt m1 m b c e = simp (append_assoc, append-nil)
 
-pub ack_shown : (notes : Notes) (a : RecordValue) (t : List RecordValue)
-    → (ack_opening notes a (worst_level t) ++ messages_from false t) ++ codes "]}\n" ≡ data_line (ack_data notes a t)
+pub ack_shown : (file sent : Option (List ℕ)) (notes : Option Notes) (a : RecordValue) (t : List RecordValue)
+    → ((((codes "{" ++ name_member (codes "\"file\":") (option_map quoted file))
+    ++ name_member (codes "\"sent\":") (option_map quoted sent)) ++ ack_members notes a (worst_level t)) ++ []
+    ++ messages_from false t) ++ codes "]}\n" ≡ data_line (ack_data file sent notes a t)
 unfolding escape_byte
-ack_shown notes a t =
+ack_shown file sent notes a t =
     let first : List ℕ = cell_named "transaction status" a in
     let words : List ℕ = status_words (status_in a) in
     let texts : List ℕ = messages_from false t in
@@ -143,45 +144,54 @@ ack_shown notes a t =
     (cell_follows_if (codes "submitter") (codes ",\"submitter\":") (cell_named "submitter creation number" a) _ _ refl
     (cell_follows_if (codes "recipient") (codes ",\"recipient\":") (cell_named "recipient creation number" a) _ _ refl
     (cell_follows_if (codes "title") (codes ",\"title\":") (cell_named "creation title" a) _ _ refl
-    (mark_follows (codes "unsent") (codes ",\"unsent\":true") notes.unsent _ _ refl
-    (mark_follows (codes "retitled") (codes ",\"retitled\":true") notes.retitled _ _ refl
-    (mark_follows (codes "again") (codes ",\"again\":true") notes.again _ _ refl
+    (notes_follow notes _ _
     (follows_last (codes "messages") (codes ",\"messages\":") (91 ∷ (texts ++ 93 ∷ [])) (array (message_items t)) refl
-    (array_shown (message_items t) texts (λ rest. items_listed false t rest)))))))))))))) in
-    sym (line_shown (ack_data notes a t) _ (object_shown _ _ parts)
-    ∙ regroup_ack (123 ∷ []) (codes "\"status\":" ++ shown_cell first) (codes ",\"words\":\"") words (34 ∷ [])
-    (codes ",\"group\":") (decimal (group_of a))
+    (array_shown (message_items t) texts (λ rest. items_listed false t rest)))))))))))) in
+    let whole =
+    opens_name (codes "file") (codes "\"file\":") file _ _ refl
+    (opens_name (codes "sent") (codes "\"sent\":") sent _ _ refl (opens_member (codes "status") _ _ _ parts)) in
+    sym (line_shown (ack_data file sent notes a t) _ (object_shown _ _ whole.first)
+    ∙ regroup_ack (123 ∷ []) (name_member (codes "\"file\":") (option_map quoted file))
+    (name_member (codes "\"sent\":") (option_map quoted sent)) (codes "\"status\":" ++ shown_cell first) (codes ",\"words\":\"") words
+    (34 ∷ []) (codes ",\"group\":") (decimal (group_of a))
     (codes ",\"transaction\":") (decimal (sequence_of a))
     (cell_member (codes ",\"type\":") (cell_named "original transaction type" a)) (level_member (worst_level t))
     (cell_member_if (codes ",\"submitter\":") (cell_named "submitter creation number" a))
     (cell_member_if (codes ",\"recipient\":") (cell_named "recipient creation number" a))
-    (cell_member_if (codes ",\"title\":") (cell_named "creation title" a))
-    (mark_part (codes ",\"unsent\":true") notes.unsent) (mark_part (codes ",\"retitled\":true") notes.retitled)
-    (mark_part (codes ",\"again\":true") notes.again)
+    (cell_member_if (codes ",\"title\":") (cell_named "creation title" a)) (notes_members_if notes)
     (codes ",\"messages\":[") texts (93 ∷ []) (125 ∷ []) (10 ∷ []))
 
 -- ---- the end
 
-regroup_unanswered : (o p g1 g t1 t y1 y q c e : List ℕ)
-    → (o ++ ((p ++ (o ++ (((g1 ++ g) ++ ((t1 ++ t) ++ (y1 ++ (y ++ q)))) ++ c))) ++ c)) ++ e
-    ≡ ((((((o ++ (p ++ (o ++ g1))) ++ g) ++ t1) ++ t) ++ y1) ++ y) ++ (q ++ (c ++ (c ++ e)))
-regroup_unanswered o p g1 g t1 t y1 y q c e = simp append_assoc
+regroup_unanswered : (o p se g1 g t1 t y1 y q su c e : List ℕ)
+    → (o ++ ((p ++ (o ++ ((se ++ ((g1 ++ g) ++ ((t1 ++ t) ++ ((y1 ++ (y ++ q)) ++ su)))) ++ c))) ++ c)) ++ e
+    ≡ ((o ++ (p ++ o)) ++ se) ++ ((((((((g1 ++ g) ++ t1) ++ t) ++ y1) ++ y) ++ q) ++ su) ++ (c ++ (c ++ e)))
+regroup_unanswered o p se g1 g t1 t y1 y q su c e = simp append_assoc
 
-pub unanswered_shown : (g t : ℕ) (this_kind : Kind)
-    → unanswered_data_text g t this_kind ≡ data_line (unanswered_data g t this_kind)
+submitter_follows : (own : List ℕ)
+    → Follows (with_cell_if (codes "submitter") own no_members) (cell_member_if (codes ",\"submitter\":") own)
 unfolding escape_byte
-unanswered_shown g t this_kind =
-    let place =
-    object_shown _ _
-    (begins_member (codes "group") (codes "\"group\":") (decimal g) (number (decimal g)) _ _ refl (number_shown (decimal g))
+submitter_follows own =
+    subst (λ (l : List ℕ). Follows (with_cell_if (codes "submitter") own no_members) l)
+    (append-nil (cell_member_if (codes ",\"submitter\":") own))
+    (cell_follows_if (codes "submitter") (codes ",\"submitter\":") own no_members [] refl follows_none)
+
+pub unanswered_shown : (sent : Option (List ℕ)) (g t : ℕ) (f : SentFacts)
+    → (codes "{\"unanswered\":{" ++ name_member (codes "\"sent\":") (option_map quoted sent)) ++ unanswered_members g t f
+    ≡ data_line (unanswered_data sent g t f)
+unfolding escape_byte
+unanswered_shown sent g t f =
+    let parts =
+    begins_member (codes "group") (codes "\"group\":") (decimal g) (number (decimal g)) _ _ refl (number_shown (decimal g))
     (number_follows (codes "transaction") (codes ",\"transaction\":") t _ _ refl
-    (follows_last (codes "type") (codes ",\"type\":") (34 ∷ (letters this_kind ++ 34 ∷ [])) (string (letters this_kind)) refl
-    (string_shown (letters this_kind) (letters this_kind) (plain_letters this_kind))))) in
-    let whole = begins_alone (codes "unanswered") (codes "\"unanswered\":") _ (place_data g t this_kind) refl place in
-    sym (line_shown (unanswered_data g t this_kind) _ (object_shown _ _ whole)
-    ∙ regroup_unanswered (123 ∷ []) (codes "\"unanswered\":") (codes "\"group\":") (decimal g) (codes ",\"transaction\":")
-    (decimal t) (codes ",\"type\":\"")
-    (letters this_kind) (34 ∷ []) (125 ∷ []) (10 ∷ []))
+    (text_follows (codes "type") (codes ",\"type\":") (letters f.kind) _ _ refl (plain_letters f.kind) (submitter_follows f.number))) in
+    let place = opens_name (codes "sent") (codes "\"sent\":") sent _ _ refl (opens_member (codes "group") _ _ _ parts) in
+    let whole =
+    begins_alone (codes "unanswered") (codes "\"unanswered\":") _ (place_data sent g t f) refl (object_shown _ _ place.first) in
+    sym (line_shown (unanswered_data sent g t f) _ (object_shown _ _ whole)
+    ∙ regroup_unanswered (123 ∷ []) (codes "\"unanswered\":") (name_member (codes "\"sent\":") (option_map quoted sent))
+    (codes "\"group\":") (decimal g) (codes ",\"transaction\":") (decimal t) (codes ",\"type\":\"")
+    (letters f.kind) (34 ∷ []) (cell_member_if (codes ",\"submitter\":") f.number) (125 ∷ []) (10 ∷ []))
 
 counts_follow : (f : TransactionStatus → ℕ) (ss : List TransactionStatus)
     → Follows (with_counts f ss) (count_members true (zip ss (map f ss)))
@@ -198,21 +208,22 @@ counts_begin f =
     (number_shown (decimal (f status.Conflict)))
     (counts_follow f (drop 1 transaction_statuses))
 
-regroup_counts : (o p n s m c e : List ℕ)
-    → (o ++ (((p ++ n) ++ (s ++ (m ++ c))) ++ c)) ++ e ≡ ((((o ++ p) ++ n) ++ s) ++ m) ++ (c ++ (c ++ e))
-regroup_counts o p n s m c e = simp append_assoc
+regroup_counts : (o fi p n s m c e : List ℕ)
+    → (o ++ ((fi ++ ((p ++ n) ++ (s ++ (m ++ c)))) ++ c)) ++ e ≡ (o ++ fi) ++ ((((p ++ n) ++ s) ++ m) ++ (c ++ (c ++ e)))
+regroup_counts o fi p n s m c e = simp append_assoc
 
-pub counts_shown : (given : List Item)
-    → counts_data_text (count_by is_answer given) (map (λ s. count_by (has_status s) given) transaction_statuses)
-    ≡ data_line (counts_data given)
+pub counts_shown : (file : Option (List ℕ)) (n : ℕ) (f : TransactionStatus → ℕ)
+    → (codes "{" ++ name_member (codes "\"file\":") (option_map quoted file)) ++ counts_data_text n (map f transaction_statuses)
+    ≡ data_line (counts_data file n f)
 unfolding escape_byte
-counts_shown given =
-    let f : TransactionStatus → ℕ = λ s. count_by (has_status s) given in
-    let all : List ℕ = decimal (count_by is_answer given) in
+counts_shown file n f =
+    let all : List ℕ = decimal n in
     let each : List ℕ = count_members false (zip transaction_statuses (map f transaction_statuses)) in
-    let whole = begins_member (codes "acks") (codes "\"acks\":") all (number all) _ _ refl (number_shown all)
+    let parts = begins_member (codes "acks") (codes "\"acks\":") all (number all) _ _ refl (number_shown all)
     (follows_last (codes "statuses") (codes ",\"statuses\":") (123 ∷ (each ++ 125 ∷ []))
     (object (with_counts f transaction_statuses)) refl
     (object_shown _ _ (counts_begin f))) in
-    sym (line_shown (counts_data given) _ (object_shown _ _ whole)
-    ∙ regroup_counts (123 ∷ []) (codes "\"acks\":") all (codes ",\"statuses\":{") each (125 ∷ []) (10 ∷ []))
+    let whole = opens_name (codes "file") (codes "\"file\":") file _ _ refl (opens_member (codes "acks") _ _ _ parts) in
+    sym (line_shown (counts_data file n f) _ (object_shown _ _ whole.first)
+    ∙ regroup_counts (123 ∷ []) (name_member (codes "\"file\":") (option_map quoted file)) (codes "\"acks\":") all
+    (codes ",\"statuses\":{") each (125 ∷ []) (10 ∷ []))

@@ -1,7 +1,7 @@
 -- The text of data, member by member, and of what holds them.
 use Rattle.std.proofs.Common.{◌≡◌, ℕ, Bool, true, false, cond, List, [], ◌∷◌, ◌++◌, Option, Some, None, refl, sym, ap, subst, ◌∙◌}
 use Rattle.std.proofs.Common.{append_assoc, append-nil}
-use Rattle.std.specs.Prelude.{codes, decimal}
+use Rattle.std.specs.Prelude.{codes, decimal, option_map}
 use Rattle.json.specs.Token.{Token}
 use Rattle.json.specs.Json.{Json, boolean, number, string, array, object, Items, Members, no_members, member}
 use Rattle.json.specs.Tree.{json_tokens, members_tokens, items_tokens}
@@ -16,8 +16,15 @@ use Rattle.cwr_json.specs.Steps.FormTexts.{spelled_bytes}
 use Rattle.cwr_json.proofs.lemmas.Spelled.{spelled_each}
 use Rattle.cwr_acks.specs.Format.AckTexts.{number_part}
 use Rattle.cwr_acks.specs.Format.AckData.{data_line, with_cell, with_cell_if, with_level, with_mark, with_number, with_number_if}
-use Rattle.cwr_acks.specs.Format.AckData.{with_text}
-use Rattle.cwr_acks.specs.Steps.DataTexts.{cell_member, cell_member_if, comma_if, level_member, mark_part, shown_cell}
+use Rattle.cwr_acks.specs.Format.AckData.{with_name, with_notes_if, with_outcome, with_text}
+use Rattle.cwr_fields.specs.declared.kinds.Kind.{Kind}
+use Rattle.cwr_fields.specs.declared.kinds.Kind.TheVariants.{Hdr}
+use Rattle.cwr_fields.specs.Format.Kinds.{letters}
+use Rattle.cwr_delivery.specs.declared.outcomes.Notes.{Notes}
+use Rattle.cwr_delivery.specs.declared.outcomes.Outcome.{Outcome}
+use Rattle.cwr_delivery.specs.declared.outcomes.Outcome.TheVariants as outcomes
+use Rattle.cwr_acks.specs.Steps.DataTexts.{cell_member, cell_member_if, comma_if, level_member, mark_part, name_member, notes_members_if}
+use Rattle.cwr_acks.specs.Steps.DataTexts.{outcome_member, shown_cell}
 
 -- a value has this text, whatever follows
 pub record IsShownAs (j : Json) (text : List ℕ) : Type 0 where
@@ -183,3 +190,60 @@ unfolding escape_byte
 level_follows None more text m = m
 level_follows (Some l) more text m =
     text_follows (codes "level") (codes ",\"level\":") (level_code l) more text refl (plain_level l) m
+
+-- ---- members that open an object
+
+-- they are the first of it, or stand after others
+pub record Opens (ms : Members) (text : List ℕ) : Type 0 where
+  pub first : Begins ms text
+  pub later : Follows ms (44 ∷ text)
+
+pub opens_member : (key : List ℕ) (j : Json) (more : Members) (text : List ℕ) → Begins (member key j more) text
+    → Opens (member key j more) text
+unfolding print_from
+opens_member key j more text b = record { first = b; later = record { shown = λ rest. ap (λ (l : List ℕ). 44 ∷ l) (b.shown rest) } }
+
+-- so they do with a name before them
+pub opens_name : (key name : List ℕ) (o : Option (List ℕ)) (ms : Members) (text : List ℕ) → quoted key ++ 58 ∷ [] ≡ name
+    → Opens ms text → Opens (with_name key o ms) (name_member name (option_map quoted o) ++ text)
+opens_name key name None ms text e h = h
+opens_name key name (Some n) ms text e h =
+    let value : List ℕ = quoted n in
+    let b : Begins (member key (string n) ms) ((name ++ value) ++ 44 ∷ text) =
+    begins_member key name value (string n) ms (44 ∷ text) e (string_shown n (escape n) refl) h.later in
+    opens_member key (string n) ms ((name ++ value ++ codes ",") ++ text)
+    (subst (λ (l : List ℕ). Begins (member key (string n) ms) l) (sym (append_assoc (name ++ value) (codes ",") text)) b)
+
+-- ---- what is told of an acknowledgement
+
+plain_letters : (this_kind : Kind) → escape (letters this_kind) ≡ letters this_kind
+unfolding escape_byte
+plain_letters Hdr = refl
+plain_letters this_kind = refl
+
+pub outcome_follows : (o : Outcome) (more : Members) (text : List ℕ) → Follows more text
+    → Follows (with_outcome o more) (outcome_member o ++ text)
+unfolding escape_byte
+outcome_follows (outcomes.Answers sent facts) more text m = m
+outcome_follows outcomes.Unsent more text m = mark_follows (codes "unsent") (codes ",\"unsent\":true") true more text refl m
+outcome_follows outcomes.Unclear more text m = mark_follows (codes "unclear") (codes ",\"unclear\":true") true more text refl m
+outcome_follows (outcomes.Retyped this_kind) more text m =
+    text_follows (codes "retyped") (codes ",\"retyped\":") (letters this_kind) more text refl (plain_letters this_kind) m
+outcome_follows (outcomes.Renumbered own) more text m =
+    cell_follows (codes "renumbered") (codes ",\"renumbered\":") own more text refl m
+
+regroup_notes : (u o r a text : List ℕ) → u ++ (o ++ (r ++ (a ++ text))) ≡ (((u ++ o) ++ r) ++ a) ++ text
+regroup_notes u o r a text = simp append_assoc
+
+pub notes_follow : (notes : Option Notes) (more : Members) (text : List ℕ) → Follows more text
+    → Follows (with_notes_if notes more) (notes_members_if notes ++ text)
+unfolding escape_byte
+notes_follow None more text m = m
+notes_follow (Some notes) more text m =
+    subst (λ (l : List ℕ). Follows (with_notes_if (Some notes) more) l)
+    (regroup_notes (mark_part (codes ",\"unkeyed\":true") notes.unkeyed) (outcome_member notes.outcome)
+    (mark_part (codes ",\"retitled\":true") notes.retitled) (mark_part (codes ",\"again\":true") notes.again) text)
+    (mark_follows (codes "unkeyed") (codes ",\"unkeyed\":true") notes.unkeyed _ _ refl
+    (outcome_follows notes.outcome _ _
+    (mark_follows (codes "retitled") (codes ",\"retitled\":true") notes.retitled _ _ refl
+    (mark_follows (codes "again") (codes ",\"again\":true") notes.again more text refl m))))

@@ -1,5 +1,5 @@
 -- What is written of acknowledgements as JSON: the data of each line.
-use Rattle.std.specs.Prelude.{ℕ, Bool, true, List, [], ◌∷◌, ◌++◌, codes, count_by, decimal, Option, Some, None, if◌then◌else◌}
+use Rattle.std.specs.Prelude.{ℕ, Bool, true, List, [], ◌∷◌, ◌++◌, codes, decimal, Option, Some, None, if◌then◌else◌}
 use Rattle.json.specs.Json.{Json, boolean, number, string, array, object, Items, no_items, item, Members, no_members, member}
 use Rattle.json.specs.Tree.{json_tokens}
 use Rattle.json.specs.Print.{print}
@@ -7,16 +7,17 @@ use Rattle.cwr_fields.specs.declared.message_codes.TransactionStatus.{Transactio
 use Rattle.cwr_fields.specs.declared.message_codes.MessageLevel.{MessageLevel}
 use Rattle.cwr_fields.specs.Format.Bytes.{is_spaces, number_of, trimmed}
 use Rattle.cwr_fields.specs.Format.MessageCodes.{level_code, status_code, transaction_statuses}
-use Rattle.cwr_fields.specs.declared.kinds.Kind.{Kind}
 use Rattle.cwr_fields.specs.Format.Kinds.{letters}
 use Rattle.cwr_lines.specs.Format.Records.{RecordValue, cell_named}
-use Rattle.cwr_values.specs.declared.items.Item.{Item}
 use Rattle.cwr_json.specs.declared.encodings.Encoding.TheVariants.{Latin1}
 use Rattle.cwr_json.specs.Format.Encodings.{characters}
-use Rattle.cwr_acks.specs.declared.matching.Notes.{Notes}
-use Rattle.cwr_acks.specs.Format.Acknowledgements.{has_status, is_answer, is_message, status_in, worst_level}
+use Rattle.cwr_sent.specs.declared.facts.SentFacts.{SentFacts}
+use Rattle.cwr_delivery.specs.declared.outcomes.Notes.{Notes}
+use Rattle.cwr_delivery.specs.declared.outcomes.Outcome.{Outcome}
+use Rattle.cwr_delivery.specs.declared.outcomes.Outcome.TheVariants as outcomes
+use Rattle.cwr_delivery.specs.Format.Acknowledgements.{is_message, status_in, worst_level}
 use Rattle.cwr_acks.specs.Format.AckTexts.{status_words}
-use Rattle.cwr_acks.specs.Format.SentAnswers.{group_of, sequence_of}
+use Rattle.cwr_delivery.specs.Format.Answering.{group_of, sequence_of}
 
 -- ---- members by their keys
 
@@ -49,11 +50,29 @@ abbrev pub with_level : Option MessageLevel → Members → Members
 with_level None more = more
 with_level (Some this_level) more = with_text (codes "level") (level_code this_level) more
 
--- what is told of an acknowledgement beside what it says
+-- a name, where it is told
+abbrev pub with_name : List ℕ → Option (List ℕ) → Members → Members
+with_name key None more = more
+with_name key (Some name) more = with_text key name more
+
+-- why an acknowledgement answers nothing
+abbrev pub with_outcome : Outcome → Members → Members
+with_outcome (outcomes.Answers sent facts) more = more
+with_outcome outcomes.Unsent more = with_mark (codes "unsent") true more
+with_outcome outcomes.Unclear more = with_mark (codes "unclear") true more
+with_outcome (outcomes.Retyped this_kind) more = with_text (codes "retyped") (letters this_kind) more
+with_outcome (outcomes.Renumbered own) more = with_cell (codes "renumbered") own more
+
+-- what is told of it beside what it says
 abbrev pub with_notes : Notes → Members → Members
 with_notes notes more =
-    with_mark (codes "unsent") notes.unsent
-    (with_mark (codes "retitled") notes.retitled (with_mark (codes "again") notes.again more))
+    with_mark (codes "unkeyed") notes.unkeyed
+    (with_outcome notes.outcome
+    (with_mark (codes "retitled") notes.retitled (with_mark (codes "again") notes.again more)))
+
+abbrev pub with_notes_if : Option Notes → Members → Members
+with_notes_if None more = more
+with_notes_if (Some notes) more = with_notes notes more
 
 -- ---- an acknowledgement
 
@@ -76,9 +95,10 @@ message_items [] = no_items
 message_items (r ∷ rs) = with_message r (message_items rs)
 
 -- an acknowledgement by its header and its records
-abbrev pub ack_data : Notes → RecordValue → List RecordValue → Json
-ack_data notes a t =
-    object (with_cell (codes "status") (cell_named "transaction status" a)
+abbrev pub ack_data : Option (List ℕ) → Option (List ℕ) → Option Notes → RecordValue → List RecordValue → Json
+ack_data file sent notes a t =
+    object (with_name (codes "file") file (with_name (codes "sent") sent
+    (with_cell (codes "status") (cell_named "transaction status" a)
     (with_text (codes "words") (status_words (status_in a))
     (with_number (codes "group") (group_of a)
     (with_number (codes "transaction") (sequence_of a)
@@ -87,31 +107,33 @@ ack_data notes a t =
     (with_cell_if (codes "submitter") (cell_named "submitter creation number" a)
     (with_cell_if (codes "recipient") (cell_named "recipient creation number" a)
     (with_cell_if (codes "title") (cell_named "creation title" a)
-    (with_notes notes
-    (member (codes "messages") (array (message_items t)) no_members)))))))))))
+    (with_notes_if notes
+    (member (codes "messages") (array (message_items t)) no_members)))))))))))))
 
 -- ---- the end
 
--- transaction t, from 0, of group g, from 1, of that kind isn't answered
-abbrev pub place_data : ℕ → ℕ → Kind → Json
-place_data g t this_kind =
-    object (with_number (codes "group") g
-    (with_number (codes "transaction") t (with_text (codes "type") (letters this_kind) no_members)))
+-- transaction t, from 0, of group g, from 1, isn't answered
+abbrev pub place_data : Option (List ℕ) → ℕ → ℕ → SentFacts → Json
+place_data sent g t f =
+    object (with_name (codes "sent") sent
+    (with_number (codes "group") g
+    (with_number (codes "transaction") t
+    (with_text (codes "type") (letters f.kind) (with_cell_if (codes "submitter") f.number no_members)))))
 
-abbrev pub unanswered_data : ℕ → ℕ → Kind → Json
-unanswered_data g t this_kind = object (member (codes "unanswered") (place_data g t this_kind) no_members)
+abbrev pub unanswered_data : Option (List ℕ) → ℕ → ℕ → SentFacts → Json
+unanswered_data sent g t f = object (member (codes "unanswered") (place_data sent g t f) no_members)
 
 -- a number for each status
 abbrev pub with_counts : (TransactionStatus → ℕ) → List TransactionStatus → Members
 with_counts count [] = no_members
 with_counts count (this_status ∷ more) = with_number (status_code this_status) (count this_status) (with_counts count more)
 
--- how many of the items are acknowledgements, and how many of them have each status
-abbrev pub counts_data : List Item → Json
-counts_data given =
-    object (with_number (codes "acks") (count_by is_answer given)
-    (member (codes "statuses")
-    (object (with_counts (λ this_status. count_by (has_status this_status) given) transaction_statuses)) no_members))
+-- how many acknowledgements there are, and how many of them have each status
+abbrev pub counts_data : Option (List ℕ) → ℕ → (TransactionStatus → ℕ) → Json
+counts_data file all count =
+    object (with_name (codes "file") file
+    (with_number (codes "acks") all
+    (member (codes "statuses") (object (with_counts count transaction_statuses)) no_members)))
 
 -- ---- lines
 

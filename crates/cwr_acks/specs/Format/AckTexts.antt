@@ -1,5 +1,5 @@
 -- What is written of acknowledgements, for people.
-use Rattle.std.specs.Prelude.{ℕ, Bool, List, [], ◌++◌, codes, count_by, decimal, Option, Some, None, option_map, unwrap_or}
+use Rattle.std.specs.Prelude.{ℕ, Bool, List, [], ◌++◌, codes, decimal, Option, Some, None, option_map, unwrap_or}
 use Rattle.std.specs.Prelude.{if◌then◌else◌}
 use Rattle.std.specs.List.{flat_map}
 use Rattle.cwr_fields.specs.declared.message_codes.TransactionStatus.{TransactionStatus}
@@ -7,12 +7,13 @@ use Rattle.cwr_fields.specs.declared.message_codes.TransactionStatus.TheVariants
 use Rattle.cwr_fields.specs.declared.message_codes.MessageLevel.{MessageLevel}
 use Rattle.cwr_fields.specs.Format.Bytes.{is_spaces, number_of, trimmed}
 use Rattle.cwr_fields.specs.Format.MessageCodes.{level_code, status_code, transaction_statuses}
-use Rattle.cwr_fields.specs.declared.kinds.Kind.{Kind}
 use Rattle.cwr_fields.specs.Format.Kinds.{letters}
 use Rattle.cwr_lines.specs.Format.Records.{RecordValue, cell_named}
-use Rattle.cwr_values.specs.declared.items.Item.{Item}
-use Rattle.cwr_acks.specs.declared.matching.Notes.{Notes}
-use Rattle.cwr_acks.specs.Format.Acknowledgements.{has_status, is_answer, is_message, status_in}
+use Rattle.cwr_sent.specs.declared.facts.SentFacts.{SentFacts}
+use Rattle.cwr_delivery.specs.declared.outcomes.Notes.{Notes}
+use Rattle.cwr_delivery.specs.declared.outcomes.Outcome.{Outcome}
+use Rattle.cwr_delivery.specs.declared.outcomes.Outcome.TheVariants as outcomes
+use Rattle.cwr_delivery.specs.Format.Acknowledgements.{is_message, status_in}
 
 -- ---- parts of lines
 
@@ -58,13 +59,22 @@ original_text a =
 abbrev pub status_text : RecordValue → List ℕ
 status_text a = cell_named "transaction status" a ++ codes " " ++ status_words (status_in a)
 
--- the line of an acknowledgement, by its header and the worst level of its messages
-abbrev pub ack_line : RecordValue → Option MessageLevel → List ℕ
-ack_line a worst =
+-- the text of an acknowledgement, by its header and the worst level of its messages
+abbrev pub ack_text : RecordValue → Option MessageLevel → List ℕ
+ack_text a worst =
     status_text a ++ codes ": " ++ original_text a ++ level_part worst
     ++ cell_part (codes " submitter ") (cell_named "submitter creation number" a)
     ++ cell_part (codes " recipient ") (cell_named "recipient creation number" a)
-    ++ cell_part (codes " title ") (cell_named "creation title" a) ++ codes "\n"
+    ++ cell_part (codes " title ") (cell_named "creation title" a)
+
+-- the name of the file of what it answers, where that is told
+abbrev pub sent_part : Option (List ℕ) → List ℕ
+sent_part None = []
+sent_part (Some name) = codes " sent " ++ name
+
+-- its line
+abbrev pub ack_line : Option (List ℕ) → RecordValue → Option MessageLevel → List ℕ
+ack_line name a worst = ack_text a worst ++ sent_part name ++ codes "\n"
 
 -- the line of a message
 abbrev pub message_line : RecordValue → List ℕ
@@ -82,34 +92,49 @@ message_text r = if is_message r then message_line r else []
 abbrev pub message_lines : List RecordValue → List ℕ
 message_lines t = flat_map message_text t
 
--- a word on an acknowledgement, where it is to be told
-abbrev pub marked_line : List ℕ → RecordValue → List ℕ
-marked_line word a =
+-- a word on an acknowledgement, and what stands for it in what was sent
+abbrev pub value_part : List ℕ → List ℕ
+value_part [] = []
+value_part value = codes " sent " ++ value
+
+abbrev pub marked_line : List ℕ → RecordValue → List ℕ → List ℕ
+marked_line word a value =
     word ++ original_text a ++ cell_part (codes " submitter ") (cell_named "submitter creation number" a)
-    ++ cell_part (codes " title ") (cell_named "creation title" a) ++ codes "\n"
+    ++ cell_part (codes " title ") (cell_named "creation title" a) ++ value_part value ++ codes "\n"
 
 abbrev pub marked_if : Bool → List ℕ → RecordValue → List ℕ
-marked_if told word a = if told then marked_line word a else []
+marked_if told word a = if told then marked_line word a [] else []
 
--- the lines on a transaction that was sent, and those on any
-abbrev pub sent_lines : Notes → RecordValue → List ℕ
-sent_lines notes a = marked_if notes.retitled (codes "RETITLED ") a ++ marked_if notes.again (codes "AGAIN ") a
+-- why it answers nothing
+abbrev pub outcome_line : Outcome → RecordValue → List ℕ
+outcome_line (outcomes.Answers sent facts) a = []
+outcome_line outcomes.Unsent a = marked_line (codes "UNSENT ") a []
+outcome_line outcomes.Unclear a = marked_line (codes "UNCLEAR ") a []
+outcome_line (outcomes.Retyped this_kind) a = marked_line (codes "RETYPED ") a (letters this_kind)
+outcome_line (outcomes.Renumbered number) a = marked_line (codes "RENUMBERED ") a (trimmed number)
 
+-- what is told of it beside what it says
 abbrev pub note_lines : Notes → RecordValue → List ℕ
-note_lines notes a = marked_if notes.unsent (codes "UNSENT ") a ++ sent_lines notes a
+note_lines notes a =
+    marked_if notes.unkeyed (codes "UNKEYED ") a ++ outcome_line notes.outcome a
+    ++ marked_if notes.retitled (codes "RETITLED ") a ++ marked_if notes.again (codes "AGAIN ") a
 
--- transaction t, from 0, of group g, from 1, of that kind isn't answered
-abbrev pub unanswered_text : ℕ → ℕ → Kind → List ℕ
-unanswered_text g t this_kind =
-    codes "UNANSWERED group " ++ decimal g ++ codes " transaction " ++ decimal t ++ codes " " ++ letters this_kind ++ codes "\n"
+-- transaction t, from 0, of group g, from 1, isn't answered
+abbrev pub name_before : Option (List ℕ) → List ℕ
+name_before None = []
+name_before (Some name) = name ++ codes ": "
+
+abbrev pub unanswered_text : ℕ → ℕ → SentFacts → List ℕ
+unanswered_text g t f =
+    codes "UNANSWERED group " ++ decimal g ++ codes " transaction " ++ decimal t ++ codes " " ++ letters f.kind
+    ++ cell_part (codes " submitter ") f.number ++ codes "\n"
 
 -- a status, and how many acknowledgements have it
 abbrev pub status_part : List ℕ → ℕ → List ℕ
 status_part code count = codes " " ++ code ++ codes " " ++ decimal count
 
--- how many of the items are acknowledgements, and how many of them have each status
-abbrev pub counts_line : List Item → List ℕ
-counts_line items =
-    codes "ACKS " ++ decimal (count_by is_answer items)
-    ++ flat_map (λ this_status. status_part (status_code this_status) (count_by (has_status this_status) items))
-    transaction_statuses ++ codes "\n"
+-- how many acknowledgements there are, and how many of them have each status
+abbrev pub counts_line : ℕ → (TransactionStatus → ℕ) → List ℕ
+counts_line all count =
+    codes "ACKS " ++ decimal all
+    ++ flat_map (λ this_status. status_part (status_code this_status) (count this_status)) transaction_statuses ++ codes "\n"

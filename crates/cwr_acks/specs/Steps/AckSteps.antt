@@ -1,28 +1,40 @@
--- How many acknowledgements there were, which entries of what was sent they marked, and the lines of one item more.
-use Rattle.std.specs.Prelude.{◌≡◌, ℕ, ◌+◌, ◌-◌, ◌≤◌, Bool, false, not, ◌&&◌, ◌==◌, List, [], ◌∷◌, ◌++◌, codes, count_by, decimal}
-use Rattle.std.specs.Prelude.{length, map, Option, Some, None, option_map, replicate, slice_get, slice_index, take, unwrap_or}
+-- How many acknowledgements there were, what is kept of them, and the lines of one item more.
+use Rattle.std.specs.Prelude.{◌≡◌, ℕ, ◌+◌, ◌≤◌, Bool, not, ◌&&◌, List, [], ◌∷◌, ◌++◌, codes, count_by, decimal, fold, is_none, is_some}
+use Rattle.std.specs.Prelude.{length, map, Option, Some, None, Result, option_map, replicate, slice_get, slice_index, take}
 use Rattle.std.specs.Prelude.{zip, if◌then◌else◌}
 use Rattle.std.specs.List.{enumerate_from, flat_map, list_any}
 use Rattle.std.specs.Option.{option_and_then}
-use Rattle.cwr_lines.specs.Format.Records.{RecordValue}
-use Rattle.cwr_sent.specs.declared.facts.SentFacts.{SentFacts}
-use Rattle.cwr_sent.specs.declared.tables.Entry.{Entry}
-use Rattle.cwr_sent.specs.declared.tables.Sent.{Sent}
-use Rattle.cwr_sent.specs.Format.SentRows.{rows}
-use Rattle.cwr_sent.specs.Steps.SentTables.{entry_at, marked}
 use Rattle.cwr_fields.specs.declared.message_codes.MessageLevel.{MessageLevel}
 use Rattle.cwr_fields.specs.Format.MessageCodes.{status_code, transaction_statuses}
+use Rattle.cwr_devices.specs.declared.sinks.Sink.{Sink}
+use Rattle.cwr_devices.specs.declared.sinks.SinkFault.{SinkFault}
+use Rattle.cwr_devices.specs.Steps.Sinks.{Puts}
+use Rattle.cwr_shape.specs.declared.limits.Limits.{Limits}
+use Rattle.cwr_lines.specs.Format.Records.{RecordValue}
 use Rattle.cwr_values.specs.declared.items.Item.{Item}
-use Rattle.cwr_values.specs.declared.items.Item.TheVariants.{Transaction, Ended}
+use Rattle.cwr_values.specs.declared.items.Item.TheVariants.{Opened, Transaction, Ended}
+use Rattle.cwr_tools.specs.declared.verdicts.ToolFault.{ToolFault}
+use Rattle.cwr_tools.specs.declared.verdicts.Verdict.{Verdict}
+use Rattle.cwr_tools.specs.Format.Reports.{ItemLines}
+use Rattle.cwr_tools.specs.Steps.Reports.{Reports}
+use Rattle.cwr_sent.specs.declared.facts.SentFacts.{SentFacts}
+use Rattle.cwr_sent.specs.Format.GroupRows.{GroupRows, KeptFor, file_by}
+use Rattle.cwr_sent.specs.Format.SentRows.{SentShown}
+use Rattle.cwr_sent.specs.Steps.Links.{is_for}
+use Rattle.cwr_delivery.specs.declared.deliveries.Delivery.{Delivery}
+use Rattle.cwr_delivery.specs.declared.outcomes.Notes.{Notes}
+use Rattle.cwr_delivery.specs.Format.Acknowledgements.{has_status, is_ack, is_answer, is_message, worst_level}
+use Rattle.cwr_delivery.specs.Format.Answering.{wants_answer}
+use Rattle.cwr_delivery.specs.Format.Told.{read_after}
+use Rattle.cwr_delivery.specs.Steps.Deliveries.{Held, held_in, notes_held, taken_with}
+use Rattle.cwr_delivery.specs.Steps.Keeping.{Keeps}
 use Rattle.cwr_acks.specs.declared.counts.Answers.{Answers}
 use Rattle.cwr_acks.specs.declared.forms.Form.{Form}
 use Rattle.cwr_acks.specs.declared.forms.Form.TheVariants as forms
-use Rattle.cwr_acks.specs.declared.matching.Notes.{Notes}
-use Rattle.cwr_acks.specs.Format.Acknowledgements.{has_status, is_ack, is_answer, is_message}
-use Rattle.cwr_acks.specs.Format.AckTexts.{ack_line, message_line, note_lines, status_part}
-use Rattle.cwr_acks.specs.Format.AckLines.{answer_in, unanswered_line}
-use Rattle.cwr_acks.specs.Format.SentAnswers.{group_of, is_answered, no_notes, notes_on, sequence_of, wants_answer}
-use Rattle.cwr_acks.specs.Steps.DataTexts.{ack_opening, counts_data_text, message_part}
+use Rattle.cwr_acks.specs.declared.forms.Manner.{Manner}
+use Rattle.cwr_acks.specs.Format.AckTexts.{ack_text, message_line, name_before, sent_part, status_part, unanswered_text}
+use Rattle.cwr_acks.specs.Format.AckLines.{IsToldSo, Matched, Telling, keeps_of, lines_of_acks, name_of_notes, note_lines_if, telling_of}
+use Rattle.cwr_acks.specs.Steps.DataTexts.{ack_members, counts_data_text, message_part, name_member, unanswered_members}
 
 -- none
 abbrev pub no_answers : Answers
@@ -50,72 +62,95 @@ counts_text answers =
     codes "ACKS " ++ decimal answers.all
     ++ flat_map (λ p. status_part (status_code p.0) p.1) (zip transaction_statuses answers.by_status) ++ codes "\n"
 
-abbrev pub counts_in : Form → Answers → List ℕ
-counts_in forms.Words answers = counts_text answers
-counts_in forms.Json answers = counts_data_text answers.all answers.by_status
+abbrev pub counts_parts : Form → Option (List ℕ) → Answers → List ℕ
+counts_parts forms.Words file answers = counts_text answers
+counts_parts forms.Json file answers =
+    codes "{" ++ name_member (codes "\"file\":") file ++ counts_data_text answers.all answers.by_status
+
+abbrev pub counts_in : Telling → Answers → List ℕ
+counts_in telling answers = counts_parts telling.form telling.file answers
 
 -- the texts of things that are numbered from k on
 abbrev pub numbered : {A : Type 0} → (ℕ → A → List ℕ) → ℕ → List A → List ℕ
 numbered f k xs = flat_map (λ p. f p.0 p.1) (enumerate_from k xs)
 
--- ---- the table of what was sent, if there is one
+-- ---- what an item changes of what is kept
 
-abbrev pub Table : Type 0
-Table = List (List Entry)
+abbrev pub kept_with_transaction : Held → List RecordValue → Held
+kept_with_transaction h [] = h
+kept_with_transaction h (a ∷ rest) = if is_ack a then taken_with h a (a ∷ rest) else h
 
--- its entry for the transaction that an acknowledgement names
-abbrev pub if_wanted : Entry → Option Entry
-if_wanted e = if wants_answer e.facts then Some e else None
+abbrev pub kept_with : Held → Item → Held
+kept_with h (Opened r) = record h { files = h.files ++ file_by r ∷ [] }
+kept_with h (Transaction t) = kept_with_transaction h t
+kept_with h item = h
 
-abbrev pub entry_for : Table → RecordValue → Option Entry
-entry_for table a = option_and_then if_wanted (if group_of a == 0 then None else entry_at table (group_of a - 1) (sequence_of a))
+-- and what is then told of it beside what it says
+abbrev pub notes_of_transaction : Held → List RecordValue → Option Notes
+notes_of_transaction h [] = None
+notes_of_transaction h (a ∷ rest) = if is_ack a then Some (notes_held h a (a ∷ rest)) else None
 
--- what is told of an acknowledgement
-abbrev pub notes_by : Option Entry → RecordValue → Notes
-notes_by None a = notes_on None false a
-notes_by (Some e) a = notes_on (Some e.facts) e.answered a
+abbrev pub notes_with : Held → Item → Option Notes
+notes_with h (Transaction t) = notes_of_transaction h t
+notes_with h item = None
 
-abbrev pub notes_in : Option Table → RecordValue → Notes
-notes_in None a = no_notes
-notes_in (Some table) a = notes_by (entry_for table a) a
+abbrev pub held_if : Option Delivery → Option Held
+held_if delivery = option_map held_in delivery
 
--- what isn't answered
-abbrev pub entry_line : Form → ℕ → ℕ → Entry → List ℕ
-entry_line form g t e = unanswered_line form g t e.facts e.answered
+abbrev pub kept_if : Option Held → Item → Option Held
+kept_if held item = option_map (λ h. kept_with h item) held
 
-abbrev pub row_lines : Form → ℕ → List Entry → List ℕ
-row_lines form g row = numbered (entry_line form g) 0 row
+abbrev pub notes_if : Option Held → Item → Option Notes
+notes_if held item = option_and_then (λ h. notes_with h item) held
 
--- the entries of a group, from 0
-abbrev pub row_of : Table → ℕ → List Entry
-row_of table g = unwrap_or (slice_get table g) []
+-- after items
+abbrev pub held_after : Option Held → List Item → Option Held
+held_after held items = fold kept_if held items
 
-abbrev pub table_lines : Form → Table → List ℕ
-table_lines form table = numbered (row_lines form) 1 table
+-- ---- what isn't answered
 
--- with the entry marked that a transaction answers
-abbrev pub marked_by : Table → List RecordValue → Table
-marked_by table [] = table
-marked_by table (a ∷ rest) = if is_ack a && not (group_of a == 0) then marked table (group_of a - 1) (sequence_of a) else table
+abbrev pub unanswered_parts : Form → Option (List ℕ) → ℕ → ℕ → SentFacts → List ℕ
+unanswered_parts forms.Words name g t f = name_before name ++ unanswered_text g t f
+unanswered_parts forms.Json name g t f =
+    codes "{\"unanswered\":{" ++ name_member (codes "\"sent\":") name ++ unanswered_members g t f
 
-abbrev pub marked_with : Table → Item → Table
-marked_with table (Transaction t) = marked_by table t
-marked_with table item = table
+abbrev pub row_line : Telling → Option (List ℕ) → ℕ → List KeptFor → ℕ → SentFacts → List ℕ
+row_line telling name g answers t f =
+    if wants_answer f && not (list_any (is_for t) answers) then unanswered_parts telling.form name g t f else []
 
-abbrev pub table_lines_if : Form → Option Table → List ℕ
-table_lines_if form None = []
-table_lines_if form (Some table) = table_lines form table
+abbrev pub group_lines : Telling → Option (List ℕ) → ℕ → GroupRows → List ℕ
+group_lines telling name g group = numbered (row_line telling name g group.answers) 0 group.facts
 
--- the rows of what was sent
-abbrev pub rows_if : Option Sent → Option Table
-rows_if sent = option_map rows sent
+abbrev pub sent_lines : Telling → ℕ → SentShown → List ℕ
+sent_lines telling i shown = numbered (group_lines telling (slice_get telling.names i)) 1 shown.groups
+
+abbrev pub held_lines : Telling → Held → List ℕ
+held_lines telling h = numbered (sent_lines telling) 0 h.sent
+
+abbrev pub held_lines_if : Telling → Option Held → List ℕ
+held_lines_if telling None = []
+held_lines_if telling (Some h) = held_lines telling h
 
 -- ---- lines
 
--- what stands before the messages of an acknowledgement that have that worst level
-abbrev pub opening_in : Form → Notes → RecordValue → Option MessageLevel → List ℕ
-opening_in forms.Words notes a worst = ack_line a worst
-opening_in forms.Json notes a worst = ack_opening notes a worst
+-- the text of an acknowledgement whose messages have that worst level, but for names
+abbrev pub ack_in : Form → Option Notes → RecordValue → Option MessageLevel → List ℕ
+ack_in forms.Words notes a worst = ack_text a worst
+ack_in forms.Json notes a worst = ack_members notes a worst
+
+-- what stands before it, and after it
+abbrev pub before_ack : Form → Option (List ℕ) → Option (List ℕ) → List ℕ
+before_ack forms.Words file name = []
+before_ack forms.Json file name = codes "{" ++ name_member (codes "\"file\":") file ++ name_member (codes "\"sent\":") name
+
+abbrev pub after_ack : Form → Option (List ℕ) → List ℕ
+after_ack forms.Words name = sent_part name ++ codes "\n"
+after_ack forms.Json name = []
+
+abbrev pub opening_in : Telling → Option Notes → RecordValue → Option MessageLevel → List ℕ
+opening_in telling notes a worst =
+    before_ack telling.form telling.file (name_of_notes telling.names notes) ++ ack_in telling.form notes a worst
+    ++ after_ack telling.form (name_of_notes telling.names notes)
 
 -- a message that comes after others, or is the first
 abbrev pub message_as : Form → Bool → RecordValue → List ℕ
@@ -130,20 +165,30 @@ abbrev pub messages_in : Form → List RecordValue → List ℕ
 messages_in form t = numbered (λ n r. message_in form (list_any is_message (take n t)) r) 0 t
 
 -- what stands after them
-abbrev pub closing_in : Form → Notes → RecordValue → List ℕ
-closing_in forms.Words notes a = note_lines notes a
-closing_in forms.Json notes a = codes "]}\n"
+abbrev pub closing_as : Form → Option Notes → RecordValue → List ℕ
+closing_as forms.Words notes a = note_lines_if notes a
+closing_as forms.Json notes a = codes "]}\n"
 
--- the lines of a transaction, where that is an acknowledgement
-abbrev pub transaction_at : Form → Option Table → List RecordValue → List ℕ
-transaction_at form table [] = []
-transaction_at form table (a ∷ rest) = if is_ack a then answer_in form (notes_in table a) a (a ∷ rest) else []
+-- the lines of an acknowledgement
+abbrev pub answer_parts : Telling → Option Notes → RecordValue → List RecordValue → List ℕ
+answer_parts telling notes a t =
+    opening_in telling notes a (worst_level t) ++ messages_in telling.form t ++ closing_as telling.form notes a
+
+-- those of a transaction, where that is one
+abbrev pub transaction_at : Telling → Option Notes → List RecordValue → List ℕ
+transaction_at telling notes [] = []
+transaction_at telling notes (a ∷ rest) = if is_ack a then answer_parts telling notes a (a ∷ rest) else []
+
+-- what stands at the end
+abbrev pub end_at : Telling → Option Held → Answers → List ℕ
+end_at telling held answers =
+    (if is_none telling.file then held_lines_if telling held else []) ++ counts_in telling answers
 
 -- the lines of one item more, after so many acknowledgements
-abbrev pub lines_at : Form → Option Table → Answers → Item → List ℕ
-lines_at form table answers (Transaction t) = transaction_at form table t
-lines_at form table answers Ended = table_lines_if form table ++ counts_in form answers
-lines_at form table answers item = []
+abbrev pub lines_at : Telling → Option Held → Option Notes → Answers → Item → List ℕ
+lines_at telling held notes answers (Transaction t) = transaction_at telling notes t
+lines_at telling held notes answers Ended = end_at telling held answers
+lines_at telling held notes answers item = []
 
 -- ---- what stands after items
 
@@ -152,16 +197,47 @@ pub record IsAnswers (answers : Answers) (given : List Item) : Type 0 where
   pub all : answers.all ≡ count_by is_answer given
   pub each : answers.by_status ≡ map (λ s. count_by (has_status s) given) transaction_statuses
 
--- the entries of facts of one group, of which these are answered
-abbrev pub entries_from : ℕ → ℕ → (ℕ → ℕ → Bool) → List SentFacts → List Entry
-entries_from g t a [] = []
-entries_from g t a (f ∷ fs) = record { facts = f; answered = a g t } ∷ entries_from g (t + 1) a fs
+-- what is kept is that of what was read before, and of the items
+abbrev pub IsKept : Option Held → Option Matched → List Item → Type 0
+IsKept None None given = Unit {0}
+IsKept (Some h) (Some matched) given = Keeps matched.delivered (read_after matched.history given) h
+IsKept held matched given = ⊥
 
--- those of all groups
-abbrev pub rows_from : ℕ → (ℕ → ℕ → Bool) → List (List SentFacts) → Table
-rows_from g a [] = []
-rows_from g a (row ∷ rest) = entries_from g 0 a row ∷ rows_from (g + 1) a rest
+-- ---- all lines, by what is kept
 
--- the table is that of what was sent, marked by the items
-abbrev pub IsMatched : Option Table → Option (List (List SentFacts)) → List Item → Type 0
-IsMatched table sent given = table ≡ option_map (rows_from 1 (is_answered given)) sent
+-- how many acknowledgements are among the items
+abbrev pub answers_of : List Item → Answers
+answers_of given = record {
+  all = count_by is_answer given;
+  by_status = map (λ this_status. count_by (has_status this_status) given) transaction_statuses;
+}
+
+-- the lines of an item that comes after others
+abbrev pub line_held : Telling → Option Held → List Item → Item → List ℕ
+line_held telling held before item =
+    lines_at telling (kept_if (held_after held before) item) (notes_if (held_after held before) item) (answers_of before) item
+
+unfoldable pub lines_held : Telling → Option Held → List Item → List ℕ
+lines_held telling held items = flat_map (λ q. line_held telling held (take q.0 items) q.1) (enumerate_from 0 items)
+
+abbrev pub lines_of_held : Telling → Option Held → ItemLines
+lines_of_held telling held = record {
+  lines = lines_held telling held;
+  last = λ verdict. [];
+  take_memory = λ item. is_some held && keeps_of item;
+}
+
+-- ---- what is written
+
+-- the acknowledgements' lines were written, where what is kept is that of what was read before
+abbrev pub ReportsAcks : {W : Type 0} → Manner → Option Delivery → Limits → Option (List ℕ) → Option (List ℕ)
+    → (W → Option (List ℕ)) → W → W → Result Verdict ToolFault → Type 0
+ReportsAcks manner delivery limits before after contents old new outcome =
+    (telling : Telling) (matched : Option Matched) → IsToldSo telling manner → IsKept (held_if delivery) matched []
+    → Reports (lines_of_acks telling matched) limits before after contents old new outcome
+
+-- what stands after the last of several transmissions was put
+abbrev pub PutsRest : {W : Type 0} → (W → Option (List ℕ)) → (W → ℕ) → Manner → Option Delivery → Answers → Result (Unit {0}) SinkFault
+    → Sink W → Sink W → Type 0
+PutsRest contents failures manner delivery answers result old new =
+    Puts contents failures (end_at (record (telling_of manner) { file = None }) (held_if delivery) answers) result old new

@@ -5,16 +5,18 @@ use Rattle.cwr_fields.specs.declared.message_codes.TransactionStatus.{Transactio
 use Rattle.cwr_fields.specs.declared.message_codes.MessageLevel.{MessageLevel}
 use Rattle.cwr_fields.specs.Format.Bytes.{is_spaces, trimmed}
 use Rattle.cwr_fields.specs.Format.MessageCodes.{level_code, status_code, transaction_statuses}
-use Rattle.cwr_fields.specs.declared.kinds.Kind.{Kind}
 use Rattle.cwr_fields.specs.Format.Kinds.{letters}
 use Rattle.cwr_lines.specs.Format.Records.{RecordValue, cell_named}
 use Rattle.cwr_lines.specs.Format.Carried.{record_cell}
 use Rattle.cwr_json.specs.declared.encodings.Encoding.TheVariants.{Latin1}
 use Rattle.cwr_json.specs.Steps.FormTexts.{spelled_bytes}
-use Rattle.cwr_acks.specs.declared.matching.Notes.{Notes}
-use Rattle.cwr_acks.specs.Format.Acknowledgements.{status_in}
+use Rattle.cwr_sent.specs.declared.facts.SentFacts.{SentFacts}
+use Rattle.cwr_delivery.specs.declared.outcomes.Notes.{Notes}
+use Rattle.cwr_delivery.specs.declared.outcomes.Outcome.{Outcome}
+use Rattle.cwr_delivery.specs.declared.outcomes.Outcome.TheVariants as outcomes
+use Rattle.cwr_delivery.specs.Format.Acknowledgements.{status_in}
 use Rattle.cwr_acks.specs.Format.AckTexts.{number_part, status_words}
-use Rattle.cwr_acks.specs.Format.SentAnswers.{group_of, sequence_of}
+use Rattle.cwr_delivery.specs.Format.Answering.{group_of, sequence_of}
 
 -- ---- members after others; a key stands with the comma before it and the colon
 
@@ -41,10 +43,26 @@ level_member (Some this_level) = codes ",\"level\":\"" ++ level_code this_level 
 abbrev pub mark_part : List ℕ → Bool → List ℕ
 mark_part mark there = if there then mark else []
 
+abbrev pub outcome_member : Outcome → List ℕ
+outcome_member (outcomes.Answers sent facts) = []
+outcome_member outcomes.Unsent = codes ",\"unsent\":true"
+outcome_member outcomes.Unclear = codes ",\"unclear\":true"
+outcome_member (outcomes.Retyped this_kind) = codes ",\"retyped\":\"" ++ letters this_kind ++ codes "\""
+outcome_member (outcomes.Renumbered number) = cell_member (codes ",\"renumbered\":") number
+
 abbrev pub notes_members : Notes → List ℕ
 notes_members notes =
-    mark_part (codes ",\"unsent\":true") notes.unsent ++ mark_part (codes ",\"retitled\":true") notes.retitled
-    ++ mark_part (codes ",\"again\":true") notes.again
+    mark_part (codes ",\"unkeyed\":true") notes.unkeyed ++ outcome_member notes.outcome
+    ++ mark_part (codes ",\"retitled\":true") notes.retitled ++ mark_part (codes ",\"again\":true") notes.again
+
+abbrev pub notes_members_if : Option Notes → List ℕ
+notes_members_if None = []
+notes_members_if (Some notes) = notes_members notes
+
+-- a name, as it is told, and a comma
+abbrev pub name_member : List ℕ → Option (List ℕ) → List ℕ
+name_member key None = []
+name_member key (Some name) = key ++ name ++ codes ","
 
 abbrev pub comma_if : Bool → List ℕ
 comma_if later = if later then codes "," else []
@@ -53,7 +71,7 @@ comma_if later = if later then codes "," else []
 
 abbrev pub status_members : RecordValue → List ℕ
 status_members a =
-    cell_member (codes "{\"status\":") (cell_named "transaction status" a) ++ codes ",\"words\":\"" ++ status_words (status_in a)
+    cell_member (codes "\"status\":") (cell_named "transaction status" a) ++ codes ",\"words\":\"" ++ status_words (status_in a)
     ++ codes "\""
 
 abbrev pub original_members : RecordValue → List ℕ
@@ -61,13 +79,13 @@ original_members a =
     codes ",\"group\":" ++ decimal (group_of a) ++ codes ",\"transaction\":" ++ decimal (sequence_of a)
     ++ cell_member (codes ",\"type\":") (cell_named "original transaction type" a)
 
--- what stands before the messages
-abbrev pub ack_opening : Notes → RecordValue → Option MessageLevel → List ℕ
-ack_opening notes a worst =
+-- what stands before the messages, but for names
+abbrev pub ack_members : Option Notes → RecordValue → Option MessageLevel → List ℕ
+ack_members notes a worst =
     status_members a ++ original_members a ++ level_member worst
     ++ cell_member_if (codes ",\"submitter\":") (cell_named "submitter creation number" a)
     ++ cell_member_if (codes ",\"recipient\":") (cell_named "recipient creation number" a)
-    ++ cell_member_if (codes ",\"title\":") (cell_named "creation title" a) ++ notes_members notes ++ codes ",\"messages\":["
+    ++ cell_member_if (codes ",\"title\":") (cell_named "creation title" a) ++ notes_members_if notes ++ codes ",\"messages\":["
 
 -- a message that comes after others, or is the first
 abbrev pub message_part : Bool → RecordValue → List ℕ
@@ -81,10 +99,11 @@ message_part later m =
 
 -- ---- the end
 
-abbrev pub unanswered_data_text : ℕ → ℕ → Kind → List ℕ
-unanswered_data_text g t this_kind =
-    codes "{\"unanswered\":{\"group\":" ++ decimal g ++ codes ",\"transaction\":" ++ decimal t ++ codes ",\"type\":\""
-    ++ letters this_kind ++ codes "\"}}\n"
+-- what stands after the name
+abbrev pub unanswered_members : ℕ → ℕ → SentFacts → List ℕ
+unanswered_members g t f =
+    codes "\"group\":" ++ decimal g ++ codes ",\"transaction\":" ++ decimal t ++ codes ",\"type\":\"" ++ letters f.kind
+    ++ codes "\"" ++ cell_member_if (codes ",\"submitter\":") f.number ++ codes "}}\n"
 
 -- the key of a status, after others or as the first
 abbrev pub count_key : Bool → List ℕ → List ℕ
@@ -101,5 +120,5 @@ count_members later (p ∷ more) = count_member later (status_code p.0) p.1 ++ c
 -- the line of counts
 abbrev pub counts_data_text : ℕ → List ℕ → List ℕ
 counts_data_text all by_status =
-    codes "{\"acks\":" ++ decimal all ++ codes ",\"statuses\":{" ++ count_members false (zip transaction_statuses by_status)
+    codes "\"acks\":" ++ decimal all ++ codes ",\"statuses\":{" ++ count_members false (zip transaction_statuses by_status)
     ++ codes "}}\n"

@@ -1,21 +1,30 @@
--- What a table of transactions that were sent shows: by groups, an entry for each.
-use Rattle.std.specs.Prelude.{false, List, map}
-use Rattle.cwr_sent.specs.declared.facts.SentFacts.{SentFacts}
-use Rattle.cwr_sent.specs.declared.tables.Entry.{Entry}
+-- What a table of transactions that were sent shows, by groups.
+use Rattle.std.specs.Prelude.{◌≡◌, List, map}
+use Rattle.cwr_sent.specs.declared.created.Created.{Created}
 use Rattle.cwr_sent.specs.declared.tables.Sent.{Sent}
+use Rattle.cwr_sent.specs.Format.GroupRows.{GroupRows, fresh}
+use Rattle.cwr_sent.specs.Format.SentFacts.{SentContent}
 
--- its entries
-abbrev pub rows : Sent → List (List Entry)
-rows sent = map (λ v. v.items) sent.groups.items
+-- ---- what a table shows
 
--- the facts of the entries
-abbrev pub facts_in_rows : List (List Entry) → List (List SentFacts)
-facts_in_rows table = map (map (λ (e : Entry). e.facts)) table
+-- when the transmission was created, and its groups
+pub record SentShown : Type 0 where
+  pub created : Created
+  pub groups : List GroupRows
 
--- an entry that is not answered
-abbrev pub fresh : SentFacts → Entry
-fresh f = record { facts = f; answered = false }
+abbrev pub shown_in : Sent → SentShown
+shown_in sent = record { created = sent.created; groups = sent.groups.items }
 
--- the entries of transactions with these facts, none of which is answered
-abbrev pub fresh_rows : List (List SentFacts) → List (List Entry)
-fresh_rows sent = map (map fresh) sent
+-- what is kept of the transmission
+abbrev pub content_shown : SentShown → SentContent
+content_shown shown = record { created = shown.created; groups = map (λ (g : GroupRows). g.facts) shown.groups }
+
+abbrev pub content_in : Sent → SentContent
+content_in sent = content_shown (shown_in sent)
+
+-- none of its transactions is answered
+abbrev pub IsFreshShown : SentShown → Type 0
+IsFreshShown shown = shown.groups ≡ map fresh (content_shown shown).groups
+
+abbrev pub IsFresh : Sent → Type 0
+IsFresh sent = IsFreshShown (shown_in sent)

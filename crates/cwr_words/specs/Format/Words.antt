@@ -12,6 +12,8 @@ use Rattle.cwr_shape.specs.declared.limits.Limits.{Limits}
 use Rattle.cwr_shape.specs.declared.reasons.Level.{Level}
 use Rattle.cwr_shape.specs.declared.reasons.Level.TheVariants as levels
 use Rattle.cwr_shape.specs.Format.Ranges.{limit_values}
+use Rattle.cwr_states.specs.declared.state_sets.States.{States}
+use Rattle.cwr_states.specs.Format.StateSets.{no_states, states_in}
 use Rattle.cwr_words.specs.declared.words.Judging.{Judging}
 use Rattle.cwr_words.specs.declared.words.Rows.{Rows}
 use Rattle.cwr_words.specs.declared.words.Rows.TheVariants.{Records, Works}
@@ -25,13 +27,17 @@ abbrev pub IsFlagOf : Found → List ℕ → Bool → Type 0
 IsFlagOf found id given =
     (one_text found id ≡ Some (codes "true") → given ≡ true) × (one_text found id ≡ Some (codes "false") → given ≡ false)
 
--- the names that FILE has
+-- the values of the word of an id, in their order
 abbrev pub values_of : Option (List (List ℕ)) → List (List ℕ)
 values_of None = []
 values_of (Some values) = values
 
+abbrev pub AreValuesOf : Found → List ℕ → List (List ℕ) → Type 0
+AreValuesOf found id values = values ≡ values_of (option_map raw_values (matched_of found id))
+
+-- the names that FILE has
 abbrev pub AreNamesOf : Found → List (List ℕ) → Type 0
-AreNamesOf found names = names ≡ values_of (option_map raw_values (matched_of found (codes "FILE")))
+AreNamesOf found names = AreValuesOf found (codes "FILE") names
 
 -- the level of that letter
 abbrev pub level_named : List ℕ → Option Level
@@ -63,7 +69,7 @@ IsSplitOf found (Lint files quiet explained advised) = ⊥
 IsSplitOf found (Advise files repeated) = ⊥
 IsSplitOf found (Json file numbers utf8) = ⊥
 IsSplitOf found (Csv rows file) = ⊥
-IsSplitOf found (Acks file sent as_json) = ⊥
+IsSplitOf found (Acks files sent as_json by_place state fail_on) = ⊥
 IsSplitOf found (Write file out line utf8) = ⊥
 IsSplitOf found (Split transactions file prefix only_new) =
     ((text : List ℕ) → one_text found (codes "N") ≡ Some text
@@ -106,12 +112,18 @@ IsTableOf found (Csv rows file) =
     × (option_map (λ f. f.now) file ≡ first_value found (codes "FILE"))
 IsTableOf found work = ⊥
 
--- what the acknowledgements of the file FILE say, matched with the transmission of the file that the option names, if it does, as JSON where that flag is
--- given
+-- the states whose names the option's text has, with commas between them, or no states without the option
+abbrev pub states_given : Option (List ℕ) → Option States
+states_given None = Some no_states
+states_given (Some text) = states_in text
+
+-- what the acknowledgements of the files FILE say, matched with the transmissions of the files that SENT names, in their order: as JSON, by place alone and as
+-- a table of states where those flags are given; a row of that table ends the run as a refusal does where it has one of the states that are named
 abbrev pub IsAcksOf : Found → Work → Type 0
-IsAcksOf found (Acks file sent as_json) =
-    (option_map (λ f. f.now) file ≡ first_value found (codes "FILE"))
-    × (option_map (λ f. f.now) sent ≡ first_value found (codes "sent")) × IsFlagOf found (codes "json") as_json
+IsAcksOf found (Acks files sent as_json by_place state fail_on) =
+    AreNamesOf found (map (λ name. name.now) files.items) × AreValuesOf found (codes "sent") (map (λ name. name.now) sent.items)
+    × IsFlagOf found (codes "json") as_json × IsFlagOf found (codes "by-place") by_place × IsFlagOf found (codes "state") state
+    × (states_given (first_value found (codes "fail-on")) ≡ Some fail_on)
 IsAcksOf found work = ⊥
 
 -- a transmission from the lines of the file FILE to the file OUT, where lines may have so many bytes as that option says, in UTF-8 where that flag
@@ -138,10 +150,9 @@ IsRenumberingOf found (Renumber file out only_new) =
     × (option_map (λ f. f.now) out ≡ first_value found (codes "OUT")) × IsFlagOf found (codes "new") only_new
 IsRenumberingOf found work = ⊥
 
--- Work of the subcommand of that name: transmissions are checked, explained, linted or advised on; one is shown, or written as JSON or as a table, or what its
--- acknowledgements say is told, that of the first file that FILE names, if it names one; one is written from lines of JSON, one is split, some are joined, the
--- numbers of one are put right, or the manual
--- is printed.
+-- Work of the subcommand of that name: transmissions are checked, explained, linted or advised on; one is shown, or written as JSON or as a table, that of the
+-- first file that FILE names, if it names one; what the acknowledgements of some say is told; one is written from lines of JSON, one is split, some are joined,
+-- the numbers of one are put right, or the manual is printed.
 abbrev pub IsWorkOf : List ℕ → Found → Work → Type 0
 IsWorkOf name found (Check judging) =
     (bytes_eq name (codes "show") ≡ false) × (bytes_eq name (codes "explain") ≡ false) × IsJudgingOf found judging
@@ -153,7 +164,8 @@ IsWorkOf name found (Lint files quiet explained advised) =
 IsWorkOf name found (Advise files repeated) = (bytes_eq name (codes "advise") ≡ true) × IsAdviceOf found (Advise files repeated)
 IsWorkOf name found (Json file numbers utf8) = (bytes_eq name (codes "json") ≡ true) × IsExportOf found (Json file numbers utf8)
 IsWorkOf name found (Csv rows file) = (bytes_eq name (codes "csv") ≡ true) × IsTableOf found (Csv rows file)
-IsWorkOf name found (Acks file sent as_json) = (bytes_eq name (codes "acks") ≡ true) × IsAcksOf found (Acks file sent as_json)
+IsWorkOf name found (Acks files sent as_json by_place state fail_on) =
+    (bytes_eq name (codes "acks") ≡ true) × IsAcksOf found (Acks files sent as_json by_place state fail_on)
 IsWorkOf name found (Write file out line utf8) =
     (bytes_eq name (codes "write") ≡ true) × IsImportOf found (Write file out line utf8)
 IsWorkOf name found (Split transactions file prefix only_new) =

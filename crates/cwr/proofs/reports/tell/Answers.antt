@@ -8,7 +8,7 @@ use Rattle.cwr_advise.specs.Format.AdviceLines.{lines_of_advice}
 use Rattle.cwr_csv.specs.Format.TableLines.{lines_of_table}
 use Rattle.cwr_transform.specs.declared.endings.Look.{Look}
 use Rattle.cwr.specs.Steps.Looks.{LooksAfter, tells_findings}
-use Rattle.cwr.specs.Steps.Tellings.{CountsReading}
+use Rattle.cwr.specs.Steps.Tellings.{CountsReading, telling_alone}
 use Rattle.cwr.proofs.lemmas.EndsOnTexts.{counts_explained, counts_reading, looks_after, looks_found, looks_told, sees_nothing}
 use Rattle.cwr.proofs.lemmas.EndsOnTexts.{told_as}
 use Rattle.cwr_tools.proofs.lemmas.RightReports.{judged_text}
@@ -157,28 +157,28 @@ returns-in-Faults-clause-reader_failures g c =
 
 pub returns-in-Answers-clause-seen : goal.returns-in-Answers-clause-seen
 returns-in-Answers-clause-seen g c =
-    sees_nothing c.args.limits (g.R.Source.remaining c.args.reader.now) c.args.watch.now c.acks-writer.result.1
+    sees_nothing c.args.limits (g.R.Source.remaining c.args.reader.now) c.args.watch.now c.acks_alone-writer.result.1
     (c.requires (ap tells_findings c.in-Answers.is))
 
 pub returns-in-Answers-clause-looks : goal.returns-in-Answers-clause-looks
 returns-in-Answers-clause-looks g c =
-    looks_told (lines_of_acks c.in-Answers.form None) c.args.limits (g.R.Source.remaining c.args.reader.now)
-    (g.R.Source.remaining c.acks-writer.new.reader) (g.R.Source.remaining c.look_after-look-in-Answers.new.reader)
+    looks_told (lines_of_acks (telling_alone c.in-Answers.form) None) c.args.limits (g.R.Source.remaining c.args.reader.now)
+    (g.R.Source.remaining c.acks_alone-writer.new.reader) (g.R.Source.remaining c.look_after-look-in-Answers.new.reader)
     g.W.Target.contents
-    c.args.writer c.acks-writer.result.0 c.acks-writer.result.1 c.look_after-look-in-Answers.result c.acks-writer.ensures.told
+    c.args.writer c.acks_alone-writer.result.0 c.acks_alone-writer.result.1 c.look_after-look-in-Answers.result c.acks_alone-writer.ensures.told
     c.look_after-look-in-Answers.ensures.looks
 
 pub returns-in-Answers-clause-told : goal.returns-in-Answers-clause-told
 returns-in-Answers-clause-told g c =
     told_as c.args.telling _ c.args.limits (g.R.Source.remaining c.args.reader.now)
-    (g.R.Source.remaining c.acks-writer.new.reader) g.W.Target.contents c.args.writer c.acks-writer.result.0
-    c.acks-writer.result.1 c.in-Answers.is c.acks-writer.ensures.reported
+    (g.R.Source.remaining c.acks_alone-writer.new.reader) g.W.Target.contents c.args.writer c.acks_alone-writer.result.0
+    c.acks_alone-writer.result.1 c.in-Answers.is c.acks_alone-writer.ensures.reported
 
 pub returns-in-Answers-clause-reader_failures : goal.returns-in-Answers-clause-reader_failures
 returns-in-Answers-clause-reader_failures g c =
-    counts_reading c.acks-writer.result.1 c.look_after-look-in-Answers.result (g.R.Source.failures c.args.reader.now)
-    (g.R.Source.failures c.acks-writer.new.reader) (g.R.Source.failures c.look_after-look-in-Answers.new.reader)
-    c.acks-writer.ensures.reader_failures c.look_after-look-in-Answers.ensures.unasked
+    counts_reading c.acks_alone-writer.result.1 c.look_after-look-in-Answers.result (g.R.Source.failures c.args.reader.now)
+    (g.R.Source.failures c.acks_alone-writer.new.reader) (g.R.Source.failures c.look_after-look-in-Answers.new.reader)
+    c.acks_alone-writer.ensures.reader_failures c.look_after-look-in-Answers.ensures.unasked
     c.look_after-look-in-Answers.ensures.failures
 
 pub returns-in-Advice-clause-seen : goal.returns-in-Advice-clause-seen
@@ -230,8 +230,8 @@ returns-in-Rows-clause-judged g c =
 
 pub returns-in-Answers-clause-judged : goal.returns-in-Answers-clause-judged
 returns-in-Answers-clause-judged g c =
-    judged_text (lines_of_acks c.in-Answers.form None) c.args.limits _ _ g.W.Target.contents c.args.writer c.acks-writer.result.0
-    c.acks-writer.result.1 c.acks-writer.ensures.told
+    judged_text (lines_of_acks (telling_alone c.in-Answers.form) None) c.args.limits _ _ g.W.Target.contents c.args.writer c.acks_alone-writer.result.0
+    c.acks_alone-writer.result.1 c.acks_alone-writer.ensures.told
 
 pub returns-in-Advice-clause-judged : goal.returns-in-Advice-clause-judged
 returns-in-Advice-clause-judged g c =

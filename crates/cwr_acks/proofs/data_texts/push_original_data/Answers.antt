@@ -1,10 +1,11 @@
 use Rattle.std.proofs.Common.{◌≡◌, List, ℕ, ◌++◌, refl, ap, ap₂, ◌∙◌}
 use Rattle.std.specs.Prelude.{codes, decimal}
 use Rattle.cwr_lines.specs.Format.Records.{cell_named}
-use Rattle.cwr_acks.specs.Format.SentAnswers.{group_of, sequence_of}
+use Rattle.cwr_delivery.specs.Format.Answering.{group_of, sequence_of}
 use Rattle.cwr_acks.specs.Steps.DataTexts.{cell_at, cell_member}
-use Rattle.cwr_acks.proofs.lemmas.AckFields.{original_type}
-use Rattle.cwr_acks.proofs.lemmas.NamedParts.{cell_is, five_parts}
+use Rattle.cwr_delivery.proofs.lemmas.AckFields.{original_type}
+use Rattle.cwr_acks.proofs.lemmas.NamedParts.{five_parts}
+use Rattle.cwr_delivery.proofs.lemmas.NamedCells.{cell_is}
 use Rattle.cwr_acks.proofs.data_texts.push_original_data.Goals as goal
 
 pub returns-clause-value : goal.returns-clause-value

@@ -1,18 +1,17 @@
+use Rattle.std.specs.Prelude.{option_map}
 use Rattle.cwr_encode.proofs.lemmas.Numbered.{puts_both, puts_cut}
-use Rattle.cwr_acks.specs.Format.Acknowledgements.{worst_level}
-use Rattle.cwr_acks.specs.Steps.AckSteps.{messages_in, opening_in}
+use Rattle.cwr_delivery.specs.Format.Acknowledgements.{worst_level}
+use Rattle.cwr_acks.specs.Steps.AckSteps.{ack_in, before_ack}
 use Rattle.cwr_acks.proofs.item_lines.put_begun.Goals as goal
 
-pub returns-in_err-put_opening-clause-puts : goal.returns-in_err-put_opening-clause-puts
-returns-in_err-put_opening-clause-puts g c =
-    puts_cut g.W.Target.contents g.W.Target.failures
-    (opening_in c.args.form c.args.notes c.args.head.now (worst_level c.args.transaction.now))
-    (messages_in c.args.form c.args.transaction.now) c.args.sink.now c.put_opening.new.sink
-    c.in_err-put_opening.field-0.0 c.from_residual.result c.from_residual.ensures.0 c.in_err-put_opening.ensures.puts
+pub returns-in_err-put_before-clause-puts : goal.returns-in_err-put_before-clause-puts
+returns-in_err-put_before-clause-puts g c =
+    puts_cut g.W.Target.contents g.W.Target.failures (before_ack c.args.form (option_map (λ n. n.now) c.args.file) (option_map (λ n. n.now) c.args.name)) (ack_in c.args.form c.args.notes.now c.args.head.now (worst_level c.args.transaction.now))
+    c.args.sink.now c.put_before.new.sink c.in_err-put_before.field-0.0 c.from_residual.result c.from_residual.ensures.0
+    c.in_err-put_before.ensures.puts
 
 pub returns-clause-puts : goal.returns-clause-puts
 returns-clause-puts g c =
-    puts_both g.W.Target.contents g.W.Target.failures
-    (opening_in c.args.form c.args.notes c.args.head.now (worst_level c.args.transaction.now))
-    (messages_in c.args.form c.args.transaction.now) c.args.sink.now c.put_opening.new.sink c.put_messages.new.sink
-    tt c.put_messages.result c.in_ok-put_opening.ensures.puts c.put_messages.ensures.puts
+    puts_both g.W.Target.contents g.W.Target.failures (before_ack c.args.form (option_map (λ n. n.now) c.args.file) (option_map (λ n. n.now) c.args.name)) (ack_in c.args.form c.args.notes.now c.args.head.now (worst_level c.args.transaction.now))
+    c.args.sink.now c.put_before.new.sink c.put_ack.new.sink
+    tt c.put_ack.result c.in_ok-put_before.ensures.puts c.put_ack.ensures.puts

@@ -4,9 +4,9 @@ use Rattle.std.specs.List.{list_any}
 use Rattle.cwr_lines.specs.Format.Records.{RecordValue}
 use Rattle.cwr_encode.proofs.lemmas.PutRows.{found_within}
 use Rattle.cwr_encode.proofs.lemmas.Numbered.{puts_as, step_more, steps_refused, steps_whole}
-use Rattle.cwr_acks.specs.Format.Acknowledgements.{is_message}
+use Rattle.cwr_delivery.specs.Format.Acknowledgements.{is_message}
 use Rattle.cwr_acks.specs.Steps.AckSteps.{message_in}
-use Rattle.cwr_acks.proofs.lemmas.NamedParts.{any_more}
+use Rattle.cwr_delivery.proofs.lemmas.NamedCells.{any_more}
 use Rattle.cwr_acks.proofs.item_lines.put_messages.Goals as goal
 
 pub returns-in_err-put_message-clause-puts : goal.returns-in_err-put_message-clause-puts

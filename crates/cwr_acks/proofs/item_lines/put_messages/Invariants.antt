@@ -2,7 +2,7 @@ use Rattle.std.proofs.Common.{◌≡◌, ◌≤◌, ◌-◌, ◌++◌, ℕ, List
 use Rattle.std.specs.List.{list_any}
 use Rattle.cwr_devices.specs.Steps.Sinks.{HasWritten, has_failed, writer_of}
 use Rattle.cwr_encode.proofs.lemmas.Numbered.{numbered}
-use Rattle.cwr_acks.specs.Format.Acknowledgements.{is_message}
+use Rattle.cwr_delivery.specs.Format.Acknowledgements.{is_message}
 use Rattle.cwr_acks.specs.Steps.AckSteps.{message_in}
 use Rattle.cwr_acks.proofs.item_lines.put_messages.Given as goal
 

@@ -2,8 +2,9 @@ use Rattle.std.proofs.Common.{◌≡◌, ℕ, List, ◌++◌, ap, ap₂, ◌∙�
 use Rattle.std.specs.Prelude.{codes, decimal}
 use Rattle.cwr_fields.specs.Format.Bytes.{number_of, trimmed}
 use Rattle.cwr_lines.specs.Format.Records.{cell_named}
-use Rattle.cwr_acks.proofs.lemmas.AckFields.{group, original_type, sequence}
-use Rattle.cwr_acks.proofs.lemmas.NamedParts.{cell_is, cell_long, six_parts, trimmed_long}
+use Rattle.cwr_delivery.proofs.lemmas.AckFields.{group, original_type, sequence}
+use Rattle.cwr_acks.proofs.lemmas.NamedParts.{six_parts, trimmed_long}
+use Rattle.cwr_delivery.proofs.lemmas.NamedCells.{cell_is, cell_long}
 use Rattle.cwr_acks.proofs.line_texts.push_original.Goals as goal
 
 pub number_of-requires : goal.number_of-requires

@@ -2,10 +2,11 @@ use Rattle.std.proofs.Common.{◌≡◌, ℕ, List, ◌++◌, Option, ap, ap₂,
 use Rattle.std.specs.Prelude.{codes}
 use Rattle.cwr_fields.specs.declared.message_codes.TransactionStatus.{TransactionStatus}
 use Rattle.cwr_lines.specs.Format.Records.{cell_named}
-use Rattle.cwr_acks.specs.Format.Acknowledgements.{status_in}
+use Rattle.cwr_delivery.specs.Format.Acknowledgements.{status_in}
 use Rattle.cwr_acks.specs.Format.AckTexts.{status_words}
-use Rattle.cwr_acks.proofs.lemmas.AckFields.{status}
-use Rattle.cwr_acks.proofs.lemmas.NamedParts.{cell_is, cell_long, three_parts}
+use Rattle.cwr_delivery.proofs.lemmas.AckFields.{status}
+use Rattle.cwr_acks.proofs.lemmas.NamedParts.{three_parts}
+use Rattle.cwr_delivery.proofs.lemmas.NamedCells.{cell_is, cell_long}
 use Rattle.cwr_acks.proofs.line_texts.push_status.Goals as goal
 
 pub push-requires : goal.push-requires

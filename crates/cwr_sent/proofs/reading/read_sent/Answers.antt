@@ -7,10 +7,10 @@ use Rattle.cwr_decode.proofs.lemmas.ItemsMakeOneTransmission.{items_once}
 use Rattle.cwr_decode.proofs.lemmas.ItemsReadSoFar.{all_items, all_taken, fault_read, fewer_left, memory_stops, none_read}
 use Rattle.cwr_decode.proofs.lemmas.ItemsReadSoFar.{nothing_read_yet, of_fault, some_read}
 use Rattle.cwr_decode.specs.Format.Runs.{TakesFront}
-use Rattle.cwr_sent.specs.Format.SentFacts.{facts_in}
-use Rattle.cwr_sent.specs.Format.SentRows.{fresh_rows, rows}
-use Rattle.cwr_sent.specs.Steps.SentTables.{Filled, filled_after, filled_in, filled_with}
-use Rattle.cwr_sent.proofs.lemmas.FilledTables.{filled_more, filled_whole, rows_fresh}
+use Rattle.cwr_sent.specs.Format.SentFacts.{content_of}
+use Rattle.cwr_sent.specs.Format.SentRows.{content_in}
+use Rattle.cwr_sent.specs.Steps.SentTables.{Filled, filled_after, filled_in, filled_with, nothing_filled}
+use Rattle.cwr_sent.proofs.lemmas.FilledTables.{content_whole, filled_more, filled_whole, fresh_whole, none_open}
 use Rattle.cwr_sent.proofs.reading.read_sent.Goals as goal
 
 pub items-init : goal.items-init
@@ -104,11 +104,11 @@ returns-clause-takes g c =
     c.items.invariant.reading c.in_ok-item.ensures.reads c.in_ok-item.ensures.again (λ e. ap g.R.Source.remaining e) in
     let are = all_items c.args.limits _ _ c.items.invariant.given all in
     let kept : (v : TransmissionValue) × TakesFront c.args.limits (g.R.Source.remaining c.args.reader.now) v
-    (g.R.Source.remaining c.next_item.new.self.reader.now) × (rows c.items.sent ≡ fresh_rows (facts_in v)) = (
+    (g.R.Source.remaining c.next_item.new.self.reader.now) × (content_in c.items.sent ≡ content_of v) = (
       are.value,
       all_taken c.args.limits _ _ c.items.invariant.given are.value all
           (λ v whole given. items_once are.value v (sym are.given_are ∙ given)),
-      ap (λ (f : Filled). f.closed) (c.items.invariant.filled ∙ ap filled_after are.given_are ∙ filled_whole are.value),
+      content_whole c.items.sent are.value (c.items.invariant.filled ∙ ap filled_after are.given_are ∙ filled_whole are.value),
     ) in
     search rules
 
@@ -120,6 +120,8 @@ returns-clause-fresh g c =
     c.items.invariant.given c.in_ok-item.field-0 _ c.in_default.is
     c.items.invariant.reading c.in_ok-item.ensures.reads c.in_ok-item.ensures.again (λ e. ap g.R.Source.remaining e) in
     let are = all_items c.args.limits _ _ c.items.invariant.given all in
-    let kept =
-    ap (λ (f : Filled). f.closed) (c.items.invariant.filled ∙ ap filled_after are.given_are ∙ filled_whole are.value) in
-    rows_fresh (rows c.items.sent) (facts_in are.value) kept
+    fresh_whole c.items.sent are.value (c.items.invariant.filled ∙ ap filled_after are.given_are ∙ filled_whole are.value)
+
+pub add-requires : goal.add-requires
+add-requires g c =
+    ap (λ (f : Filled). f.open_one.answers) c.items.invariant.filled ∙ none_open c.items.invariant.given nothing_filled refl

@@ -1,7 +1,7 @@
 use Rattle.std.proofs.Common.{◌≡◌}
 use Rattle.cwr_fields.specs.Format.MessageCodes.{transaction_statuses}
 use Rattle.cwr_values.specs.declared.items.Item.TheVariants.{Transaction}
-use Rattle.cwr_acks.specs.Format.Acknowledgements.{is_answer}
+use Rattle.cwr_delivery.specs.Format.Acknowledgements.{is_answer}
 use Rattle.cwr_acks.specs.Steps.AckSteps.{one_more_if}
 use Rattle.cwr_acks.proofs.lemmas.Statuses.{counted_to}
 use Rattle.cwr_acks.proofs.counts.Answers.count_transaction.Given as goal

@@ -2,8 +2,8 @@ use Rattle.std.proofs.Common.{◌≡◌, ℕ, List, ◌++◌, length, ap, ap₂,
 use Rattle.std.specs.Prelude.{codes}
 use Rattle.cwr_lines.specs.Format.Records.{cell_named}
 use Rattle.cwr_acks.specs.Format.AckTexts.{cell_part, level_part, original_text, status_text}
-use Rattle.cwr_acks.proofs.lemmas.AckFields.{recipient, submitter, title}
-use Rattle.cwr_acks.proofs.lemmas.NamedParts.{cell_is, cell_long}
+use Rattle.cwr_delivery.proofs.lemmas.AckFields.{recipient, submitter, title}
+use Rattle.cwr_delivery.proofs.lemmas.NamedCells.{cell_is, cell_long}
 use Rattle.cwr_acks.proofs.line_texts.LineText.set_ack.Goals as goal
 
 pub push_cell_part-requires : goal.push_cell_part-requires
@@ -66,32 +66,6 @@ push_cell_part-requires-3 c =
       c.push_cell_part-2.ensures.len,
     )
 
-pub push-requires-2 : goal.push-requires-2
-push-requires-2 c =
-    let h =
-    cell_long "submitter creation number" c.args.shown.now 10 20 c.cell.result.now c.cell.ensures.value
-    (submitter c.args.shown.now c.requires) c.cell.ensures.fits in
-    let k =
-    cell_long "recipient creation number" c.args.shown.now 11 20 c.cell-2.result.now c.cell-2.ensures.value
-    (recipient c.args.shown.now c.requires) c.cell-2.ensures.fits in
-    let m =
-    cell_long "creation title" c.args.shown.now 9 60 c.cell-3.result.now c.cell-3.ensures.value
-    (title c.args.shown.now c.requires) c.cell-3.ensures.fits in
-    omega (
-      arith,
-      h,
-      k,
-      m,
-      ap length c.clear.ensures,
-      c.push_status.ensures.len,
-      c.push.ensures.len,
-      c.push_original.ensures.len,
-      c.push_level.ensures.len,
-      c.push_cell_part.ensures.len,
-      c.push_cell_part-2.ensures.len,
-      c.push_cell_part-3.ensures.len,
-    )
-
 pub returns : goal.returns
 returns c =
     let join : List ℕ → List ℕ → List ℕ = λ l m. l ++ m in
@@ -104,8 +78,7 @@ returns c =
     let three : c.cell-3.result.now ≡ cell_named "creation title" c.args.shown.now =
     cell_is "creation title" c.args.shown.now 9 60 c.cell-3.result.now c.cell-3.ensures.value
     (title c.args.shown.now c.requires) c.cell-3.ensures.fits in
-    c.push-2.ensures.value ∙ ap (λ (l : List ℕ). l ++ codes "\n")
-    (c.push_cell_part-3.ensures.value ∙ ap₂ join
+    c.push_cell_part-3.ensures.value ∙ ap₂ join
     (c.push_cell_part-2.ensures.value ∙ ap₂ join
     (c.push_cell_part.ensures.value ∙ ap₂ join
     (c.push_level.ensures.value ∙ ap (λ (l : List ℕ). l ++ level_part c.args.worst)
@@ -114,4 +87,4 @@ returns c =
     (c.push_status.ensures.value ∙ ap (λ (l : List ℕ). l ++ status_text c.args.shown.now) c.clear.ensures))))
     (ap (cell_part (codes " submitter ")) one))
     (ap (cell_part (codes " recipient ")) two))
-    (ap (cell_part (codes " title ")) three))
+    (ap (cell_part (codes " title ")) three)

@@ -1,9 +1,9 @@
 use Rattle.std.proofs.Common.{◌≡◌, List, ℕ, ◌++◌, refl, ap, ap₂, ◌∙◌}
 use Rattle.std.specs.Prelude.{codes}
 use Rattle.cwr_lines.specs.Format.Records.{cell_named}
-use Rattle.cwr_acks.specs.Steps.DataTexts.{cell_at, cell_member_if, level_member, notes_members, original_members, status_members}
-use Rattle.cwr_acks.proofs.lemmas.AckFields.{recipient, submitter, title}
-use Rattle.cwr_acks.proofs.lemmas.NamedParts.{cell_is}
+use Rattle.cwr_acks.specs.Steps.DataTexts.{cell_at, cell_member_if, level_member, notes_members_if, original_members, status_members}
+use Rattle.cwr_delivery.proofs.lemmas.AckFields.{recipient, submitter, title}
+use Rattle.cwr_delivery.proofs.lemmas.NamedCells.{cell_is}
 use Rattle.cwr_acks.proofs.line_texts.LineText.set_ack_data.Goals as goal
 
 pub returns : goal.returns
@@ -18,7 +18,7 @@ returns c =
     let three : cell_at c.args.shown.now 9 ≡ cell_named "creation title" c.args.shown.now
     = cell_is "creation title" c.args.shown.now 9 60 _ refl (title c.args.shown.now c.requires) c.push_member_if.ensures.fits in
     c.push.ensures.value ∙ ap (λ (l : List ℕ). l ++ codes ",\"messages\":[")
-    (c.push_notes.ensures.value ∙ ap (λ (l : List ℕ). l ++ notes_members c.args.notes)
+    (c.push_notes.ensures.value ∙ ap (λ (l : List ℕ). l ++ notes_members_if c.args.notes.now)
     (c.push_member_if-3.ensures.value ∙ ap₂ join
     (c.push_member_if-2.ensures.value ∙ ap₂ join
     (c.push_member_if.ensures.value ∙ ap₂ join

@@ -1,4 +1,4 @@
-use Rattle.std.proofs.Common.{◌≡◌, ℕ, suc, ◌<◌, ◌+◌, List, ◌++◌, length, get_or, ap, ap₂, sym, ◌∙◌, arith, append_assoc}
+use Rattle.std.proofs.Common.{◌≡◌, ℕ, suc, ◌<◌, ◌+◌, List, ◌++◌, length, get_or, ap, sym, ◌∙◌, arith, append_assoc}
 use Rattle.std.proofs.Common.{append-nil}
 use Rattle.std.specs.Prelude.{codes, decimal}
 use Rattle.std.proofs.lemmas.Option.{slice_get-get_or}
@@ -10,8 +10,8 @@ use Rattle.cwr_acks.proofs.line_texts.LineText.set_counts.Goals as goal
 pub loop-i-init : goal.loop-i-init
 loop-i-init c = record {
   value =
-      c.push_number.ensures.value ∙ ap₂ (λ (l m : List ℕ). l ++ m)
-      (c.push.ensures.value ∙ ap (λ (l : List ℕ). l ++ codes "ACKS ") c.clear.ensures) (ap decimal c.from.ensures)
+      c.push_number.ensures.value ∙ ap (λ (l : List ℕ). l ++ decimal c.args.answers.now.all)
+      (c.push.ensures.value ∙ ap (λ (l : List ℕ). l ++ codes "ACKS ") c.clear.ensures)
       ∙ sym (append-nil (codes "ACKS " ++ decimal c.args.answers.now.all));
   len = omega (arith, c.push_number.ensures.len, c.push.ensures.len, ap length c.clear.ensures);
 }

@@ -1,4 +1,4 @@
-use Rattle.std.proofs.Common.{◌≡◌, ℕ, suc, ◌<◌, ◌+◌, List, ◌++◌, length, get_or, ap, ap₂, sym, ◌∙◌, arith, append_assoc}
+use Rattle.std.proofs.Common.{◌≡◌, ℕ, suc, ◌<◌, ◌+◌, List, ◌++◌, length, get_or, ap, sym, ◌∙◌, arith, append_assoc}
 use Rattle.std.proofs.Common.{append-nil}
 use Rattle.std.specs.Prelude.{codes, decimal, nat_lt}
 use Rattle.std.proofs.lemmas.Option.{slice_get-get_or}
@@ -10,10 +10,9 @@ use Rattle.cwr_acks.proofs.line_texts.LineText.set_counts_data.Goals as goal
 pub loop-i-init : goal.loop-i-init
 loop-i-init c = record {
   value = c.push-2.ensures.value ∙ ap (λ (l : List ℕ). l ++ codes ",\"statuses\":{")
-      (c.push_number.ensures.value
-      ∙ ap₂ (λ (l m : List ℕ). l ++ m) (c.push.ensures.value ∙ ap (λ (l : List ℕ). l ++ codes "{\"acks\":") c.clear.ensures)
-      (ap decimal c.from.ensures))
-      ∙ sym (append-nil (codes "{\"acks\":" ++ decimal c.args.answers.now.all ++ codes ",\"statuses\":{"));
+      (c.push_number.ensures.value ∙ ap (λ (l : List ℕ). l ++ decimal c.args.answers.now.all)
+      (c.push.ensures.value ∙ ap (λ (l : List ℕ). l ++ codes "\"acks\":") c.clear.ensures))
+      ∙ sym (append-nil (codes "\"acks\":" ++ decimal c.args.answers.now.all ++ codes ",\"statuses\":{"));
   len = omega (arith, c.push-2.ensures.len, c.push_number.ensures.len, c.push.ensures.len, ap length c.clear.ensures);
 }
 
@@ -24,7 +23,7 @@ pub loop-i-preserved : goal.loop-i-preserved
 loop-i-preserved c =
     let i : ℕ = c.loop-i.i in
     let ns : List ℕ = c.args.answers.now.by_status in
-    let head : List ℕ = codes "{\"acks\":" ++ decimal c.args.answers.now.all ++ codes ",\"statuses\":{" in
+    let head : List ℕ = codes "\"acks\":" ++ decimal c.args.answers.now.all ++ codes ",\"statuses\":{" in
     let next : suc i ≡ i + 1 = omega arith in
     let within : i < length ns = omega (arith, c.requires, c.loop-i-test.true) in
     record {
@@ -47,5 +46,5 @@ returns c =
     let ns : List ℕ = c.args.answers.now.by_status in
     c.push-3.ensures.value ∙ ap (λ (l : List ℕ). l ++ codes "}}\n")
     (c.loop-i.invariant.value
-    ∙ ap (λ (l : List ℕ). codes "{\"acks\":" ++ decimal c.args.answers.now.all ++ codes ",\"statuses\":{" ++ l)
+    ∙ ap (λ (l : List ℕ). codes "\"acks\":" ++ decimal c.args.answers.now.all ++ codes ",\"statuses\":{" ++ l)
     (counts_whole c.loop-i.i ns c.requires c.loop-i-test.false c.loop-i.auto.i-end))

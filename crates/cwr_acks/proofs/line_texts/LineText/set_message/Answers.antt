@@ -3,8 +3,9 @@ use Rattle.std.specs.Prelude.{codes}
 use Rattle.cwr_fields.specs.Format.Bytes.{trimmed}
 use Rattle.cwr_lines.specs.Format.Records.{cell_named}
 use Rattle.cwr_acks.specs.Format.AckTexts.{cell_part, number_part}
-use Rattle.cwr_acks.proofs.lemmas.AckFields.{level, message_text, message_type, record_number, record_type, validation}
-use Rattle.cwr_acks.proofs.lemmas.NamedParts.{cell_is, cell_long, trimmed_long}
+use Rattle.cwr_delivery.proofs.lemmas.AckFields.{level, message_text, message_type, record_number, record_type, validation}
+use Rattle.cwr_acks.proofs.lemmas.NamedParts.{trimmed_long}
+use Rattle.cwr_delivery.proofs.lemmas.NamedCells.{cell_is, cell_long}
 use Rattle.cwr_acks.proofs.line_texts.LineText.set_message.Goals as goal
 
 pub push_number_part-requires-clause-room : goal.push_number_part-requires-clause-room

@@ -3,8 +3,8 @@ use Rattle.std.specs.Prelude.{codes}
 use Rattle.cwr_lines.specs.Format.Records.{cell_named}
 use Rattle.cwr_acks.specs.Format.AckTexts.{number_part}
 use Rattle.cwr_acks.specs.Steps.DataTexts.{cell_at, cell_member, cell_member_if, comma_if}
-use Rattle.cwr_acks.proofs.lemmas.AckFields.{level, message_text, message_type, record_number, record_type, validation}
-use Rattle.cwr_acks.proofs.lemmas.NamedParts.{cell_is, cell_long}
+use Rattle.cwr_delivery.proofs.lemmas.AckFields.{level, message_text, message_type, record_number, record_type, validation}
+use Rattle.cwr_delivery.proofs.lemmas.NamedCells.{cell_is, cell_long}
 use Rattle.cwr_acks.proofs.line_texts.LineText.set_message_data.Goals as goal
 
 pub push_number_part-requires-clause-short : goal.push_number_part-requires-clause-short

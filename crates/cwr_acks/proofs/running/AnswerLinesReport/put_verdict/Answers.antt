@@ -1,8 +1,9 @@
-use Rattle.cwr_acks.specs.Format.AckLines.{lines_of_acks}
+use Rattle.cwr_acks.specs.Format.AckLines.{telling_of}
+use Rattle.cwr_acks.specs.Steps.AckSteps.{lines_of_held}
 use Rattle.cwr_tools.proofs.lemmas.ReportSteps.{last_lines, no_verdict}
 use Rattle.cwr_acks.proofs.running.AnswerLinesReport.put_verdict.Goals as goal
 
 pub returns : goal.returns
 returns g c =
-    λ of given here. last_lines g.W.Target.contents g.W.Target.failures of (lines_of_acks c.args.self.now.form here.0) _ _ _ _
+    λ of given here. last_lines g.W.Target.contents g.W.Target.failures of (lines_of_held (telling_of c.args.self.now.manner) here.0) _ _ _ _
     here.1 (no_verdict g.W.Target.contents g.W.Target.failures tt _ c.requires)

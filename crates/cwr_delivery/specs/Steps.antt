@@ -1,0 +1,4 @@
+-- What the code keeps, and what its calls do to that.
+pub mod Deliveries
+pub mod Keeping
+pub mod Outcomes

@@ -1,0 +1,4 @@
+-- What is promised, in the words of the format.
+pub mod StateRows
+pub mod RowTexts
+pub mod StateCounts

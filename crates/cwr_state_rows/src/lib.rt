@@ -1,0 +1,16 @@
+//! What became of each transaction that was sent: rows of a table or objects of JSON, and their counts.
+#![tactic(auto)]
+
+mod cells;
+mod counts;
+mod faults;
+mod forms;
+mod members;
+mod putting;
+mod row_texts;
+mod senders;
+
+pub use counts::{Counts, count_rows, put_state_line};
+pub use faults::RowFault;
+pub use forms::{Form, shown_name};
+pub use putting::put_rows;

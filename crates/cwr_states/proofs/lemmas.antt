@@ -1,0 +1,2 @@
+-- Names with commas between them, one by one.
+pub mod NamesLemmas
