@@ -41,12 +41,12 @@ made = $(addprefix $(OUT)/made/,cwr.1 cwr.bash copyright)
 .PHONY: all made try test install install_program install_library uninstall dist deb wheel page clean help
 .DELETE_ON_ERROR:
 
-all: ## proves the program and the C library, and builds them
+all: ## proves the program and the C library side by side, and builds them
 	$(rt)
-	cd crates/cwr && rt run -- check ../../samples/good/acknowledgement.cwr
-	cd crates/cwr_c && rt lib
-	@touch $(PROGRAM) $(ARCHIVE) # rt leaves them as they are where nothing has changed for them
+	$(call debian,python3,python3)
+	tools/build
 	$(MAKE) made
+	@if command -v cc > /dev/null && command -v objcopy > /dev/null; then $(MAKE) $(OUT)/c/cwr.pc; fi # else install says what is missing
 
 $(PROGRAM): $(wildcard crates/*/src/*.rt)
 	@echo "make: $@ is missing or older than $(firstword $?): run make first" >&2; exit 1
