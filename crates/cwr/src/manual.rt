@@ -119,7 +119,8 @@ COMMANDS
        With `works` as KIND each NWR and REV has a row: its work number, title
        and ISWC, its writers (SWR and OWR) and its publishers (SPU and OPU).
        Names are joined by semicolons, those of writers with the last name
-       first. The shares of each right are added up, in percent.
+       first. The shares of each right are added up, in percent: `0.00` where
+       what was sent is zero, and blank where each share is blank.
 
    cwr acks [OPTIONS] [FILE]...
        Tells what became of each transaction that the acknowledgements in
@@ -613,9 +614,9 @@ EXAMPLES
 
            $ cwr csv works works.cwr 2> /dev/null | cut -d, -f4-7,9
            submitter_work_number,title,iswc,writers,writers_pr_share
-           W0001,BLUE RIVER,,SMITH ANNA,0.00
-           W0002,RED HILL,,SMITH ANNA,0.00
-           W0003,GREEN SEA,,SMITH ANNA,0.00
+           W0001,BLUE RIVER,,SMITH ANNA,
+           W0002,RED HILL,,SMITH ANNA,
+           W0003,GREEN SEA,,SMITH ANNA,
 
        A file that isn't there:
 

@@ -59,7 +59,7 @@ const TABLES: &[(&[&[u8]], Table, &[u8])] = &[
     (
         TWO_GROUPS,
         Table::Works,
-        b"group,transaction,record_type,submitter_work_number,title,iswc,writers,publishers,writers_pr_share,writers_mr_share,writers_sr_share,publishers_pr_share,publishers_mr_share,publishers_sr_share\r\n1,0,NWR,W0001,BLUE RIVER,,SMITH ANNA,,0.00,0.00,0.00,0.00,0.00,0.00\r\n2,0,REV,W0002,RED HILL,,SMITH ANNA,,0.00,0.00,0.00,0.00,0.00,0.00\r\n2,1,REV,W0003,GREEN SEA,,SMITH ANNA,,0.00,0.00,0.00,0.00,0.00,0.00\r\n",
+        b"group,transaction,record_type,submitter_work_number,title,iswc,writers,publishers,writers_pr_share,writers_mr_share,writers_sr_share,publishers_pr_share,publishers_mr_share,publishers_sr_share\r\n1,0,NWR,W0001,BLUE RIVER,,SMITH ANNA,,,,,,,\r\n2,0,REV,W0002,RED HILL,,SMITH ANNA,,,,,,,\r\n2,1,REV,W0003,GREEN SEA,,SMITH ANNA,,,,,,,\r\n",
     ),
 ];
 

@@ -1,6 +1,6 @@
 //! The text of a work's row, piece by piece.
 
-ghost use Rattle.std.specs.Prelude.{◌≡◌, ◌+◌, ◌*◌, ◌≤◌, ◌++◌, codes, length, true};
+ghost use Rattle.std.specs.Prelude.{◌≡◌, ◌+◌, ◌*◌, ◌≤◌, ◌++◌, codes, length, true, Some};
 ghost use Rattle.cwr_tables.specs.Format.WorkTables.{is_header, is_on, name_of_owner, percent, work_heading};
 ghost use Rattle.cwr_tables.specs.Steps.RowTexts.{next_cell};
 ghost use Rattle.cwr_tables.specs.Steps.WorkTexts.{between, edge, front_text, shares_text, tail_text, within};
@@ -59,10 +59,10 @@ fn push_between(text: &mut Text, later: bool)
     }
 }
 
-/// Appends a share after other cells.
-fn push_share(text: &mut Text, share: u64)
+/// Appends a share in percent after other cells.
+fn push_percent(text: &mut Text, share: u64)
     requires { length text.old.items + 60 ≤ LONGEST }
-    ensures value { text.new.items ≡ text.old.items ++ next_cell (percent share) }
+    ensures value { text.new.items ≡ text.old.items ++ next_cell (percent (Some share)) }
     ensures len { length text.new.items ≤ length text.old.items + 60 }
 {
     let mut shown: ArrayVec<u8, 23> = ArrayVec::new();
@@ -74,6 +74,18 @@ fn push_share(text: &mut Text, share: u64)
     ];
     let _fits = shown.try_extend_from_slice(&decimals);
     push_next(text, shown.as_slice());
+}
+
+/// Appends a share in percent after other cells, or a blank cell.
+fn push_share(text: &mut Text, share: Option<u64>)
+    requires { length text.old.items + 60 ≤ LONGEST }
+    ensures value { text.new.items ≡ text.old.items ++ next_cell (percent share) }
+    ensures len { length text.new.items ≤ length text.old.items + 60 }
+{
+    match share {
+        Some(share) => push_percent(text, share),
+        None => push_next(text, b""),
+    }
 }
 
 /// Appends three shares after other cells.

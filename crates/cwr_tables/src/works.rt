@@ -1,10 +1,10 @@
 //! The owners of a work: their names, and their shares added up.
 
-ghost use Rattle.std.specs.Prelude.{◌≡◌, ◌+◌, ◌*◌, ◌<◌, ◌≤◌, ◌^◌, length, true};
+ghost use Rattle.std.specs.Prelude.{◌≡◌, ◌+◌, ◌*◌, ◌<◌, ◌≤◌, ◌^◌, length, true, None, Some, unwrap_or, if◌then◌else◌};
+ghost use Rattle.cwr_fields.specs.Format.Bytes.{is_spaces, number_of};
 ghost use Rattle.cwr_levels.specs.Format.Fields.{HasSharesFrom};
-ghost use Rattle.cwr_levels.specs.Format.Findings.{share_of};
 ghost use Rattle.cwr_tables.specs.Format.WorkTables.{is_on, name_of_owner, sums};
-ghost use Rattle.cwr_tables.specs.Steps.WorkTexts.{AddsShares, AreSharesOf, name_needs_quotes, quotes};
+ghost use Rattle.cwr_tables.specs.Steps.WorkTexts.{AddsShares, AreSharesOf, both, name_needs_quotes, quotes};
 
 use crate::cells::needs_quotes;
 use crate::rows::{Characters, characters, push_characters};
@@ -31,29 +31,49 @@ pub(crate) enum Side {
     Publishers,
 }
 
-/// Shares in the three rights, in hundredths of a percent.
+/// Shares in the three rights, in hundredths of a percent; `None` where only blank ones were added up.
 #[derive(Clone, Copy, Debug)]
 pub(crate) struct Sums {
-    pub(crate) performing: u64,
-    pub(crate) mechanical: u64,
-    pub(crate) synchronization: u64,
+    pub(crate) performing: Option<u64>,
+    pub(crate) mechanical: Option<u64>,
+    pub(crate) synchronization: Option<u64>,
+}
+
+/// Both shares, if there are two, and else the one that there is.
+fn both(share: Option<u64>, more: Option<u64>) -> Option<u64>
+    requires { unwrap_or share 0 + unwrap_or more 0 ≤ u64.MAX }
+    ensures value { result ≡ both share more }
+    ensures sum { unwrap_or result 0 ≡ unwrap_or share 0 + unwrap_or more 0 }
+{
+    match (share, more) {
+        (Some(share), Some(more)) => Some(share + more),
+        (Some(share), None) => Some(share),
+        (None, more) => more,
+    }
 }
 
 impl Sums {
     /// With as many more.
     fn plus(self, more: Sums) -> Sums
-        requires performing { self.performing + more.performing ≤ u64.MAX }
-        requires mechanical { self.mechanical + more.mechanical ≤ u64.MAX }
-        requires synchronization { self.synchronization + more.synchronization ≤ u64.MAX }
-        ensures performing { result.performing ≡ self.performing + more.performing }
-        ensures mechanical { result.mechanical ≡ self.mechanical + more.mechanical }
+        requires performing { unwrap_or self.performing 0 + unwrap_or more.performing 0 ≤ u64.MAX }
+        requires mechanical { unwrap_or self.mechanical 0 + unwrap_or more.mechanical 0 ≤ u64.MAX }
+        requires synchronization { unwrap_or self.synchronization 0
+            + unwrap_or more.synchronization 0 ≤ u64.MAX }
+        ensures performing { result.performing ≡ both self.performing more.performing }
+        ensures mechanical { result.mechanical ≡ both self.mechanical more.mechanical }
         ensures synchronization { result.synchronization
-            ≡ self.synchronization + more.synchronization }
+            ≡ both self.synchronization more.synchronization }
+        ensures performing_sum { unwrap_or result.performing 0
+            ≡ unwrap_or self.performing 0 + unwrap_or more.performing 0 }
+        ensures mechanical_sum { unwrap_or result.mechanical 0
+            ≡ unwrap_or self.mechanical 0 + unwrap_or more.mechanical 0 }
+        ensures synchronization_sum { unwrap_or result.synchronization 0
+            ≡ unwrap_or self.synchronization 0 + unwrap_or more.synchronization 0 }
     {
         Sums {
-            performing: self.performing + more.performing,
-            mechanical: self.mechanical + more.mechanical,
-            synchronization: self.synchronization + more.synchronization,
+            performing: both(self.performing, more.performing),
+            mechanical: both(self.mechanical, more.mechanical),
+            synchronization: both(self.synchronization, more.synchronization),
         }
     }
 }
@@ -69,6 +89,20 @@ pub(crate) fn is_on(side: Side, shown: &RecordRef<'_>) -> bool
     }
 }
 
+/// The share that stands in a cell, if that isn't blank.
+fn share_in(cell: &[u8]) -> Option<u64>
+    requires { length cell.now ≤ 8 }
+    ensures value { result
+        ≡ (if is_spaces cell.now then None else Some (number_of cell.now)) }
+    ensures small { unwrap_or result 0 < 10 ^ 10 }
+{
+    if is_spaces(cell) {
+        None
+    } else {
+        Some(number_of(cell))
+    }
+}
+
 /// The shares that stand in this field, in the next but one, and in the one two further.
 fn shares_from(shown: &RecordRef<'_>, first: u8) -> Sums
     requires few { first < 20 }
@@ -76,9 +110,9 @@ fn shares_from(shown: &RecordRef<'_>, first: u8) -> Sums
     ensures { AreSharesOf shown.now result }
 {
     Sums {
-        performing: number_of(cell(shown, first)),
-        mechanical: number_of(cell(shown, first + 2)),
-        synchronization: number_of(cell(shown, first + 4)),
+        performing: share_in(cell(shown, first)),
+        mechanical: share_in(cell(shown, first + 2)),
+        synchronization: share_in(cell(shown, first + 4)),
     }
 }
 
@@ -95,9 +129,9 @@ fn shares_of(side: Side, shown: &RecordRef<'_>) -> Sums
 
 /// With the shares of a record, if that is an owner of the side.
 fn with_shares(sums: Sums, side: Side, shown: &RecordRef<'_>) -> Sums
-    requires performing { sums.performing ≤ 10 ^ 18 }
-    requires mechanical { sums.mechanical ≤ 10 ^ 18 }
-    requires synchronization { sums.synchronization ≤ 10 ^ 18 }
+    requires performing { unwrap_or sums.performing 0 ≤ 10 ^ 18 }
+    requires mechanical { unwrap_or sums.mechanical 0 ≤ 10 ^ 18 }
+    requires synchronization { unwrap_or sums.synchronization 0 ≤ 10 ^ 18 }
     ensures { AddsShares side shown.now sums result }
 {
     if !is_on(side, shown) {
@@ -106,16 +140,16 @@ fn with_shares(sums: Sums, side: Side, shown: &RecordRef<'_>) -> Sums
     sums.plus(shares_of(side, shown))
 }
 
-/// The shares of the owners, added up.
+/// The shares of the owners, added up. Blank ones add nothing.
 pub(crate) fn add_up(side: Side, transaction: &Transaction) -> Sums
     requires { length transaction.now ≤ 100000000 }
     ensures { result ≡ sums side transaction.now }
 {
     let count = transaction.len();
     let mut sums = Sums {
-        performing: 0,
-        mechanical: 0,
-        synchronization: 0,
+        performing: None,
+        mechanical: None,
+        synchronization: None,
     };
     let mut i: usize = 0;
     while let Some(shown) = transaction.record(i) {

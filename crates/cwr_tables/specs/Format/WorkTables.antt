@@ -1,6 +1,8 @@
 -- The table of works: a heading, and a row for each new or revised work.
-use Rattle.std.specs.Prelude.{ℕ, ◌+◌, ◌/◌, ◌%◌, Bool, ◌||◌, List, [], ◌∷◌, ◌++◌, codes, decimal, filter, take, if◌then◌else◌}
-use Rattle.std.specs.List.{enumerate_from, flat_map, join_by, sum_by}
+use Prim.Native.String.{String}
+use Rattle.std.specs.Prelude.{ℕ, ◌+◌, ◌/◌, ◌%◌, Bool, ◌||◌, List, [], ◌∷◌, ◌++◌, codes, decimal, filter, take, Option, None, Some}
+use Rattle.std.specs.Prelude.{if◌then◌else◌}
+use Rattle.std.specs.List.{enumerate_from, flat_map, join_by, list_all, sum_by}
 use Rattle.cwr_fields.specs.declared.kinds.Kind.TheVariants as kinds
 use Rattle.cwr_fields.specs.Format.Kinds.{letters}
 use Rattle.cwr_lines.specs.Format.Records.{RecordValue, cell_named}
@@ -48,17 +50,22 @@ name_of_owner Publishers r = shown_cell (cell_named "publisher name" r)
 abbrev pub names : Side → List RecordValue → List ℕ
 names side t = join_by (name_of_owner side) (codes "; ") (owners side t)
 
--- the shares in the three rights, added up, in hundredths of a percent
+-- the shares of the records in a right, added up, in hundredths of a percent: none where each of them is blank
+abbrev pub total : String → List RecordValue → Option ℕ
+total right records = if list_all (is_blank right) records then None else Some (sum_by (share_of right) records)
+
+-- the same of a side, in the three rights
 abbrev pub sums : Side → List RecordValue → Sums
 sums side t = record {
-  performing = sum_by (share_of "pr share") (owners side t);
-  mechanical = sum_by (share_of "mr share") (owners side t);
-  synchronization = sum_by (share_of "sr share") (owners side t);
+  performing = total "pr share" (owners side t);
+  mechanical = total "mr share" (owners side t);
+  synchronization = total "sr share" (owners side t);
 }
 
--- in percent, with two decimals
-abbrev pub percent : ℕ → List ℕ
-percent n = decimal (n / 100) ++ codes "." ++ (48 + n / 10 % 10) ∷ (48 + n % 10) ∷ []
+-- in percent, with two decimals; where there is none, blank
+abbrev pub percent : Option ℕ → List ℕ
+percent None = []
+percent (Some n) = decimal (n / 100) ++ codes "." ++ (48 + n / 10 % 10) ∷ (48 + n % 10) ∷ []
 
 -- ---- rows
 

@@ -1,9 +1,11 @@
 -- The text of a work's row, piece by piece.
+use Prim.Native.String.{String}
 use Rattle.std.specs.Prelude.{◌≡◌, ℕ, ◌+◌, ◌<◌, ◌≤◌, ◌^◌, Bool, true, false, List, [], ◌++◌, codes, decimal, if◌then◌else◌}
+use Rattle.std.specs.Prelude.{Option, None, Some, unwrap_or}
 use Rattle.std.specs.List.{flat_map, list_any}
 use Rattle.cwr_fields.specs.Format.Kinds.{letters}
 use Rattle.cwr_lines.specs.Format.Records.{RecordValue, cell_named}
-use Rattle.cwr_levels.specs.Format.Findings.{share_of}
+use Rattle.cwr_levels.specs.Format.Findings.{is_blank, share_of}
 use Rattle.cwr_tables.specs.declared.places.Place.{Place}
 use Rattle.cwr_tables.specs.declared.works.Side.{Side}
 use Rattle.cwr_tables.specs.declared.works.Sums.{Sums}
@@ -46,14 +48,26 @@ shares_text s = next_cell (percent s.performing) ++ next_cell (percent s.mechani
 abbrev pub tail_text : Sums → Sums → List ℕ
 tail_text writers publishers = shares_text writers ++ shares_text publishers ++ codes "\r\n"
 
--- these are the record's shares, and none is large
+-- the record's share in a right: none where that is blank
+abbrev pub stated_share : String → RecordValue → Option ℕ
+stated_share right r = if is_blank right r then None else Some (share_of right r)
+
+-- both shares, if there are two, and else the one that there is
+abbrev pub both : Option ℕ → Option ℕ → Option ℕ
+both None more = more
+both (Some share) None = Some share
+both (Some share) (Some more) = Some (share + more)
+
+-- it is the record's share in the right, and not large
+pub record IsShareOf (right : String) (r : RecordValue) (share : Option ℕ) : Type 0 where
+  pub value : share ≡ stated_share right r
+  pub small : unwrap_or share 0 < 10 ^ 10
+
+-- these are the record's shares
 pub record AreSharesOf (r : RecordValue) (s : Sums) : Type 0 where
-  pub performing : s.performing ≡ share_of "pr share" r
-  pub mechanical : s.mechanical ≡ share_of "mr share" r
-  pub synchronization : s.synchronization ≡ share_of "sr share" r
-  pub performing_small : s.performing < 10 ^ 10
-  pub mechanical_small : s.mechanical < 10 ^ 10
-  pub synchronization_small : s.synchronization < 10 ^ 10
+  pub performing : IsShareOf "pr share" r s.performing
+  pub mechanical : IsShareOf "mr share" r s.mechanical
+  pub synchronization : IsShareOf "sr share" r s.synchronization
 
 -- what an owner's name adds to the names before it, where there are some or not; other records add nothing
 abbrev pub owner_text : Side → Bool → Bool → RecordValue → List ℕ
@@ -63,14 +77,16 @@ owner_text side quoted later r = if is_on side r then between later ++ within qu
 abbrev pub has_owners : Side → List RecordValue → Bool
 has_owners side t = list_any (is_on side) t
 
--- the sums with the record's shares, if that is an owner of the side
+-- the sum in a right with the record's share, if that is an owner of the side
+pub record AddsShare (right : String) (side : Side) (r : RecordValue) (old new : Option ℕ) : Type 0 where
+  pub sum : new ≡ both old (if is_on side r then stated_share right r else None)
+  pub few : unwrap_or new 0 ≤ unwrap_or old 0 + 10 ^ 10
+
+-- the same in the three rights
 pub record AddsShares (side : Side) (r : RecordValue) (old new : Sums) : Type 0 where
-  pub performing : new.performing ≡ old.performing + (if is_on side r then share_of "pr share" r else 0)
-  pub mechanical : new.mechanical ≡ old.mechanical + (if is_on side r then share_of "mr share" r else 0)
-  pub synchronization : new.synchronization ≡ old.synchronization + (if is_on side r then share_of "sr share" r else 0)
-  pub performing_few : new.performing ≤ old.performing + 10 ^ 10
-  pub mechanical_few : new.mechanical ≤ old.mechanical + 10 ^ 10
-  pub synchronization_few : new.synchronization ≤ old.synchronization + 10 ^ 10
+  pub performing : AddsShare "pr share" side r old.performing new.performing
+  pub mechanical : AddsShare "mr share" side r old.mechanical new.mechanical
+  pub synchronization : AddsShare "sr share" side r old.synchronization new.synchronization
 
 -- the record is an owner of the side, in whose name a byte calls for quotes
 abbrev pub name_needs_quotes : Side → RecordValue → Bool

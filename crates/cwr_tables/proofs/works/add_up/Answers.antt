@@ -1,11 +1,11 @@
 use Rattle.std.proofs.Common.{◌≡◌, ℕ, ◌+◌, Bool, cond, List, take, sym, ap, ◌∙◌, arith}
-use Rattle.std.specs.List.{sum_by}
+use Rattle.std.specs.Prelude.{Option, None}
 use Rattle.std.proofs.lemmas.List.{take_all}
 use Rattle.cwr_lines.specs.Format.Records.{RecordValue}
-use Rattle.cwr_levels.specs.Format.Findings.{share_of}
 use Rattle.cwr_encode.proofs.lemmas.PutRows.{found_within, none_within}
-use Rattle.cwr_tables.specs.Format.WorkTables.{is_on, owners}
-use Rattle.cwr_tables.proofs.lemmas.Owners.{same_sums, sum_more}
+use Rattle.cwr_tables.specs.Format.WorkTables.{is_on, owners, total}
+use Rattle.cwr_tables.specs.Steps.WorkTexts.{both, stated_share}
+use Rattle.cwr_tables.proofs.lemmas.Owners.{same_sums, total_more}
 use Rattle.cwr_tables.proofs.works.add_up.Goals as goal
 
 pub loop-shown-preserved : goal.loop-shown-preserved
@@ -17,18 +17,23 @@ loop-shown-preserved c =
     record {
       within = let h = found_within t i c.in-Some.shown c.in-Some.ensures.value in omega (arith, h);
       performing =
-          more.performing ∙ ap (λ (n : ℕ). n + cond on (share_of "pr share" c.in-Some.shown) 0) c.loop-shown.invariant.performing
-          ∙ sym (sum_more "pr share" c.args.side t i c.in-Some.shown c.in-Some.ensures.value);
+          more.performing.sum
+          ∙ ap (λ (o : Option ℕ). both o (cond on (stated_share "pr share" c.in-Some.shown) None))
+          c.loop-shown.invariant.performing
+          ∙ sym (total_more "pr share" c.args.side t i c.in-Some.shown c.in-Some.ensures.value);
       mechanical =
-          more.mechanical ∙ ap (λ (n : ℕ). n + cond on (share_of "mr share" c.in-Some.shown) 0) c.loop-shown.invariant.mechanical
-          ∙ sym (sum_more "mr share" c.args.side t i c.in-Some.shown c.in-Some.ensures.value);
+          more.mechanical.sum
+          ∙ ap (λ (o : Option ℕ). both o (cond on (stated_share "mr share" c.in-Some.shown) None))
+          c.loop-shown.invariant.mechanical
+          ∙ sym (total_more "mr share" c.args.side t i c.in-Some.shown c.in-Some.ensures.value);
       synchronization =
-          more.synchronization
-          ∙ ap (λ (n : ℕ). n + cond on (share_of "sr share" c.in-Some.shown) 0) c.loop-shown.invariant.synchronization
-          ∙ sym (sum_more "sr share" c.args.side t i c.in-Some.shown c.in-Some.ensures.value);
-      performing_few = omega (arith, more.performing_few, c.loop-shown.invariant.performing_few);
-      mechanical_few = omega (arith, more.mechanical_few, c.loop-shown.invariant.mechanical_few);
-      synchronization_few = omega (arith, more.synchronization_few, c.loop-shown.invariant.synchronization_few);
+          more.synchronization.sum
+          ∙ ap (λ (o : Option ℕ). both o (cond on (stated_share "sr share" c.in-Some.shown) None))
+          c.loop-shown.invariant.synchronization
+          ∙ sym (total_more "sr share" c.args.side t i c.in-Some.shown c.in-Some.ensures.value);
+      performing_few = omega (arith, more.performing.few, c.loop-shown.invariant.performing_few);
+      mechanical_few = omega (arith, more.mechanical.few, c.loop-shown.invariant.mechanical_few);
+      synchronization_few = omega (arith, more.synchronization.few, c.loop-shown.invariant.synchronization_few);
     }
 
 pub with_shares-sums-requires-clause-performing : goal.with_shares-sums-requires-clause-performing
@@ -58,7 +63,6 @@ returns c =
     let t : List RecordValue = c.args.transaction.now in
     let all : take c.loop-shown.i t ≡ t = take_all c.loop-shown.i t (none_within t c.loop-shown.i c.in_default.ensures.value) in
     same_sums c.loop-shown.sums _ _ _
-    (c.loop-shown.invariant.performing ∙ ap (λ (l : List RecordValue). sum_by (share_of "pr share") (owners c.args.side l)) all)
-    (c.loop-shown.invariant.mechanical ∙ ap (λ (l : List RecordValue). sum_by (share_of "mr share") (owners c.args.side l)) all)
-    (c.loop-shown.invariant.synchronization
-    ∙ ap (λ (l : List RecordValue). sum_by (share_of "sr share") (owners c.args.side l)) all)
+    (c.loop-shown.invariant.performing ∙ ap (λ (l : List RecordValue). total "pr share" (owners c.args.side l)) all)
+    (c.loop-shown.invariant.mechanical ∙ ap (λ (l : List RecordValue). total "mr share" (owners c.args.side l)) all)
+    (c.loop-shown.invariant.synchronization ∙ ap (λ (l : List RecordValue). total "sr share" (owners c.args.side l)) all)
