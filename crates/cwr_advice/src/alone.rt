@@ -47,7 +47,11 @@ fn may_break_as_publisher(shown: &RecordRef<'_>) -> bool
     requires { shown.now.kind ≡ kinds.Spu }
     ensures { result ≡ may_break_some shown.now }
 {
-    may_break_alone(AdviceRule::A3a, shown, 13)
+    may_break_alone(AdviceRule::A2f, shown, 10)
+        || may_break_alone(AdviceRule::A2g, shown, 12)
+        || may_break_alone(AdviceRule::A2g, shown, 14)
+        || may_break_alone(AdviceRule::A2g, shown, 16)
+        || may_break_alone(AdviceRule::A3a, shown, 13)
         || may_break_alone(AdviceRule::A4a, shown, 10)
         || may_break_alone(AdviceRule::A4b, shown, 21)
         || may_break_alone(AdviceRule::A7a, shown, 5)
@@ -63,7 +67,11 @@ fn may_break_as_controlled_writer(shown: &RecordRef<'_>) -> bool
     requires { shown.now.kind ≡ kinds.Swr }
     ensures { result ≡ may_break_some shown.now }
 {
-    may_break_alone(AdviceRule::A4a, shown, 10)
+    may_break_alone(AdviceRule::A2f, shown, 10)
+        || may_break_alone(AdviceRule::A2g, shown, 11)
+        || may_break_alone(AdviceRule::A2g, shown, 13)
+        || may_break_alone(AdviceRule::A2g, shown, 15)
+        || may_break_alone(AdviceRule::A4a, shown, 10)
         || may_break_alone(AdviceRule::A4b, shown, 21)
         || may_break_alone(AdviceRule::A7a, shown, 4)
         || may_break_alone(AdviceRule::A7a, shown, 5)

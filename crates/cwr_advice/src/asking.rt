@@ -7,13 +7,25 @@ use crate::rules::{AdviceRule, Asked};
 use cwr_fields::Kind;
 
 /// NWR, REV: what is asked of them, in this order.
-static WORK: [Asked; 11] = [
+static WORK: [Asked; 14] = [
     Asked {
         rule: AdviceRule::A2b,
         field: 1,
     },
     Asked {
         rule: AdviceRule::A3b,
+        field: 1,
+    },
+    Asked {
+        rule: AdviceRule::A3c,
+        field: 1,
+    },
+    Asked {
+        rule: AdviceRule::A3d,
+        field: 1,
+    },
+    Asked {
+        rule: AdviceRule::A3e,
         field: 1,
     },
     Asked {
@@ -54,8 +66,64 @@ static WORK: [Asked; 11] = [
     },
 ];
 
-/// SPU, OPU: what is asked of them, in this order.
-static PUBLISHER: [Asked; 9] = [
+/// SPU: what is asked of them, in this order.
+static CONTROLLED_PUBLISHER: [Asked; 13] = [
+    Asked {
+        rule: AdviceRule::A2a,
+        field: 8,
+    },
+    Asked {
+        rule: AdviceRule::A2f,
+        field: 10,
+    },
+    Asked {
+        rule: AdviceRule::A2g,
+        field: 12,
+    },
+    Asked {
+        rule: AdviceRule::A2g,
+        field: 14,
+    },
+    Asked {
+        rule: AdviceRule::A2g,
+        field: 16,
+    },
+    Asked {
+        rule: AdviceRule::A3a,
+        field: 13,
+    },
+    Asked {
+        rule: AdviceRule::A4a,
+        field: 10,
+    },
+    Asked {
+        rule: AdviceRule::A4b,
+        field: 21,
+    },
+    Asked {
+        rule: AdviceRule::A7a,
+        field: 5,
+    },
+    Asked {
+        rule: AdviceRule::A8a,
+        field: 12,
+    },
+    Asked {
+        rule: AdviceRule::A8a,
+        field: 14,
+    },
+    Asked {
+        rule: AdviceRule::A8a,
+        field: 16,
+    },
+    Asked {
+        rule: AdviceRule::A9a,
+        field: 6,
+    },
+];
+
+/// OPU: what is asked of them, in this order.
+static OTHER_PUBLISHER: [Asked; 9] = [
     Asked {
         rule: AdviceRule::A2a,
         field: 8,
@@ -95,7 +163,7 @@ static PUBLISHER: [Asked; 9] = [
 ];
 
 /// SWR: what is asked of them, in this order.
-static CONTROLLED_WRITER: [Asked; 11] = [
+static CONTROLLED_WRITER: [Asked; 16] = [
     Asked {
         rule: AdviceRule::A2c,
         field: 1,
@@ -103,6 +171,26 @@ static CONTROLLED_WRITER: [Asked; 11] = [
     Asked {
         rule: AdviceRule::A2d,
         field: 1,
+    },
+    Asked {
+        rule: AdviceRule::A2e,
+        field: 1,
+    },
+    Asked {
+        rule: AdviceRule::A2f,
+        field: 10,
+    },
+    Asked {
+        rule: AdviceRule::A2g,
+        field: 11,
+    },
+    Asked {
+        rule: AdviceRule::A2g,
+        field: 13,
+    },
+    Asked {
+        rule: AdviceRule::A2g,
+        field: 15,
     },
     Asked {
         rule: AdviceRule::A4a,
@@ -529,7 +617,8 @@ pub(crate) fn asked_of(kind: Kind) -> &'static [Asked]
 {
     match kind {
         Kind::Nwr | Kind::Rev => &WORK,
-        Kind::Spu | Kind::Opu => &PUBLISHER,
+        Kind::Spu => &CONTROLLED_PUBLISHER,
+        Kind::Opu => &OTHER_PUBLISHER,
         Kind::Swr => &CONTROLLED_WRITER,
         Kind::Owr => &OTHER_WRITER,
         Kind::Spt => &PUBLISHER_TERRITORY,

@@ -1,12 +1,13 @@
 //! What the rules of advice ask of all records of a transaction.
 
-ghost use Rattle.std.specs.Prelude.{◌≡◌, ◌++◌, ◌∷◌, [], List, false};
+ghost use Rattle.std.specs.Prelude.{◌≡◌, ◌||◌, ◌++◌, ◌∷◌, [], List, false};
 ghost use Rattle.cwr_lines.specs.Format.Records.{RecordValue};
 ghost use Rattle.cwr_levels.specs.Format.Findings.{is_owner};
-ghost use Rattle.cwr_advice.specs.Format.Rules.{has_few_territories, is_territory, writers_own_less};
+ghost use Rattle.cwr_advice.specs.Format.Rules.{has_few_territories, is_territory, states_nothing, writers_own_less};
 ghost use Rattle.cwr_advice.specs.Steps.Facts.{AreFacts, AreOwnedBy};
 
 use crate::owners::{Owned, is_writer, owned_by};
+use crate::stated::Stated;
 use crate::territory_cells::count_of_territory;
 use cwr_fields::Kind;
 use cwr_levels::is_of;
@@ -20,6 +21,10 @@ pub(crate) struct Facts {
     pub(crate) owned: u64,
     /// What the writers own of it.
     pub(crate) by_writers: u64,
+    /// There is an SWR or an OWR.
+    pub(crate) has_writer: bool,
+    /// In which rights someone's share is filled in.
+    pub(crate) stated: Stated,
     /// There is an SPU.
     pub(crate) has_publisher: bool,
     /// There is an SPU that owns shares.
@@ -43,6 +48,8 @@ impl Facts {
         Facts {
             owned: 0,
             by_writers: 0,
+            has_writer: false,
+            stated: Stated::nowhere(),
             has_publisher: false,
             has_owning_publisher: false,
             has_territory: false,
@@ -59,7 +66,8 @@ impl Facts {
         ensures { (rs : List RecordValue) → AreFacts rs self
             → AreFacts (rs ++ shown.now ∷ []) result }
     {
-        let by_writer = owned.performing_if(is_writer(shown));
+        let writer = is_writer(shown);
+        let by_writer = owned.performing_if(writer);
         let publisher = is_of(shown, Kind::Spu);
         let owns = owned.is_something();
         let territory = is_of(shown, Kind::Spt);
@@ -69,6 +77,8 @@ impl Facts {
         Facts {
             owned: self.owned.saturating_add(owned.performing),
             by_writers: self.by_writers.saturating_add(by_writer),
+            has_writer: self.has_writer | writer,
+            stated: self.stated.with(shown),
             has_publisher: self.has_publisher | publisher,
             has_owning_publisher: self.has_owning_publisher | (publisher & owns),
             has_territory: self.has_territory | territory,
@@ -121,5 +131,37 @@ impl Facts {
         ensures { (t : List RecordValue) → AreFacts t self.now → result ≡ writers_own_less t }
     {
         self.owned > 0 && self.by_writers < 4994
+    }
+
+    /// Whether there are writers, and nobody's share in the performing right is filled in.
+    pub(crate) fn state_no_performing(&self) -> bool
+        ensures { (t : List RecordValue) → AreFacts t self.now
+            → result ≡ states_nothing "pr share" t }
+    {
+        self.has_writer && !self.stated.performing
+    }
+
+    /// Whether there are writers, and nobody's share in the mechanical right is filled in.
+    pub(crate) fn state_no_mechanical(&self) -> bool
+        ensures { (t : List RecordValue) → AreFacts t self.now
+            → result ≡ states_nothing "mr share" t }
+    {
+        self.has_writer && !self.stated.mechanical
+    }
+
+    /// Whether there are writers, and nobody's share in the synchronisation right is filled in.
+    pub(crate) fn state_no_synchronization(&self) -> bool
+        ensures { (t : List RecordValue) → AreFacts t self.now
+            → result ≡ states_nothing "sr share" t }
+    {
+        self.has_writer && !self.stated.synchronization
+    }
+
+    /// Whether there are writers, and in one or more rights nobody's share is filled in.
+    pub(crate) fn leave_right_blank(&self) -> bool
+        ensures { (t : List RecordValue) → AreFacts t self.now → result ≡ (states_nothing "pr share" t
+            || states_nothing "mr share" t || states_nothing "sr share" t) }
+    {
+        self.state_no_performing() || self.state_no_mechanical() || self.state_no_synchronization()
     }
 }

@@ -11,12 +11,13 @@ use crate::characters::is_unlike;
 use crate::checked_cells::is_wrong;
 use crate::days::is_to_come;
 use crate::facts::Facts;
-use crate::owners::{is_publisher, owns_over_half};
+use crate::owners::{is_publisher, lacks_number, owns_over_half};
 use crate::rules::AdviceRule;
 use crate::said::Said;
 use crate::shifts::is_shifted;
+use crate::societies::lacks_society;
 use crate::territories::{goes_over, stands_twice};
-use crate::writers::{has_no_publisher, has_no_territory};
+use crate::writers::{has_no_publisher, has_no_territory, has_nothing};
 use cwr_fields::{Kind, is_spaces};
 use cwr_levels::{cell, is_of};
 use cwr_lines::RecordRef;
@@ -168,6 +169,8 @@ pub(crate) fn breaks_alone(said: Said, rule: AdviceRule, shown: &RecordRef<'_>, 
     ensures { result ≡ breaks_alone said rule shown.now field }
 {
     match rule {
+        AdviceRule::A2f => lacks_number(shown, field),
+        AdviceRule::A2g => lacks_society(shown, field),
         AdviceRule::A3a => owns_over_half(shown),
         AdviceRule::A7a => is_shifted(shown, field),
         AdviceRule::A4a
@@ -205,7 +208,11 @@ pub(crate) fn breaks(
         AdviceRule::A2b => collects_nowhere(facts),
         AdviceRule::A2c => has_no_publisher(transaction, facts, sequence, shown),
         AdviceRule::A2d => has_no_territory(transaction, sequence, shown),
+        AdviceRule::A2e => has_nothing(transaction, sequence, shown),
         AdviceRule::A3b => facts.writers_own_less(),
+        AdviceRule::A3c => facts.state_no_performing(),
+        AdviceRule::A3d => facts.state_no_mechanical(),
+        AdviceRule::A3e => facts.state_no_synchronization(),
         AdviceRule::A6a => lacks_components(facts, shown),
         AdviceRule::A6b => is_stray_component(transaction, shown),
         AdviceRule::A6c => lacks_original(facts, shown),

@@ -46,7 +46,7 @@ pub struct AdviceSums {
     territories: ArrayVec<Code, MOST_TERRITORIES>,
     /// Writers without a publisher.
     publishers: Owing,
-    /// Writers who own shares, without a territory.
+    /// Writers without a territory.
     collections: Owing,
 }
 
@@ -289,13 +289,12 @@ impl AdviceSums {
             return false;
         }
         let owned = owned_by(shown);
-        let owns = owned.is_something();
         let writer = is_writer(shown);
         let controlled = is_of(shown, Kind::Swr);
         let publisher = is_of(shown, Kind::Pwr);
         let territory = is_of(shown, Kind::Swt);
         self.publishers = self.publishers.with(writer, controlled, publisher);
-        self.collections = self.collections.with(writer, controlled & owns, territory);
+        self.collections = self.collections.with(writer, controlled, territory);
         self.facts = self.facts.with(shown, &owned);
         self.headers = self.headers.with(shown);
         self.collected = self.collected.with_any_collected(shown);
@@ -314,6 +313,9 @@ impl AdviceSums {
             return false;
         }
         if facts.writers_own_less() {
+            return false;
+        }
+        if facts.leave_right_blank() {
             return false;
         }
         if self.collected.is_over_whole() {

@@ -16,6 +16,8 @@ mod owners;
 mod rules;
 mod said;
 mod shifts;
+mod societies;
+mod stated;
 mod territories;
 mod territory_cells;
 mod walk;

@@ -3,10 +3,10 @@
 ghost use Rattle.std.specs.Prelude.{◌≡◌, ◌+◌, ◌<◌, nat_lt, true, if◌then◌else◌};
 ghost use Rattle.cwr_levels.specs.Format.Fields.{HasSharesFrom};
 ghost use Rattle.cwr_levels.specs.Format.Findings.{is_owner};
-ghost use Rattle.cwr_advice.specs.Format.Rules.{is_publisher, is_writer, owns_over_half, owns_shares};
+ghost use Rattle.cwr_advice.specs.Format.Rules.{is_publisher, is_writer, lacks_number, owns_over_half, owns_shares};
 ghost use Rattle.cwr_advice.specs.Steps.Facts.{AreOwnedBy, AreSharesOf, AreSmall};
 
-use cwr_fields::Kind;
+use cwr_fields::{Kind, is_spaces};
 use cwr_levels::{PUBLISHER_SHARES, WRITER_SHARES, cell, is_of, is_owner, number_of};
 use cwr_lines::RecordRef;
 
@@ -101,6 +101,14 @@ pub(crate) fn owns_shares(shown: &RecordRef<'_>) -> bool
     ensures { result ≡ owns_shares shown.now }
 {
     owned_by(shown).is_something()
+}
+
+/// Whether the record owns shares, and its number in the field is blank.
+#[inline(always)]
+pub(crate) fn lacks_number(shown: &RecordRef<'_>, field: u8) -> bool
+    ensures { result ≡ lacks_number shown.now field }
+{
+    is_spaces(cell(shown, field)) && owns_shares(shown)
 }
 
 /// Whether the record is a publisher that owns more than half of the performing right.

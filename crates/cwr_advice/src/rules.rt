@@ -21,10 +21,22 @@ pub enum AdviceRule {
     A2c,
     /// Such a writer who owns shares says where they are collected.
     A2d,
+    /// Such a writer who owns nothing says where something is collected.
+    A2e,
+    /// A publisher or a writer whom the submitter controls, and who owns shares, has an IPI name number.
+    A2f,
+    /// Such a one has a society for each right in which it owns a share.
+    A2g,
     /// No publisher owns more than half of the performing right.
     A3a,
     /// The writers own half of the performing right or more.
     A3b,
+    /// In a work with writers someone's share of the performing right is filled in.
+    A3c,
+    /// The same of the mechanical right.
+    A3d,
+    /// The same of the synchronisation right.
+    A3e,
     /// An IPI name number has the right check digits.
     A4a,
     /// An IPI base number has the right check digit.
@@ -70,8 +82,14 @@ impl AdviceRule {
             AdviceRule::A2b => "A2b",
             AdviceRule::A2c => "A2c",
             AdviceRule::A2d => "A2d",
+            AdviceRule::A2e => "A2e",
+            AdviceRule::A2f => "A2f",
+            AdviceRule::A2g => "A2g",
             AdviceRule::A3a => "A3a",
             AdviceRule::A3b => "A3b",
+            AdviceRule::A3c => "A3c",
+            AdviceRule::A3d => "A3d",
+            AdviceRule::A3e => "A3e",
             AdviceRule::A4a => "A4a",
             AdviceRule::A4b => "A4b",
             AdviceRule::A4c => "A4c",
@@ -100,11 +118,20 @@ impl AdviceRule {
             | AdviceRule::A2b
             | AdviceRule::A2c
             | AdviceRule::A2d
+            | AdviceRule::A2f
             | AdviceRule::A3a
             | AdviceRule::A3b
+            | AdviceRule::A3c
+            | AdviceRule::A3d
+            | AdviceRule::A3e
             | AdviceRule::A5a
             | AdviceRule::A6a => Level::T,
-            AdviceRule::A1b | AdviceRule::A6b | AdviceRule::A6c | AdviceRule::A7a => Level::R,
+            AdviceRule::A1b
+            | AdviceRule::A2e
+            | AdviceRule::A2g
+            | AdviceRule::A6b
+            | AdviceRule::A6c
+            | AdviceRule::A7a => Level::R,
             _ => Level::F,
         }
     }
@@ -127,10 +154,22 @@ impl AdviceRule {
                 "no PWR says which publisher stands for this writer: add one after SWR",
             AdviceRule::A2d =>
                 "this writer owns shares, and no SWT says where they are collected: add one after SWR",
+            AdviceRule::A2e =>
+                "this writer owns nothing, and no SWT says that something is collected: fill in the shares or add SWT, or write OWR",
+            AdviceRule::A2f =>
+                "this one owns shares and has no IPI name number, by which societies know whom they pay: look it up and fill it in",
+            AdviceRule::A2g =>
+                "a share in this right is owned, and no society is named for it: fill in its number, as 010",
             AdviceRule::A3a =>
                 "a publisher owns more than half of the performing right: most societies take at most 50 %",
             AdviceRule::A3b =>
                 "the writers own less than half of the performing right together: most societies ask for 50 % or more",
+            AdviceRule::A3c =>
+                "no share of the performing right is filled in: fill in what writers and publishers own, or 00000 where they own nothing",
+            AdviceRule::A3d =>
+                "no share of the mechanical right is filled in: fill in what writers and publishers own, or 00000 where they own nothing",
+            AdviceRule::A3e =>
+                "no share of the synchronisation right is filled in: fill in what writers and publishers own, or 00000 where they own nothing",
             AdviceRule::A4a =>
                 "this is no IPI name number: it has eleven digits, of which the last two check the others; look it up again",
             AdviceRule::A4b =>

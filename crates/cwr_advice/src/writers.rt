@@ -3,7 +3,7 @@
 ghost use Rattle.std.specs.Prelude.{◌≡◌, ◌+◌, ◌<◌, ◌^◌, Some, slice_get};
 ghost use Rattle.std.specs.List.{list_any};
 ghost use Rattle.cwr_levels.specs.Format.Findings.{is_a};
-ghost use Rattle.cwr_advice.specs.Format.Rules.{has_no_publisher, has_no_territory, records_of_writer};
+ghost use Rattle.cwr_advice.specs.Format.Rules.{has_no_publisher, has_no_territory, has_nothing, records_of_writer};
 ghost use Rattle.cwr_advice.specs.Steps.Facts.{AreFacts};
 
 use crate::facts::Facts;
@@ -56,4 +56,12 @@ pub(crate) fn has_no_territory(
     ensures { result ≡ has_no_territory transaction.now sequence shown.now }
 {
     is_of(shown, Kind::Swr) && owns_shares(shown) && !writer_has(transaction, sequence, Kind::Swt)
+}
+
+/// Whether such a writer owns nothing, and no record says that something is collected.
+pub(crate) fn has_nothing(transaction: &Transaction, sequence: usize, shown: &RecordRef<'_>) -> bool
+    requires { sequence + 1 < 2 ^ 64 }
+    ensures { result ≡ has_nothing transaction.now sequence shown.now }
+{
+    is_of(shown, Kind::Swr) && !owns_shares(shown) && !writer_has(transaction, sequence, Kind::Swt)
 }

@@ -13,8 +13,8 @@ use Rattle.cwr_fields.specs.declared.kinds.Kind.TheVariants as kinds
 use Rattle.cwr_levels.specs.Format.Findings.{is_a, is_owner}
 use Rattle.cwr_levels.proofs.lemmas.RuleTests.{cell_of_field, or_none}
 use Rattle.cwr_advice.specs.Format.Rules.{begins_with_agent, in_chain, is_agent, is_publisher, is_territory, is_territory_of}
-use Rattle.cwr_advice.specs.Format.Rules.{is_writer, owns_shares}
-use Rattle.cwr_advice.specs.Steps.Kept.{AreCalm, AreSinceParty, IsBegun, IsCalm, is_among, is_owning_writer, stands_again}
+use Rattle.cwr_advice.specs.Format.Rules.{is_writer}
+use Rattle.cwr_advice.specs.Steps.Kept.{AreCalm, AreSinceParty, IsBegun, IsCalm, is_among, stands_again}
 use Rattle.cwr_advice.proofs.lemmas.AdvisedFields.{named_sequence}
 use Rattle.cwr_advice.proofs.lemmas.OwingWriters.{there_or_last}
 use Rattle.cwr_advice.proofs.lemmas.SinceParty.{one_since}
@@ -119,6 +119,3 @@ calm_more t r all last = λ k x there. by k x (there_or_last t r k x there)
 
 pub controlled_writes : (r : RecordValue) → is_a kinds.Swr r ≡ true → is_writer r ≡ true
 controlled_writes r h = or_left (is_a kinds.Swr r) (is_a kinds.Owr r) h
-
-pub owner_writes : (r : RecordValue) → is_owning_writer r ≡ true → is_writer r ≡ true
-owner_writes r h = controlled_writes r (and_parts (is_a kinds.Swr r) (owns_shares r) h).0

@@ -14,19 +14,20 @@ use Rattle.cwr_levels.specs.Format.Findings.{is_a, is_blank, share_of}
 use Rattle.cwr_levels.specs.Steps.Walks.{capped}
 use Rattle.cwr_levels.proofs.lemmas.OneMore.{any_there}
 use Rattle.cwr_advice.specs.declared.rules.AdviceRule.{AdviceRule}
-use Rattle.cwr_advice.specs.declared.rules.AdviceRule.TheVariants.{A1a, A1b, A2a, A2b, A2c, A2d, A3a, A3b, A4a, A4b, A4c, A4d}
-use Rattle.cwr_advice.specs.declared.rules.AdviceRule.TheVariants.{A5a, A6a, A6b, A6c, A7a, A8a, A8b, A8c, A8d, A8e, A9a}
+use Rattle.cwr_advice.specs.declared.rules.AdviceRule.TheVariants.{A1a, A1b, A2a, A2b, A2c, A2d, A2e, A2f, A2g, A3a, A3b, A3c}
+use Rattle.cwr_advice.specs.declared.rules.AdviceRule.TheVariants.{A3d, A3e, A4a, A4b, A4c, A4d, A5a, A6a, A6b, A6c, A7a, A8a}
+use Rattle.cwr_advice.specs.declared.rules.AdviceRule.TheVariants.{A8b, A8c, A8d, A8e, A9a}
 use Rattle.cwr_advice.specs.declared.rules.Asked.{Asked}
 use Rattle.cwr_advice.specs.declared.rules.Advice.{Advice}
 use Rattle.cwr_advice.specs.declared.kept.AdviceSums.{AdviceSums}
 use Rattle.cwr_advice.specs.Format.Rules.{advice_at, advice_of, advice_of_asked, are_over_in, asked_of, begins_with_agent, breaks}
 use Rattle.cwr_advice.specs.Format.Rules.{cell_at, collects_in, collects_nowhere, goes_over, has_composite_type}
-use Rattle.cwr_advice.specs.Format.Rules.{has_few_territories, has_no_composite_type, has_no_publisher, has_no_territory}
+use Rattle.cwr_advice.specs.Format.Rules.{has_few_territories, has_no_composite_type, has_no_publisher, has_no_territory, has_nothing}
 use Rattle.cwr_advice.specs.Format.Rules.{is_acknowledgement, is_compared, is_over_in, is_stray_component, is_territory}
-use Rattle.cwr_advice.specs.Format.Rules.{is_territory_of, is_version, lacks_components, lacks_original, records_of_writer}
-use Rattle.cwr_advice.specs.Format.Rules.{stands_twice, writers_own_less}
+use Rattle.cwr_advice.specs.Format.Rules.{is_territory_of, is_version, lacks_components, lacks_original, owns_shares}
+use Rattle.cwr_advice.specs.Format.Rules.{records_of_writer, stands_twice, states_nothing, writers_own_less}
 use Rattle.cwr_advice.specs.declared.said.Said.{Said}
-use Rattle.cwr_advice.specs.Steps.Kept.{AreKept, StandsFor, is_owning_writer, may_break_alone, may_break_some}
+use Rattle.cwr_advice.specs.Steps.Kept.{AreKept, StandsFor, may_break_alone, may_break_some}
 use Rattle.cwr_advice.proofs.lemmas.AsciiTexts.{never_unlike}
 use Rattle.cwr_advice.proofs.lemmas.EarlyDays.{never_to_come}
 use Rattle.cwr_advice.proofs.lemmas.OwingWriters.{nobody_owes}
@@ -41,7 +42,11 @@ record IsUnadvised (t : List RecordValue) (k : ℕ) (r : RecordValue) : Type 0 w
   nowhere : collects_nowhere t ≡ false
   publisher : has_no_publisher t k r ≡ false
   territory : has_no_territory t k r ≡ false
+  nothing : has_nothing t k r ≡ false
   less : writers_own_less t ≡ false
+  performing : states_nothing "pr share" t ≡ false
+  mechanical : states_nothing "mr share" t ≡ false
+  synchronization : states_nothing "sr share" t ≡ false
   components : lacks_components t r ≡ false
   stray : is_stray_component t r ≡ false
   original : lacks_original t r ≡ false
@@ -54,8 +59,14 @@ unbroken said t k r h A2a j e = h.agent
 unbroken said t k r h A2b j e = h.nowhere
 unbroken said t k r h A2c j e = h.publisher
 unbroken said t k r h A2d j e = h.territory
+unbroken said t k r h A2e j e = h.nothing
+unbroken said t k r h A2f j e = e
+unbroken said t k r h A2g j e = e
 unbroken said t k r h A3a j e = e
 unbroken said t k r h A3b j e = h.less
+unbroken said t k r h A3c j e = h.performing
+unbroken said t k r h A3d j e = h.mechanical
+unbroken said t k r h A3e j e = h.synchronization
 unbroken said t k r h A4a j e = e
 unbroken said t k r h A4b j e = e
 unbroken said t k r h A4c j e = e
@@ -160,6 +171,7 @@ none_over code t n right s e h =
 pub record IsClean (s : AdviceSums) (t : List RecordValue) : Type 0 where
   pub nowhere : collects_nowhere t ≡ false
   pub less : writers_own_less t ≡ false
+  pub stated : (states_nothing "pr share" t || states_nothing "mr share" t || states_nothing "sr share" t) ≡ false
   pub performing : s.collected.performing ≤ 10006
   pub mechanical : s.collected.mechanical ≤ 10006
   pub synchronization : s.collected.synchronization ≤ 10006
@@ -225,8 +237,12 @@ unadvised s t h clean k r there = record {
         | inl none ↦ inr (sym h.facts.publisher ∙ none)
         | inr nobody ↦ inl (nobody_owes (is_a kinds.Swr) (is_a kinds.Pwr) t s.publishers k r h.publishers nobody there controlled)
       ]);
-  territory = owed_territory (cases_Bool (is_owning_writer r));
+  territory = owed_territory (owns_shares r) (cases_Bool (is_a kinds.Swr r));
+  nothing = owed_territory (not (owns_shares r)) (cases_Bool (is_a kinds.Swr r));
   less = clean.less;
+  performing = stated_rights.0;
+  mechanical = stated_rights.1;
+  synchronization = stated_rights.2;
   components =
       none_needed has_composite_type t k r s.headers.has_composite (not (list_any (is_a kinds.Com) t)) there h.headers.composite
       (ap (λ (b : Bool). s.headers.has_composite && not b) (sym h.facts.component) ∙ clean.components);
@@ -236,11 +252,20 @@ unadvised s t h clean k r there = record {
       (ap (λ (b : Bool). s.headers.has_version && not b) (sym h.facts.original) ∙ clean.original);
 }
   where
-    owed_territory : ((is_owning_writer r ≡ true) ⊎ (is_owning_writer r ≡ false)) → has_no_territory t k r ≡ false
-    owed_territory (inl asks) =
-        and_right (is_owning_writer r) _
-        (ap not (nobody_owes is_owning_writer (is_a kinds.Swt) t s.collections k r h.collections clean.collections there asks))
-    owed_territory (inr other) = and_left (is_owning_writer r) _ other
+    owed_territory : (x : Bool) → ((is_a kinds.Swr r ≡ true) ⊎ (is_a kinds.Swr r ≡ false))
+        → (is_a kinds.Swr r && x && not (list_any (is_a kinds.Swt) (records_of_writer t k))) ≡ false
+    owed_territory x (inl asks) =
+        and_right (is_a kinds.Swr r && x) _
+        (ap not (nobody_owes (is_a kinds.Swr) (is_a kinds.Swt) t s.collections k r h.collections clean.collections there asks))
+    owed_territory x (inr other) =
+        and_left (is_a kinds.Swr r && x) (not (list_any (is_a kinds.Swt) (records_of_writer t k)))
+        (and_left (is_a kinds.Swr r) x other)
+
+    stated_rights : (states_nothing "pr share" t ≡ false) × (states_nothing "mr share" t ≡ false) × (states_nothing "sr share" t ≡ false)
+    stated_rights =
+        let last = or_parts (states_nothing "pr share" t || states_nothing "mr share" t) (states_nothing "sr share" t) clean.stated in
+        let first = or_parts (states_nothing "pr share" t) (states_nothing "mr share" t) last.0 in
+        (first.0, first.1, last.1)
 
     stray_one : ((is_a kinds.Com r ≡ true) ⊎ (is_a kinds.Com r ≡ false)) → is_stray_component t r ≡ false
     stray_one (inl component) =

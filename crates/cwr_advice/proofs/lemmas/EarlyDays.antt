@@ -7,8 +7,9 @@ use Rattle.std.specs.Option.{is_some}
 use Rattle.std.proofs.lemmas.Bool.{le-ltb, ltb-false}
 use Rattle.cwr_lines.specs.Format.Records.{RecordValue}
 use Rattle.cwr_advice.specs.declared.rules.AdviceRule.{AdviceRule}
-use Rattle.cwr_advice.specs.declared.rules.AdviceRule.TheVariants.{A1a, A1b, A2a, A2b, A2c, A2d, A3a, A3b, A4a, A4b, A4c, A4d}
-use Rattle.cwr_advice.specs.declared.rules.AdviceRule.TheVariants.{A5a, A6a, A6b, A6c, A7a, A8a, A8b, A8c, A8d, A8e, A9a}
+use Rattle.cwr_advice.specs.declared.rules.AdviceRule.TheVariants.{A1a, A1b, A2a, A2b, A2c, A2d, A2e, A2f, A2g, A3a, A3b, A3c}
+use Rattle.cwr_advice.specs.declared.rules.AdviceRule.TheVariants.{A3d, A3e, A4a, A4b, A4c, A4d, A5a, A6a, A6b, A6c, A7a, A8a}
+use Rattle.cwr_advice.specs.declared.rules.AdviceRule.TheVariants.{A8b, A8c, A8d, A8e, A9a}
 use Rattle.cwr_advice.specs.declared.rules.Advice.{Advice}
 use Rattle.cwr_advice.specs.declared.rules.Asked.{Asked}
 use Rattle.cwr_advice.specs.declared.said.Said.{Said}
@@ -39,8 +40,14 @@ unbroken_later said A2a t k r j e = e
 unbroken_later said A2b t k r j e = e
 unbroken_later said A2c t k r j e = e
 unbroken_later said A2d t k r j e = e
+unbroken_later said A2e t k r j e = e
+unbroken_later said A2f t k r j e = e
+unbroken_later said A2g t k r j e = e
 unbroken_later said A3a t k r j e = e
 unbroken_later said A3b t k r j e = e
+unbroken_later said A3c t k r j e = e
+unbroken_later said A3d t k r j e = e
+unbroken_later said A3e t k r j e = e
 unbroken_later said A4a t k r j e = e
 unbroken_later said A4b t k r j e = e
 unbroken_later said A4c t k r j e = e

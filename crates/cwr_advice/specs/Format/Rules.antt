@@ -13,8 +13,9 @@ use Rattle.cwr_shape.specs.declared.reasons.Level.{Level}
 use Rattle.cwr_shape.specs.declared.reasons.Level.TheVariants.{T, R, F}
 use Rattle.cwr_levels.specs.Format.Findings.{is_a, is_blank, is_owner, ownership, share_of}
 use Rattle.cwr_advice.specs.declared.rules.AdviceRule.{AdviceRule}
-use Rattle.cwr_advice.specs.declared.rules.AdviceRule.TheVariants.{A1a, A1b, A2a, A2b, A2c, A2d, A3a, A3b, A4a, A4b, A4c, A4d}
-use Rattle.cwr_advice.specs.declared.rules.AdviceRule.TheVariants.{A5a, A6a, A6b, A6c, A7a, A8a, A8b, A8c, A8d, A8e, A9a}
+use Rattle.cwr_advice.specs.declared.rules.AdviceRule.TheVariants.{A1a, A1b, A2a, A2b, A2c, A2d, A2e, A2f, A2g, A3a, A3b, A3c}
+use Rattle.cwr_advice.specs.declared.rules.AdviceRule.TheVariants.{A3d, A3e, A4a, A4b, A4c, A4d, A5a, A6a, A6b, A6c, A7a, A8a}
+use Rattle.cwr_advice.specs.declared.rules.AdviceRule.TheVariants.{A8b, A8c, A8d, A8e, A9a}
 use Rattle.cwr_advice.specs.declared.rules.Asked.{Asked}
 use Rattle.cwr_advice.specs.declared.rules.Advice.{Advice}
 use Rattle.cwr_advice.specs.declared.said.Said.{Said}
@@ -127,7 +128,23 @@ has_no_publisher t k r =
 abbrev pub has_no_territory : List RecordValue → ℕ → RecordValue → Bool
 has_no_territory t k r = is_a kinds.Swr r && owns_shares r && not (list_any (is_a kinds.Swt) (records_of_writer t k))
 
--- ---- A3: who owns the performing right
+-- the writer owns nothing, and no record says that something is collected
+abbrev pub has_nothing : List RecordValue → ℕ → RecordValue → Bool
+has_nothing t k r = is_a kinds.Swr r && not (owns_shares r) && not (list_any (is_a kinds.Swt) (records_of_writer t k))
+
+-- the record owns shares, and its number, field j, is blank
+abbrev pub lacks_number : RecordValue → ℕ → Bool
+lacks_number r j = is_spaces (cell_at r j) && owns_shares r
+
+-- the cell of a share is filled in, and not with zero
+abbrev pub is_share : List ℕ → Bool
+is_share cell = not (is_spaces cell) && not (is_zero cell)
+
+-- the society of a right, field j, is blank, and the share in that right, the field after it, is filled in, and not with zero
+abbrev pub lacks_society : RecordValue → ℕ → Bool
+lacks_society r j = is_spaces (cell_at r j) && is_share (cell_at r (j + 1))
+
+-- ---- A3: who owns the rights
 
 -- more than half of it, with the tolerance of the rules V3 to V5
 abbrev pub owns_over_half : RecordValue → Bool
@@ -140,6 +157,14 @@ owned_by_writers t = sum_by (share_of "pr share") (filter is_writer t)
 -- someone owns some of it, and the writers less than half, with the same tolerance
 abbrev pub writers_own_less : List RecordValue → Bool
 writers_own_less t = nat_lt 0 (ownership "pr share" t) && nat_lt (owned_by_writers t) 4994
+
+-- the share of an owner in a right is filled in
+abbrev pub states : String → RecordValue → Bool
+states right r = is_owner r && not (is_blank right r)
+
+-- the work has writers, and nobody's share in the right is filled in
+abbrev pub states_nothing : String → List RecordValue → Bool
+states_nothing right t = list_any is_writer t && not (list_any (states right) t)
 
 -- ---- A6: composite works and versions
 
@@ -195,6 +220,8 @@ is_wrong rule cell = not (is_spaces cell) && not (is_right rule cell)
 
 -- Record r breaks the rule by itself, at field j where that judges a cell. So much is said of the transmission.
 abbrev pub breaks_alone : Said → AdviceRule → RecordValue → ℕ → Bool
+breaks_alone said A2f r j = lacks_number r j
+breaks_alone said A2g r j = lacks_society r j
 breaks_alone said A3a r j = owns_over_half r
 breaks_alone said A4a r j = is_wrong A4a (cell_at r j)
 breaks_alone said A4b r j = is_wrong A4b (cell_at r j)
@@ -217,7 +244,11 @@ breaks said A2a t k r j = begins_with_agent t k r
 breaks said A2b t k r j = collects_nowhere t
 breaks said A2c t k r j = has_no_publisher t k r
 breaks said A2d t k r j = has_no_territory t k r
+breaks said A2e t k r j = has_nothing t k r
 breaks said A3b t k r j = writers_own_less t
+breaks said A3c t k r j = states_nothing "pr share" t
+breaks said A3d t k r j = states_nothing "mr share" t
+breaks said A3e t k r j = states_nothing "sr share" t
 breaks said A6a t k r j = lacks_components t r
 breaks said A6b t k r j = is_stray_component t r
 breaks said A6c t k r j = lacks_original t r
@@ -230,16 +261,18 @@ at rule j = record { rule = rule; field = j }
 -- What is asked of a record of the kind, in this order: the rule, and the number of the field.
 abbrev pub asked_of : Kind → List Asked
 asked_of kinds.Nwr =
-    at A2b 1 ∷ at A3b 1 ∷ at A6a 14 ∷ at A6c 15 ∷ at A7a 4 ∷ at A7a 19 ∷ at A8c 5 ∷ at A8d 11 ∷ at A8e 8 ∷ at A9a 4 ∷ at A9a 19
-    ∷ []
+    at A2b 1 ∷ at A3b 1 ∷ at A3c 1 ∷ at A3d 1 ∷ at A3e 1 ∷ at A6a 14 ∷ at A6c 15 ∷ at A7a 4 ∷ at A7a 19 ∷ at A8c 5 ∷ at A8d 11
+    ∷ at A8e 8 ∷ at A9a 4 ∷ at A9a 19 ∷ []
 asked_of kinds.Rev =
-    at A2b 1 ∷ at A3b 1 ∷ at A6a 14 ∷ at A6c 15 ∷ at A7a 4 ∷ at A7a 19 ∷ at A8c 5 ∷ at A8d 11 ∷ at A8e 8 ∷ at A9a 4 ∷ at A9a 19
-    ∷ []
-asked_of kinds.Spu = at A2a 8 ∷ at A3a 13 ∷ at A4a 10 ∷ at A4b 21 ∷ at A7a 5 ∷ at A8a 12 ∷ at A8a 14 ∷ at A8a 16 ∷ at A9a 6 ∷ []
+    at A2b 1 ∷ at A3b 1 ∷ at A3c 1 ∷ at A3d 1 ∷ at A3e 1 ∷ at A6a 14 ∷ at A6c 15 ∷ at A7a 4 ∷ at A7a 19 ∷ at A8c 5 ∷ at A8d 11
+    ∷ at A8e 8 ∷ at A9a 4 ∷ at A9a 19 ∷ []
+asked_of kinds.Spu =
+    at A2a 8 ∷ at A2f 10 ∷ at A2g 12 ∷ at A2g 14 ∷ at A2g 16 ∷ at A3a 13 ∷ at A4a 10 ∷ at A4b 21 ∷ at A7a 5 ∷ at A8a 12
+    ∷ at A8a 14 ∷ at A8a 16 ∷ at A9a 6 ∷ []
 asked_of kinds.Opu = at A2a 8 ∷ at A3a 13 ∷ at A4a 10 ∷ at A4b 21 ∷ at A7a 5 ∷ at A8a 12 ∷ at A8a 14 ∷ at A8a 16 ∷ at A9a 6 ∷ []
 asked_of kinds.Swr =
-    at A2c 1 ∷ at A2d 1 ∷ at A4a 10 ∷ at A4b 21 ∷ at A7a 4 ∷ at A7a 5 ∷ at A8a 11 ∷ at A8a 13 ∷ at A8a 15 ∷ at A9a 5 ∷ at A9a 6
-    ∷ []
+    at A2c 1 ∷ at A2d 1 ∷ at A2e 1 ∷ at A2f 10 ∷ at A2g 11 ∷ at A2g 13 ∷ at A2g 15 ∷ at A4a 10 ∷ at A4b 21 ∷ at A7a 4 ∷ at A7a 5
+    ∷ at A8a 11 ∷ at A8a 13 ∷ at A8a 15 ∷ at A9a 5 ∷ at A9a 6 ∷ []
 asked_of kinds.Owr = at A4a 10 ∷ at A4b 21 ∷ at A7a 4 ∷ at A7a 5 ∷ at A8a 11 ∷ at A8a 13 ∷ at A8a 15 ∷ at A9a 5 ∷ at A9a 6 ∷ []
 asked_of kinds.Spt = at A1a 10 ∷ at A1b 10 ∷ at A8b 10 ∷ []
 asked_of kinds.Swt = at A1a 9 ∷ at A1b 9 ∷ at A8b 9 ∷ []
@@ -270,8 +303,14 @@ level_of_rule A2a = T
 level_of_rule A2b = T
 level_of_rule A2c = T
 level_of_rule A2d = T
+level_of_rule A2e = R
+level_of_rule A2f = T
+level_of_rule A2g = R
 level_of_rule A3a = T
 level_of_rule A3b = T
+level_of_rule A3c = T
+level_of_rule A3d = T
+level_of_rule A3e = T
 level_of_rule A5a = T
 level_of_rule A6a = T
 level_of_rule A6b = R

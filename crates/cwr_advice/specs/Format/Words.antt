@@ -1,8 +1,9 @@
 -- The rules of advice in words.
 use Rattle.std.specs.Prelude.{ℕ, List, codes}
 use Rattle.cwr_advice.specs.declared.rules.AdviceRule.{AdviceRule}
-use Rattle.cwr_advice.specs.declared.rules.AdviceRule.TheVariants.{A1a, A1b, A2a, A2b, A2c, A2d, A3a, A3b, A4a, A4b, A4c, A4d}
-use Rattle.cwr_advice.specs.declared.rules.AdviceRule.TheVariants.{A5a, A6a, A6b, A6c, A7a, A8a, A8b, A8c, A8d, A8e, A9a}
+use Rattle.cwr_advice.specs.declared.rules.AdviceRule.TheVariants.{A1a, A1b, A2a, A2b, A2c, A2d, A2e, A2f, A2g, A3a, A3b, A3c}
+use Rattle.cwr_advice.specs.declared.rules.AdviceRule.TheVariants.{A3d, A3e, A4a, A4b, A4c, A4d, A5a, A6a, A6b, A6c, A7a, A8a}
+use Rattle.cwr_advice.specs.declared.rules.AdviceRule.TheVariants.{A8b, A8c, A8d, A8e, A9a}
 
 -- the name of a rule
 abbrev pub rule_text : AdviceRule → List ℕ
@@ -12,8 +13,14 @@ rule_text A2a = codes "A2a"
 rule_text A2b = codes "A2b"
 rule_text A2c = codes "A2c"
 rule_text A2d = codes "A2d"
+rule_text A2e = codes "A2e"
+rule_text A2f = codes "A2f"
+rule_text A2g = codes "A2g"
 rule_text A3a = codes "A3a"
 rule_text A3b = codes "A3b"
+rule_text A3c = codes "A3c"
+rule_text A3d = codes "A3d"
+rule_text A3e = codes "A3e"
 rule_text A4a = codes "A4a"
 rule_text A4b = codes "A4b"
 rule_text A4c = codes "A4c"
@@ -42,8 +49,22 @@ advice_words A2a =
 advice_words A2b = codes "publishers (SPU) own shares of this work, and no SPT says where they collect: add the SPT records"
 advice_words A2c = codes "no PWR says which publisher stands for this writer: add one after SWR"
 advice_words A2d = codes "this writer owns shares, and no SWT says where they are collected: add one after SWR"
+advice_words A2e =
+    codes "this writer owns nothing, and no SWT says that something is collected: fill in the shares or add SWT, or write OWR"
+advice_words A2f =
+    codes "this one owns shares and has no IPI name number, by which societies know whom they pay: look it up and fill it in"
+advice_words A2g = codes "a share in this right is owned, and no society is named for it: fill in its number, as 010"
 advice_words A3a = codes "a publisher owns more than half of the performing right: most societies take at most 50 %"
 advice_words A3b = codes "the writers own less than half of the performing right together: most societies ask for 50 % or more"
+advice_words A3c =
+    codes
+    "no share of the performing right is filled in: fill in what writers and publishers own, or 00000 where they own nothing"
+advice_words A3d =
+    codes
+    "no share of the mechanical right is filled in: fill in what writers and publishers own, or 00000 where they own nothing"
+advice_words A3e =
+    codes
+    "no share of the synchronisation right is filled in: fill in what writers and publishers own, or 00000 where they own nothing"
 advice_words A4a =
     codes "this is no IPI name number: it has eleven digits, of which the last two check the others; look it up again"
 advice_words A4b =

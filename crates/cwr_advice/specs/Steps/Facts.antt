@@ -1,15 +1,16 @@
 -- What a walk over the records of a transaction keeps for the rules of advice.
-use Rattle.std.specs.Prelude.{◌≡◌, ℕ, ◌+◌, ◌^◌, ◌<◌, if◌then◌else◌, List, filter, count_by}
+use Rattle.std.specs.Prelude.{◌≡◌, ℕ, ◌+◌, ◌^◌, ◌<◌, not, if◌then◌else◌, List, filter, count_by}
 use Rattle.std.specs.List.{list_any, sum_by}
 use Rattle.cwr_fields.specs.declared.kinds.Kind.{Kind}
 use Rattle.cwr_fields.specs.declared.kinds.Kind.TheVariants as kinds
 use Rattle.cwr_lines.specs.Format.Records.{RecordValue}
 use Rattle.cwr_levels.specs.Format.Fields.{IsField}
-use Rattle.cwr_levels.specs.Format.Findings.{is_a, is_owner, share_of}
+use Rattle.cwr_levels.specs.Format.Findings.{is_a, is_blank, is_owner, share_of}
 use Rattle.cwr_levels.specs.Steps.Walks.{capped}
 use Rattle.cwr_advice.specs.declared.owners.Owned.{Owned}
 use Rattle.cwr_advice.specs.declared.facts.Facts.{Facts}
-use Rattle.cwr_advice.specs.Format.Rules.{collects_in, is_owning_publisher, is_territory, is_writer}
+use Rattle.cwr_advice.specs.declared.stated.Stated.{Stated}
+use Rattle.cwr_advice.specs.Format.Rules.{collects_in, is_owning_publisher, is_territory, is_writer, states}
 
 -- each is less than what ten digits write
 pub record AreSmall (s : Owned) : Type 0 where
@@ -31,10 +32,30 @@ pub record AreOwnedBy (r : RecordValue) (s : Owned) : Type 0 where
   pub synchronization : s.synchronization ≡ (if is_owner r then share_of "sr share" r else 0)
   pub small : AreSmall s
 
+-- in these rights the record's shares are filled in
+pub record AreFilledIn (r : RecordValue) (s : Stated) : Type 0 where
+  pub performing : s.performing ≡ not (is_blank "pr share" r)
+  pub mechanical : s.mechanical ≡ not (is_blank "mr share" r)
+  pub synchronization : s.synchronization ≡ not (is_blank "sr share" r)
+
+-- so they are where it is an owner, and else in none
+pub record AreStatedBy (r : RecordValue) (s : Stated) : Type 0 where
+  pub performing : s.performing ≡ states "pr share" r
+  pub mechanical : s.mechanical ≡ states "mr share" r
+  pub synchronization : s.synchronization ≡ states "sr share" r
+
+-- in these rights someone's share is filled in
+pub record AreStated (t : List RecordValue) (s : Stated) : Type 0 where
+  pub performing : s.performing ≡ list_any (states "pr share") t
+  pub mechanical : s.mechanical ≡ list_any (states "mr share") t
+  pub synchronization : s.synchronization ≡ list_any (states "sr share") t
+
 -- what the rules ask of all records of a transaction
 pub record AreFacts (t : List RecordValue) (x : Facts) : Type 0 where
   pub owned : x.owned ≡ capped (sum_by (share_of "pr share") (filter is_owner t))
   pub by_writers : x.by_writers ≡ capped (sum_by (share_of "pr share") (filter is_writer t))
+  pub writer : x.has_writer ≡ list_any is_writer t
+  pub stated : AreStated t x.stated
   pub publisher : x.has_publisher ≡ list_any (is_a kinds.Spu) t
   pub owner : x.has_owning_publisher ≡ list_any is_owning_publisher t
   pub territory : x.has_territory ≡ list_any (is_a kinds.Spt) t

@@ -18,7 +18,7 @@ use Rattle.cwr_advice.specs.Format.Characters.{is_ascii}
 use Rattle.cwr_advice.specs.Format.Days.{day_in}
 use Rattle.cwr_advice.specs.Format.Rules.{asked_of, begins_with_agent, breaks_alone, cell_at, has_composite_type}
 use Rattle.cwr_advice.specs.Format.Rules.{has_no_composite_type, in_chain, is_acknowledgement, is_territory, is_territory_of}
-use Rattle.cwr_advice.specs.Format.Rules.{is_version, is_writer, owns_shares, records_of_writer}
+use Rattle.cwr_advice.specs.Format.Rules.{is_version, is_writer, records_of_writer}
 use Rattle.cwr_advice.specs.Format.Said.{nothing_said}
 use Rattle.cwr_advice.specs.Steps.Facts.{AreFacts}
 
@@ -52,10 +52,6 @@ abbrev pub AreOwing : (RecordValue → Bool) → (RecordValue → Bool) → List
 AreOwing asks gives t x = (k : ℕ) (r : RecordValue) → slice_get t k ≡ Some r → asks r ≡ true
     → (list_any gives (records_of_writer t k) ≡ true)
     ⊎ ((x.lacks ≡ true) ⊎ ((x.owes ≡ true) × (list_any is_writer (drop (k + 1) t) ≡ false)))
-
--- a writer whom the submitter controls, who owns shares
-abbrev pub is_owning_writer : RecordValue → Bool
-is_owning_writer r = is_a kinds.Swr r && owns_shares r
 
 -- ---- what stands before a record
 
@@ -107,7 +103,7 @@ pub record AreKept (s : AdviceSums) (t : List RecordValue) : Type 0 where
   pub chain : IsBegun t s.chain
   pub territories : AreSinceParty t s.territories.items
   pub publishers : AreOwing (is_a kinds.Swr) (is_a kinds.Pwr) t s.publishers
-  pub collections : AreOwing is_owning_writer (is_a kinds.Swt) t s.collections
+  pub collections : AreOwing (is_a kinds.Swr) (is_a kinds.Swt) t s.collections
   pub calm : AreCalm t
 
 -- it is kept of these records, or they are those of an acknowledgement

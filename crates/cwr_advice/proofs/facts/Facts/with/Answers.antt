@@ -18,8 +18,10 @@ returns c = λ rs h.
       by_writers =
           kept_sum_more "pr share" is_writer rs r c.args.self.by_writers c.performing_if-by_writer.result
           c.saturating_add-2.result h.by_writers
-          (owned_if_writer r c.args.owned.now c.is_writer.result c.performing_if-by_writer.result c.requires c.is_writer.ensures
-          c.performing_if-by_writer.ensures) c.saturating_add-2.ensures;
+          (owned_if_writer r c.args.owned.now c.is_writer-writer.result c.performing_if-by_writer.result c.requires
+          c.is_writer-writer.ensures c.performing_if-by_writer.ensures) c.saturating_add-2.ensures;
+      writer = any_more is_writer rs r c.args.self.has_writer c.is_writer-writer.result h.writer c.is_writer-writer.ensures;
+      stated = c.with.ensures rs h.stated;
       publisher =
           any_more (is_a kinds.Spu) rs r c.args.self.has_publisher c.is_of-publisher.result h.publisher c.is_of-publisher.ensures;
       owner = any_more is_owning_publisher rs r c.args.self.has_owning_publisher _ h.owner

@@ -4,9 +4,8 @@ use Rattle.std.proofs.lemmas.Bool.{and_left, or_parts}
 use Rattle.cwr_fields.specs.declared.kinds.Kind.TheVariants as kinds
 use Rattle.cwr_lines.specs.Format.Records.{cell_named}
 use Rattle.cwr_levels.specs.Format.Findings.{is_a, is_blank}
-use Rattle.cwr_advice.specs.Format.Rules.{is_publisher, is_territory, names_agent, owns_shares}
-use Rattle.cwr_advice.specs.Steps.Kept.{is_owning_writer}
-use Rattle.cwr_advice.proofs.lemmas.CalmRecords.{begun_still, calm_more, controlled_writes, no_agent, owner_writes, since_other}
+use Rattle.cwr_advice.specs.Format.Rules.{is_publisher, is_territory, names_agent}
+use Rattle.cwr_advice.proofs.lemmas.CalmRecords.{begun_still, calm_more, controlled_writes, no_agent, since_other}
 use Rattle.cwr_advice.proofs.lemmas.OtherRecords.{collected_same, no_publisher, no_writer}
 use Rattle.cwr_advice.proofs.kept.AdviceSums.add_other.Goals as goal
 
@@ -27,8 +26,8 @@ returns-clause-kept c = λ rs h.
           c.with-self.ensures (is_a kinds.Swr) (is_a kinds.Pwr) rs r h.publishers controlled_writes (sym writer) (sym controlled)
           c.is_of-publisher.ensures;
       collections =
-          c.with-self-2.ensures is_owning_writer (is_a kinds.Swt) rs r h.collections owner_writes (sym writer)
-          (sym (and_left (is_a kinds.Swr r) (owns_shares r) controlled)) (sym territory.1);
+          c.with-self-2.ensures (is_a kinds.Swr) (is_a kinds.Swt) rs r h.collections controlled_writes (sym writer)
+          (sym controlled) (sym territory.1);
       calm = calm_more rs r h.calm (record {
         alone = c.requires.unbroken;
         twice = and_left _ _ (and_left (is_territory r) (not (is_blank "tis code" r)) c.requires.territory);

@@ -1,10 +1,7 @@
-use Rattle.std.proofs.Common.{ap₂, sym, ◌∙◌}
-use Rattle.std.specs.Prelude.{◌&&◌}
+use Rattle.std.proofs.Common.{sym, ◌∙◌}
 use Rattle.cwr_fields.specs.declared.kinds.Kind.TheVariants as kinds
 use Rattle.cwr_levels.specs.Format.Findings.{is_a}
-use Rattle.cwr_advice.specs.Steps.Kept.{is_owning_writer}
-use Rattle.cwr_advice.proofs.lemmas.CalmRecords.{calm_more, controlled_writes, owner_writes}
-use Rattle.cwr_advice.proofs.lemmas.OwnedShares.{owns_something}
+use Rattle.cwr_advice.proofs.lemmas.CalmRecords.{calm_more, controlled_writes}
 use Rattle.cwr_advice.proofs.kept.AdviceSums.add_to_work.Goals as goal
 
 pub add_other-requires-clause-unbroken : goal.add_other-requires-clause-unbroken
@@ -19,13 +16,9 @@ add_other-requires-clause-owner c = sym c.is_owner.ensures ∙ c.if-not-is_owner
 pub add_other-requires-clause-territory : goal.add_other-requires-clause-territory
 add_other-requires-clause-territory c = sym c.is_territory.ensures ∙ c.if-not-is_territory.true
 
-pub is_something-owns-requires : goal.is_something-owns-requires
-is_something-owns-requires c = c.owned_by-owned.ensures.small
-
 pub returns-clause-kept : goal.returns-clause-kept
 returns-clause-kept c = λ rs h yes.
     let r = c.args.shown.now in
-    let owns = c.is_something-owns.ensures ∙ owns_something r c.owned_by-owned.result c.owned_by-owned.ensures in
     record {
       facts = c.with-self-3.ensures rs h.facts;
       headers = c.with-self-4.ensures rs h.headers;
@@ -36,7 +29,7 @@ returns-clause-kept c = λ rs h yes.
           c.with-self.ensures (is_a kinds.Swr) (is_a kinds.Pwr) rs r h.publishers controlled_writes c.is_writer-writer.ensures
           c.is_of-controlled.ensures c.is_of-publisher.ensures;
       collections =
-          c.with-self-2.ensures is_owning_writer (is_a kinds.Swt) rs r h.collections owner_writes c.is_writer-writer.ensures
-          (ap₂ (λ a b. a && b) c.is_of-controlled.ensures owns) c.is_of-territory.ensures;
+          c.with-self-2.ensures (is_a kinds.Swr) (is_a kinds.Swt) rs r h.collections controlled_writes
+          c.is_writer-writer.ensures c.is_of-controlled.ensures c.is_of-territory.ensures;
       calm = calm_more rs r h.calm (c.may_break.ensures rs h c.if-may_break.false);
     }

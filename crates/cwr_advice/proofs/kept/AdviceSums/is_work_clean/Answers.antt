@@ -8,6 +8,7 @@ pub returns : goal.returns
 returns c = λ rs h yes said. none_on_clean said c.args.self.now rs h (record {
   nowhere = sym (c.collects_nowhere.ensures rs h.facts) ∙ c.if-collects_nowhere.false;
   less = sym (c.writers_own_less.ensures rs h.facts) ∙ c.if-writers_own_less.false;
+  stated = sym (c.leave_right_blank.ensures rs h.facts) ∙ c.if-leave_right_blank.false;
   performing = c.is_over_whole.ensures.performing c.if-is_over_whole.false;
   mechanical = c.is_over_whole.ensures.mechanical c.if-is_over_whole.false;
   synchronization = c.is_over_whole.ensures.synchronization c.if-is_over_whole.false;

@@ -1,7 +1,7 @@
 use Rattle.std.proofs.Common.{sym, ap}
 use Rattle.cwr_fields.specs.declared.kinds.Kind.TheVariants as kinds
 use Rattle.cwr_levels.specs.Format.Findings.{is_a}
-use Rattle.cwr_advice.specs.Steps.Kept.{is_among, is_owning_writer}
+use Rattle.cwr_advice.specs.Steps.Kept.{is_among}
 use Rattle.cwr_advice.proofs.kept.AdviceSums.new.Goals as goal
 
 pub returns-clause-none : goal.returns-clause-none
@@ -12,6 +12,6 @@ returns-clause-none c = record {
   chain = λ sequence e. absurd (cc e);
   territories = λ number. sym (ap (is_among number) c.new.ensures);
   publishers = c.nobody.ensures (is_a kinds.Swr) (is_a kinds.Pwr);
-  collections = c.nobody-2.ensures is_owning_writer (is_a kinds.Swt);
+  collections = c.nobody-2.ensures (is_a kinds.Swr) (is_a kinds.Swt);
   calm = λ k r e. absurd (cc e);
 }
