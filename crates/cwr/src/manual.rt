@@ -112,9 +112,13 @@ COMMANDS
 
        The first columns are the numbers that `cwr check` names: `group`, from
        1, and `transaction` and `record`, from 0. The others are the keys of
-       `cwr json`. Cells are as they stand, without trailing spaces. So a
-       spreadsheet should import them as text: else it may take `=1+1` for a
-       formula, and `007` for a number.
+       `cwr json`. In a table of records that stand in transactions `_work`
+       and `_title` come last: the number and the title of the work, by the
+       transaction's header. Of an agreement they are its number and blank,
+       and of an acknowledgement the number and the title of what it answers.
+       Cells are as they stand, without trailing spaces. So a spreadsheet
+       should import them as text: else it may take `=1+1` for a formula, and
+       `007` for a number.
 
        With `works` as KIND each NWR and REV has a row: its work number, title
        and ISWC, its writers (SWR and OWR) and its publishers (SPU and OPU).
@@ -617,6 +621,14 @@ EXAMPLES
            W0001,BLUE RIVER,,SMITH ANNA,
            W0002,RED HILL,,SMITH ANNA,
            W0003,GREEN SEA,,SMITH ANNA,
+
+       Who wrote what:
+
+           $ cwr csv SWR works.cwr 2> /dev/null | cut -d, -f1-3,5,24,25
+           group,transaction,record,last_name,_work,_title
+           1,0,1,SMITH,W0001,BLUE RIVER
+           2,0,1,SMITH,W0002,RED HILL
+           2,1,1,SMITH,W0003,GREEN SEA
 
        A file that isn't there:
 

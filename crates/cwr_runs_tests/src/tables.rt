@@ -49,7 +49,7 @@ const TABLES: &[(&[&[u8]], Table, &[u8])] = &[
     (
         ONE_ACKNOWLEDGEMENT,
         Table::Records(Kind::Ack),
-        b"group,transaction,record,creation_date,creation_time,original_group_id,original_transaction_sequence,original_transaction_type,creation_title,submitter_creation_number,recipient_creation_number,processing_date,transaction_status\r\n1,0,0,20240102,101500,00001,00000000,NWR,BLUE RIVER,W0001,,20240110,AS\r\n",
+        b"group,transaction,record,creation_date,creation_time,original_group_id,original_transaction_sequence,original_transaction_type,creation_title,submitter_creation_number,recipient_creation_number,processing_date,transaction_status,_work,_title\r\n1,0,0,20240102,101500,00001,00000000,NWR,BLUE RIVER,W0001,,20240110,AS,W0001,BLUE RIVER\r\n",
     ),
     (
         ONE_ACKNOWLEDGEMENT,
@@ -119,6 +119,6 @@ fn rows_before_a_refusal_are_written(rt: HostRuntime) {
     assert!(rt;
         written
             .as_slice()
-            .ends_with(b"\r\n1,0,1,W1,SMITH,ANNA,,CA,,,,,,,,,,,,,,,\r\n")
+            .ends_with(b"\r\n1,0,1,W1,SMITH,ANNA,,CA,,,,,,,,,,,,,,,,W0001,BLUE RIVER\r\n")
     );
 }

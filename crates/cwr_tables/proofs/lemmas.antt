@@ -8,6 +8,10 @@ pub mod CellsOfRows
 pub mod ColumnsOfFields
 -- The names of fields, and the cells of records, are short.
 pub mod ShortNames
+-- The rows of a transaction, by its header.
+pub mod RowsUnder
+-- The cells of headers, which rows of their transactions show.
+pub mod HeaderCells
 -- The text of a row is that of its numbers, and then that of its other cells.
 pub mod TextsOfRows
 -- The row of a record, by the test of its kind.

@@ -2,4 +2,5 @@
 pub mod Tables
 pub mod RecordTables
 pub mod WorkTables
+pub mod Headers
 pub mod Laws

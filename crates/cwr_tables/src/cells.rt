@@ -9,8 +9,8 @@ use arrayvec::ArrayVec;
 /// The most bytes of a cell.
 pub(crate) const LONGEST_CELL: usize = 1440;
 
-/// The most bytes of a row, of which none has more than 31 cells.
-pub(crate) const LONGEST: usize = 31 * (2 * LONGEST_CELL + 3) + 2;
+/// The most bytes of a row, of which none has more than 33 cells.
+pub(crate) const LONGEST: usize = 33 * (2 * LONGEST_CELL + 3) + 2;
 
 /// The text of a row.
 pub(crate) type Text = ArrayVec<u8, LONGEST>;

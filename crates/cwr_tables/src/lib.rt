@@ -2,6 +2,7 @@
 #![tactic(auto)]
 
 mod cells;
+mod headers;
 pub mod laws;
 mod places;
 mod record_tables;

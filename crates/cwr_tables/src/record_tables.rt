@@ -1,10 +1,10 @@
 //! The table of the records of a kind, put to a sink.
 
-ghost use Rattle.std.specs.Prelude.{◌≡◌, IfErr, false};
+ghost use Rattle.std.specs.Prelude.{◌≡◌, IfErr, false, Some, slice_get};
 ghost use Rattle.cwr_devices.specs.Steps.Sinks.{Puts, has_failed, written_of};
 ghost use Rattle.cwr_values.specs.Format.Rows.{trailer};
 ghost use Rattle.cwr_tables.specs.declared.places.RowNumbers.TheVariants.{Outside};
-ghost use Rattle.cwr_tables.specs.Format.RecordTables.{heading, item_rows, row_of_kind, transaction_rows};
+ghost use Rattle.cwr_tables.specs.Format.RecordTables.{heading, inner_of_kind, item_rows, row_of_kind, rows_under, transaction_rows};
 
 use crate::places::{Place, RowNumbers};
 use crate::rows::RowText;
@@ -57,6 +57,27 @@ fn put_row<W: Target>(
     put_text(text, sink)
 }
 
+/// Puts the row of a record with these numbers in the transaction of that header, if it is of the kind.
+fn put_inner_row<W: Target>(
+    kind: Kind,
+    head: &RecordRef<'_>,
+    numbers: RowNumbers,
+    shown: &RecordRef<'_>,
+    text: &mut RowText,
+    sink: &mut Sink<W>,
+) -> Result<(), SinkFault>
+    requires { has_failed sink.old ≡ false }
+    ensures puts { Puts W.contents W.failures (inner_of_kind kind head.now numbers shown.now) result
+        sink.old sink.new }
+    ensures fault { IfErr result (λ f. f.written ≡ written_of sink.new) }
+{
+    if !is_of(shown, kind) {
+        return Ok(());
+    }
+    text.set_inner_row(head, numbers, shown);
+    put_text(text, sink)
+}
+
 /// Puts the row of TRL, if the kind is that.
 fn put_trailer<W: Target>(
     kind: Kind,
@@ -75,6 +96,35 @@ fn put_trailer<W: Target>(
     put_text(text, sink)
 }
 
+/// Puts the rows of a transaction's records of the kind, by its header.
+fn put_records<W: Target>(
+    kind: Kind,
+    place: Place,
+    head: &RecordRef<'_>,
+    transaction: &Transaction,
+    text: &mut RowText,
+    sink: &mut Sink<W>,
+) -> Result<(), SinkFault>
+    requires { has_failed sink.old ≡ false }
+    ensures puts { Puts W.contents W.failures (rows_under head.now kind place transaction.now)
+        result sink.old sink.new }
+    ensures fault { IfErr result (λ f. f.written ≡ written_of sink.new) }
+{
+    let count = transaction.len();
+    let mut i: usize = 0;
+    while let Some(shown) = transaction.record(i) {
+        let numbers = RowNumbers::InTransaction {
+            group: place.group,
+            transaction: place.transaction,
+            sequence: i as u64,
+        };
+        put_inner_row(kind, head, numbers, &shown, text, sink)?;
+        prove!(i < count);
+        i += 1;
+    }
+    Ok(())
+}
+
 /// Puts the rows of a transaction's records of the kind.
 fn put_transaction<W: Target>(
     kind: Kind,
@@ -88,19 +138,10 @@ fn put_transaction<W: Target>(
         sink.old sink.new }
     ensures fault { IfErr result (λ f. f.written ≡ written_of sink.new) }
 {
-    let count = transaction.len();
-    let mut i: usize = 0;
-    while let Some(shown) = transaction.record(i) {
-        let numbers = RowNumbers::InTransaction {
-            group: place.group,
-            transaction: place.transaction,
-            sequence: i as u64,
-        };
-        put_row(kind, numbers, &shown, text, sink)?;
-        prove!(i < count);
-        i += 1;
-    }
-    Ok(())
+    let Some(head) = transaction.record(0) else {
+        return Ok(());
+    };
+    put_records(kind, place, &head, transaction, text, sink)
 }
 
 /// Puts the rows of an item's records of the kind. They are made in the buffer.

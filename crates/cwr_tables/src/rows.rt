@@ -7,13 +7,14 @@ ghost use Rattle.cwr_json.specs.Format.Forms.{key_byte, key_of};
 ghost use Rattle.cwr_values.specs.Format.Rows.{trailer};
 ghost use Rattle.cwr_tables.specs.declared.places.RowNumbers.TheVariants.{Outside};
 ghost use Rattle.cwr_tables.specs.Format.Tables.{cell_text};
-ghost use Rattle.cwr_tables.specs.Format.RecordTables.{heading, record_row, shown_cell};
-ghost use Rattle.cwr_tables.specs.Steps.RowTexts.{column_of, field_cell, named_columns, next_cell, numbers_text, shown_cells};
+ghost use Rattle.cwr_tables.specs.Format.RecordTables.{heading, inner_row, record_row, shown_cell};
+ghost use Rattle.cwr_tables.specs.Steps.RowTexts.{column_of, field_cell, header_heading, header_text, named_columns, next_cell, numbers_text, shown_cells};
 
 use crate::cells::{LONGEST, LONGEST_CELL, Text, push, push_cell};
+use crate::headers::{work_number, work_title};
 use crate::places::RowNumbers;
 use arrayvec::ArrayVec;
-use cwr_fields::{Kind, field, fields, trimmed};
+use cwr_fields::{Kind, field, fields, is_in_transaction, trimmed};
 use cwr_lines::RecordRef;
 use itoa::Buffer;
 use std::marker::Model;
@@ -141,7 +142,7 @@ fn push_field(text: &mut Text, shown: &RecordRef<'_>, j: u8)
 fn push_fields(text: &mut Text, shown: &RecordRef<'_>)
     requires { length text.old.items ≤ LONGEST_NUMBERS }
     ensures value { text.new.items ≡ text.old.items ++ shown_cells shown.now }
-    ensures len { length text.new.items + 2 ≤ LONGEST }
+    ensures len { length text.new.items + 2 * LONGEST_NEXT + 2 ≤ LONGEST }
 {
     for before in 0..fields(shown.kind()) {
         push_field(text, shown, before + 1);
@@ -167,11 +168,32 @@ fn push_column(text: &mut Text, kind: Kind, j: u8)
 fn push_columns(text: &mut Text, kind: Kind)
     requires { length text.old.items ≤ LONGEST_NUMBERS }
     ensures value { text.new.items ≡ text.old.items ++ named_columns kind }
-    ensures len { length text.new.items + 2 ≤ LONGEST }
+    ensures len { length text.new.items + 2 * LONGEST_NEXT + 2 ≤ LONGEST }
 {
     for before in 0..fields(kind) {
         push_column(text, kind, before + 1);
     }
+}
+
+/// Appends the names of the last columns of a kind.
+fn push_header_columns(text: &mut Text, kind: Kind)
+    requires { length text.old.items + 2 * LONGEST_NEXT + 2 ≤ LONGEST }
+    ensures value { text.new.items ≡ text.old.items ++ header_heading kind }
+    ensures len { length text.new.items + 2 ≤ LONGEST }
+{
+    if is_in_transaction(kind) {
+        push(text, b",_work,_title");
+    }
+}
+
+/// Appends what a row says of its transaction, by the header.
+fn push_header_cells(text: &mut Text, head: &RecordRef<'_>)
+    requires { length text.old.items + 2 * LONGEST_NEXT + 2 ≤ LONGEST }
+    ensures value { text.new.items ≡ text.old.items ++ header_text head.now }
+    ensures len { length text.new.items + 2 ≤ LONGEST }
+{
+    push_shown(text, work_number(head));
+    push_shown(text, work_title(head));
 }
 
 /// Appends a number as a cell before others.
@@ -254,6 +276,7 @@ impl RowText {
         self.text.clear();
         push(&mut self.text, b"group,transaction,record");
         push_columns(&mut self.text, kind);
+        push_header_columns(&mut self.text, kind);
         push(&mut self.text, b"\r\n");
     }
 
@@ -264,6 +287,22 @@ impl RowText {
         self.text.clear();
         push_numbers(&mut self.text, numbers);
         push_fields(&mut self.text, shown);
+        push(&mut self.text, b"\r\n");
+    }
+
+    /// Sets the row of a record with these numbers, in the transaction of that header.
+    pub(crate) fn set_inner_row(
+        &mut self,
+        head: &RecordRef<'_>,
+        numbers: RowNumbers,
+        shown: &RecordRef<'_>,
+    )
+        ensures { self.new ≡ inner_row head.now numbers shown.now }
+    {
+        self.text.clear();
+        push_numbers(&mut self.text, numbers);
+        push_fields(&mut self.text, shown);
+        push_header_cells(&mut self.text, head);
         push(&mut self.text, b"\r\n");
     }
 

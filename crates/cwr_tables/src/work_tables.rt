@@ -8,13 +8,12 @@ ghost use Rattle.cwr_tables.specs.declared.works.Side.TheVariants.{Publishers, W
 ghost use Rattle.cwr_tables.specs.Steps.RowTexts.{next_cell};
 ghost use Rattle.cwr_tables.specs.Steps.WorkTexts.{edge, front_text, owner_text, tail_text, within, quotes};
 
+use crate::headers::is_header;
 use crate::places::Place;
 use crate::record_tables::put_text;
 use crate::rows::RowText;
 use crate::works::{Side, add_up, is_on, need_quotes};
 use cwr_devices::{Sink, SinkFault, Target};
-use cwr_fields::Kind;
-use cwr_levels::is_of;
 use cwr_lines::RecordRef;
 use cwr_values::{Item, Transaction};
 
@@ -228,13 +227,6 @@ fn put_work<W: Target>(
 {
     put_to_publishers(place, head, transaction, text, sink)?;
     put_tail(transaction, text, sink)
-}
-
-/// Whether a record is the header of a work.
-fn is_header(shown: &RecordRef<'_>) -> bool
-    ensures { result ≡ is_header shown.now }
-{
-    is_of(shown, Kind::Nwr) || is_of(shown, Kind::Rev)
 }
 
 /// Puts the row of a transaction, if that is a work.

@@ -6,6 +6,7 @@ ghost use Rattle.cwr_tables.specs.Steps.RowTexts.{next_cell};
 ghost use Rattle.cwr_tables.specs.Steps.WorkTexts.{between, edge, front_text, shares_text, tail_text, within};
 
 use crate::cells::{LONGEST, Text, push, push_all_doubled};
+use crate::headers::{TITLE, WORK_NUMBER};
 use crate::places::Place;
 use crate::rows::{RowText, push_first_number, push_next, push_next_number, push_shown};
 use crate::works::{Side, Sums, name_of_owner};
@@ -14,12 +15,6 @@ use cwr_fields::letters;
 use cwr_levels::cell;
 use cwr_lines::RecordRef;
 use itoa::Buffer;
-
-/// NWR, REV: title.
-const TITLE: u8 = 4;
-
-/// NWR, REV: submitter work number.
-const WORK_NUMBER: u8 = 6;
 
 /// NWR, REV: ISWC.
 const ISWC: u8 = 7;

@@ -15,6 +15,7 @@ use Rattle.cwr_levels.specs.Format.Findings.{is_a}
 use Rattle.cwr_tables.specs.declared.places.Place.{Place}
 use Rattle.cwr_tables.specs.declared.places.RowNumbers.{RowNumbers}
 use Rattle.cwr_tables.specs.declared.places.RowNumbers.TheVariants.{Outside, InGroup, InTransaction}
+use Rattle.cwr_tables.specs.Format.Headers.{header_columns, work_number, work_title}
 use Rattle.cwr_tables.specs.Format.Tables.{row_text}
 
 -- ---- columns
@@ -23,9 +24,9 @@ use Rattle.cwr_tables.specs.Format.Tables.{row_text}
 abbrev pub number_columns : List (List ℕ)
 number_columns = codes "group" ∷ codes "transaction" ∷ codes "record" ∷ []
 
--- the columns of a kind: the first ones, and then one for each field that its records carry
+-- the columns of a kind: the first ones, then one for each field that its records carry, and what a row says of its transaction
 abbrev pub columns : Kind → List (List ℕ)
-columns this_kind = number_columns ++ map (λ f. key_of f.name) (carried_fields this_kind)
+columns this_kind = number_columns ++ (map (λ f. key_of f.name) (carried_fields this_kind) ++ header_columns this_kind)
 
 abbrev pub heading : Kind → List ℕ
 heading this_kind = row_text (columns this_kind)
@@ -50,10 +51,27 @@ record_row numbers r = row_text (number_cells numbers ++ map shown_cell r.cells)
 abbrev pub row_of_kind : Kind → RowNumbers → RecordValue → List ℕ
 row_of_kind this_kind numbers r = if is_a this_kind r then record_row numbers r else []
 
+-- what a row says of its transaction, by the header
+abbrev pub header_cells : RecordValue → List (List ℕ)
+header_cells head = shown_cell (work_number head) ∷ shown_cell (work_title head) ∷ []
+
+-- the row of a record with these numbers, in the transaction of that header
+abbrev pub inner_row : RecordValue → RowNumbers → RecordValue → List ℕ
+inner_row head numbers r = row_text (number_cells numbers ++ (map shown_cell r.cells ++ header_cells head))
+
+-- the same where the record is of the kind, and else nothing
+abbrev pub inner_of_kind : Kind → RecordValue → RowNumbers → RecordValue → List ℕ
+inner_of_kind this_kind head numbers r = if is_a this_kind r then inner_row head numbers r else []
+
+-- the rows of the records of the kind, in the transaction of that header
+abbrev pub rows_under : RecordValue → Kind → Place → List RecordValue → List ℕ
+rows_under head this_kind p t =
+    flat_map (λ q. inner_of_kind this_kind head (InTransaction p.group p.transaction q.0) q.1) (enumerate_from 0 t)
+
 -- the rows of a transaction's records of the kind
 abbrev pub transaction_rows : Kind → Place → List RecordValue → List ℕ
-transaction_rows this_kind p t =
-    flat_map (λ q. row_of_kind this_kind (InTransaction p.group p.transaction q.0) q.1) (enumerate_from 0 t)
+transaction_rows this_kind p [] = []
+transaction_rows this_kind p (head ∷ rest) = rows_under head this_kind p (head ∷ rest)
 
 -- the rows of an item's records of the kind
 abbrev pub item_rows : Kind → Place → Item → List ℕ

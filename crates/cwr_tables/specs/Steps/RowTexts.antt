@@ -1,13 +1,15 @@
 -- The text of a row, cell by cell.
-use Rattle.std.specs.Prelude.{ℕ, List, [], ◌++◌, codes, decimal, Option, Some, None, map}
+use Rattle.std.specs.Prelude.{ℕ, List, [], ◌++◌, codes, decimal, Option, Some, None, map, if◌then◌else◌}
 use Rattle.std.specs.List.{flat_map}
 use Rattle.cwr_fields.specs.declared.kinds.Kind.{Kind}
+use Rattle.cwr_fields.specs.Format.Kinds.{is_in_transaction}
 use Rattle.cwr_fields.specs.Format.Layouts.{FieldLayout}
 use Rattle.cwr_lines.specs.Format.Records.{RecordValue, carried_fields}
 use Rattle.cwr_lines.specs.Format.Carried.{carried_at, record_cell}
 use Rattle.cwr_json.specs.Format.Forms.{key_of}
 use Rattle.cwr_tables.specs.declared.places.RowNumbers.{RowNumbers}
 use Rattle.cwr_tables.specs.declared.places.RowNumbers.TheVariants.{Outside, InGroup, InTransaction}
+use Rattle.cwr_tables.specs.Format.Headers.{work_number, work_title}
 use Rattle.cwr_tables.specs.Format.Tables.{cell_text}
 use Rattle.cwr_tables.specs.Format.RecordTables.{shown_cell}
 
@@ -51,3 +53,11 @@ name_of (Some f) = next_cell (key_of f.name)
 
 abbrev pub column_of : Kind → ℕ → List ℕ
 column_of this_kind j = name_of (carried_at this_kind j)
+
+-- the names of the last columns of a kind
+abbrev pub header_heading : Kind → List ℕ
+header_heading this_kind = if is_in_transaction this_kind then codes ",_work,_title" else []
+
+-- what a row says of its transaction
+abbrev pub header_text : RecordValue → List ℕ
+header_text head = next_cell (shown_cell (work_number head)) ++ next_cell (shown_cell (work_title head))

@@ -1,48 +1,14 @@
-use Rattle.std.proofs.Common.{ℕ, List, ◌∙◌, arith}
-use Rattle.cwr_lines.specs.Format.Records.{RecordValue}
-use Rattle.cwr_tables.specs.declared.places.RowNumbers.TheVariants.{InTransaction}
-use Rattle.cwr_tables.specs.Format.RecordTables.{row_of_kind}
-use Rattle.cwr_encode.proofs.lemmas.PutRows.{found_within}
-use Rattle.cwr_encode.proofs.lemmas.Numbered.{step_more, steps_refused, steps_whole}
+use Rattle.cwr_encode.proofs.lemmas.Numbered.{puts_as}
+use Rattle.cwr_tables.proofs.lemmas.NothingPut.{puts_nothing}
+use Rattle.cwr_tables.proofs.lemmas.RowsUnder.{no_rows, rows_by}
 use Rattle.cwr_tables.proofs.record_tables.put_transaction.Goals as goal
 
-pub returns-in_err-put_row-clause-puts : goal.returns-in_err-put_row-clause-puts
-returns-in_err-put_row-clause-puts g c =
-    let row : ℕ → RecordValue → List ℕ =
-    λ n r. row_of_kind c.args.kind (InTransaction c.args.place.group c.args.place.transaction n) r in
-    steps_refused g.W.Target.contents g.W.Target.failures row 0 c.loop-shown.i c.loop-shown.i c.args.transaction.now
-    c.in-Some.shown c.args.sink.now c.loop-shown.sink c.put_row.new.sink
-    c.in_err-put_row.field-0.0 c.from_residual.result c.in-Some.ensures.value (omega arith) c.from_residual.ensures.0
-    c.loop-shown.invariant.counts c.loop-shown.invariant.written c.in_err-put_row.ensures.puts
-
-pub loop-shown-smaller : goal.loop-shown-smaller
-loop-shown-smaller g c =
-    let h = found_within c.args.transaction.now c.loop-shown.i c.in-Some.shown c.in-Some.ensures.value in omega (arith, h)
-
-pub loop-shown-preserved : goal.loop-shown-preserved
-loop-shown-preserved g c =
-    let row : ℕ → RecordValue → List ℕ =
-    λ n r. row_of_kind c.args.kind (InTransaction c.args.place.group c.args.place.transaction n) r in
-    record {
-      within =
-          let h = found_within c.args.transaction.now c.loop-shown.i c.in-Some.shown c.in-Some.ensures.value in omega (arith, h);
-      unfailed = c.in_ok-put_row.ensures.puts.failed;
-      counts = c.in_ok-put_row.ensures.puts.counts ∙ c.loop-shown.invariant.counts;
-      written =
-          λ start before h. step_more g.W.Target.contents start before row 0 c.loop-shown.i c.loop-shown.i c.args.transaction.now
-          c.in-Some.shown c.put_row.new.sink
-          c.in-Some.ensures.value (omega arith)
-          (c.in_ok-put_row.ensures.puts.written start _ (c.loop-shown.invariant.written start before h));
-    }
+pub returns-in_default-clause-puts : goal.returns-in_default-clause-puts
+returns-in_default-clause-puts g c =
+    puts_nothing g.W.Target.contents g.W.Target.failures c.args.sink.now _
+    (no_rows c.args.kind c.args.place c.args.transaction.now c.in_default.ensures.value) c.requires
 
 pub returns-clause-puts : goal.returns-clause-puts
 returns-clause-puts g c =
-    let row : ℕ → RecordValue → List ℕ =
-    λ n r. row_of_kind c.args.kind (InTransaction c.args.place.group c.args.place.transaction n) r in
-    record {
-      written =
-          λ start before h. steps_whole g.W.Target.contents start before row 0 c.loop-shown.i c.args.transaction.now
-          c.loop-shown.sink c.in_default.ensures.value (c.loop-shown.invariant.written start before h);
-      failed = c.loop-shown.invariant.unfailed;
-      counts = c.loop-shown.invariant.counts;
-    }
+    puts_as g.W.Target.contents g.W.Target.failures _ _ _ _ _
+    (rows_by c.args.kind c.args.place c.in-Some.head c.args.transaction.now c.in-Some.ensures.value) c.put_records.ensures.puts
