@@ -14,7 +14,7 @@ percent. A text is judged up to the end of its transmission; what follows isn't 
 """
 from ._documents import NO_LIMITS, Document, check, findings, read
 from ._layouts import KINDS, Field, Type, layout
-from ._records import Record, Transaction
+from ._records import Place, Record, Transaction
 from ._verdicts import Ending, Error, Finding, Level, RefusedError, TruncatedError, Verdict, WriteError
 from ._writing import explain, from_json, lint, report, show, to_json, write
 
@@ -27,6 +27,7 @@ __all__ = [
     "Field",
     "Finding",
     "Level",
+    "Place",
     "Record",
     "RefusedError",
     "Transaction",

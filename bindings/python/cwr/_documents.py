@@ -82,6 +82,7 @@ class Document:
     def __iter__(self) -> Iterator[Transaction]:
         """The transactions, in order. One that the end of the text or a refusal cut off isn't among them."""
         text, of_line, held = self._text.bytes, Record.of_line, None
+        last_group, sequence = 0, 0
         for number, (offset, length, group, transaction) in enumerate(struct.iter_unpack(_library.LINE, self._index), 1):
             line = text[offset : offset + length]
             if line[:3] in _OUTSIDE:
@@ -92,7 +93,8 @@ class Document:
             if held is None or held.number != transaction:
                 if held is not None:
                     yield held
-                held = Transaction(group, transaction, number)
+                sequence = sequence + 1 if group == last_group else 0
+                held, last_group = Transaction(group, transaction, number, sequence=sequence), group
             held.append(of_line(line))
 
     @property

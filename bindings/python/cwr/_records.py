@@ -1,7 +1,7 @@
 """Records, cell by cell."""
 import datetime
 from decimal import Decimal
-from typing import Dict, Iterable, Iterator, List, Mapping, Optional, Union
+from typing import Dict, Iterable, Iterator, List, Mapping, NamedTuple, Optional, Union
 
 from ._layouts import Field, Type, blank, by_name, carried, layout, places
 
@@ -133,13 +133,24 @@ class Record(Mapping[str, str]):
         return f"Record({self.kind!r}, {self.fields!r})"
 
 
+class Place(NamedTuple):
+    """Where a transaction stands, as the program counts."""
+
+    group: int
+    """The number of its group in the transmission, from 1."""
+    sequence: int
+    """Its sequence in that group, from 0."""
+
+
 class Transaction(List[Record]):
     """The records of a transaction, its header first."""
 
-    def __init__(self, group: int, number: int, first: int, records: Iterable[Record] = ()):
+    def __init__(self, group: int, number: int, first: int, records: Iterable[Record] = (), sequence: int = 0):
         super().__init__(records)
         self.group: int = group
         """The number of its group in the transmission, from 1."""
+        self.place: Place = Place(group, sequence)
+        """The number of its group, from 1, and its sequence in that, from 0: so the program names it."""
         self.number: int = number
         """Its number in the transmission, from 1, in all groups."""
         self.first: int = first

@@ -91,7 +91,8 @@ class Samples(unittest.TestCase):
             starts = {}
             for transaction in document:
                 in_group = sum(1 for group, _ in starts if group == transaction.group)
-                starts[(transaction.group, in_group)] = transaction.first
+                self.assertEqual(transaction.place, (transaction.group, in_group), name)
+                starts[transaction.place] = transaction.first
             for line, it in zip(lines, found):
                 words = line.split()
                 first = starts[(int(words[2]), int(words[4]))]
