@@ -15,7 +15,7 @@ use cwr_files::{
 use cwr_sent::{Sent, read_sent};
 use cwr_state_rows::{RowFault, count_rows, put_rows, put_state_line};
 use cwr_states::States;
-use cwr_tools::{ToolFault, Verdict, put_verdict_line, verdict_of};
+use cwr_tools::{FindingCount, ToolFault, Verdict, put_verdict_line, verdict_of};
 use cwr_transform::{Status, tell_following};
 use std::alloc::Global;
 use std::io;
@@ -200,6 +200,7 @@ fn read_alone<'a, R: Files, I: Read + Drop, P: Pace, W: Target + Drop, E: Write>
                 Telling::Answers(answering.form),
                 told.name,
                 &judgement,
+                &FindingCount::new(),
             );
             (reading, Ok(judgement.status))
         }

@@ -32,8 +32,13 @@ COMMANDS
        file that fails doesn't stop the others. The status is the worst of
        all.
 
+       A finding leaves the verdict and the status as they are. So where a
+       good transmission has findings, a line on standard error says how many,
+       and what is usually rejected for the worst of them.
+
        --quiet
-              Prints only what isn't good, and the sums.
+              Prints only what isn't good, and the sums. That line on standard
+              error comes all the same.
 
        --fail-on LEVEL
               Status 1 where a finding has that level or a worse one. From the
@@ -96,6 +101,12 @@ COMMANDS
        a line for each header, transaction and trailer. The verdict goes to
        standard error.
 
+       -o OUT
+              The file that is written. It is written as `OUT.part`, and gets
+              its name when the transmission is whole. Without it standard
+              output is written, and where the transmission isn't whole, a
+              line on standard error says at which record the data ends.
+
        --numbers
               Adds the notes `_group`, `_transaction` and `_line` to each
               line.
@@ -125,6 +136,12 @@ COMMANDS
        Names are joined by semicolons, those of writers with the last name
        first. The shares of each right are added up, in percent: `0.00` where
        what was sent is zero, and blank where each share is blank.
+
+       -o OUT
+              The file that is written. It is written as `OUT.part`, and gets
+              its name when the transmission is whole. Without it standard
+              output is written, and where the transmission isn't whole, a
+              line on standard error says at which record the table ends.
 
    cwr acks [OPTIONS] [FILE]...
        Tells what became of each transaction that the acknowledgements in
@@ -211,8 +228,8 @@ COMMANDS
    cwr split [OPTIONS] -n N FILE PREFIX
        Cuts a transmission into parts, each a whole transmission with N
        transactions. They are written to `PREFIX00000001`, `PREFIX00000002`
-       and so on. What has such a name is replaced. A part that would be the
-       input is refused.
+       and so on. What has such a name is replaced, and standard error says
+       so. A part that would be the input is refused.
 
        --new  Replaces no file: where one has a part's name, the status is 2,
               and the parts before it stay.
@@ -230,18 +247,18 @@ COMMANDS
               the status is 2.
 
    cwr renumber [OPTIONS] [FILE] [OUT]
-       Puts the numbers of a transmission right: transaction and record
-       sequences, group IDs, and the counts of GRT and TRL, whatever stands in
-       their cells. All else is refused as `cwr check` refuses it; findings
-       aren't told. The result is written in full width to the file OUT, as
-       `OUT.part` until it is whole, or to standard output, where a refusal
-       leaves its first lines. A file that is called OUT is replaced: the
-       second name is never read. Where OUT is the input, under whatever name,
-       nothing is written, and the status is 2.
+       Makes the numbers of a transmission fit the records that are there:
+       transaction and record sequences, group IDs, and the counts of GRT and
+       TRL, whatever stands in their cells. Look first why they don't fit,
+       with `cwr explain`. All else is refused as `cwr check` refuses it;
+       findings aren't told. The result is written in full width to the file
+       OUT, as `OUT.part` until it is whole, or to standard output, where a
+       refusal leaves its first lines. A file that is called OUT is replaced:
+       the second name is never read. Where OUT is the input, under whatever
+       name, nothing is written, and the status is 2.
 
-       Look first why the numbers are wrong, with `cwr explain`. A record that
-       is missing stays missing, one that stands twice stays twice, and where
-       a header is missing its records go to the work before.
+       A record that is missing stays missing, one that stands twice stays
+       twice, and where a header is missing its records go to the work before.
 
        --new  Replaces no file: where OUT is there, nothing is written, and
               the status is 2.
@@ -489,6 +506,9 @@ EXIT STATUS
               without a word.
 
 FILES
+       Where a file is replaced, by whatever command, a line on standard error
+       says so.
+
        PREFIX00000001
               The first part of a split. After a refusal or a fault the parts
               that were finished stay, each a whole transmission. So do the
@@ -523,6 +543,7 @@ EXAMPLES
            FINDING group 1 transaction 0 record 0 field 7 level F rule V1
            FINDING group 2 transaction 1 record 0 field 1 level T rule V6
            GOOD groups 2 transactions 3 records 12
+           cwr: findings.cwr: 2 findings, the worst of level T: such a transaction is usually rejected (cwr explain findings.cwr; --fail-on T makes it the status)
 
        What may a society send back?
 
@@ -549,6 +570,7 @@ EXAMPLES
        Is there a finding for which a record or more is rejected?
 
            $ cwr check --fail-on R findings.cwr > /dev/null; echo $?
+           cwr: findings.cwr: 2 findings, the worst of level T: such a transaction is usually rejected (cwr explain findings.cwr)
            1
 
        What a file of acknowledgements rejects, and why:

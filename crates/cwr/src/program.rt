@@ -10,6 +10,7 @@ ghost use Rattle.cwr.specs.Format.Tables.{table_of};
 ghost use Rattle.cwr.specs.Steps.Looks.{tells_findings};
 
 use crate::answers::{Answering, match_answers};
+use crate::exports::export;
 use crate::manual::MANUAL;
 use crate::renumberings::{Repair, repair_numbers};
 use crate::reports::{Asked, Telling, report_input, telling_of};
@@ -165,6 +166,28 @@ fn report_file<'a, R: Files, I: Read + Drop, P: Pace, O: Write + Drop, E: Write>
     report_input(asked, telling, input, output, error)
 }
 
+/// Writes data or a table of the transmission of the file of that name, or of that on standard input: to the file OUT, or to the output.
+fn write_data<'a, R: Files + AllocGlobal, I: Read + Drop, P: Pace, O: Write + Drop, E: Write>(
+    rt: &R,
+    asked: &Asked,
+    telling: Telling<'_>,
+    name: Option<&'a str>,
+    out: Option<&'a str>,
+    standard: I,
+    pace: &mut P,
+    output: O,
+    error: &mut E,
+) -> Result<Status, Fault<'a>>
+    requires { tells_findings telling ≡ false → asked.now.wanted.fail_on ≡ None }
+    ensures { is_standard (option_map (λ n. n.now) name.entry) ≡ true → out.entry ≡ None
+        → EndsOnInput asked.now.limits asked.now.wanted (I.remaining standard) result }
+{
+    match out {
+        Some(out) => export(rt, asked, telling, name, out, standard, pace, error),
+        None => report_file(rt, asked, telling, name, standard, pace, output, error),
+    }
+}
+
 /// How cells are shown in data.
 fn encoding_of(utf8: bool) -> Encoding
     ensures { result ≡ (if utf8 then Encoding.Utf8 else Encoding.Latin1) }
@@ -318,6 +341,7 @@ fn perform<'a, R: Files + AllocGlobal, I: Read + Drop, P: Pace, O: Write + Drop,
         }
         Work::Json {
             file,
+            out,
             numbers,
             utf8,
         } => {
@@ -325,11 +349,15 @@ fn perform<'a, R: Files + AllocGlobal, I: Read + Drop, P: Pace, O: Write + Drop,
                 encoding: encoding_of(*utf8),
                 numbers: *numbers,
             };
-            return report_file(rt, &asked, telling, *file, standard, pace, output, error);
+            return write_data(
+                rt, &asked, telling, *file, *out, standard, pace, output, error,
+            );
         }
-        Work::Csv { rows, file } => {
+        Work::Csv { rows, file, out } => {
             let telling = Telling::Rows(table_of(*rows));
-            return report_file(rt, &asked, telling, *file, standard, pace, output, error);
+            return write_data(
+                rt, &asked, telling, *file, *out, standard, pace, output, error,
+            );
         }
         Work::Acks {
             files,

@@ -111,9 +111,9 @@ fn repair_to_file<
         made.discard(rt);
         return Err(Fault::Memory);
     };
-    let repaired = run(alloc, repair.limits, input, writer, error);
+    let repaired = run(alloc, repair.limits, input, writer, &mut *error);
     if repaired.is_wanted(repair.whole) {
-        made.keep_as(rt, name)?;
+        made.keep_as(rt, name, error)?;
     } else {
         made.discard(rt);
         if repaired.outcome.is_ok() {

@@ -8,10 +8,12 @@ ghost use Rattle.cwr_tools.specs.Format.Verdicts.{JudgesText};
 ghost use Rattle.cwr_tools.specs.Format.Watching.{SeesAccepted};
 ghost use Rattle.cwr.specs.Format.Endings.{EndsOnInput};
 ghost use Rattle.cwr_files.specs.Steps.Inputs.{remaining_of};
-ghost use Rattle.cwr.specs.Steps.Tellings.{CountsInput, CountsReading, CountsWriting, TellsText, telling_alone};
+ghost use Rattle.cwr.specs.Steps.Tellings.{CountsFindings, CountsInput, CountsReading, CountsWriting, TellsText, telling_alone};
 ghost use Rattle.cwr_transform.specs.Steps.Looks.{CountsLook};
 ghost use Rattle.cwr.specs.Steps.Looks.{JudgesOn, LooksAfter, LooksOnce, judgement_in, look_of, tells_findings};
 
+use crate::exports::tell_cut;
+use crate::finding_notes::tell_findings;
 use cwr_acks::{Form, Manner, acks};
 use cwr_advise::advise;
 use cwr_causes::Trailing;
@@ -24,7 +26,9 @@ use cwr_files::{
 use cwr_json::Encoding;
 use cwr_lint::lint;
 use cwr_shape::Limits;
-use cwr_tools::{ToolFault, Verdict, Watch, check_watched, json, put_verdict_line, show};
+use cwr_tools::{
+    FindingCount, ToolFault, Verdict, Watch, check_watched, json, put_verdict_line, show,
+};
 use cwr_transform::{Look, Status, Wanted, look_beyond, status_of, tell_following};
 use std::alloc::Global;
 use std::io::{Read, Write};
@@ -146,7 +150,8 @@ fn acks_alone<R: Source, W: Target + Drop>(
     (writer, outcome)
 }
 
-/// Reads a transmission, writes what is told of it, and looks what stands after it. The writer comes back.
+/// Reads a transmission, writes what is told of it, and looks what stands after it. The writer comes back, and how many
+/// findings were told, where these are all that is.
 fn tell<R: Source, W: Target + Drop>(
     alloc: Global,
     limits: Limits,
@@ -154,11 +159,13 @@ fn tell<R: Source, W: Target + Drop>(
     watch: &mut Watch,
     reader: &mut R,
     writer: W,
-) -> (W, Result<Verdict, ToolFault>, Look)
+) -> (W, Result<Verdict, ToolFault>, Look, FindingCount)
     requires { tells_findings telling ≡ false → watch.old.from ≡ None }
     ensures judged { JudgesText limits (R.remaining reader.old) result.1 }
     ensures seen { OnOk result.1 (SeesAccepted limits (R.remaining reader.old) watch.old watch.new) }
     ensures looks { OnOk result.1 (LooksAfter limits (R.remaining reader.old) result.2) }
+    ensures counted { OnOk result.1
+        (CountsFindings telling.entry limits (R.remaining reader.old) result.3) }
     // What is asked for was written, and handed on.
     ensures told { TellsText telling.entry limits (R.remaining reader.old) W.contents writer
         result.0 result.1 }
@@ -170,43 +177,43 @@ fn tell<R: Source, W: Target + Drop>(
 {
     match telling {
         Telling::Findings => {
-            let (writer, outcome) = check_watched(alloc, limits, watch, reader, writer);
+            let (writer, outcome, count) = check_watched(alloc, limits, watch, reader, writer);
             let look = look_after(reader, &outcome);
-            (writer, outcome, look)
+            (writer, outcome, look, count)
         }
         Telling::Explained(name) => {
             let (writer, outcome, found) = explain(alloc, limits, name, watch, reader, writer);
-            (writer, outcome, look_of(found))
+            (writer, outcome, look_of(found), FindingCount::new())
         }
         Telling::Faults { name, advised } => {
             let (writer, outcome) = lint(alloc, limits, name, advised, reader, writer);
             let look = look_after(reader, &outcome);
-            (writer, outcome, look)
+            (writer, outcome, look, FindingCount::new())
         }
         Telling::Records => {
             let (writer, outcome) = show(alloc, limits, reader, writer);
             let look = look_after(reader, &outcome);
-            (writer, outcome, look)
+            (writer, outcome, look, FindingCount::new())
         }
         Telling::Data { encoding, numbers } => {
             let (writer, outcome) = json(alloc, limits, encoding, numbers, reader, writer);
             let look = look_after(reader, &outcome);
-            (writer, outcome, look)
+            (writer, outcome, look, FindingCount::new())
         }
         Telling::Rows(table) => {
             let (writer, outcome) = csv(alloc, limits, table, reader, writer);
             let look = look_after(reader, &outcome);
-            (writer, outcome, look)
+            (writer, outcome, look, FindingCount::new())
         }
         Telling::Answers(form) => {
             let (writer, outcome) = acks_alone(alloc, limits, form, reader, writer);
             let look = look_after(reader, &outcome);
-            (writer, outcome, look)
+            (writer, outcome, look, FindingCount::new())
         }
         Telling::Advice(repeated) => {
             let (writer, outcome) = advise(alloc, limits, repeated, reader, writer);
             let look = look_after(reader, &outcome);
-            (writer, outcome, look)
+            (writer, outcome, look, FindingCount::new())
         }
     }
 }
@@ -234,15 +241,17 @@ pub(crate) fn judgement_of(
     }
 }
 
-/// Judges what a reader has, and writes what is told of it. The writer comes back.
+/// Judges what a reader has, and writes what is told of it. The writer comes back, with how many findings were told.
 fn judge_source<R: Source, W: Target + Drop>(
     asked: &Asked,
     telling: Telling<'_>,
     reader: &mut R,
     writer: W,
-) -> (W, Result<Judgement, ToolFault>)
+) -> (W, Result<Judgement, ToolFault>, FindingCount)
     requires { tells_findings telling ≡ false → asked.now.wanted.fail_on ≡ None }
     ensures judges { JudgesOn asked.now.limits asked.now.wanted (R.remaining reader.old) result.1 }
+    ensures counted { OnOk result.1
+        (CountsFindings telling.entry asked.now.limits (R.remaining reader.old) result.2) }
     ensures told { IfOk result.1 (λ judgement. TellsText telling.entry asked.now.limits
         (R.remaining reader.old) W.contents writer result.0 (Ok judgement.verdict)) }
     ensures handed_on { OnOk result.1 (W.handed_on result.0 ≡ true) }
@@ -251,7 +260,7 @@ fn judge_source<R: Source, W: Target + Drop>(
     ensures writer_failures { CountsWriting result.1 (W.failures writer) (W.failures result.0) }
 {
     let mut watch = Watch::new(asked.wanted.fail_on);
-    let (writer, outcome, look) = tell(
+    let (writer, outcome, look, count) = tell(
         asked.alloc,
         asked.limits,
         telling,
@@ -260,19 +269,22 @@ fn judge_source<R: Source, W: Target + Drop>(
         writer,
     );
     let judged = judgement_of(asked.wanted, outcome, look, watch.found);
-    (writer, judged)
+    (writer, judged, count)
 }
 
-/// Judges an input, and writes what is told of it. The writer comes back, and what is known of the input where it fails.
+/// Judges an input, and writes what is told of it. The writer comes back, what is known of the input where it fails, and
+/// how many findings were told.
 pub(crate) fn judge_input<'a, F: Read + Drop, I: Read + Drop, P: Pace + Drop, W: Target + Drop>(
     asked: &Asked,
     telling: Telling<'_>,
     input: Input<'a, F, I, P>,
     writer: W,
-) -> (W, Result<Judgement, ToolFault>, Told<'a>)
+) -> (W, Result<Judgement, ToolFault>, Told<'a>, FindingCount)
     requires { tells_findings telling ≡ false → asked.now.wanted.fail_on ≡ None }
     ensures judges { JudgesOn asked.now.limits asked.now.wanted
         (remaining_of F.remaining I.remaining input.entry) result.1 }
+    ensures counted { OnOk result.1 (CountsFindings telling.entry asked.now.limits
+        (remaining_of F.remaining I.remaining input.entry) result.3) }
     ensures told { IfOk result.1 (λ judgement. TellsText telling.entry asked.now.limits
         (remaining_of F.remaining I.remaining input.entry) W.contents writer result.0
         (Ok judgement.verdict)) }
@@ -280,23 +292,32 @@ pub(crate) fn judge_input<'a, F: Read + Drop, I: Read + Drop, P: Pace + Drop, W:
     ensures writer_failures { CountsWriting result.1 (W.failures writer) (W.failures result.0) }
 {
     let mut reader = ReadAhead::new(input);
-    let (writer, judged) = judge_source(asked, telling, &mut reader, writer);
+    let (writer, judged, count) = judge_source(asked, telling, &mut reader, writer);
     let told = reader.into_inner().told();
-    (writer, judged, told)
+    (writer, judged, told, count)
 }
 
-/// Tells on standard error what is not among the lines: what follows the transmission, and the verdict beside data.
+/// Tells on standard error what is not among the lines: what follows the transmission, what findings beside a good verdict mean, and the
+/// verdict beside data.
 pub(crate) fn tell_aside<E: Write>(
     error: &mut E,
     telling: Telling<'_>,
     name: Name<'_>,
     judgement: &Judgement,
+    count: &FindingCount,
 ) {
     match telling {
         // What follows stands in the explanation.
         Telling::Explained(_) => {}
-        Telling::Findings | Telling::Faults { .. } | Telling::Records | Telling::Advice(_) =>
-            tell_following(error, name, &judgement.look),
+        Telling::Findings => {
+            tell_following(error, name, &judgement.look);
+            if let Verdict::Good { .. } = judgement.verdict {
+                tell_findings(error, name, count, judgement.status);
+            }
+        }
+        Telling::Faults { .. } | Telling::Records | Telling::Advice(_) => {
+            tell_following(error, name, &judgement.look);
+        }
         Telling::Data { .. } | Telling::Rows(_) | Telling::Answers(_) => {
             // What standard error doesn't take is lost.
             let _ = put_verdict_line(
@@ -329,15 +350,20 @@ fn lines_on<'a, F: Read + Drop, I: Read + Drop, P: Pace + Drop, O: Write + Drop>
     telling: Telling<'_>,
     input: Input<'a, F, I, P>,
     lines: Gathered<'a, O>,
-) -> (Gathered<'a, O>, Result<Judgement, ToolFault>, Told<'a>)
+) -> (
+    Gathered<'a, O>,
+    Result<Judgement, ToolFault>,
+    Told<'a>,
+    FindingCount,
+)
     requires { tells_findings telling ≡ false → asked.now.wanted.fail_on ≡ None }
     ensures { JudgesOn asked.now.limits asked.now.wanted
         (remaining_of F.remaining I.remaining input.entry) result.1 }
 {
     if asked.quiet {
         let lines = FileLines::new(lines, None, true);
-        let (lines, judged, told) = judge_input(asked, telling, input, lines);
-        (lines.into_inner(), judged, told)
+        let (lines, judged, told, count) = judge_input(asked, telling, input, lines);
+        (lines.into_inner(), judged, told, count)
     } else {
         judge_input(asked, telling, input, lines)
     }
@@ -366,14 +392,15 @@ pub(crate) fn report_input<
         Ok(lines) => lines,
         Err(_) => return Err(Fault::Memory),
     };
-    let (lines, judged, told) = lines_on(asked, telling, input, lines);
+    let (lines, judged, told, count) = lines_on(asked, telling, input, lines);
     match judged {
         Ok(judgement) => {
             let (mut lines, put) = put_unwanted(asked.quiet, &judgement, lines);
             if put.is_err() || lines.flush().is_err() {
                 return Err(Fault::Write(told_of(lines)));
             }
-            tell_aside(error, telling, told.name, &judgement);
+            tell_aside(error, telling, told.name, &judgement, &count);
+            tell_cut(error, telling, told.name, &judgement.verdict);
             Ok(judgement.status)
         }
         Err(ToolFault::Reader) => Err(Fault::Read(told)),

@@ -99,7 +99,7 @@ pub(crate) fn report_several<'a, R: Files, I: Read + Drop, P: Pace, O: Write + D
         };
         let telling = telling_of(asked, explained, name);
         let marked = FileLines::new(lines, Some(shown_name(name)), asked.quiet);
-        let (marked, judged, told) = judge_input(asked, telling, input, marked);
+        let (marked, judged, told, count) = judge_input(asked, telling, input, marked);
         match judged {
             Ok(judgement) => {
                 sums.count(&judgement);
@@ -109,7 +109,7 @@ pub(crate) fn report_several<'a, R: Files, I: Read + Drop, P: Pace, O: Write + D
                 if put.is_err() || lines.flush().is_err() {
                     return Err(Fault::Write(told_of(lines)));
                 }
-                tell_aside(error, telling, told.name, &judgement);
+                tell_aside(error, telling, told.name, &judgement, &count);
             }
             Err(ToolFault::Writer { .. }) => {
                 return Err(Fault::Write(told_of(marked.into_inner())));

@@ -14,3 +14,5 @@ pub mod LinesOfItems
 pub mod PastEnds
 -- The lines of one item more, as a report puts them.
 pub mod OneItem
+-- What a run leaves of what was kept before it.
+pub mod LeftHeld

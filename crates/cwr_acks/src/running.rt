@@ -1,9 +1,12 @@
 //! Whole runs over a text: its acknowledgements.
 
-ghost use Rattle.std.specs.Prelude.{◌≡◌, [], OnOk, Option, true};
+ghost use Rattle.std.specs.Prelude.{◌≡◌, [], OnOk, Option, None, true};
+ghost use Rattle.cwr_delivery.specs.Steps.Deliveries.{Held};
 ghost use Rattle.cwr_tools.specs.Format.Reports.{CountsReaderFault, CountsWriterFault, ReportsText};
 ghost use Rattle.cwr_acks.specs.Format.AckLines.{IsToldSo, Matched, Telling, lines_of_acks};
-ghost use Rattle.cwr_acks.specs.Steps.AckSteps.{IsKept, ReportsAcks, held_if};
+ghost use Rattle.cwr_acks.specs.Steps.AckSteps.{IsKept, KeepsAnswers, LeavesHeld, ReportsAcks, held_if, lines_of_held};
+ghost use Rattle.cwr_acks.specs.Format.AckLines.{telling_of};
+ghost use Rattle.cwr_tools.specs.Steps.Reports.{Reports};
 
 use crate::counts::Answers;
 use crate::forms::Manner;
@@ -16,10 +19,20 @@ use cwr_shape::Limits;
 use cwr_tools::{NothingKept, Report, ToolFault, Totals, Verdict, write_report};
 use cwr_values::Item;
 use std::alloc::Global;
+use std::marker::{Brand, PhantomData};
+
+/// What is kept before a run, for clauses to name.
+trait Before {
+    ghost held: { Option Held };
+}
+
+impl Before for Brand {
+    ghost held = { None };
+}
 
 /// The lines of acknowledgements, and nothing for the verdict.
 #[derive(Drop)]
-struct AnswerLines<'a> {
+struct AnswerLines<'a, B: Before> {
     manner: Manner<'a>,
     /// What was sent, and what is kept of the acknowledgements so far.
     delivery: Option<Delivery>,
@@ -27,17 +40,18 @@ struct AnswerLines<'a> {
     answers: Answers,
     /// In which a line is made.
     text: LineText,
+    /// What was kept before these.
+    before: PhantomData<B>,
 }
 
-impl Report for AnswerLines<'_> {
-    ghost use Rattle.std.specs.Prelude.{◌≡◌, Option};
-    ghost use Rattle.cwr_delivery.specs.Steps.Deliveries.{Held};
+impl<B: Before> Report for AnswerLines<'_, B> {
+    ghost use Rattle.std.specs.Prelude.{◌≡◌};
     ghost use Rattle.cwr_acks.specs.Format.AckLines.{telling_of};
     ghost use Rattle.cwr_acks.specs.Steps.AckSteps.{answers_of, held_after, held_if, lines_of_held};
 
     type Works = NothingKept;
 
-    ghost stands = { λ report of given. (held : Option Held) × (of ≡ lines_of_held (telling_of report.manner) held) × (held_if report.delivery ≡ held_after held given) × (report.answers ≡ answers_of given) };
+    ghost stands = { λ report of given. (of ≡ lines_of_held (telling_of report.manner) B.held) × (held_if report.delivery ≡ held_after B.held given) × (report.answers ≡ answers_of given) };
 
     fn works(&self) -> NothingKept {
         NothingKept
@@ -79,10 +93,46 @@ impl Report for AnswerLines<'_> {
     }
 }
 
+/// Writes what the acknowledgements of a transmission say, as `acks` does, where that is what is kept before it.
+fn write_answers<B: Before, R: Source, W: Target + Drop>(
+    alloc: Global,
+    limits: Limits,
+    manner: Manner<'_>,
+    delivery: Option<Delivery>,
+    reader: &mut R,
+    writer: W,
+) -> (W, Option<Delivery>, Answers, Result<Verdict, ToolFault>)
+    requires { held_if delivery ≡ B.held }
+    ensures reported { Reports (lines_of_held (telling_of manner.entry) B.held) limits
+        (R.remaining reader.old) (R.remaining reader.new) W.contents writer result.0 result.3 }
+    ensures kept { LeavesHeld B.held limits (R.remaining reader.old) (R.remaining reader.new)
+        result.3 (held_if result.1) result.2 }
+    ensures reader_failures { CountsReaderFault result.3 (R.failures reader.old)
+        (R.failures reader.new) }
+    ensures writer_failures { CountsWriterFault result.3 (W.failures writer) (W.failures result.0) }
+    ensures handed_on { OnOk result.3 (W.handed_on result.0 ≡ true) }
+{
+    let mut lines: AnswerLines<'_, B> = AnswerLines {
+        manner,
+        delivery,
+        answers: Answers::new(),
+        text: LineText::new(),
+        before: PhantomData,
+    };
+    let (writer, outcome, _) = write_report(&mut lines, false, alloc, limits, reader, writer);
+    let AnswerLines {
+        delivery,
+        answers,
+        ..
+    } = lines;
+    (writer, delivery, answers, outcome)
+}
+
 /// Writes what the acknowledgements of a transmission say: a line for each and one for each of its messages, or an object of JSON for
 /// each; matched with what was sent, where a delivery is given. It reads the transmission up to its end or to where it is refused. Where
 /// it is whole a line with their counts is last, and before that, where there is one file alone, what isn't answered. Of the verdict
-/// nothing is written; it is answered. The writer comes back, with the delivery and how many acknowledgements there were.
+/// nothing is written; it is answered. The writer comes back, with the delivery, which has taken the acknowledgements up, and how many there
+/// were.
 ///
 /// The verdict and the faults are those of a check. Where the text is refused or ends too early, the lines are those of the items
 /// before. It holds one transaction and the text of one line, whatever the input, and what the delivery keeps.
@@ -101,6 +151,9 @@ pub fn acks<R: Source, W: Target + Drop>(
     ensures told { (telling : Telling) (matched : Option Matched) → IsToldSo telling manner.entry
         → IsKept (held_if delivery) matched [] → ReportsText (lines_of_acks telling matched) limits
         (R.remaining reader.old) (R.remaining reader.new) W.contents writer result.0 result.3 }
+    // What comes back is as the items leave it that were handed out before the verdict, or before the reader failed.
+    ensures kept { KeepsAnswers delivery limits (R.remaining reader.old) (R.remaining reader.new)
+        result.3 result.1 result.2 }
     // No failure is passed over: a device failed only where that is the answer.
     ensures reader_failures { CountsReaderFault result.3 (R.failures reader.old)
         (R.failures reader.new) }
@@ -108,17 +161,5 @@ pub fn acks<R: Source, W: Target + Drop>(
     // All that was written was handed on.
     ensures handed_on { OnOk result.3 (W.handed_on result.0 ≡ true) }
 {
-    let mut lines = AnswerLines {
-        manner,
-        delivery,
-        answers: Answers::new(),
-        text: LineText::new(),
-    };
-    let (writer, outcome, _) = write_report(&mut lines, false, alloc, limits, reader, writer);
-    let AnswerLines {
-        delivery,
-        answers,
-        ..
-    } = lines;
-    (writer, delivery, answers, outcome)
+    write_answers::<Brand, R, W>(alloc, limits, manner, delivery, reader, writer)
 }

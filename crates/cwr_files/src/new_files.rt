@@ -81,13 +81,36 @@ impl NewFile {
         }
     }
 
-    /// Gives the file its name as `keep` does, and tells what it is called where that fails.
-    pub fn keep_as<'a, R: Files>(self, rt: &R, name: Name<'a>) -> Result<(), Fault<'a>>
+    /// Gives the file its name as `keep` does, and answers whether a file was replaced. Where it fails, what it is called is told.
+    fn keep_named<'a, R: Files>(self, rt: &R, name: Name<'a>) -> Result<bool, Fault<'a>>
         ensures { IfErr result (IsUnkept name.entry) }
     {
+        let replaces = self.part.is_some() && is_there(rt, self.name.as_str());
         match self.keep(rt) {
-            Ok(()) => Ok(()),
+            Ok(()) => Ok(replaces),
             Err(fault) => Err(Fault::Output(name, Some(Reason::of(&fault)))),
+        }
+    }
+
+    /// Gives the file its name as `keep` does, and tells on standard error that a file was replaced, if one was. Where it fails, what it is
+    /// called is told.
+    pub fn keep_as<'a, R: Files, E: io::Write>(
+        self,
+        rt: &R,
+        name: Name<'a>,
+        error: &mut E,
+    ) -> Result<(), Fault<'a>>
+        ensures { IfErr result (IsUnkept name.entry) }
+    {
+        match self.keep_named(rt, name) {
+            Ok(replaced) => {
+                if replaced {
+                    // What standard error doesn't take is lost.
+                    let _ = writeln!(error, "cwr: {name} was replaced");
+                }
+                Ok(())
+            }
+            Err(fault) => Err(fault),
         }
     }
 
@@ -136,6 +159,9 @@ pub struct NumberedFiles<'r, 'a, R: Files> {
     only_new: bool,
     /// How many were asked for.
     asked: u32,
+    /// How many files were replaced, and the number of the part that replaced the first.
+    replaced: u32,
+    first_replaced: u32,
     /// The one that is being written.
     open_file: Option<NewFile>,
     /// What is told of the file that couldn't be made, finished or written.
@@ -161,6 +187,8 @@ impl<'r, 'a, R: Files> NumberedFiles<'r, 'a, R> {
             input,
             only_new,
             asked: 0,
+            replaced: 0,
+            first_replaced: 0,
             open_file: None,
             fault: None,
             failed_calls: 0,
@@ -171,6 +199,16 @@ impl<'r, 'a, R: Files> NumberedFiles<'r, 'a, R> {
     /// What is told of the file that couldn't be made, finished or written.
     pub fn fault(&self) -> Fault<'a> {
         self.fault.unwrap_or(Fault::Output(self.name(), None))
+    }
+
+    /// Tells on standard error which files were replaced, if some were. What standard error doesn't take is lost.
+    pub fn tell_replaced<E: io::Write>(&self, error: &mut E) {
+        let first = Name::Part(self.prefix, self.first_replaced);
+        let _ = match self.replaced {
+            0 => Ok(()),
+            1 => writeln!(error, "cwr: {first} was replaced"),
+            count => writeln!(error, "cwr: {count} files were replaced, the first {first}"),
+        };
     }
 
     /// What the part in hand is called.
@@ -240,9 +278,31 @@ impl<'r, 'a, R: Files> NumberedFiles<'r, 'a, R> {
     {
         let name = self.name();
         match self.open_file.take() {
-            Some(made) => made.keep_as(self.rt, name),
+            Some(made) => match made.keep_named(self.rt, name) {
+                Ok(replaced) => {
+                    if replaced {
+                        self.count_replaced();
+                    }
+                    Ok(())
+                }
+                Err(fault) => Err(fault),
+            },
             None => Err(Fault::Output(name, None)),
         }
+    }
+
+    /// Counts a file that the part in hand replaced.
+    fn count_replaced(&mut self)
+        ensures asked { asked_of self.new ≡ asked_of self.old }
+        ensures guarded { replaces_none self.new ≡ replaces_none self.old }
+        ensures failed_calls { failed_calls_of self.new ≡ failed_calls_of self.old }
+        ensures given_up { given_up_of self.new ≡ given_up_of self.old }
+        ensures lent { lent_of self.new ≡ lent_of self.old }
+    {
+        if self.replaced == 0 {
+            self.first_replaced = self.asked;
+        }
+        self.replaced = self.replaced.saturating_add(1);
     }
 
     /// Removes the file that was being written, if there is one.

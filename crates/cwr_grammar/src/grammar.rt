@@ -267,6 +267,13 @@ const TEXTS: Word = Word {
     help: "A cell stands as the Unicode text that it is, or else by escapes",
 };
 
+/// The file that is written in the place of standard output.
+const WRITTEN: Word = Word {
+    id: OUT,
+    form: Form::Letter('o'),
+    help: "The file that is written; without it standard output is",
+};
+
 /// The flag that wants no file replaced.
 const KEEPS: Word = Word {
     id: NEW,
@@ -336,8 +343,9 @@ const ADVISED: [Word; 2] = [
 ];
 
 /// The words of the export.
-const EXPORTED: [Word; 3] = [
+const EXPORTED: [Word; 4] = [
     ONE,
+    WRITTEN,
     Word {
         id: NUMBERS,
         form: Form::Flag,
@@ -347,13 +355,14 @@ const EXPORTED: [Word; 3] = [
 ];
 
 /// The words of tables.
-const TABULATED: [Word; 2] = [
+const TABULATED: [Word; 3] = [
     Word {
         id: KIND,
         form: Form::OneOf(&TABLES),
         help: "What the table has rows of: the works, or the records of this type",
     },
     ONE,
+    WRITTEN,
 ];
 
 /// The words of what acknowledgements say.
@@ -402,11 +411,7 @@ const IMPORTED: [Word; 4] = [
         help: "The most bytes of a line, 1 to 1000000000",
     },
     TEXTS,
-    Word {
-        id: OUT,
-        form: Form::Letter('o'),
-        help: "The file that is written; without it standard output is",
-    },
+    WRITTEN,
     Word {
         id: FILE,
         form: Form::File,
@@ -537,7 +542,7 @@ const SUBCOMMANDS: [Subcommand; 13] = [
     },
     Subcommand {
         name: RENUMBER,
-        about: "Puts the numbers of a transmission right",
+        about: "Makes the numbers of a transmission fit its records; look first why they don't (cwr explain)",
         common: Common::Reading,
         own: &RENUMBERED,
     },

@@ -117,8 +117,8 @@ fn rows_before_a_refusal_are_written(rt: HostRuntime) {
     );
     assert!(rt; matches!(answer, Ok(Verdict::Truncated { records: 5 })));
     assert!(rt;
-        written
-            .as_slice()
-            .ends_with(b"\r\n1,0,1,W1,SMITH,ANNA,,CA,,,,,,,,,,,,,,,,W0001,BLUE RIVER\r\n")
+        written.as_slice().ends_with(
+            b"\r\n1,0,1,W1,SMITH,ANNA,,CA,,,,,,,,,,,,,,,,W0001,BLUE RIVER\r\n"
+        )
     );
 }

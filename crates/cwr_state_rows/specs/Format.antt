@@ -1,3 +1,5 @@
+-- What the laws say.
+pub mod Laws
 -- What is promised, in the words of the format.
 pub mod StateRows
 pub mod RowTexts

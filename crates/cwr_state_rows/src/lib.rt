@@ -5,6 +5,7 @@ mod cells;
 mod counts;
 mod faults;
 mod forms;
+pub mod laws;
 mod members;
 mod putting;
 mod row_texts;

@@ -3,7 +3,7 @@
 ghost use Rattle.std.specs.Prelude.{◌≡◌, true, IfOk, OnOk, IsSomeAnd};
 ghost use Rattle.std.specs.Io.KnownBytes.{GrowsBy};
 ghost use Rattle.cwr_tools.specs.Format.Verdicts.{JudgesText};
-ghost use Rattle.cwr_tools.specs.Format.Watching.{SeesAccepted, findings_with};
+ghost use Rattle.cwr_tools.specs.Format.Watching.{CountsAccepted, SeesAccepted, findings_with};
 ghost use Rattle.cwr_tools.specs.Steps.Verdicts.{IsReadLast};
 ghost use Rattle.cwr_tools.specs.Format.Reports.{CountsReaderFault, CountsWriterFault, ReportsText, lines_of_explained, lines_of_findings};
 ghost use Rattle.cwr_tools.specs.Format.Reports.{lines_up_to_fault};
@@ -12,7 +12,7 @@ ghost use Rattle.cwr_tools.specs.Steps.Reports.{Reports, StandsAfter};
 use crate::finding_lines::FindingLines;
 use crate::reporting::{Front, write_report};
 use crate::verdicts::{ToolFault, Verdict};
-use crate::watch::Watch;
+use crate::watch::{FindingCount, Watch};
 use cwr_decode::LastRead;
 use cwr_devices::{Source, Target};
 use cwr_shape::Limits;
@@ -46,17 +46,18 @@ pub fn check<R: Source, W: Target + Drop>(
     // All that was written was handed on.
     ensures handed_on { OnOk result.1 (W.handed_on result.0 ≡ true) }
 {
-    check_watched(alloc, limits, &mut Watch::new(None), reader, writer)
+    let (writer, outcome, _) = check_watched(alloc, limits, &mut Watch::new(None), reader, writer);
+    (writer, outcome)
 }
 
-/// Checks a transmission as `check` does. The watch sees the findings that are told.
+/// Checks a transmission as `check` does. The watch sees the findings that are told, and they are counted.
 pub fn check_watched<R: Source, W: Target + Drop>(
     alloc: Global,
     limits: Limits,
     watch: &mut Watch,
     reader: &mut R,
     writer: W,
-) -> (W, Result<Verdict, ToolFault>)
+) -> (W, Result<Verdict, ToolFault>, FindingCount)
     ensures reported { Reports lines_of_findings limits (R.remaining reader.old)
         (R.remaining reader.new) W.contents writer result.0 result.1 }
     ensures told { ReportsText lines_of_findings limits (R.remaining reader.old)
@@ -65,6 +66,8 @@ pub fn check_watched<R: Source, W: Target + Drop>(
     ensures judged { JudgesText limits (R.remaining reader.old) result.1 }
     // Where the text is accepted, the watch saw the findings in its transmission.
     ensures seen { OnOk result.1 (SeesAccepted limits (R.remaining reader.old) watch.old watch.new) }
+    // They are those of that transmission.
+    ensures counted { OnOk result.1 (CountsAccepted limits (R.remaining reader.old) result.2) }
     // No failure is passed over: a device failed only where that is the answer.
     ensures reader_failures { CountsReaderFault result.1 (R.failures reader.old)
         (R.failures reader.new) }
@@ -75,7 +78,7 @@ pub fn check_watched<R: Source, W: Target + Drop>(
     let mut lines = FindingLines::new(false, false);
     let (writer, outcome, _) = write_report(&mut lines, false, alloc, limits, reader, writer);
     watch.see(lines.told.worst);
-    (writer, outcome)
+    (writer, outcome, lines.told)
 }
 
 /// Checks a transmission as `check` does, and writes what that writes, with lines under each finding: where its record stands, the

@@ -14,7 +14,7 @@ use crate::reporting::{put_unrefused_line, put_verdict_line};
 use crate::reports::Report;
 use crate::totals::Totals;
 use crate::verdicts::{ToolFault, Verdict};
-use crate::watch::Told;
+use crate::watch::FindingCount;
 use cwr_decode::Keeper;
 use cwr_devices::{Sink, SinkFault, Target};
 use cwr_levels::{Finding, Sums, finding_line, findings};
@@ -61,7 +61,7 @@ fn put_findings_in<W: Target>(
     sequence: u32,
     first: u64,
     transaction: &Transaction,
-    told: &mut Told,
+    told: &mut FindingCount,
     sink: &mut Sink<W>,
 ) -> Result<(), ToolFault>
     requires unfailed { has_failed sink.old ≡ false }
@@ -106,7 +106,7 @@ pub fn put_transaction_findings<W: Target>(
     ensures counted { OnOk result
         (count.new ≡ findings_with count.old (Item.Transaction transaction.now ∷ [])) }
 {
-    let mut told = Told::new();
+    let mut told = FindingCount::new();
     let put = put_findings_in(
         explained,
         alloc,
@@ -129,7 +129,7 @@ pub(crate) struct FindingLines {
     /// Without the line of a refusal: who goes on after it tells it.
     up_to_fault: bool,
     /// Those that were told.
-    pub(crate) told: Told,
+    pub(crate) told: FindingCount,
 }
 
 impl FindingLines {
@@ -143,7 +143,7 @@ impl FindingLines {
         FindingLines {
             explained,
             up_to_fault,
-            told: Told::new(),
+            told: FindingCount::new(),
         }
     }
 }

@@ -22,4 +22,4 @@ pub use reports::{NothingKept, Report};
 pub use showing::show;
 pub use totals::Totals;
 pub use verdicts::{JoinFault, JoinReport, SplitReport, ToolFault, Verdict};
-pub use watch::Watch;
+pub use watch::{FindingCount, Watch};

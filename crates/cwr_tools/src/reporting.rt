@@ -10,7 +10,7 @@ ghost use Rattle.cwr_levels.specs.Steps.Putting.{PutsText};
 ghost use Rattle.cwr_tools.specs.Format.Reports.{CountsReaderFault, CountsWriterFault, ItemLines, unrefused_line};
 ghost use Rattle.cwr_tools.specs.Format.Texts.{verdict_line};
 ghost use Rattle.cwr_tools.specs.Format.Verdicts.{IsVerdictOf};
-ghost use Rattle.cwr_tools.specs.Steps.Reports.{PutsReport, Reports, StandsAfter};
+ghost use Rattle.cwr_tools.specs.Steps.Reports.{PutsReport, Reports, StandsAtEnd};
 ghost use Rattle.cwr_tools.specs.Steps.Verdicts.{IsReadLast};
 
 use crate::finding_lines::writer_fault;
@@ -112,8 +112,8 @@ fn put_items<L: Report, R: Source, W: Target>(
         limits (R.remaining reader.old) (R.remaining reader.new) W.contents W.failures result
         sink.old sink.new }
     ensures failures { CountsReaderFault result (R.failures reader.old) (R.failures reader.new) }
-    ensures stands { (of : ItemLines) → L.stands lines.old of [] → IfOk result (StandsAfter
-        (L.stands lines.new of) limits (R.remaining reader.old) (R.remaining reader.new)) }
+    ensures stands { (of : ItemLines) → L.stands lines.old of [] → StandsAtEnd
+        (L.stands lines.new of) limits (R.remaining reader.old) (R.remaining reader.new) result }
     ensures last { holds_last ≡ true → IfOk result (λ verdict. IsSomeAnd front.new.last
         (IsReadLast limits (R.remaining reader.old) (R.remaining reader.new) verdict)) }
 {
@@ -158,8 +158,8 @@ fn put_report<L: Report, R: Source, W: Target>(
         (R.remaining reader.old) (R.remaining reader.new) W.contents W.failures result sink.old
         sink.new }
     ensures failures { CountsReaderFault result (R.failures reader.old) (R.failures reader.new) }
-    ensures stands { (of : ItemLines) → L.stands lines.old of [] → IfOk result (StandsAfter
-        (L.stands lines.new of) limits (R.remaining reader.old) (R.remaining reader.new)) }
+    ensures stands { (of : ItemLines) → L.stands lines.old of [] → StandsAtEnd
+        (L.stands lines.new of) limits (R.remaining reader.old) (R.remaining reader.new) result }
     ensures last { holds_last ≡ true → IfOk result (λ verdict. IsSomeAnd front.new.last
         (IsReadLast limits (R.remaining reader.old) (R.remaining reader.new) verdict)) }
 {
@@ -189,9 +189,9 @@ pub fn write_report<L: Report, R: Source, W: Target>(
         (R.remaining reader.old) (R.remaining reader.new) W.contents writer result.0 result.1 }
     // So many bytes were written after what the writer had.
     ensures counted { GrowsBy (W.contents writer) (W.contents result.0) result.2.written }
-    // It is as the items leave it that were handed out before the verdict.
-    ensures stands { (of : ItemLines) → L.stands lines.old of [] → IfOk result.1 (StandsAfter
-        (L.stands lines.new of) limits (R.remaining reader.old) (R.remaining reader.new)) }
+    // It is as the items leave it that were handed out before the verdict, or before the reader failed.
+    ensures stands { (of : ItemLines) → L.stands lines.old of [] → StandsAtEnd
+        (L.stands lines.new of) limits (R.remaining reader.old) (R.remaining reader.new) result.1 }
     // No failure is passed over: a device failed only where that is the answer.
     ensures reader_failures { CountsReaderFault result.1 (R.failures reader.old)
         (R.failures reader.new) }

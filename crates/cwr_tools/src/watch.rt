@@ -2,8 +2,7 @@
 
 ghost use Rattle.std.specs.Prelude.{◌≡◌, ◌+◌, ◌-◌, ◌^◌, ◌||◌, false, length, min, None, Option};
 ghost use Rattle.cwr_shape.specs.declared.reasons.Level.{Level};
-ghost use Rattle.cwr_tools.specs.Format.Watching.{has_from, reach};
-ghost use Rattle.cwr_tools.specs.Steps.Watching.{is_reached, is_reached_by};
+ghost use Rattle.cwr_tools.specs.Format.Watching.{has_from, is_reached, is_reached_by, reach};
 
 use cwr_levels::Finding;
 use cwr_shape::Level;
@@ -60,22 +59,22 @@ fn worse(worst: Option<Level>, level: Level) -> Level
     }
 }
 
-/// The findings that were told.
-#[derive(Clone, Copy, Debug)]
-pub(crate) struct Told {
+/// How many findings were told, and how much the worst one rejects.
+#[derive(Clone, Copy, Debug, PartialEq, Eq)]
+pub struct FindingCount {
     /// How many. It stays at `u64::MAX`.
-    pub(crate) findings: u64,
+    pub findings: u64,
     /// The worst level of one.
-    pub(crate) worst: Option<Level>,
+    pub worst: Option<Level>,
 }
 
-impl Told {
+impl FindingCount {
     /// None was.
-    pub(crate) fn new() -> Told
+    pub fn new() -> FindingCount
         ensures none { result.findings ≡ 0 }
         ensures worst { result.worst ≡ None }
     {
-        Told {
+        FindingCount {
             findings: 0,
             worst: None,
         }

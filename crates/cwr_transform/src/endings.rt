@@ -9,6 +9,7 @@ use cwr_causes::Trailing;
 use cwr_files::{Fault, Name, NewFile, Told};
 use cwr_shape::Level;
 use cwr_tools::{ToolFault, Verdict};
+use std::io::Write;
 use std::rt::Files;
 
 /// How a run ended, as its exit status, from the best to the worst.
@@ -94,17 +95,18 @@ pub fn ended_by<'a>(
     }
 }
 
-/// Gives a file its name where it is wanted, and else removes it.
-pub(crate) fn settle<'a, R: Files>(
+/// Gives a file its name where it is wanted, and else removes it. A file that it replaces is told of on standard error.
+pub fn settle<'a, R: Files, E: Write>(
     rt: &R,
     made: NewFile,
     out: &'a str,
     is_wanted: bool,
+    error: &mut E,
 ) -> Result<(), Fault<'a>>
     ensures { IfErr result (λ fault. (is_wanted ≡ true) × IsUnkept (Name.File out.entry) fault) }
 {
     if is_wanted {
-        made.keep_as(rt, Name::File(out))
+        made.keep_as(rt, Name::File(out), error)
     } else {
         made.discard(rt);
         Ok(())

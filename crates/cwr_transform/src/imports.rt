@@ -119,7 +119,7 @@ pub fn import_file<
         return Err(Fault::Memory);
     };
     let (outcome, read, written) = import_from(alloc, import, input, writer);
-    if let Err(fault) = settle(rt, made, out, outcome.is_ok()) {
+    if let Err(fault) = settle(rt, made, out, outcome.is_ok(), error) {
         return Err(fault);
     }
     tell_import(import, &outcome, error);

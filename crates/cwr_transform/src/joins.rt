@@ -189,7 +189,7 @@ fn join_to_file<'a, R: Files + AllocGlobal, S: Source, P: Pace, E: Write>(
         return Err(Fault::Memory);
     };
     let after = match outcome {
-        Ok(_) => Some(look_after_each(readers, names, error)),
+        Ok(_) => Some(look_after_each(readers, names, &mut *error)),
         Err(_) => None,
     };
     let joined = Joined {
@@ -197,7 +197,7 @@ fn join_to_file<'a, R: Files + AllocGlobal, S: Source, P: Pace, E: Write>(
         after,
         written,
     };
-    match settle(rt, made, union.out, joined.is_wanted(union.whole)) {
+    match settle(rt, made, union.out, joined.is_wanted(union.whole), error) {
         Ok(()) => Ok(joined),
         Err(fault) => Err(fault),
     }

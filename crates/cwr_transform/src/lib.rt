@@ -7,7 +7,7 @@ mod joins;
 mod looks;
 mod splits;
 
-pub use endings::{Look, Status, Wanted, ended_by, follows, status_of};
+pub use endings::{Look, Status, Wanted, ended_by, follows, settle, status_of};
 pub use imports::{Import, import_file, import_input};
 pub use joins::{Union, join_files, refuse_out};
 pub use looks::{look_beyond, tell_following};

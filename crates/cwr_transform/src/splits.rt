@@ -114,7 +114,8 @@ pub fn split_file<
     let mut sink = Sink::new(lines);
     let put = put_split_outcome(&outcome, &mut sink);
     hand_on(put, sink)?;
-    tell_following(error, told.name, &look);
+    tell_following(&mut *error, told.name, &look);
+    files.tell_replaced(error);
     split_ending(outcome, cut.whole, look, told, files.fault())
 }
 

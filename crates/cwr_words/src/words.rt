@@ -72,6 +72,8 @@ pub enum Work<'a> {
     Json {
         /// The name of the transmission's file, or none for that on standard input.
         file: Option<&'a str>,
+        /// The name of the file that is written, or none for standard output.
+        out: Option<&'a str>,
         /// With the numbers of groups, transactions and lines.
         numbers: bool,
         /// Cells in UTF-8 are shown as their texts.
@@ -83,6 +85,8 @@ pub enum Work<'a> {
         rows: Rows,
         /// The name of the transmission's file, or none for that on standard input.
         file: Option<&'a str>,
+        /// The name of the file that is written, or none for standard output.
+        out: Option<&'a str>,
     },
     /// What the acknowledgements of transmissions say is told.
     Acks {
@@ -256,6 +260,7 @@ fn export_in<'a>(given: &ArgMatches<'a>) -> Work<'a>
 {
     Work::Json {
         file: given.get_str(FILE),
+        out: given.get_str(OUT),
         numbers: given.get_flag(NUMBERS),
         utf8: given.get_flag(UTF8),
     }
@@ -278,6 +283,7 @@ fn table_in<'a>(given: &ArgMatches<'a>) -> Option<Work<'a>>
     Some(Work::Csv {
         rows: rows_of(given.get_str(KIND)?)?,
         file: given.get_str(FILE),
+        out: given.get_str(OUT),
     })
 }
 

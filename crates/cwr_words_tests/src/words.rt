@@ -20,7 +20,7 @@ fn asked(rt: &(impl Abort + AllocGlobal), words: &[&str]) -> Option<(String, Lim
 
 /// Words, what they ask for, and its limits.
 #[rattlefmt::skip]
-static ASKED: [(&[&str], &str, Numbers); 28] = [
+static ASKED: [(&[&str], &str, Numbers); 29] = [
     (&["cwr"], "Check(Judging { files: [], quiet: false, fail_on: None })", LARGEST),
     (&["cwr", "check"], "Check(Judging { files: [], quiet: false, fail_on: None })", LARGEST),
     (&["cwr", "show"], "Show(None)", LARGEST),
@@ -32,9 +32,10 @@ static ASKED: [(&[&str], &str, Numbers); 28] = [
     (&["cwr", "explain", "--fail-on=F"], "Explain(Judging { files: [], quiet: false, fail_on: Some(F) })", LARGEST),
     (&["cwr", "lint"], "Lint { files: [], quiet: false, explained: false, advised: false }", LARGEST),
     (&["cwr", "lint", "a.cwr", "--quiet", "-", "--explain"], "Lint { files: [\"a.cwr\", \"-\"], quiet: true, explained: true, advised: false }", LARGEST),
-    (&["cwr", "json", "--utf8", "a.cwr"], "Json { file: Some(\"a.cwr\"), numbers: false, utf8: true }", LARGEST),
-    (&["cwr", "csv", "SWR"], "Csv { rows: Records(Swr), file: None }", LARGEST),
-    (&["cwr", "csv", "works", "a.cwr"], "Csv { rows: Works, file: Some(\"a.cwr\") }", LARGEST),
+    (&["cwr", "json", "--utf8", "a.cwr"], "Json { file: Some(\"a.cwr\"), out: None, numbers: false, utf8: true }", LARGEST),
+    (&["cwr", "csv", "SWR"], "Csv { rows: Records(Swr), file: None, out: None }", LARGEST),
+    (&["cwr", "csv", "SWR", "-o", "t.csv"], "Csv { rows: Records(Swr), file: None, out: Some(\"t.csv\") }", LARGEST),
+    (&["cwr", "csv", "works", "a.cwr"], "Csv { rows: Works, file: Some(\"a.cwr\"), out: None }", LARGEST),
     (&["cwr", "acks"], "Acks { files: [], sent: [], as_json: false, by_place: false, state: false, fail_on: States { accepted: false, pending: false, rejected: false, conflict: false, duplicate: false, claim_rejected: false, no_participation: false, unanswered: false } }", LARGEST),
     (&["cwr", "acks", "--json", "a.cwr", "-"], "Acks { files: [\"a.cwr\", \"-\"], sent: [], as_json: true, by_place: false, state: false, fail_on: States { accepted: false, pending: false, rejected: false, conflict: false, duplicate: false, claim_rejected: false, no_participation: false, unanswered: false } }", LARGEST),
     (&["cwr", "acks", "a.cwr", "--sent", "b.cwr"], "Acks { files: [\"a.cwr\"], sent: [\"b.cwr\"], as_json: false, by_place: false, state: false, fail_on: States { accepted: false, pending: false, rejected: false, conflict: false, duplicate: false, claim_rejected: false, no_participation: false, unanswered: false } }", LARGEST),

@@ -13,7 +13,8 @@ use Rattle.cwr_tools.specs.declared.verdicts.ToolFault.TheVariants as tool_fault
 use Rattle.cwr_tools.specs.declared.watch.Watch.{Watch}
 use Rattle.cwr_tools.specs.Format.Reports.{CountsReaderFault, CountsWriterFault, ItemLines, JudgesAccepted, ReportsText}
 use Rattle.cwr_tools.specs.Format.Verdicts.{IsVerdictOn, JudgesText}
-use Rattle.cwr_tools.specs.Format.Watching.{SeesAccepted, any_from, watched}
+use Rattle.cwr_tools.specs.Format.Watching.{CountsAccepted, SeesAccepted, any_from, watched}
+use Rattle.cwr_tools.specs.declared.watch.FindingCount.{FindingCount}
 use Rattle.cwr_tools.proofs.lemmas.RightReports.{accepted_text}
 use Rattle.cwr_causes.specs.declared.trailing.Trailing.{Trailing}
 use Rattle.cwr_causes.specs.Format.Trailing.{IsTrailing}
@@ -33,7 +34,8 @@ use Rattle.cwr_transform.proofs.lemmas.StatusesOnTexts.{none_from, status_good}
 use Rattle.cwr.specs.declared.reports.Judgement.{Judgement}
 use Rattle.cwr.specs.declared.reports.Telling.{Telling}
 use Rattle.cwr.specs.Format.Endings.{EndsOnInput, StatusOnInput, fault_status}
-use Rattle.cwr.specs.Steps.Tellings.{CountsInput, CountsReading, CountsWriting, TellsText, TellsUpTo}
+use Rattle.cwr.specs.declared.reports.Telling.TheVariants as tellings
+use Rattle.cwr.specs.Steps.Tellings.{CountsFindings, CountsInput, CountsReading, CountsWriting, TellsText, TellsUpTo}
 use Rattle.cwr.specs.Steps.Looks.{JudgesOn, LooksAfter, LooksOnce, judged_with, judgement_in, look_of}
 
 -- ---- the status of a verdict
@@ -298,3 +300,19 @@ one_standard : (names : List (List ℕ)) → are_standard names ≡ true → 1 <
 one_standard [] e h = absurd (omega (arith, h))
 one_standard (name ∷ []) e h = absurd (omega (arith, h))
 one_standard (name ∷ other ∷ names) e h = absurd (true≢false (sym e))
+
+-- ---- how many findings were told
+
+-- nothing is said of that where it isn't the findings that are told
+pub uncounted : (telling other : Telling) (limits : Limits) (before : Option (List ℕ)) (outcome : Result Verdict ToolFault)
+    (count : FindingCount) → telling ≡ other → CountsFindings other limits before count
+    → OnOk outcome (CountsFindings telling limits before count)
+uncounted telling other limits before (Err fault) count is counted = tt
+uncounted telling other limits before (Ok verdict) count is counted =
+    subst (λ (t : Telling). CountsFindings t limits before count) (sym is) counted
+
+pub counted_told : (telling : Telling) (limits : Limits) (before : Option (List ℕ)) (outcome : Result Verdict ToolFault)
+    (count : FindingCount) → telling ≡ tellings.Findings → OnOk outcome (CountsAccepted limits before count)
+    → OnOk outcome (CountsFindings telling limits before count)
+counted_told telling limits before outcome count is counted =
+    subst (λ (t : Telling). OnOk outcome (CountsFindings t limits before count)) (sym is) counted

@@ -28,13 +28,13 @@ abbrev pub StatusOnInput : Limits → Wanted → Option (List ℕ) → Status �
 StatusOnInput limits wanted input statuses.Fault = Unit {0}
 StatusOnInput limits wanted input status = IfSome input (λ text. IsStatusOn limits wanted text status)
 
--- the work is done on what is on standard input
+-- the work is done on what is on standard input, and written to standard output
 abbrev pub IsOfInput : Work → Type 0
 IsOfInput (Check judging) = are_standard (map (λ name. name.now) judging.files.items) ≡ true
 IsOfInput (Explain judging) = are_standard (map (λ name. name.now) judging.files.items) ≡ true
 IsOfInput (Show file) = is_standard (option_map (λ name. name.now) file) ≡ true
-IsOfInput (Json file numbers utf8) = is_standard (option_map (λ name. name.now) file) ≡ true
-IsOfInput (Csv rows file) = is_standard (option_map (λ name. name.now) file) ≡ true
+IsOfInput (Json file out numbers utf8) = (is_standard (option_map (λ name. name.now) file) ≡ true) × (out ≡ None)
+IsOfInput (Csv rows file out) = (is_standard (option_map (λ name. name.now) file) ≡ true) × (out ≡ None)
 IsOfInput (Acks files sent as_json by_place state fail_on) =
     (are_standard (map (λ name. name.now) files.items) ≡ true) × (sent.items ≡ [])
 IsOfInput (Lint files quiet explained advised) = are_standard (map (λ name. name.now) files.items) ≡ true

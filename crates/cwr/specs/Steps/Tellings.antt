@@ -3,10 +3,12 @@ use Rattle.std.specs.Prelude.{◌≡◌, [], ℕ, List, Option, None, IfOk, Resu
 use Rattle.std.specs.Option.{is_some}
 use Rattle.cwr_devices.specs.Format.Failures.{one_more_failure}
 use Rattle.cwr_shape.specs.declared.limits.Limits.{Limits}
+use Rattle.cwr_tools.specs.declared.watch.FindingCount.{FindingCount}
 use Rattle.cwr_tools.specs.declared.verdicts.Verdict.{Verdict}
 use Rattle.cwr_tools.specs.declared.verdicts.ToolFault.{ToolFault}
 use Rattle.cwr_tools.specs.declared.verdicts.ToolFault.TheVariants.{Writer}
 use Rattle.cwr_tools.specs.Format.Reports.{CountsReaderFault, lines_of_data, lines_of_findings, lines_of_records}
+use Rattle.cwr_tools.specs.Format.Watching.{CountsAccepted}
 use Rattle.cwr_tools.specs.Steps.Reports.{Reports}
 use Rattle.cwr_acks.specs.declared.forms.Form.{Form}
 use Rattle.cwr_acks.specs.Format.AckLines.{lines_of_acks}
@@ -56,6 +58,11 @@ abbrev pub TellsText : {W : Type 0} → Telling → Limits → Option (List ℕ)
     → Result Verdict ToolFault → Type 0
 TellsText telling limits before contents old new outcome =
     (after : Option (List ℕ)) × TellsUpTo telling limits before after contents old new outcome
+
+-- where the findings are told as they are, those of the transmission were counted
+abbrev pub CountsFindings : Telling → Limits → Option (List ℕ) → FindingCount → Type 0
+CountsFindings tellings.Findings limits before count = CountsAccepted limits before count
+CountsFindings telling limits before count = Unit {0}
 
 -- the reader's failures are those of the look after a verdict, and else of the run, whose fault is answered
 abbrev pub CountsReading : Result Verdict ToolFault → Look → ℕ → ℕ → Type 0

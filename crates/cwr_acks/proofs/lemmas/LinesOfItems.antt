@@ -39,7 +39,7 @@ use Rattle.cwr_acks.specs.declared.counts.Answers.{Answers}
 use Rattle.cwr_acks.specs.declared.forms.Form.{Form}
 use Rattle.cwr_acks.specs.declared.forms.Form.TheVariants as forms
 use Rattle.cwr_acks.specs.Format.AckLines.{Matched, Telling, ack_lines, answer_as, counts_after, counts_as, lines_after}
-use Rattle.cwr_acks.specs.Format.AckLines.{keeps_of, lines_of_acks, name_of_notes, name_of_outcome, note_lines_if, shown_name, shown_telling}
+use Rattle.cwr_acks.specs.Format.AckLines.{keeps_of, lines_of_acks, matched_after, name_of_notes, name_of_outcome, note_lines_if, shown_name, shown_telling}
 use Rattle.cwr_acks.specs.Format.AckLines.{unanswered_as, unanswered_if, unanswered_in}
 use Rattle.cwr_acks.specs.Format.AckLines.{unanswered_in_one}
 use Rattle.cwr_acks.specs.Format.AckTexts.{ack_text, message_text, name_before, sent_part, status_part, unanswered_text}
@@ -366,6 +366,23 @@ keeps_on held matched before [] k = subst (λ (l : List Item). IsKept held match
 keeps_on held matched before (x ∷ items) k =
     subst (λ (l : List Item). IsKept (held_after held (x ∷ items)) matched l) (append_assoc before (x ∷ []) items)
     (keeps_on (kept_if held x) matched (before ++ x ∷ []) items (kept_more held matched before x k))
+
+-- what is left of it is that of what was read before, and of the items
+kept_left : (held : Option Held) (matched : Option Matched) (given : List Item) → IsKept held matched given
+    → IsKept held (matched_after matched given) []
+kept_left None None given k = k
+kept_left (Some h) (Some m) given k = k
+kept_left None (Some m) given k = absurd k
+kept_left (Some h) None given k = absurd k
+
+pub left_after : (held left : Option Held) (matched : Option Matched) (given : List Item) (answers : Answers) → IsKept held matched []
+    → left ≡ held_after held given → answers ≡ answers_of given
+    → IsKept left (matched_after matched given) [] × IsAnswers answers given
+left_after held left matched given answers k e counted = (
+  kept_left left matched given
+      (subst (λ (h : Option Held). IsKept h matched given) (sym e) (keeps_on held matched [] given k)),
+  subst (λ (a : Answers). IsAnswers a given) (sym counted) (record { all = refl; each = refl }),
+)
 
 -- ---- all lines
 

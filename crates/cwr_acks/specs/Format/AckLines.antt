@@ -59,6 +59,11 @@ pub record Matched : Type 0 where
   pub delivered : Delivered
   pub history : History
 
+-- with items that were read after that
+abbrev pub matched_after : Option Matched → List Item → Option Matched
+matched_after matched given =
+    option_map (λ m. record { delivered = m.delivered; history = read_after m.history given }) matched
+
 -- ---- an acknowledgement
 
 -- the name of the file of what it answers

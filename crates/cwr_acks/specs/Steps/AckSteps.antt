@@ -16,7 +16,7 @@ use Rattle.cwr_values.specs.declared.items.Item.TheVariants.{Opened, Transaction
 use Rattle.cwr_tools.specs.declared.verdicts.ToolFault.{ToolFault}
 use Rattle.cwr_tools.specs.declared.verdicts.Verdict.{Verdict}
 use Rattle.cwr_tools.specs.Format.Reports.{ItemLines}
-use Rattle.cwr_tools.specs.Steps.Reports.{Reports}
+use Rattle.cwr_tools.specs.Steps.Reports.{Reports, StandsAtEnd}
 use Rattle.cwr_sent.specs.declared.facts.SentFacts.{SentFacts}
 use Rattle.cwr_sent.specs.Format.GroupRows.{GroupRows, KeptFor, file_by}
 use Rattle.cwr_sent.specs.Format.SentRows.{SentShown}
@@ -33,7 +33,7 @@ use Rattle.cwr_acks.specs.declared.forms.Form.{Form}
 use Rattle.cwr_acks.specs.declared.forms.Form.TheVariants as forms
 use Rattle.cwr_acks.specs.declared.forms.Manner.{Manner}
 use Rattle.cwr_acks.specs.Format.AckTexts.{ack_text, message_line, name_before, sent_part, status_part, unanswered_text}
-use Rattle.cwr_acks.specs.Format.AckLines.{IsToldSo, Matched, Telling, keeps_of, lines_of_acks, name_of_notes, note_lines_if, telling_of}
+use Rattle.cwr_acks.specs.Format.AckLines.{IsToldSo, Matched, Telling, keeps_of, lines_of_acks, matched_after, name_of_notes, note_lines_if, telling_of}
 use Rattle.cwr_acks.specs.Steps.DataTexts.{ack_members, counts_data_text, message_part, name_member, unanswered_members}
 
 -- none
@@ -235,6 +235,21 @@ abbrev pub ReportsAcks : {W : Type 0} → Manner → Option Delivery → Limits 
 ReportsAcks manner delivery limits before after contents old new outcome =
     (telling : Telling) (matched : Option Matched) → IsToldSo telling manner → IsKept (held_if delivery) matched []
     → Reports (lines_of_acks telling matched) limits before after contents old new outcome
+
+-- what is kept is left as the items leave it, and so many of them are acknowledgements
+abbrev pub LeavesHeld : Option Held → Limits → Option (List ℕ) → Option (List ℕ) → Result Verdict ToolFault → Option Held → Answers
+    → Type 0
+LeavesHeld held limits before after outcome left answers =
+    StandsAtEnd (λ given. (left ≡ held_after held given) × (answers ≡ answers_of given)) limits before after outcome
+
+-- The delivery that comes back is that of what was read before and of the items that were handed out before the verdict, or before the
+-- reader failed, and so many of these are acknowledgements.
+abbrev pub KeepsAnswers : Option Delivery → Limits → Option (List ℕ) → Option (List ℕ) → Result Verdict ToolFault → Option Delivery
+    → Answers → Type 0
+KeepsAnswers delivery limits before after outcome left answers =
+    (matched : Option Matched) → IsKept (held_if delivery) matched []
+    → StandsAtEnd (λ given. IsKept (held_if left) (matched_after matched given) [] × IsAnswers answers given) limits before after
+    outcome
 
 -- what stands after the last of several transmissions was put
 abbrev pub PutsRest : {W : Type 0} → (W → Option (List ℕ)) → (W → ℕ) → Manner → Option Delivery → Answers → Result (Unit {0}) SinkFault

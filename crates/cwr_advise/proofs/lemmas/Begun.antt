@@ -8,7 +8,7 @@ use Rattle.cwr_values.specs.declared.items.Item.TheVariants.{Opened, GroupOpened
 use Rattle.cwr_tools.specs.Format.Watching.{findings_with, item_findings}
 use Rattle.cwr_tools.specs.declared.verdicts.ToolFault.{ToolFault}
 use Rattle.cwr_tools.specs.declared.verdicts.Verdict.{Verdict}
-use Rattle.cwr_tools.specs.Steps.Reports.{StandsAfter}
+use Rattle.cwr_tools.specs.Steps.Reports.{StandsAfter, StandsAtEnd}
 use Rattle.cwr_advise.specs.declared.running.AdviceLines.{AdviceLines}
 use Rattle.cwr_advise.specs.Format.AdviceLines.{lines_advised}
 use Rattle.cwr_advise.specs.Format.RepeatedWorks.{works_in}
@@ -53,6 +53,6 @@ told_more old new given Ended before adds = adds ∙ none_told old given Ended r
 -- what stands after the items, another thing does
 pub said_after : (result : Result Verdict ToolFault) (limits : Limits) (before after : Option (List ℕ)) (P Q : List Item → Type 0)
     → ((given : List Item) → P given → Q given)
-    → IfOk result (StandsAfter P limits before after) → IfOk result (StandsAfter Q limits before after)
+    → StandsAtEnd P limits before after result → IfOk result (StandsAfter Q limits before after)
 said_after (Ok verdict) limits before after P Q f h = (h.0, h.1, f h.0 h.2)
 said_after (Err fault) limits before after P Q f h = tt

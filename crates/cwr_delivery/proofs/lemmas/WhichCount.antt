@@ -281,19 +281,29 @@ one_way xs ys there back only x h =
     let same = only x y.0 read of_xs y.1.same y.1.over (ap (counts_over y.0) (sym one) ∙ z.1.over) in
     subst (λ (w : Answer). Contains (counting_ones ys) w) (sym same) y.1.counts
 
+-- The same ones count of the same answers.
+pub alike_count : (xs ys : List Answer) → ((x : Answer) → Contains xs x → Contains ys x)
+    → ((x : Answer) → Contains ys x → Contains xs x)
+    → AllPairs (λ x y. same_sender x y ≡ true → counts_over x y ≢ counts_over y x) xs
+    → (x : Answer) → Contains (counting_ones xs) x ↔ Contains (counting_ones ys) x
+alike_count xs ys there back pairs x =
+    let only = ordered xs pairs in
+    (one_way xs ys there back only x, one_way ys xs back there (λ v w a b. only v w (back v a) (back w b)) x)
+
+-- on days of their own one counts over the other
+pub over_on_days : (xs : List Answer) → AllPairs (λ x y. same_sender x y ≡ true → x.processed ≢ y.processed) xs
+    → AllPairs (λ x y. same_sender x y ≡ true → counts_over x y ≢ counts_over y x) xs
+over_on_days xs pairs =
+    λ i j d less within same. over_days (get_or xs i d) (get_or xs j d) (pairs i j d less within same)
+
 pub any_order : (xs ys : List Answer) → IsPermutation xs ys
     → AllPairs (λ x y. same_sender x y ≡ true → counts_over x y ≢ counts_over y x) xs
     → (x : Answer) → Contains (counting_ones xs) x ↔ Contains (counting_ones ys) x
-any_order xs ys moved pairs x =
-    let there : (w : Answer) → Contains xs w → Contains ys w = λ w h. Contains-permutation xs ys w moved h in
-    let back : (w : Answer) → Contains ys w → Contains xs w
-    = λ w h. Contains-permutation ys xs w (IsPermutation-sym xs ys moved) h in
-    let only = ordered xs pairs in
-    (one_way xs ys there back only x, one_way ys xs back there (λ v w a b. only v w (back v a) (back w b)) x)
+any_order xs ys moved =
+    alike_count xs ys (λ w h. Contains-permutation xs ys w moved h)
+    (λ w h. Contains-permutation ys xs w (IsPermutation-sym xs ys moved) h)
 
 pub any_order_of_days : (xs ys : List Answer) → IsPermutation xs ys
     → AllPairs (λ x y. same_sender x y ≡ true → x.processed ≢ y.processed) xs
     → (x : Answer) → Contains (counting_ones xs) x ↔ Contains (counting_ones ys) x
-any_order_of_days xs ys moved pairs =
-    any_order xs ys moved (λ i j d less within same.
-    over_days (get_or xs i d) (get_or xs j d) (pairs i j d less within same))
+any_order_of_days xs ys moved pairs = any_order xs ys moved (over_on_days xs pairs)

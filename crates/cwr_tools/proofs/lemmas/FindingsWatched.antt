@@ -11,8 +11,8 @@ use Rattle.cwr_values.specs.declared.items.Item.{Item}
 use Rattle.cwr_values.specs.declared.items.Item.TheVariants as items
 use Rattle.cwr_levels.specs.declared.rules.Finding.{Finding}
 use Rattle.cwr_levels.specs.Format.Findings.{findings}
-use Rattle.cwr_tools.specs.Format.Watching.{any_from, findings_with, has_from, is_from, item_findings, item_has_from, reach}
-use Rattle.cwr_tools.specs.Steps.Watching.{IsWorst, Sees, is_reached, is_reached_by}
+use Rattle.cwr_tools.specs.Format.Watching.{any_from, findings_with, has_from, is_from, is_reached, is_reached_by, item_findings, item_has_from, reach}
+use Rattle.cwr_tools.specs.Steps.Watching.{IsWorst, Sees}
 
 -- one of the others, or this one
 pub any_at : {A : Type 0} (p : A → Bool) (i : ℕ) (xs : List A) (x : A) → Some x ≡ slice_get xs i

@@ -1,6 +1,7 @@
 -- What stands at the end of a run, and what was watched for, came in the items before its verdict.
 use Rattle.std.proofs.Common.{◌≡◌, ℕ, Bool, ◌||◌, List, length, Option, Some, None, sym, ap, subst, ◌∙◌}
 use Rattle.std.specs.Prelude.{Result, Ok, Err, IfOk, OnOk}
+use Rattle.cwr_devices.specs.declared.sinks.Sink.{Sink}
 use Rattle.cwr_shape.specs.declared.limits.Limits.{Limits}
 use Rattle.cwr_shape.specs.declared.reasons.Level.{Level}
 use Rattle.cwr_values.specs.declared.items.Item.{Item}
@@ -17,13 +18,16 @@ use Rattle.cwr_tools.specs.declared.totals.Totals.{Totals}
 use Rattle.cwr_tools.specs.declared.verdicts.Verdict.{Verdict}
 use Rattle.cwr_tools.specs.declared.verdicts.Verdict.TheVariants.{Good, Refused, Truncated}
 use Rattle.cwr_tools.specs.declared.verdicts.ToolFault.{ToolFault}
+use Rattle.cwr_tools.specs.declared.verdicts.ToolFault.TheVariants as tool_faults
+use Rattle.cwr_tools.specs.declared.verdicts.ToolFault.TheVariants.{Reader, Writer, Memory, Output, Limit}
+use Rattle.cwr_tools.specs.declared.watch.FindingCount.{FindingCount}
 use Rattle.cwr_tools.specs.declared.watch.Watch.{Watch}
 use Rattle.cwr_tools.specs.Format.Verdicts.{IsVerdictOf}
-use Rattle.cwr_tools.specs.Format.Watching.{SeesAccepted, findings_with, watched}
+use Rattle.cwr_tools.specs.Format.Watching.{AreFindingsIn, CountsAccepted, SeesAccepted, findings_with, is_reached, watched}
 use Rattle.cwr_tools.specs.Steps.Verdicts.{IsRightVerdict, StopsAfter}
 use Rattle.cwr_tools.specs.Steps.Counts.{IsCount}
-use Rattle.cwr_tools.specs.Steps.Reports.{StandsAfter}
-use Rattle.cwr_tools.specs.Steps.Watching.{IsWorst, is_reached}
+use Rattle.cwr_tools.specs.Steps.Reports.{PutsLines, StandsAfter, StandsAtEnd}
+use Rattle.cwr_tools.specs.Steps.Watching.{IsWorst}
 use Rattle.cwr_tools.proofs.lemmas.CountedTotals.{good_count}
 
 -- the verdict after all items
@@ -40,29 +44,38 @@ good_right limits before after given c verdict h k e =
     ) in
     subst (λ (v : Verdict). IsRightVerdict limits before v after given) (sym e) right
 
--- and that after a fault
-pub fault_right : (limits : Limits) (before after : Option (List ℕ)) (given : List Item) (fault : ReadFault)
-    (result : Result Verdict ToolFault) → StopsAfter limits fault before after given → IsVerdictOf fault result
-    → IfOk result (λ verdict. IsRightVerdict limits before verdict after given)
-fault_right limits before after given read_faults.Reader result stop e =
-    subst (λ (r : Result Verdict ToolFault). IfOk r (λ verdict. IsRightVerdict limits before verdict after given)) (sym e) tt
-fault_right limits before after given (read_faults.Refused refusal) result stop e =
-    subst (λ (r : Result Verdict ToolFault). IfOk r (λ verdict. IsRightVerdict limits before verdict after given)) (sym e) stop
-fault_right limits before after given (read_faults.Truncated records) result stop e =
-    subst (λ (r : Result Verdict ToolFault). IfOk r (λ verdict. IsRightVerdict limits before verdict after given)) (sym e) stop
-fault_right limits before after given read_faults.Memory result stop e =
-    subst (λ (r : Result Verdict ToolFault). IfOk r (λ verdict. IsRightVerdict limits before verdict after given)) (sym e) tt
-
--- with what stands after the items before it
+-- what stands after the items before a fault stands at the end
 pub stands_before : (limits : Limits) (before after : Option (List ℕ)) (given : List Item) (stands : List Item → Type 0)
-    (result : Result Verdict ToolFault) → IfOk result (λ verdict. IsRightVerdict limits before verdict after given) → stands given
-    → IfOk result (StandsAfter stands limits before after)
-stands_before limits before after given stands (Ok verdict) right here = (given, right, here)
-stands_before limits before after given stands (Err fault) right here = tt
+    (fault : ReadFault) (result : Result Verdict ToolFault) → StopsAfter limits fault before after given
+    → IsVerdictOf fault result → stands given → StandsAtEnd stands limits before after result
+stands_before limits before after given stands read_faults.Reader result stop e here =
+    subst (λ (r : Result Verdict ToolFault). StandsAtEnd stands limits before after r) (sym e) (given, stop, here)
+stands_before limits before after given stands (read_faults.Refused refusal) result stop e here =
+    subst (λ (r : Result Verdict ToolFault). StandsAtEnd stands limits before after r) (sym e) (given, stop, here)
+stands_before limits before after given stands (read_faults.Truncated records) result stop e here =
+    subst (λ (r : Result Verdict ToolFault). StandsAtEnd stands limits before after r) (sym e) (given, stop, here)
+stands_before limits before after given stands read_faults.Memory result stop e here =
+    subst (λ (r : Result Verdict ToolFault). StandsAtEnd stands limits before after r) (sym e) tt
 
--- a fault tells nothing of a verdict
-pub fault_tells : {A E : Type 0} (P : A → Type 0) (result : Result A E) (fault : E) → result ≡ Err fault → IfOk result P
-fault_tells P result fault e = subst (λ (r : Result _ _). IfOk r P) (sym e) tt
+put_stops : {W : Type 0} (contents : W → Option (List ℕ)) (failures : W → ℕ) (take_memory : Bool) (text : List ℕ) (fault : ToolFault)
+    (old new : Sink W) (limits : Limits) (before after : Option (List ℕ)) (stands : List Item → Type 0)
+    → PutsLines contents failures take_memory text (Err fault) old new → StandsAtEnd stands limits before after (Err fault)
+put_stops contents failures take_memory text Memory old new limits before after stands put = tt
+put_stops contents failures take_memory text (Writer n) old new limits before after stands put = tt
+put_stops contents failures take_memory text Reader old new limits before after stands put = absurd put
+put_stops contents failures take_memory text (tool_faults.Refused r) old new limits before after stands put = tt
+put_stops contents failures take_memory text (tool_faults.Truncated r) old new limits before after stands put = tt
+put_stops contents failures take_memory text Output old new limits before after stands put = tt
+put_stops contents failures take_memory text (Limit l) old new limits before after stands put = tt
+
+-- what failed as lines were put tells nothing of it
+pub put_tells : {W : Type 0} (contents : W → Option (List ℕ)) (failures : W → ℕ) (take_memory : Bool) (text : List ℕ)
+    (fault : ToolFault) (old new : Sink W) (limits : Limits) (before after : Option (List ℕ)) (stands : List Item → Type 0)
+    (result : Result Verdict ToolFault) → PutsLines contents failures take_memory text (Err fault) old new → result ≡ Err fault
+    → StandsAtEnd stands limits before after result
+put_tells contents failures take_memory text fault old new limits before after stands result put e =
+    subst (λ (r : Result Verdict ToolFault). StandsAtEnd stands limits before after r) (sym e)
+    (put_stops contents failures take_memory text fault old new limits before after stands put)
 
 sees : (limits : Limits) (before after : Option (List ℕ)) (old new : Watch) (verdict : Verdict) (given : List Item)
     → IsRightVerdict limits before verdict after given → new ≡ watched old given → SeesAccepted limits before old new
@@ -86,7 +99,7 @@ sees_worst old worst given is = ap (λ (b : Bool). record old { found = old.foun
 pub sees_accepted : (limits : Limits) (before after : Option (List ℕ)) (old new : Watch) (worst : Option Level)
     (stands : List Item → Type 0) (result : Result Verdict ToolFault) → new ≡ record old
     { found = old.found || is_reached old.from worst }
-    → ((given : List Item) → stands given → IsWorst worst given) → IfOk result (StandsAfter stands limits before after)
+    → ((given : List Item) → stands given → IsWorst worst given) → StandsAtEnd stands limits before after result
     → OnOk result (SeesAccepted limits before old new)
 sees_accepted limits before after old new worst stands (Ok verdict) e is h =
     sees limits before after old new verdict h.0 h.1 (e ∙ sees_worst old worst h.0 (is h.0 h.2))
@@ -97,7 +110,28 @@ sees_accepted limits before after old new worst stands (Err fault) e is h = tt
 -- so many after the verdict
 pub findings_after : (limits : Limits) (before after : Option (List ℕ)) (count : ℕ) (stands : List Item → Type 0)
     (result : Result Verdict ToolFault) → ((given : List Item) → stands given → count ≡ findings_with 0 given)
-    → IfOk result (StandsAfter stands limits before after)
+    → StandsAtEnd stands limits before after result
     → IfOk result (StandsAfter (λ given. count ≡ findings_with 0 given) limits before after)
 findings_after limits before after count stands (Ok verdict) is h = (h.0, h.1, is h.0 h.2)
 findings_after limits before after count stands (Err fault) is h = tt
+
+-- where the text is accepted, they are those of its transmission
+counts : (limits : Limits) (before after : Option (List ℕ)) (count : FindingCount) (verdict : Verdict) (given : List Item)
+    → IsRightVerdict limits before verdict after given → AreFindingsIn count given → CountsAccepted limits before count
+counts limits None after count verdict given right are = tt
+counts limits (Some text) after count verdict given right are = λ v n a. by verdict v n a right
+  where
+    by : (it : Verdict) (v : TransmissionValue) (n : ℕ) → IsAccepted limits text v n
+        → IsRightVerdict limits (Some text) it after given → AreFindingsIn count (value_items v)
+    by (Good groups transactions records) v n a t =
+        subst (λ (items : List Item). AreFindingsIn count items)
+        (t.2 ∙ ap value_items (accepted_once limits text t.0 v (length t.1.input) n t.1.front.0 a).0) are
+    by (Refused refusal) v n a t = absurd (t.0.right.ends.unaccepted v n a)
+    by (Truncated records) v n a t = absurd (t.0.right.ends.unaccepted v n a)
+
+pub counts_accepted : (limits : Limits) (before after : Option (List ℕ)) (count : FindingCount) (stands : List Item → Type 0)
+    (result : Result Verdict ToolFault) → ((given : List Item) → stands given → AreFindingsIn count given)
+    → StandsAtEnd stands limits before after result → OnOk result (CountsAccepted limits before count)
+counts_accepted limits before after count stands (Ok verdict) are h =
+    counts limits before after count verdict h.0 h.1 (are h.0 h.2)
+counts_accepted limits before after count stands (Err fault) are h = tt

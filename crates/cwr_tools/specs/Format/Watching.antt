@@ -11,6 +11,7 @@ use Rattle.cwr_judge.specs.Format.Ends.{IsAccepted}
 use Rattle.cwr_judge.specs.Format.Items.{value_items}
 use Rattle.cwr_levels.specs.declared.rules.Finding.{Finding}
 use Rattle.cwr_levels.specs.Format.Findings.{findings}
+use Rattle.cwr_tools.specs.declared.watch.FindingCount.{FindingCount}
 use Rattle.cwr_tools.specs.declared.watch.Watch.{Watch}
 
 -- how far what a level rejects goes: a field, a record, a transaction, a group, a file
@@ -56,3 +57,23 @@ watched watch items = record watch { found = watch.found || any_from watch.from 
 abbrev pub SeesAccepted : Limits → Option (List ℕ) → Watch → Watch → Type 0
 SeesAccepted limits before old new =
     IfSome before (λ text. (v : TransmissionValue) (n : ℕ) → IsAccepted limits text v n → new ≡ watched old (value_items v))
+
+-- the level is that which is asked for, or a worse one
+abbrev pub is_reached_by : Option Level → Level → Bool
+is_reached_by None level = false
+is_reached_by (Some asked) level = is_from asked level
+
+-- so is the worst one, if there is one
+abbrev pub is_reached : Option Level → Option Level → Bool
+is_reached asked None = false
+is_reached asked (Some worst) = is_reached_by asked worst
+
+-- the findings in these items: how many they are, and the worst level of one
+pub record AreFindingsIn (count : FindingCount) (items : List Item) : Type 0 where
+  pub counted : count.findings ≡ findings_with 0 items
+  pub worst : (asked : Option Level) → is_reached asked count.worst ≡ any_from asked items
+
+-- where a text is accepted, they are those of its transmission
+abbrev pub CountsAccepted : Limits → Option (List ℕ) → FindingCount → Type 0
+CountsAccepted limits before count =
+    IfSome before (λ text. (v : TransmissionValue) (n : ℕ) → IsAccepted limits text v n → AreFindingsIn count (value_items v))

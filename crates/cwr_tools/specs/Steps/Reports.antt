@@ -111,6 +111,13 @@ abbrev pub StandsAfter : (List Item → Type 0) → Limits → Option (List ℕ)
 StandsAfter stands limits before after verdict =
     (given : List Item) × IsRightVerdict limits before verdict after given × stands given
 
+-- it stands at the end of a run, after the items before the verdict or before the reader failed
+abbrev pub StandsAtEnd : (List Item → Type 0) → Limits → Option (List ℕ) → Option (List ℕ) → Result Verdict ToolFault → Type 0
+StandsAtEnd stands limits before after (Ok verdict) = StandsAfter stands limits before after verdict
+StandsAtEnd stands limits before after (Err Reader) =
+    (given : List Item) × StopsAfter limits read_faults.Reader before after given × stands given
+StandsAtEnd stands limits before after (Err fault) = Unit {0}
+
 -- after what the writer had, the text is written
 pub record HasPut {W : Type 0} (contents : W → Option (List ℕ)) (failures : W → ℕ) (text : List ℕ) (old new : Sink W) : Type 0
   where

@@ -1,18 +1,8 @@
 -- What is known of the findings that were told: the worst level of one.
-use Rattle.std.specs.Prelude.{◌≡◌, Bool, false, ◌||◌, List, Option, Some, None}
+use Rattle.std.specs.Prelude.{◌≡◌, ◌||◌, List, Option}
 use Rattle.cwr_shape.specs.declared.reasons.Level.{Level}
 use Rattle.cwr_values.specs.declared.items.Item.{Item}
-use Rattle.cwr_tools.specs.Format.Watching.{any_from, is_from}
-
--- the level is that which is asked for, or a worse one
-abbrev pub is_reached_by : Option Level → Level → Bool
-is_reached_by None level = false
-is_reached_by (Some asked) level = is_from asked level
-
--- so is the worst one, if there is one
-abbrev pub is_reached : Option Level → Option Level → Bool
-is_reached asked None = false
-is_reached asked (Some worst) = is_reached_by asked worst
+use Rattle.cwr_tools.specs.Format.Watching.{any_from, is_reached}
 
 -- with the findings in these items
 abbrev pub Sees : Option Level → Option Level → List Item → Type 0

@@ -67,8 +67,8 @@ IsSplitOf found (Show file) = ⊥
 IsSplitOf found (Explain judging) = ⊥
 IsSplitOf found (Lint files quiet explained advised) = ⊥
 IsSplitOf found (Advise files repeated) = ⊥
-IsSplitOf found (Json file numbers utf8) = ⊥
-IsSplitOf found (Csv rows file) = ⊥
+IsSplitOf found (Json file out numbers utf8) = ⊥
+IsSplitOf found (Csv rows file out) = ⊥
 IsSplitOf found (Acks files sent as_json by_place state fail_on) = ⊥
 IsSplitOf found (Write file out line utf8) = ⊥
 IsSplitOf found (Split transactions file prefix only_new) =
@@ -94,10 +94,11 @@ IsAdviceOf found (Advise files repeated) =
     → repeated ≡ digits_value 10 (without_leading_plus text))
 IsAdviceOf found work = ⊥
 
--- the data of the file FILE, with numbers where that flag is given, and in UTF-8 where that one is
+-- the data of the file FILE to the file OUT, with numbers where that flag is given, and in UTF-8 where that one is
 abbrev pub IsExportOf : Found → Work → Type 0
-IsExportOf found (Json file numbers utf8) =
-    (option_map (λ f. f.now) file ≡ first_value found (codes "FILE")) × IsFlagOf found (codes "numbers") numbers
+IsExportOf found (Json file out numbers utf8) =
+    (option_map (λ f. f.now) file ≡ first_value found (codes "FILE"))
+    × (option_map (λ f. f.now) out ≡ first_value found (codes "OUT")) × IsFlagOf found (codes "numbers") numbers
     × IsFlagOf found (codes "utf8") utf8
 IsExportOf found work = ⊥
 
@@ -105,11 +106,12 @@ IsExportOf found work = ⊥
 abbrev pub rows_named : List ℕ → Option Rows
 rows_named word = if bytes_eq word (codes "works") then Some Works else option_map Records (kind_of word)
 
--- the table that KIND names, of the file FILE
+-- the table that KIND names, of the file FILE to the file OUT
 abbrev pub IsTableOf : Found → Work → Type 0
-IsTableOf found (Csv rows file) =
+IsTableOf found (Csv rows file out) =
     (option_and_then rows_named (first_value found (codes "KIND")) ≡ Some rows)
     × (option_map (λ f. f.now) file ≡ first_value found (codes "FILE"))
+    × (option_map (λ f. f.now) out ≡ first_value found (codes "OUT"))
 IsTableOf found work = ⊥
 
 -- the states whose names the option's text has, with commas between them, or no states without the option
@@ -162,8 +164,9 @@ IsWorkOf name found (Explain judging) = (bytes_eq name (codes "explain") ≡ tru
 IsWorkOf name found (Lint files quiet explained advised) =
     (bytes_eq name (codes "lint") ≡ true) × IsLintOf found (Lint files quiet explained advised)
 IsWorkOf name found (Advise files repeated) = (bytes_eq name (codes "advise") ≡ true) × IsAdviceOf found (Advise files repeated)
-IsWorkOf name found (Json file numbers utf8) = (bytes_eq name (codes "json") ≡ true) × IsExportOf found (Json file numbers utf8)
-IsWorkOf name found (Csv rows file) = (bytes_eq name (codes "csv") ≡ true) × IsTableOf found (Csv rows file)
+IsWorkOf name found (Json file out numbers utf8) =
+    (bytes_eq name (codes "json") ≡ true) × IsExportOf found (Json file out numbers utf8)
+IsWorkOf name found (Csv rows file out) = (bytes_eq name (codes "csv") ≡ true) × IsTableOf found (Csv rows file out)
 IsWorkOf name found (Acks files sent as_json by_place state fail_on) =
     (bytes_eq name (codes "acks") ≡ true) × IsAcksOf found (Acks files sent as_json by_place state fail_on)
 IsWorkOf name found (Write file out line utf8) =

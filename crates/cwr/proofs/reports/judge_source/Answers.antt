@@ -3,7 +3,7 @@ use Rattle.std.specs.Prelude.{IfOk, Ok, OnOk, Result}
 use Rattle.cwr_tools.specs.declared.verdicts.ToolFault.{ToolFault}
 use Rattle.cwr.specs.declared.reports.Judgement.{Judgement}
 use Rattle.cwr.specs.Steps.Looks.{JudgesOn}
-use Rattle.cwr.specs.Steps.Tellings.{CountsInput, CountsWriting, TellsText}
+use Rattle.cwr.specs.Steps.Tellings.{CountsFindings, CountsInput, CountsWriting, TellsText}
 use Rattle.cwr.proofs.lemmas.EndsOnTexts.{counts_input, judged_counts, judged_on, judges_on, told_verdict}
 use Rattle.cwr.proofs.reports.judge_source.Goals as goal
 
@@ -45,3 +45,11 @@ returns-clause-handed_on g c =
     (sym c.judgement_of-judged.ensures)
     (judged_on (g.W.Target.handed_on c.tell-writer.result.0 ≡ true) c.args.asked.now.wanted c.tell-writer.result.1
     c.tell-writer.result.2 c.tell-writer.new.watch.found c.tell-writer.ensures.handed_on)
+
+pub returns-clause-counted : goal.returns-clause-counted
+returns-clause-counted g c =
+    subst (λ (r : Result Judgement ToolFault). OnOk r (CountsFindings c.args.telling c.args.asked.now.limits
+    (g.R.Source.remaining c.args.reader.now) c.tell-writer.result.3)) (sym c.judgement_of-judged.ensures)
+    (judged_on (CountsFindings c.args.telling c.args.asked.now.limits (g.R.Source.remaining c.args.reader.now)
+    c.tell-writer.result.3) c.args.asked.now.wanted c.tell-writer.result.1 c.tell-writer.result.2
+    c.tell-writer.new.watch.found c.tell-writer.ensures.counted)

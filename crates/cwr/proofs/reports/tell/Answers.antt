@@ -10,7 +10,7 @@ use Rattle.cwr_transform.specs.declared.endings.Look.{Look}
 use Rattle.cwr.specs.Steps.Looks.{LooksAfter, tells_findings}
 use Rattle.cwr.specs.Steps.Tellings.{CountsReading, telling_alone}
 use Rattle.cwr.proofs.lemmas.EndsOnTexts.{counts_explained, counts_reading, looks_after, looks_found, looks_told, sees_nothing}
-use Rattle.cwr.proofs.lemmas.EndsOnTexts.{told_as}
+use Rattle.cwr.proofs.lemmas.EndsOnTexts.{counted_told, told_as, uncounted}
 use Rattle.cwr_tools.proofs.lemmas.RightReports.{judged_text}
 use Rattle.cwr.proofs.reports.tell.Goals as goal
 
@@ -238,3 +238,29 @@ returns-in-Advice-clause-judged g c =
     judged_text (lines_of_advice c.in-Advice.repeated) c.args.limits _ _ g.W.Target.contents c.args.writer
     c.advise-writer.result.0
     c.advise-writer.result.1 c.advise-writer.ensures.told
+
+pub returns-in-Findings-clause-counted : goal.returns-in-Findings-clause-counted
+returns-in-Findings-clause-counted g c =
+    counted_told c.args.telling c.args.limits _ c.check_watched-writer.result.1 c.check_watched-writer.result.2 c.in-Findings.is
+    c.check_watched-writer.ensures.counted
+
+pub returns-in-Explained-clause-counted : goal.returns-in-Explained-clause-counted
+returns-in-Explained-clause-counted g c = uncounted c.args.telling _ c.args.limits _ c.explain-writer.result.1 _ c.in-Explained.is tt
+
+pub returns-in-Faults-clause-counted : goal.returns-in-Faults-clause-counted
+returns-in-Faults-clause-counted g c = uncounted c.args.telling _ c.args.limits _ c.lint-writer.result.1 _ c.in-Faults.is tt
+
+pub returns-in-Records-clause-counted : goal.returns-in-Records-clause-counted
+returns-in-Records-clause-counted g c = uncounted c.args.telling _ c.args.limits _ c.show-writer.result.1 _ c.in-Records.is tt
+
+pub returns-in-Data-clause-counted : goal.returns-in-Data-clause-counted
+returns-in-Data-clause-counted g c = uncounted c.args.telling _ c.args.limits _ c.json-writer.result.1 _ c.in-Data.is tt
+
+pub returns-in-Rows-clause-counted : goal.returns-in-Rows-clause-counted
+returns-in-Rows-clause-counted g c = uncounted c.args.telling _ c.args.limits _ c.csv-writer.result.1 _ c.in-Rows.is tt
+
+pub returns-in-Answers-clause-counted : goal.returns-in-Answers-clause-counted
+returns-in-Answers-clause-counted g c = uncounted c.args.telling _ c.args.limits _ c.acks_alone-writer.result.1 _ c.in-Answers.is tt
+
+pub returns-in-Advice-clause-counted : goal.returns-in-Advice-clause-counted
+returns-in-Advice-clause-counted g c = uncounted c.args.telling _ c.args.limits _ c.advise-writer.result.1 _ c.in-Advice.is tt

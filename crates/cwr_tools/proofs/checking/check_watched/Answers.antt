@@ -4,7 +4,7 @@ use Rattle.cwr_tools.specs.Steps.Reports.{lines_told}
 use Rattle.cwr_tools.proofs.lemmas.FindingsWatched.{worst_none}
 use Rattle.cwr_tools.proofs.lemmas.RightReports.{judged_text}
 use Rattle.cwr_tools.proofs.lemmas.ToldTexts.{reports_text}
-use Rattle.cwr_tools.proofs.lemmas.WatchedRuns.{sees_accepted}
+use Rattle.cwr_tools.proofs.lemmas.WatchedRuns.{counts_accepted, sees_accepted}
 use Rattle.cwr_tools.proofs.checking.check_watched.Goals as goal
 
 pub write_report-writer-requires : goal.write_report-writer-requires
@@ -45,3 +45,13 @@ pub returns-clause-judged : goal.returns-clause-judged
 returns-clause-judged g c =
     judged_text lines_of_findings c.args.limits _ _ g.W.Target.contents c.args.writer c.write_report-writer.result.0
     c.write_report-writer.result.1 (returns-clause-told g c)
+
+pub returns-clause-counted : goal.returns-clause-counted
+returns-clause-counted g c =
+    counts_accepted c.args.limits _ _ c.write_report-writer.new.lines.told _ c.write_report-writer.result.1
+    (λ given here. record { counted = here.2; worst = here.1 })
+    (c.write_report-writer.ensures.stands lines_of_findings (
+      ap₂ lines_told (sym c.new-lines.ensures.explained) (sym c.new-lines.ensures.up_to_fault),
+      worst_none _ c.new-lines.ensures.told,
+      c.new-lines.ensures.none,
+    ))

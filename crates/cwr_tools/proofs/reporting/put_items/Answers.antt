@@ -1,4 +1,4 @@
-use Rattle.std.proofs.Common.{◌≡◌, ℕ, List, Option, rules, refl, sym, ap, subst, ◌∙◌, arith}
+use Rattle.std.proofs.Common.{◌≡◌, ℕ, false, List, [], Option, rules, refl, sym, ap, subst, ◌∙◌, arith}
 use Rattle.std.specs.Prelude.{Result, Ok, Err, IfOk, IfSome, IsSomeAnd}
 use Rattle.cwr_decode.specs.Steps.LastReads.{counts_of_records, stage_of_records}
 use Rattle.cwr_decode.specs.Steps.Machines.{Standing}
@@ -8,7 +8,7 @@ use Rattle.cwr_tools.specs.declared.verdicts.Verdict.{Verdict}
 use Rattle.cwr_tools.specs.declared.verdicts.ToolFault.{ToolFault}
 use Rattle.cwr_tools.specs.declared.totals.Totals.{Totals}
 use Rattle.cwr_tools.specs.Format.Reports.{CountsReaderFault}
-use Rattle.cwr_tools.specs.Steps.Reports.{PutsReport, StandsAfter}
+use Rattle.cwr_tools.specs.Steps.Reports.{PutsReport, StandsAfter, StandsAtEnd}
 use Rattle.cwr_tools.specs.Steps.Verdicts.{IsReadLast, IsRightVerdict, StopsAfter}
 use Rattle.cwr_tools.proofs.lemmas.CountedTotals.{counts_none, next_room, total_grows}
 use Rattle.cwr_tools.proofs.lemmas.LastReported.{HoldsRead, err_last, fault_answered, good_answered, holds_more, holds_none}
@@ -17,7 +17,7 @@ use Rattle.cwr_tools.proofs.lemmas.ReportsOn.{no_reader_fault, nothing, reads_it
 use Rattle.cwr_tools.proofs.lemmas.ReportsOn.{stops_after}
 use Rattle.cwr_tools.proofs.lemmas.ReportsOn.{stops_decoder}
 use Rattle.cwr_tools.proofs.lemmas.ToldReports.{passes_over, told_grows, told_reporting}
-use Rattle.cwr_tools.proofs.lemmas.WatchedRuns.{fault_right, fault_tells, good_right, stands_before}
+use Rattle.cwr_tools.proofs.lemmas.WatchedRuns.{good_right, put_tells, stands_before}
 use Rattle.cwr_tools.proofs.reporting.put_items.Goals as goal
 
 pub returns-in_err-put_first-clause-puts : goal.returns-in_err-put_first-clause-puts
@@ -40,8 +40,9 @@ returns-in_err-put_first-clause-puts g c = λ of s.
     search rules
 
 pub returns-in_err-put_first-clause-stands : goal.returns-in_err-put_first-clause-stands
-returns-in_err-put_first-clause-stands g c =
-    λ of s. fault_tells _ c.from_residual.result c.in_err-put_first.field-0.0
+returns-in_err-put_first-clause-stands g c = λ of s.
+    put_tells g.W.Target.contents g.W.Target.failures false (of.lines []) c.in_err-put_first.field-0.0 c.args.sink.now
+    c.put_first.new.sink c.args.limits _ _ _ c.from_residual.result (c.in_err-put_first.ensures.puts of s)
     (same_fault c.from_residual.result c.in_err-put_first.field-0.0 c.from_residual.ensures.1)
 
 pub returns-in_err-put_first-clause-last : goal.returns-in_err-put_first-clause-last
@@ -247,9 +248,14 @@ returns-in_err-put_item-in-Ok-Some-clause-failures g c =
     search rules
 
 pub returns-in_err-put_item-in-Ok-Some-clause-stands : goal.returns-in_err-put_item-in-Ok-Some-clause-stands
-returns-in_err-put_item-in-Ok-Some-clause-stands g c =
-    λ of s. fault_tells _ c.from_residual-in_err-put_item-in-Ok-Some.result c.in_err-put_item-in-Ok-Some.field-0.0 (same_fault
-    c.from_residual-in_err-put_item-in-Ok-Some.result c.in_err-put_item-in-Ok-Some.field-0.0
+returns-in_err-put_item-in-Ok-Some-clause-stands g c = λ of s.
+    let told =
+    (told_reporting _ of _ _ _ _ _ _ _ _ _ _ _ _ _ _ (passes_over c.passes.result _ of _ (λ t. c.passes.ensures t of))
+    (c.items.invariant.reporting of s) c.in-Ok-Some.ensures.told) in
+    let put = c.in_err-put_item-in-Ok-Some.ensures.puts of told.given told.counts told.here in
+    put_tells g.W.Target.contents g.W.Target.failures _ put.0 c.in_err-put_item-in-Ok-Some.field-0.0 c.items.sink
+    c.put_item.new.sink c.args.limits _ _ _ c.from_residual-in_err-put_item-in-Ok-Some.result put.2
+    (same_fault c.from_residual-in_err-put_item-in-Ok-Some.result c.in_err-put_item-in-Ok-Some.field-0.0
     c.from_residual-in_err-put_item-in-Ok-Some.ensures.1)
 
 pub returns-in_err-put_item-in-Ok-Some-clause-last : goal.returns-in_err-put_item-in-Ok-Some-clause-last
@@ -340,10 +346,10 @@ returns-in-Err-clause-stands g c = λ of s.
     = stops_after c.args.limits c.in-Err.ensures.told.reads.between c.read_on.new.reading.decoder
     (g.R.Source.remaining c.args.reader.now) _ _ told.given c.in-Err.fault _ _
     told.reading c.in-Err.ensures.told.reads.reads c.in-Err.ensures.told.reads.again in
-    let standing : IfOk c.verdict_of.result (StandsAfter (g.L.Report.stands c.items.lines of) c.args.limits
-    (g.R.Source.remaining c.args.reader.now) (g.R.Source.remaining c.read_on.new.reading.reader.now))
-    = stands_before c.args.limits _ _ told.given (g.L.Report.stands c.items.lines of) c.verdict_of.result
-    (fault_right c.args.limits _ _ told.given c.in-Err.fault c.verdict_of.result stop c.verdict_of.ensures) told.here in
+    let standing : StandsAtEnd (g.L.Report.stands c.items.lines of) c.args.limits (g.R.Source.remaining c.args.reader.now)
+    (g.R.Source.remaining c.read_on.new.reading.reader.now) c.verdict_of.result
+    = stands_before c.args.limits _ _ told.given (g.L.Report.stands c.items.lines of) c.in-Err.fault c.verdict_of.result stop
+    c.verdict_of.ensures told.here in
     search rules
 
 pub returns-in-Err-clause-last : goal.returns-in-Err-clause-last

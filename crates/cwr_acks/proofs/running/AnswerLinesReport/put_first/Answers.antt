@@ -8,7 +8,7 @@ use Rattle.cwr_acks.proofs.running.AnswerLinesReport.put_first.Goals as goal
 
 pub returns-clause-puts : goal.returns-clause-puts
 returns-clause-puts g c =
-    λ of here. first_lines g.W.Target.contents g.W.Target.failures of (lines_of_held (telling_of c.args.self.now.manner) here.0) [] (Ok tt)
-    c.args.arg2.now c.args.arg2.now here.1
-    (sym (lines_none (telling_of c.args.self.now.manner) here.0))
+    λ of here. first_lines g.W.Target.contents g.W.Target.failures of (lines_of_held (telling_of c.args.self.now.manner) g.B.Before.held) [] (Ok tt)
+    c.args.arg2.now c.args.arg2.now here.0
+    (sym (lines_none (telling_of c.args.self.now.manner) g.B.Before.held))
     (nothing_put g.W.Target.contents g.W.Target.failures false tt c.args.arg2.now c.requires.unfailed)

@@ -13,11 +13,11 @@ use Rattle.cwr_tools.proofs.lemmas.ReportSteps.{next_lines}
 use Rattle.cwr_acks.proofs.running.AnswerLinesReport.put_item.Goals as goal
 
 pub put_item-requires-clause-ten : goal.put_item-requires-clause-ten
-put_item-requires-clause-ten g c = ap (λ (a : Answers). length a.by_status) c.requires.stands.3.3
+put_item-requires-clause-ten g c = ap (λ (a : Answers). length a.by_status) c.requires.stands.3.2
 
 pub count_answer-requires : goal.count_answer-requires
 count_answer-requires g c =
-    let s = c.requires.stands in answers_of_room c.args.self.now.answers c.args.arg3.now s.1 s.3.3 s.2 c.requires.room
+    let s = c.requires.stands in answers_of_room c.args.self.now.answers c.args.arg3.now s.1 s.3.2 s.2 c.requires.room
 
 pub returns-in_default-clause-puts : goal.returns-in_default-clause-puts
 returns-in_default-clause-puts g c = λ of given counted here.
@@ -25,11 +25,11 @@ returns-in_default-clause-puts g c = λ of given counted here.
     let telling = telling_of self.manner in
     let held = held_if self.delivery in
     let item = c.args.item.now in
-    next_lines g.W.Target.contents g.W.Target.failures of (lines_of_held telling here.0) given item
+    next_lines g.W.Target.contents g.W.Target.failures of (lines_of_held telling g.B.Before.held) given item
     (lines_at telling (kept_if held item) (notes_if held item) self.answers item)
-    (Err Memory) c.args.sink.now c.args.sink.now here.1
-    (lines_put telling here.0 held (kept_if held item) (notes_if held item) self.answers given item here.2 here.3 refl refl) (
-      ap (λ (b : Bool). b && keeps_of item) (sym (still_some self.delivery here.0 given here.2)) ∙ c.in_default.ensures.asks,
+    (Err Memory) c.args.sink.now c.args.sink.now here.0
+    (lines_put telling g.B.Before.held held (kept_if held item) (notes_if held item) self.answers given item here.1 here.2 refl refl) (
+      ap (λ (b : Bool). b && keeps_of item) (sym (still_some self.delivery g.B.Before.held given here.1)) ∙ c.in_default.ensures.asks,
       refl,
     )
 
@@ -41,10 +41,10 @@ returns-in_err-put_item-clause-puts g c = λ of given counted here.
     subst (λ (r : Result (Unit {0}) ToolFault). PutsNext g.W.Target.contents g.W.Target.failures of given c.args.item.now r
     c.args.sink.now c.put_item.new.sink)
     (sym (same_fault c.from_residual.result c.in_err-put_item.field-0.0 c.from_residual.ensures.1))
-    (next_lines g.W.Target.contents g.W.Target.failures of (lines_of_held telling here.0) given c.args.item.now
-    text (Err c.in_err-put_item.field-0.0) c.args.sink.now c.put_item.new.sink here.1
-    (lines_put telling here.0 (held_if self.delivery) (held_if c.keep_item_if.new.delivery) c.in-Ok.notes
-    self.answers given c.args.item.now here.2 here.3 c.in-Ok.ensures.kept c.in-Ok.ensures.notes)
+    (next_lines g.W.Target.contents g.W.Target.failures of (lines_of_held telling g.B.Before.held) given c.args.item.now
+    text (Err c.in_err-put_item.field-0.0) c.args.sink.now c.put_item.new.sink here.0
+    (lines_put telling g.B.Before.held (held_if self.delivery) (held_if c.keep_item_if.new.delivery) c.in-Ok.notes
+    self.answers given c.args.item.now here.1 here.2 c.in-Ok.ensures.kept c.in-Ok.ensures.notes)
     (puts_asking g.W.Target.contents g.W.Target.failures _ text (Err c.in_err-put_item.field-0.0) c.args.sink.now
     c.put_item.new.sink c.in_err-put_item.ensures))
 
@@ -53,10 +53,10 @@ returns-clause-puts g c = λ of given counted here.
     let self = c.args.self.now in
     let telling = telling_of self.manner in
     let text = lines_at telling (held_if c.keep_item_if.new.delivery) c.in-Ok.notes self.answers c.args.item.now in
-    next_lines g.W.Target.contents g.W.Target.failures of (lines_of_held telling here.0) given c.args.item.now
-    text (Ok tt) c.args.sink.now c.put_item.new.sink here.1
-    (lines_put telling here.0 (held_if self.delivery) (held_if c.keep_item_if.new.delivery) c.in-Ok.notes
-    self.answers given c.args.item.now here.2 here.3 c.in-Ok.ensures.kept c.in-Ok.ensures.notes)
+    next_lines g.W.Target.contents g.W.Target.failures of (lines_of_held telling g.B.Before.held) given c.args.item.now
+    text (Ok tt) c.args.sink.now c.put_item.new.sink here.0
+    (lines_put telling g.B.Before.held (held_if self.delivery) (held_if c.keep_item_if.new.delivery) c.in-Ok.notes
+    self.answers given c.args.item.now here.1 here.2 c.in-Ok.ensures.kept c.in-Ok.ensures.notes)
     c.in_ok-put_item.ensures
 
 pub returns-clause-stands : goal.returns-clause-stands
@@ -64,7 +64,6 @@ returns-clause-stands g c = λ of given counted here.
     let self = c.args.self.now in
     let more = given ++ c.args.item.now ∷ [] in (
       here.0,
-      here.1,
-      c.in-Ok.ensures.kept ∙ held_after_more here.0 (held_if self.delivery) given c.args.item.now here.2,
-      c.count_answer.ensures ∙ answers_of_more self.answers given c.args.item.now here.3,
+      c.in-Ok.ensures.kept ∙ held_after_more g.B.Before.held (held_if self.delivery) given c.args.item.now here.1,
+      c.count_answer.ensures ∙ answers_of_more self.answers given c.args.item.now here.2,
     )

@@ -1,8 +1,7 @@
 use Rattle.std.proofs.Common.{◌≡◌, ◌+◌, ◌-◌, ◌^◌, ◌≤◌, ◌||◌, length, drop, min, Option}
 use Rattle.cwr_shape.specs.declared.reasons.Level.{Level}
-use Rattle.cwr_tools.specs.Format.Watching.{has_from}
-use Rattle.cwr_tools.specs.Steps.Watching.{is_reached}
-use Rattle.cwr_tools.proofs.watch.Told.add.Given as goal
+use Rattle.cwr_tools.specs.Format.Watching.{has_from, is_reached}
+use Rattle.cwr_tools.proofs.watch.FindingCount.add.Given as goal
 
 abbrev pub invariant-loop-finding : goal.invariant-loop-finding
 invariant-loop-finding l = record {

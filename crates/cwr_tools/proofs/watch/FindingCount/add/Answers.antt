@@ -1,10 +1,9 @@
 use Rattle.std.proofs.Common.{◌≡◌, ◌+◌, ◌||◌, Bool, length, drop, Some, refl, sym, ap, ◌∙◌, arith}
 use Rattle.std.specs.Prelude.{slice_get}
 use Rattle.std.proofs.lemmas.Option.{slice_get_read}
-use Rattle.cwr_tools.specs.Format.Watching.{has_from}
-use Rattle.cwr_tools.specs.Steps.Watching.{is_reached, is_reached_by}
+use Rattle.cwr_tools.specs.Format.Watching.{has_from, is_reached, is_reached_by}
 use Rattle.cwr_tools.proofs.lemmas.FindingsWatched.{from_more, or_assoc}
-use Rattle.cwr_tools.proofs.watch.Told.add.Goals as goal
+use Rattle.cwr_tools.proofs.watch.FindingCount.add.Goals as goal
 
 pub loop-finding-preserved : goal.loop-finding-preserved
 loop-finding-preserved c =
