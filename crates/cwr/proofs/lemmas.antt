@@ -1,2 +1,2 @@
--- A run over a text ends as that text does.
-pub mod EndsOnTexts
+-- A run over standard input ends as its bytes do.
+pub mod EndsOnInputs

@@ -46,14 +46,20 @@ COMMANDS
 
    cwr show [OPTIONS] [FILE]
        Prints each record under its number, with a line for each cell that
-       isn't blank, and the verdict last.
+       isn't blank, and the verdict last. Of findings in a good transmission
+       standard error says what `cwr check` says there.
+
+       --fail-on LEVEL
+              Status 1 where a finding has that level or a worse one: F, R, T,
+              G or E.
 
    cwr explain [OPTIONS] [FILE]...
        Prints what `cwr check` prints, with its options. Under each line
        stands, indented, where it is, what was found, what may stand there,
        and how much is rejected. Of a wrong number it says what that points
        to: a record that is missing or stands twice, or a count that wasn't
-       changed.
+       changed. Levels are those of this profile, and societies differ. Where
+       something is rejected, a line on standard error says that, once a run.
 
        --quiet
               Prints only what isn't good, and the sums.
@@ -89,6 +95,9 @@ COMMANDS
        advice, each with what to do. The verdict is last. Advice changes
        neither it nor the status. Several files are told as `cwr check` tells
        them. The rules are in docs/ADVICE.md of the repository.
+
+       --quiet
+              Prints only what isn't good, advice, and the sums.
 
        --repeated NUMBER
               Tells work numbers that stand in two works of a transmission,
@@ -216,8 +225,9 @@ COMMANDS
 
        -o OUT
               The file that is written. It is written as `OUT.part`, and gets
-              its name when it is whole. Without it standard output is
-              written.
+              its name when it is whole. Where it is the input, under whatever
+              name, nothing is written, and the status is 2. Without it
+              standard output is written.
 
        --line NUMBER
               The most bytes of a line, 1 to 1000000000. Without it 64000000.
@@ -225,43 +235,93 @@ COMMANDS
        --utf8
               Cells are shown as by `cwr json --utf8`.
 
-   cwr split [OPTIONS] -n N FILE PREFIX
+   cwr split [OPTIONS] -n N FILE [PREFIX]
        Cuts a transmission into parts, each a whole transmission with N
        transactions. They are written to `PREFIX00000001`, `PREFIX00000002`
        and so on. What has such a name is replaced, and standard error says
-       so. A part that would be the input is refused.
+       so. A part that would be the input is refused. Of findings standard
+       error says what `cwr check` says there.
+
+       Each part has the header of the whole, with its creation date and time.
+       So answers to two parts can't be told apart by these, but with
+       `--created`.
+
+       --fail-on LEVEL
+              Status 1 where a finding has that level or a worse one: F, R, T,
+              G or E. The parts are written all the same.
 
        --new  Replaces no file: where one has a part's name, the status is 2,
               and the parts before it stay.
 
+       --created MOMENT
+              The first part was created at that moment, `YYYYMMDDTHHMMSS`,
+              and each other one a second later. Where the day ends before,
+              the status is 2, and the parts before stay.
+
+       -o PREFIX
+              PREFIX, in the place of the second word.
+
        -n N   The transactions of a part, 1 to 99999999. The last part may
               have fewer.
 
-   cwr join [OPTIONS] OUT FILE...
-       Joins transmissions to one in the file OUT, in their order, with their
-       groups numbered anew. Where OUT is one of the inputs, under whatever
-       name, nothing is written, and the status is 2. It is written as
-       `OUT.part`, and gets its name when it is whole.
+   cwr join [OPTIONS] OUT [FILE]...
+       Joins the transmissions in the files FILE, of which there is one at
+       least, to one in the file OUT, in their order, with their groups
+       numbered anew. Where OUT is one of the inputs, under whatever name,
+       nothing is written, and the status is 2. It is written as `OUT.part`,
+       and gets its name when it is whole.
+
+       The result has the header of the first transmission. Where another one
+       has a sender of another type or ID, standard error says whose works now
+       go out under whose name. Of findings it says what `cwr check` says
+       there.
+
+       -o OUT
+              The file OUT. Each other word is then a FILE.
 
        --new  Replaces no file: where OUT is there, nothing is written, and
               the status is 2.
+
+       --fail-on LEVEL
+              Where a finding has that level or a worse one, F, R, T, G or E,
+              nothing is written, and the status is 1.
+
+       --same-sender
+              Where a sender is another than that of the first transmission,
+              nothing is written, and the status is 2.
+
+       --repeated NUMBER
+              Tells on standard error which work numbers stand in two of the
+              transmissions. The numbers of the first NUMBER works are kept, 0
+              to 99999999. Without it 0.
 
    cwr renumber [OPTIONS] [FILE] [OUT]
        Makes the numbers of a transmission fit the records that are there:
        transaction and record sequences, group IDs, and the counts of GRT and
        TRL, whatever stands in their cells. Look first why they don't fit,
-       with `cwr explain`. All else is refused as `cwr check` refuses it;
-       findings aren't told. The result is written in full width to the file
-       OUT, as `OUT.part` until it is whole, or to standard output, where a
-       refusal leaves its first lines. A file that is called OUT is replaced:
-       the second name is never read. Where OUT is the input, under whatever
-       name, nothing is written, and the status is 2.
+       with `cwr explain`. All else is refused as `cwr check` refuses it, and
+       of findings standard error says what `cwr check` says there. The result
+       is written in full width to the file OUT, as `OUT.part` until it is
+       whole, or to standard output, where a refusal leaves its first lines. A
+       file that is called OUT is replaced: the second name is never read.
+       Where OUT is the input, under whatever name, nothing is written, and
+       the status is 2.
 
        A record that is missing stays missing, one that stands twice stays
        twice, and where a header is missing its records go to the work before.
+       So where in FILE a record sequence goes back in mid-transaction, or a
+       transaction sequence isn't one more than that before, standard error
+       says so, with the line.
+
+       -o OUT
+              OUT, in the place of the second word.
 
        --new  Replaces no file: where OUT is there, nothing is written, and
               the status is 2.
+
+       --fail-on LEVEL
+              Status 1 where a finding has that level or a worse one: F, R, T,
+              G or E. No file is then written.
 
    cwr manual
        Prints this manual to standard output, with status 0.
@@ -536,6 +596,7 @@ EXAMPLES
              found     \"ROC\"
              expected  a code, one of: JAZ POP SER UNC, or spaces
              level     T: the transaction is rejected
+           cwr: by this profile the transaction is rejected; societies differ
 
        Rules that a good file breaks:
 
@@ -619,14 +680,15 @@ EXAMPLES
 
        A file from which a work was cut out by hand:
 
-           $ cwr renumber --new work_missing.cwr mended.cwr
+           $ cwr renumber --new work_missing.cwr -o mended.cwr
+           cwr: work_missing.cwr: line 7: the transaction sequence of the group's first transaction is 1: transactions may be missing before it
            GOOD groups 2 transactions 2 records 10
 
        Parts of one work each, and the whole again:
 
-           $ cwr split -n 1 works.cwr part-
+           $ cwr split --new -n 1 works.cwr -o part-
            SPLIT outputs 3 transactions 3
-           $ cwr join whole.cwr part-00000001 part-00000002 part-00000003
+           $ cwr join --new -o whole.cwr part-00000001 part-00000002 part-00000003
            JOINED inputs 3 groups 3 transactions 3 records 14
 
        The data out, and the same transmission again:

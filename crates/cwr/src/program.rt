@@ -4,25 +4,24 @@ ghost use Rattle.std.specs.Prelude.{◌≡◌, ◌≢◌, ◌≤◌, ◌||◌, [
 ghost use Rattle.std.specs.IoError.{error_kind};
 ghost use Rattle.std.specs.declared.io.ErrorKind.TheVariants.{OutOfMemory as lacks_memory};
 ghost use Rattle.clap.specs.Values.{kind_of};
-ghost use Rattle.cwr.specs.Format.Endings.{EndsOnInput, IsOfInput, StatusOnInput, fault_status, wanted_in};
+ghost use Rattle.cwr.specs.Format.Endings.{IsOfInput, StatusOnInput, fault_status, wanted_in};
+ghost use Rattle.cwr_reports.specs.Format.Endings.{EndsOnInput};
 ghost use Rattle.cwr_files.specs.Format.Inputs.{are_standard, is_standard};
 ghost use Rattle.cwr.specs.Format.Tables.{table_of};
-ghost use Rattle.cwr.specs.Steps.Looks.{tells_findings};
+ghost use Rattle.cwr_reports.specs.Steps.Looks.{tells_findings};
 
-use crate::answers::{Answering, match_answers};
-use crate::exports::export;
 use crate::manual::MANUAL;
-use crate::renumberings::{Repair, repair_numbers};
-use crate::reports::{Asked, Telling, report_input, telling_of};
-use crate::several::report_several;
 use clap::error::ErrorKind;
 use cwr_acks::Form;
+use cwr_answers::{Answering, match_answers};
 use cwr_csv::Table;
-use cwr_files::{DASH, Fault, Pace, Progress, open_input, print, tell_fault};
+use cwr_files::{DASH, Fault, Name, Pace, Progress, is_standard, open_input, print, tell_fault};
 use cwr_json::Encoding;
+use cwr_reports::{Asked, Telling, export, report_input, report_several, telling_of};
 use cwr_shape::Limits;
 use cwr_transform::{
-    Cut, Import, Status, Union, Wanted, import_file, import_input, join_files, split_file,
+    Cut, Import, Repair, Status, Union, Wanted, import_file, import_input, join_files, refuse_out,
+    repair_numbers, split_file,
 };
 use cwr_words::{Rows, Task, Work, task_of};
 use std::convert::AsStr;
@@ -109,14 +108,31 @@ fn report<E: Write>(error: &mut E, fault: &Fault<'_>) -> Status
 {
     tell_fault(error, fault);
     match fault {
-        Fault::IsInput(_) | Fault::IsThere(_) | Fault::IsTwice(_) => Status::CommandLine,
+        Fault::IsInput(_)
+        | Fault::IsThere(_)
+        | Fault::IsTwice(_)
+        | Fault::IsOther(_)
+        | Fault::IsLate(_) => Status::CommandLine,
         Fault::Open(..) | Fault::Read(_) | Fault::Write(_) | Fault::Output(..) | Fault::Memory =>
             Status::Fault,
     }
 }
 
-/// Writes the transmission that an input's lines are, to the file of that name or to the output. The input is the file of its name, or
-/// standard input.
+/// Refuses names of which two are standard input, which is there once.
+fn refuse_twice(names: &[&str]) -> Result<(), Fault<'static>> {
+    let standard = names
+        .iter()
+        .filter(|name| is_standard(Some(**name)))
+        .count();
+    if standard > 1 {
+        Err(Fault::IsTwice(Name::StandardInput))
+    } else {
+        Ok(())
+    }
+}
+
+/// Writes the transmission that an input's lines are, to the file of that name, which is another one, or to the output. The input is the
+/// file of its name, or standard input.
 fn import_lines<'a, R: Files + AllocGlobal, I: Read + Drop, P: Pace, O: Write + Drop, E: Write>(
     rt: &R,
     import: &Import,
@@ -127,6 +143,9 @@ fn import_lines<'a, R: Files + AllocGlobal, I: Read + Drop, P: Pace, O: Write + 
     output: O,
     error: &mut E,
 ) -> Result<Status, Fault<'a>> {
+    if let Some(name) = out {
+        refuse_out(rt, name, false, &[file.unwrap_or(DASH)])?;
+    }
     let input = open_input(rt, file, &mut Some(standard), pace)?;
     match out {
         Some(name) => import_file(rt, import, input, name, error),
@@ -222,6 +241,7 @@ fn judge<'a, R: Files + AllocGlobal, I: Read + Drop, P: Pace, O: Write + Drop, E
         → EndsOnInput asked.now.limits asked.now.wanted (I.remaining standard) result }
 {
     if names.len() > 1 {
+        refuse_twice(names)?;
         return report_several(rt, asked, explained, names, standard, pace, output, error);
     }
     let name = names.first().copied();
@@ -249,7 +269,7 @@ fn tell_acks<'a, R: Files + AllocGlobal, I: Read + Drop, P: Pace, O: Write + Dro
         let file = answering.files.first().copied();
         return report_file(rt, asked, telling, file, standard, pace, output, error);
     }
-    match_answers(rt, asked, answering, standard, pace, output, error)
+    match_answers(rt, answering, standard, pace, output, error)
 }
 
 /// The table that has rows of these.
@@ -317,8 +337,9 @@ fn perform<'a, R: Files + AllocGlobal, I: Read + Drop, P: Pace, O: Write + Drop,
     let (judging, explained) = match &task.work {
         Work::Check(judging) => (judging, false),
         Work::Explain(judging) => (judging, true),
-        Work::Show(file) => {
+        Work::Show { file, fail_on } => {
             let told = Telling::Records;
+            asked.wanted.fail_on = *fail_on;
             return report_file(rt, &asked, told, *file, standard, pace, output, error);
         }
         Work::Lint {
@@ -333,7 +354,12 @@ fn perform<'a, R: Files + AllocGlobal, I: Read + Drop, P: Pace, O: Write + Drop,
             let names = files.as_slice();
             return judge(rt, &asked, *explained, names, standard, pace, output, error);
         }
-        Work::Advise { files, repeated } => {
+        Work::Advise {
+            files,
+            quiet,
+            repeated,
+        } => {
+            asked.quiet = *quiet;
             asked.advised = true;
             asked.repeated = *repeated;
             let names = files.as_slice();
@@ -368,6 +394,9 @@ fn perform<'a, R: Files + AllocGlobal, I: Read + Drop, P: Pace, O: Write + Drop,
             fail_on,
         } => {
             let answering = Answering {
+                alloc: rt.alloc(),
+                limits: task.limits,
+                whole: task.whole,
                 form: form_of(*as_json),
                 files: files.as_slice(),
                 sent: sent.as_slice(),
@@ -394,14 +423,20 @@ fn perform<'a, R: Files + AllocGlobal, I: Read + Drop, P: Pace, O: Write + Drop,
             transactions,
             file,
             prefix,
+            created,
             only_new,
+            fail_on,
         } => {
             let cut = Cut {
                 limits: task.limits,
-                whole: task.whole,
+                wanted: Wanted {
+                    whole: task.whole,
+                    fail_on: *fail_on,
+                },
                 transactions: *transactions,
                 file: *file,
                 prefix: *prefix,
+                created: *created,
                 only_new: *only_new,
             };
             return split_input(rt, &cut, standard, pace, output, error);
@@ -410,23 +445,36 @@ fn perform<'a, R: Files + AllocGlobal, I: Read + Drop, P: Pace, O: Write + Drop,
             out,
             files,
             only_new,
+            fail_on,
+            same_sender,
+            repeated,
         } => {
             let union = Union {
                 limits: task.limits,
-                whole: task.whole,
+                wanted: Wanted {
+                    whole: task.whole,
+                    fail_on: *fail_on,
+                },
                 out: *out,
                 only_new: *only_new,
+                same_sender: *same_sender,
+                repeated: *repeated,
             };
+            refuse_twice(files.as_slice())?;
             return join_files(rt, &union, files.as_slice(), standard, pace, output, error);
         }
         Work::Renumber {
             file,
             out,
             only_new,
+            fail_on,
         } => {
             let repair = Repair {
                 limits: task.limits,
-                whole: task.whole,
+                wanted: Wanted {
+                    whole: task.whole,
+                    fail_on: *fail_on,
+                },
                 file: *file,
                 out: *out,
                 only_new: *only_new,

@@ -84,7 +84,7 @@ fn explain_report(
     let mut reader = InMemory::new(text);
     let mut watch = Watch::new(None);
     let writer = Counted::new(Vec::new(alloc));
-    let (writer, verdict, _) = explain(alloc, limits, name, &mut watch, &mut reader, writer);
+    let (writer, verdict, _, _) = explain(alloc, limits, name, &mut watch, &mut reader, writer);
     (writer.into_inner(), verdict)
 }
 

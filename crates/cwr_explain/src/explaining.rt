@@ -3,7 +3,7 @@
 ghost use Rattle.std.specs.Prelude.{◌≡◌, true, string_bytes, IfOk, IsSomeAnd, OnOk};
 ghost use Rattle.cwr_tools.specs.Format.Verdicts.{IsAnswerTo, JudgesText};
 ghost use Rattle.cwr_tools.specs.Format.Reports.{CountsAfter, CountsReaderFault, CountsWriterFault, CountsWritten};
-ghost use Rattle.cwr_tools.specs.Format.Watching.{SeesAccepted};
+ghost use Rattle.cwr_tools.specs.Format.Watching.{CountsAccepted, SeesAccepted};
 ghost use Rattle.cwr_causes.specs.Format.Trailing.{CountsRead, IsTrailing, TakesMore};
 ghost use Rattle.cwr_explain.specs.Format.Explained.{ExplainsText, FindsAfter, ReadsOnly, WritesOnly};
 ghost use Rattle.cwr_explain.specs.Steps.Explained.{AddsExplanation, AddsText, Explains, Looks, SaysVerdict, is_good};
@@ -15,7 +15,7 @@ use cwr_causes::{
 use cwr_decode::LastRead;
 use cwr_devices::{DeviceFault, Sink, Source, Target};
 use cwr_shape::Limits;
-use cwr_tools::{Front, ToolFault, Verdict, Watch, check_explained};
+use cwr_tools::{FindingCount, Front, ToolFault, Verdict, Watch, check_explained};
 use std::alloc::{AllocError, Global};
 
 /// Looks at what the reader has after the run: all of it after a transmission, and what tells more of a refused line.
@@ -153,7 +153,7 @@ fn add_explanation<R: Source, W: Target>(
 /// Checks a transmission as `check` does, and writes what that writes. Then it writes lines that explain the verdict: of a
 /// refusal where it is, what stands there and what may; of an input that ends too early what may come next; of a transmission
 /// what stands after it, which is answered too. `name` is that of the input in these lines. The watch sees the findings that are
-/// told.
+/// told, and they are counted.
 ///
 /// Where the reader or memory fails after the verdict, the lines of `check` are written, and where the writer fails, the first of the
 /// bytes that would be: so many as the fault says.
@@ -164,7 +164,12 @@ pub fn explain<R: Source, W: Target + Drop>(
     watch: &mut Watch,
     reader: &mut R,
     writer: W,
-) -> (W, Result<Verdict, ToolFault>, Option<Trailing>)
+) -> (
+    W,
+    Result<Verdict, ToolFault>,
+    Option<Trailing>,
+    FindingCount,
+)
     // Of any reader, by what was read of it: what is written, and that its last words are those on
     // the verdict and on what the reader has after it.
     ensures explains { Explains limits name.now (R.remaining reader.old) (R.remaining reader.new) W.contents
@@ -177,6 +182,7 @@ pub fn explain<R: Source, W: Target + Drop>(
     ensures seen { OnOk result.1 (SeesAccepted limits (R.remaining reader.old) watch.old watch.new) }
     ensures found { OnOk result.1
         (FindsAfter limits (R.remaining reader.old) (R.remaining reader.new) result.2) }
+    ensures told_of { OnOk result.1 (CountsAccepted limits (R.remaining reader.old) result.3) }
     // Where the writer failed, the fault says how many bytes were written in all.
     ensures written { CountsWritten W.contents writer result.0 result.1 }
     // No failure is passed over: a device failed only where that is the answer.
@@ -186,15 +192,18 @@ pub fn explain<R: Source, W: Target + Drop>(
     // All that was written was handed on.
     ensures handed_on { OnOk result.1 (W.handed_on result.0 ≡ true) }
 {
-    let (writer, checked, front) = check_explained(alloc, limits, watch, reader, writer);
+    let (writer, checked, front, count) = check_explained(alloc, limits, watch, reader, writer);
     let Front { last, written, .. } = front;
     match checked {
-        Err(fault) => (writer, Err(fault), None),
+        Err(fault) => (writer, Err(fault), None, count),
         Ok(verdict) => match last {
-            None => (writer, Ok(verdict), None),
-            Some(last) => add_explanation(
-                alloc, &limits, name, reader, verdict, &last, written, writer,
-            ),
+            None => (writer, Ok(verdict), None, count),
+            Some(last) => {
+                let (writer, explained, found) = add_explanation(
+                    alloc, &limits, name, reader, verdict, &last, written, writer,
+                );
+                (writer, explained, found, count)
+            }
         },
     }
 }

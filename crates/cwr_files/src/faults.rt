@@ -100,6 +100,12 @@ pub enum Fault<'a> {
     /// What is there once was to be read twice.
     #[error("{0} can't be read twice")]
     IsTwice(Name<'a>),
+    /// An input has another sender than the first one, and may not.
+    #[error("{0} has another sender than the first transmission")]
+    IsOther(Name<'a>),
+    /// A part of a split would be created after the day of the first one.
+    #[error("the day ends before {0} is created")]
+    IsLate(Name<'a>),
     /// There was no memory.
     #[error("out of memory")]
     Memory,
@@ -157,6 +163,8 @@ fn put_lines<E: io::Write>(error: &mut E, fault: &Fault<'_>) -> io::Result<()> {
         | Fault::IsInput(_)
         | Fault::IsThere(_)
         | Fault::IsTwice(_)
+        | Fault::IsOther(_)
+        | Fault::IsLate(_)
         | Fault::Memory => Ok(()),
     }
 }

@@ -9,6 +9,7 @@ mod new_files;
 mod outputs;
 mod progress;
 mod same_files;
+mod stamps;
 
 pub use faults::{Fault, Name, Reason, Told, tell_fault};
 pub use file_lines::FileLines;
@@ -19,3 +20,4 @@ pub use progress::{Pace, Paced, Progress, Unwatched};
 pub use same_files::{
     Identity, identity_of, identity_of_input, is_there, part_number, part_that_is,
 };
+pub use stamps::Stamped;

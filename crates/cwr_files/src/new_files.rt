@@ -1,15 +1,17 @@
 //! Files that are written, and that have their names only once they are whole.
 
-ghost use Rattle.std.specs.Prelude.{◌≡◌, ◌+◌, ℕ, None, Some, IfOk, OnOk, string_bytes};
+ghost use Rattle.std.specs.Prelude.{◌≡◌, ◌+◌, ℕ, None, Some, IfOk, IsSome, OnOk, string_bytes};
 ghost use Rattle.cwr_files.specs.Format.Faults.{IfErr, IsOfOutput, IsUnkept, IsUnmade};
 ghost use Rattle.cwr_devices.specs.Steps.Counted.{failures_of};
 ghost use Rattle.cwr_devices.specs.Format.Failures.{one_more_failure};
-ghost use Rattle.cwr_files.specs.Steps.NumberedFiles.{IsPartUnmade, asked_of, failed_calls_of, given_up_of, lent_of, name_of, part_name, replaces_none};
+ghost use Rattle.cwr_files.specs.Steps.NumberedFiles.{IsPartUnmade, asked_of, created_of, failed_calls_of, given_up_of, lent_of, name_of, part_name, replaces_none};
 
 use crate::faults::{Fault, Name, Reason};
 use crate::outputs::{Gathered, gathered, told_of};
 use crate::same_files::{Identity, identity_of, is_there};
+use crate::stamps::Stamped;
 use cwr_devices::{OutputFault, Outputs};
+use cwr_moments::Moment;
 use std::alloc::{AllocError, Global};
 use std::fs::File;
 use std::io;
@@ -157,6 +159,8 @@ pub struct NumberedFiles<'r, 'a, R: Files> {
     input: Option<Identity>,
     /// No part may replace a file.
     only_new: bool,
+    /// When the first part is created, and each other one a second later; without it when the transmission was.
+    created: Option<Moment>,
     /// How many were asked for.
     asked: u32,
     /// How many files were replaced, and the number of the part that replaced the first.
@@ -171,14 +175,15 @@ pub struct NumberedFiles<'r, 'a, R: Files> {
 }
 
 impl<'r, 'a, R: Files> NumberedFiles<'r, 'a, R> {
-    /// The files whose names begin with the prefix, none of which may be the input, or may be there where only new ones may be made. None
-    /// was asked for.
+    /// The files whose names begin with the prefix, none of which may be the input, or may be there where only new ones may be made. The
+    /// first one is created at that moment, and each other one a second later. None was asked for.
     pub fn new(
         rt: &'r R,
         alloc: Global,
         prefix: &'a str,
         input: Option<Identity>,
         only_new: bool,
+        created: Option<Moment>,
     ) -> NumberedFiles<'r, 'a, R> {
         NumberedFiles {
             rt,
@@ -186,6 +191,7 @@ impl<'r, 'a, R: Files> NumberedFiles<'r, 'a, R> {
             prefix,
             input,
             only_new,
+            created,
             asked: 0,
             replaced: 0,
             first_replaced: 0,
@@ -218,8 +224,22 @@ impl<'r, 'a, R: Files> NumberedFiles<'r, 'a, R> {
         Name::Part(self.prefix, self.asked)
     }
 
+    /// When the part in hand is created, where that isn't when the transmission was.
+    fn moment(&self) -> Result<Option<Moment>, Fault<'a>>
+        ensures { IfErr result (λ fault. (fault ≡ Fault.IsLate (name_of self.now))
+            × IsSome (created_of self.now)) }
+    {
+        let Some(created) = self.created else {
+            return Ok(None);
+        };
+        match created.later(self.asked.saturating_sub(1)) {
+            Some(moment) => Ok(Some(moment)),
+            None => Err(Fault::IsLate(self.name())),
+        }
+    }
+
     /// Makes the file of that name, which is the one that was asked for last.
-    fn create(&mut self, name: String) -> Result<Gathered<'a, R::File>, Fault<'a>>
+    fn create(&mut self, name: String) -> Result<Gathered<'a, Stamped<R::File>>, Fault<'a>>
         requires { string_bytes name ≡ part_name self.old.prefix.now (asked_of self.old) }
         ensures asked { asked_of self.new ≡ asked_of self.old }
         ensures guarded { replaces_none self.new ≡ replaces_none self.old }
@@ -235,10 +255,14 @@ impl<'r, 'a, R: Files> NumberedFiles<'r, 'a, R> {
         if self.only_new && is_there(self.rt, name.as_str()) {
             return Err(Fault::IsThere(self.name()));
         }
+        let moment = match self.moment() {
+            Ok(moment) => moment,
+            Err(fault) => return Err(fault),
+        };
         match NewFile::create(self.rt, self.alloc, name) {
             Ok((made, file)) => {
                 self.open_file = Some(made);
-                match gathered(self.alloc, file, self.name()) {
+                match gathered(self.alloc, Stamped::new(file, moment), self.name()) {
                     Ok(writer) => Ok(writer),
                     Err(_) => Err(Fault::Memory),
                 }
@@ -248,7 +272,7 @@ impl<'r, 'a, R: Files> NumberedFiles<'r, 'a, R> {
     }
 
     /// Makes the next file.
-    fn make(&mut self) -> Result<Gathered<'a, R::File>, Fault<'a>>
+    fn make(&mut self) -> Result<Gathered<'a, Stamped<R::File>>, Fault<'a>>
         ensures asked { IfOk result (λ writer. asked_of self.new ≡ asked_of self.old + 1) }
         ensures guarded { replaces_none self.new ≡ replaces_none self.old }
         ensures failed_calls { failed_calls_of self.new ≡ failed_calls_of self.old }
@@ -334,7 +358,7 @@ impl<'r, 'a, R: Files> NumberedFiles<'r, 'a, R> {
 }
 
 impl<'a, R: Files> Outputs for NumberedFiles<'_, 'a, R> {
-    type W = Gathered<'a, R::File>;
+    type W = Gathered<'a, Stamped<R::File>>;
 
     // What a file holds isn't known.
     ghost texts = { λ files. None };
@@ -348,7 +372,7 @@ impl<'a, R: Files> Outputs for NumberedFiles<'_, 'a, R> {
 
     ghost had = { λ files. None };
 
-    fn next(&mut self) -> Result<Gathered<'a, R::File>, OutputFault> {
+    fn next(&mut self) -> Result<Gathered<'a, Stamped<R::File>>, OutputFault> {
         if self.open_file.is_some() || self.failed_calls == u64::MAX {
             let fault = Fault::Output(self.name(), None);
             return Err(self.count_failure(fault));
@@ -362,7 +386,7 @@ impl<'a, R: Files> Outputs for NumberedFiles<'_, 'a, R> {
         }
     }
 
-    fn done(&mut self, writer: Gathered<'a, R::File>) -> Result<(), OutputFault> {
+    fn done(&mut self, writer: Gathered<'a, Stamped<R::File>>) -> Result<(), OutputFault> {
         drop(writer);
         match self.keep() {
             Ok(()) if self.failed_calls < u64::MAX => Ok(()),
@@ -374,7 +398,7 @@ impl<'a, R: Files> Outputs for NumberedFiles<'_, 'a, R> {
         }
     }
 
-    fn give_up(&mut self, writer: Gathered<'a, R::File>) {
+    fn give_up(&mut self, writer: Gathered<'a, Stamped<R::File>>) {
         if writer.failures() > 0 {
             self.given_up = self.given_up.saturating_add(1);
         }

@@ -119,6 +119,15 @@ pub const PREFIX: &str = "PREFIX";
 /// The id of the file that is written.
 pub const OUT: &str = "OUT";
 
+/// The id of the option that names what is written.
+pub const INTO: &str = "o";
+
+/// The id of the moment at which the parts of a split were created.
+pub const CREATED: &str = "created";
+
+/// The id of the flag that wants one sender.
+pub const SAME_SENDER: &str = "same-sender";
+
 /// The id of the most records of a transmission.
 pub const RECORDS: &str = "records";
 
@@ -152,6 +161,18 @@ enum Form {
     },
     /// `-LETTER ID`.
     Letter(char),
+    /// `-ID NAME`, where ID is a letter and NAME this.
+    Short {
+        letter: char,
+        name: &'static str,
+    },
+    /// `-ID NAME`, where ID is a letter and NAME the id of the word in whose place it stands.
+    InPlace {
+        letter: char,
+        other: &'static str,
+    },
+    /// `--ID NAME`, where NAME is this.
+    Named(&'static str),
     /// `-LETTER ID`, a whole number from 1 to the most, which may not be left out.
     Count {
         letter: char,
@@ -165,15 +186,21 @@ enum Form {
     Files,
     /// A name that may not be left out.
     Needed,
-    /// Names of files, of which there is one at least.
-    NeededFiles,
 }
 
 impl Form {
     /// The id of the option that has to stand beside it.
-    fn other(self) -> Option<&'static str> {
+    fn beside(self) -> Option<&'static str> {
         match self {
             Form::FlagBeside(other) | Form::NameBeside { other, .. } => Some(other),
+            _ => None,
+        }
+    }
+
+    /// The id of the word that may not stand beside it.
+    fn in_place_of(self) -> Option<&'static str> {
+        match self {
+            Form::InPlace { other, .. } => Some(other),
             _ => None,
         }
     }
@@ -281,6 +308,17 @@ const KEEPS: Word = Word {
     help: "Refuses to replace a file that is there",
 };
 
+/// How many works' numbers are kept.
+const REPEATS: Word = Word {
+    id: REPEATED,
+    form: Form::Limit {
+        least: 0,
+        most: 99_999_999,
+        default: "0",
+    },
+    help: "Tells work numbers that stand twice: those of so many works are kept, 0 to 99999999",
+};
+
 /// Which words stand before a subcommand's own.
 #[derive(Clone, Copy, Debug, PartialEq, Eq)]
 enum Common {
@@ -301,16 +339,15 @@ struct Subcommand {
     own: &'static [Word],
 }
 
+/// The level of findings that ends a run as a refusal does.
+const FAILS: Word = Word {
+    id: FAIL_ON,
+    form: Form::Level,
+    help: "Status 1 where a finding has that level or a worse one; F is the least, E the worst",
+};
+
 /// The words of subcommands that judge transmissions.
-const JUDGED: [Word; 3] = [
-    Word {
-        id: FAIL_ON,
-        form: Form::Level,
-        help: "Status 1 where a finding has that level or a worse one; F is the least, E the worst",
-    },
-    SILENT,
-    MANY,
-];
+const JUDGED: [Word; 3] = [FAILS, SILENT, MANY];
 
 /// The words of the lint.
 const LINTED: [Word; 4] = [
@@ -329,18 +366,7 @@ const LINTED: [Word; 4] = [
 ];
 
 /// The words of advice.
-const ADVISED: [Word; 2] = [
-    Word {
-        id: REPEATED,
-        form: Form::Limit {
-            least: 0,
-            most: 99_999_999,
-            default: "0",
-        },
-        help: "Tells work numbers that stand twice: those of so many works are kept, 0 to 99999999",
-    },
-    MANY,
-];
+const ADVISED: [Word; 3] = [SILENT, REPEATS, MANY];
 
 /// The words of the export.
 const EXPORTED: [Word; 4] = [
@@ -420,8 +446,14 @@ const IMPORTED: [Word; 4] = [
 ];
 
 /// The words of a split.
-const PARTED: [Word; 4] = [
+const PARTED: [Word; 7] = [
+    FAILS,
     KEEPS,
+    Word {
+        id: CREATED,
+        form: Form::Named("MOMENT"),
+        help: "The first part was created at that moment, YYYYMMDDTHHMMSS, and each other one a second later",
+    },
     Word {
         id: NUMBER,
         form: Form::Count {
@@ -437,28 +469,52 @@ const PARTED: [Word; 4] = [
     },
     Word {
         id: PREFIX,
-        form: Form::Needed,
+        form: Form::File,
         help: "The parts are written to PREFIX00000001, PREFIX00000002 and so on",
+    },
+    Word {
+        id: INTO,
+        form: Form::InPlace {
+            letter: 'o',
+            other: PREFIX,
+        },
+        help: "PREFIX, in the place of the second word",
     },
 ];
 
 /// The words of a join.
-const JOINED: [Word; 3] = [
+const JOINED: [Word; 7] = [
+    FAILS,
     KEEPS,
+    Word {
+        id: SAME_SENDER,
+        form: Form::Flag,
+        help: "Refuses transmissions whose sender is another than that of the first",
+    },
+    REPEATS,
+    Word {
+        id: INTO,
+        form: Form::Short {
+            letter: 'o',
+            name: OUT,
+        },
+        help: "The file that the result is written to; each other word is then a transmission",
+    },
     Word {
         id: OUT,
         form: Form::Needed,
-        help: "The file that the result is written to; it is none of the inputs",
+        help: "The file that the result is written to, which is none of the inputs; with -o the first transmission",
     },
     Word {
         id: FILE,
-        form: Form::NeededFiles,
+        form: Form::Files,
         help: "The transmissions, in their order; - is standard input",
     },
 ];
 
 /// The words of a renumbering.
-const RENUMBERED: [Word; 3] = [
+const RENUMBERED: [Word; 5] = [
+    FAILS,
     KEEPS,
     Word {
         id: FILE,
@@ -469,6 +525,14 @@ const RENUMBERED: [Word; 3] = [
         id: OUT,
         form: Form::File,
         help: "The file that the result is written to; without it that is standard output",
+    },
+    Word {
+        id: INTO,
+        form: Form::InPlace {
+            letter: 'o',
+            other: OUT,
+        },
+        help: "OUT, in the place of the second word",
     },
 ];
 
@@ -484,7 +548,7 @@ const SUBCOMMANDS: [Subcommand; 13] = [
         name: SHOW,
         about: "Shows the records of a transmission, and judges it",
         common: Common::Reading,
-        own: &[ONE],
+        own: &[FAILS, ONE],
     },
     Subcommand {
         name: EXPLAIN,
@@ -575,6 +639,9 @@ fn argument<'a>(alloc: Global, word: Word) -> Result<Arg<'a>, AllocError> {
         Form::Names(name) => arg.long(word.id).value_name(name).action(ArgAction::Append),
         Form::NameBeside { name, .. } => arg.long(word.id).value_name(name),
         Form::Letter(letter) => arg.short(letter).value_name(word.id),
+        Form::Short { letter, name } => arg.short(letter).value_name(name),
+        Form::InPlace { letter, other } => arg.short(letter).value_name(other),
+        Form::Named(name) => arg.long(word.id).value_name(name),
         Form::Count { letter, most } => arg
             .short(letter)
             .value_name(word.id)
@@ -584,11 +651,11 @@ fn argument<'a>(alloc: Global, word: Word) -> Result<Arg<'a>, AllocError> {
         Form::File => arg,
         Form::Files => arg.num_args(1..),
         Form::Needed => arg.required(true),
-        Form::NeededFiles => arg.required(true).num_args(1..),
     };
-    match word.form.other() {
-        Some(other) => arg.requires_arg(other),
-        None => Ok(arg),
+    match (word.form.beside(), word.form.in_place_of()) {
+        (Some(other), _) => arg.requires_arg(other),
+        (None, Some(other)) => arg.conflicts_with(other),
+        (None, None) => Ok(arg),
     }
 }
 
@@ -684,8 +751,8 @@ Examples: cwr check works.cwr
           cwr csv works works.cwr
           cwr acks acknowledgement.cwr
           cwr acks --sent works.cwr --state acknowledgement.cwr
-          cwr split -n 1000 works.cwr part-
-          cwr join whole.cwr part-00000001 part-00000002";
+          cwr split --new -n 1000 works.cwr -o part-
+          cwr join --new -o whole.cwr part-00000001 part-00000002";
 
 /// The program's words.
 pub fn command<'a>(alloc: Global) -> Result<Command<'a>, AllocError> {

@@ -68,3 +68,5 @@ pub mod ToldItems
 pub mod ToldRuns
 -- The fault of an output's writer tells how many bytes that writer has.
 pub mod WritersCounted
+-- A viewer sees the items of input after input.
+pub mod InputsSeen

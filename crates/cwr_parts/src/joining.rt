@@ -2,15 +2,15 @@
 
 ghost use Rattle.std.specs.Prelude.{◌≡◌, ◌<◌, [], true, false, length, OnOk};
 ghost use Rattle.cwr_encode.specs.Steps.Encoders.{is_stopped, encoder_limits};
-ghost use Rattle.cwr_parts.specs.Format.Joins.{CountsJoinWriter, JoinsAccepted};
+ghost use Rattle.cwr_parts.specs.Format.Joins.{CountsJoinWriter, JoinsAccepted, SeesInputs};
 ghost use Rattle.cwr_parts.specs.Format.Told.{JoinsTexts};
-ghost use Rattle.cwr_parts.specs.Steps.Joined.{AddsInput, AddsInputs, CountsAddFault, HasJoined, IsBetweenInputs, reading_fault, joined_writer};
+ghost use Rattle.cwr_parts.specs.Steps.Joined.{AddsInput, AddsInputs, CountsAddFault, HasJoined, IsBetweenInputs, SeesInput, reading_fault, joined_writer};
 
 use crate::joined::Joined;
 use cwr_decode::{ReadFault, Reading};
 use cwr_devices::{Source, Target};
 use cwr_shape::Limits;
-use cwr_tools::{JoinFault, JoinReport, ToolFault};
+use cwr_tools::{Blind, JoinFault, JoinReport, ToolFault, Viewer};
 use std::alloc::Global;
 
 /// What the fault of a reading is reported as.
@@ -26,11 +26,12 @@ pub(crate) fn reading_fault(fault: ReadFault) -> ToolFault
 }
 
 /// Joins an input, which is the first one or not: reads it item by item, up to its end or a fault.
-fn add_input<R: Source, W: Target>(
+fn add_input<R: Source, W: Target, V: Viewer>(
     alloc: Global,
     limits: Limits,
     first: bool,
     reader: &mut R,
+    viewer: &mut V,
     joined: &mut Joined<W>,
 ) -> Result<(), ToolFault>
     requires unfailed { is_stopped joined.old.encoder ≡ false }
@@ -38,6 +39,8 @@ fn add_input<R: Source, W: Target>(
     requires between { IsBetweenInputs W.contents first joined.old }
     ensures adds { AddsInput limits W.contents W.failures first (R.remaining reader.old)
         (R.remaining reader.new) result joined.old joined.new }
+    ensures seen { OnOk result (SeesInput limits V.has_seen (R.remaining reader.old)
+        (R.remaining reader.new) viewer.old viewer.new) }
     ensures failures { CountsAddFault result (R.failures reader.old) (R.failures reader.new) }
 {
     let mut reading = Reading::new(alloc, limits, reader);
@@ -46,6 +49,7 @@ fn add_input<R: Source, W: Target>(
     'items: loop {
         match reading.next_item_after(spent) {
             Ok(Some(item)) => {
+                viewer.see(&item);
                 joined.add(first, &item)?;
                 handed_out += 1;
                 spent = Some(item);
@@ -57,10 +61,11 @@ fn add_input<R: Source, W: Target>(
 }
 
 /// Joins all inputs, in order, up to a fault.
-fn add_inputs<R: Source, W: Target>(
+fn add_inputs<R: Source, W: Target, V: Viewer>(
     alloc: Global,
     limits: Limits,
     readers: &mut [R],
+    viewer: &mut V,
     joined: &mut Joined<W>,
 ) -> Result<(), JoinFault>
     requires unfailed { is_stopped joined.old.encoder ≡ false }
@@ -70,10 +75,12 @@ fn add_inputs<R: Source, W: Target>(
         result joined.old joined.new }
     ensures writer_failures { CountsJoinWriter result (W.failures (joined_writer joined.old))
         (W.failures (joined_writer joined.new)) }
+    ensures seen { OnOk result
+        (SeesInputs limits R.remaining V.has_seen readers.old viewer.old viewer.new) }
 {
     let mut i = 0;
     'inputs: while i < readers.len() {
-        match add_input(alloc, limits, i == 0, &mut readers[i], joined) {
+        match add_input(alloc, limits, i == 0, &mut readers[i], viewer, joined) {
             Ok(()) => i += 1,
             Err(fault) => {
                 return Err(JoinFault {
@@ -114,8 +121,30 @@ pub fn join<R: Source, W: Target + Drop>(
     ensures accepted { JoinsAccepted limits R.remaining W.contents readers.old writer result.0
         result.1 }
 {
+    join_viewed(alloc, limits, readers, &mut Blind, writer)
+}
+
+/// Joins transmissions as `join` does. The viewer sees the items of the inputs while they are read.
+pub fn join_viewed<R: Source, W: Target + Drop, V: Viewer>(
+    alloc: Global,
+    limits: Limits,
+    readers: &mut [R],
+    viewer: &mut V,
+    writer: W,
+) -> (W, Result<JoinReport, JoinFault>)
+    requires { 0 < length readers.old }
+    ensures told { JoinsTexts limits R.remaining R.failures W.contents readers.old readers.new writer
+        result.0 result.1 }
+    ensures writer_failures { CountsJoinWriter result.1 (W.failures writer) (W.failures result.0) }
+    ensures handed_on { OnOk result.1 (W.handed_on result.0 ≡ true) }
+    ensures accepted { JoinsAccepted limits R.remaining W.contents readers.old writer result.0
+        result.1 }
+    // Where the inputs are accepted, it saw the items of all.
+    ensures seen { OnOk result.1
+        (SeesInputs limits R.remaining V.has_seen readers.old viewer.old viewer.new) }
+{
     let mut joined = Joined::new(writer, limits);
-    match add_inputs(alloc, limits, readers, &mut joined) {
+    match add_inputs(alloc, limits, readers, viewer, &mut joined) {
         Ok(()) => joined.finish(readers.len()),
         Err(stopped) => (joined.abandon(), Err(stopped)),
     }

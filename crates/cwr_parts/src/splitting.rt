@@ -7,6 +7,7 @@ ghost use Rattle.cwr_parts.specs.Steps.SplitOutputs.{open_failures, told_by};
 ghost use Rattle.cwr_parts.specs.Steps.SplitItems.{MayTake, SplitsItems, TakesItem};
 ghost use Rattle.cwr_parts.specs.Format.Splitting.{CountsSplitOutput, CountsSplitReader, CountsSplitWriter, TellsWritten};
 ghost use Rattle.cwr_parts.specs.Format.Told.{SplitsText};
+ghost use Rattle.cwr_tools.specs.Format.Viewing.{SeesText};
 ghost use Rattle.cwr_parts.specs.Steps.SplitSteps.{AddsTransaction, EndsGroup, FinishesOutput, GivesUp, MayAddTransaction, MayEndGroup, MayFinish, KeepsLent};
 ghost use Rattle.cwr_parts.specs.Steps.SplitSteps.{MayWrite, OpensOutput, Writes, has_all, is_new, open_outputs};
 ghost use Rattle.cwr_parts.specs.Steps.SplitWriters.{CountsOpen, CountsWritten, had_after};
@@ -16,7 +17,7 @@ use crate::split_output::{SplitOutput, hand_over};
 use cwr_decode::Reading;
 use cwr_devices::{Outputs, Source, Target};
 use cwr_shape::Limits;
-use cwr_tools::{SplitReport, ToolFault};
+use cwr_tools::{Blind, SplitReport, ToolFault, Viewer};
 use cwr_values::Item;
 use std::alloc::Global;
 
@@ -224,10 +225,11 @@ fn give_up<O: Outputs>(output: Option<SplitOutput<O::W>>, outputs: &mut O)
 }
 
 /// Splits what the reader has, item by item, up to its end or a fault.
-fn split_items<R: Source, O: Outputs>(
+fn split_items<R: Source, O: Outputs, V: Viewer>(
     alloc: Global,
     limits: Limits,
     reader: &mut R,
+    viewer: &mut V,
     splitting: &mut Splitting<O::W>,
     outputs: &mut O,
 ) -> Result<(), ToolFault>
@@ -236,6 +238,8 @@ fn split_items<R: Source, O: Outputs>(
     ensures splits { SplitsItems limits splitting.old.size (R.remaining reader.old)
         (R.remaining reader.new) (O.texts outputs.old) (O.texts outputs.new) splitting.new.report
         result }
+    ensures seen { OnOk result
+        (SeesText limits V.has_seen (R.remaining reader.old) viewer.old viewer.new) }
     ensures ended { OnOk result (splitting.new.output ≡ None) }
     ensures lent { KeepsLent (O.lent outputs.old) splitting.old.output (O.lent outputs.new)
         splitting.new.output }
@@ -252,6 +256,7 @@ fn split_items<R: Source, O: Outputs>(
     'items: loop {
         match reading.next_item() {
             Ok(Some(item)) => {
+                viewer.see(&item);
                 take_item(splitting, item, outputs)?;
                 handed_out += 1;
             }
@@ -296,8 +301,33 @@ pub fn split<R: Source, O: Outputs>(
     // A writer's fault tells how many bytes that writer had.
     ensures written { IfSome (O.texts outputs.old) (λ _. TellsWritten result (O.had outputs.new)) }
 {
+    split_viewed(alloc, limits, reader, n, &mut Blind, outputs)
+}
+
+/// Splits a transmission as `split` does. The viewer sees its items while it is read.
+pub fn split_viewed<R: Source, O: Outputs, V: Viewer>(
+    alloc: Global,
+    limits: Limits,
+    reader: &mut R,
+    n: u32,
+    viewer: &mut V,
+    outputs: &mut O,
+) -> Result<SplitReport, ToolFault>
+    requires { 0 < n }
+    ensures told { SplitsText limits n (R.remaining reader.old) (R.remaining reader.new)
+        (O.texts outputs.old) (O.texts outputs.new) result }
+    ensures reader_failures { CountsSplitReader result (R.failures reader.old)
+        (R.failures reader.new) }
+    ensures failures { CountsSplitOutput result (O.failures outputs.old) (O.failures outputs.new) }
+    ensures given_up { CountsSplitWriter result (O.given_up outputs.old) (O.given_up outputs.new) }
+    ensures lent { O.lent outputs.new ≡ O.lent outputs.old }
+    ensures written { IfSome (O.texts outputs.old) (λ _. TellsWritten result (O.had outputs.new)) }
+    // Where the text is accepted, it saw the items of its transmission.
+    ensures seen { OnOk result
+        (SeesText limits V.has_seen (R.remaining reader.old) viewer.old viewer.new) }
+{
     let mut splitting = Splitting::new(limits, n);
-    match split_items(alloc, limits, reader, &mut splitting, outputs) {
+    match split_items(alloc, limits, reader, viewer, &mut splitting, outputs) {
         Ok(()) => Ok(splitting.report),
         Err(fault) => {
             give_up(splitting.output, outputs);

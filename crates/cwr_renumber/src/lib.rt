@@ -1,6 +1,7 @@
 //! A transmission whose numbers are put right: transaction and record sequences, group IDs and counts.
 #![tactic(auto)]
 
+mod jumps;
 pub mod laws;
 mod lines;
 mod outcomes;
@@ -8,5 +9,6 @@ mod renumbering;
 mod sources;
 mod takings;
 
+pub use jumps::{Jump, Jumps, Step};
 pub use outcomes::put_renumber_outcome;
-pub use renumbering::renumber;
+pub use renumbering::{renumber, renumber_viewed};

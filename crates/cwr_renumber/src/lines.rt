@@ -5,6 +5,7 @@ ghost use Rattle.cwr_lines.specs.declared.lines.LineEnd.TheVariants.{Open};
 ghost use Rattle.cwr_lines.specs.Steps.Held.{held_kind};
 ghost use Rattle.cwr_renumber.specs.Steps.Renumbered.{counted_as, line_by, numbering_after, numbers_by, type_named};
 
+use crate::jumps::Jumps;
 use cwr_fields::{Cell, Kind, TransactionType};
 use cwr_lines::{CutLine, RenumberedLine};
 use cwr_shape::{Numbering, Symbol};
@@ -42,13 +43,19 @@ fn numbers_by(kind: Option<Kind>, numbering: &Numbering) -> [u64; 3]
     }
 }
 
-/// Sets the line with the numbers that belong in it, and counts it.
-pub(crate) fn put_line(numbering: &mut Numbering, line: &CutLine<'_>, out: &mut RenumberedLine)
+/// Sets the line with the numbers that belong in it, and counts it. The jumps take it too.
+pub(crate) fn put_line(
+    numbering: &mut Numbering,
+    line: &CutLine<'_>,
+    jumps: &mut Jumps,
+    out: &mut RenumberedLine,
+)
     ensures line { out.new ≡ line_by numbering.old line.now }
     ensures counted { numbering.new ≡ numbering_after numbering.old line.now }
 {
     let kind = line.kind();
     let numbers = numbers_by(kind, numbering);
+    jumps.take(line, &numbers);
     out.set(line, &numbers);
     if let Some(kind) = kind {
         numbering.count(counted_as(kind, line));

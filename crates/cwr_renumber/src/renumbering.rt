@@ -1,13 +1,16 @@
 //! A transmission with its numbers put right.
 
-ghost use Rattle.std.specs.Prelude.{◌≡◌, true, IfErr, OnOk};
+ghost use Rattle.std.specs.Prelude.{◌≡◌, true, IfErr, OnOk, option_map};
+ghost use Rattle.cwr_renumber.specs.Steps.Renumbered.{renumbered_text};
+ghost use Rattle.cwr_tools.specs.Format.Viewing.{SeesText};
 ghost use Rattle.cwr_renumber.specs.Steps.Renumberings.{CountsWriter, LeavesRenumbered, Renumbers, RenumbersAccepted, of_one};
 
+use crate::jumps::Jumps;
 use crate::sources::Renumbered;
 use cwr_devices::{Source, Target};
-use cwr_parts::join;
+use cwr_parts::join_viewed;
 use cwr_shape::Limits;
-use cwr_tools::{JoinFault, JoinReport, ToolFault};
+use cwr_tools::{Blind, JoinFault, JoinReport, ToolFault, Viewer};
 use std::alloc::Global;
 use std::slice::from_mut;
 
@@ -48,7 +51,33 @@ pub fn renumber<R: Source, W: Target + Drop>(
     // All that was written was handed on.
     ensures handed_on { OnOk result.1 (W.handed_on result.0 ≡ true) }
 {
+    let (writer, outcome, _) = renumber_viewed(alloc, limits, reader, &mut Blind, writer);
+    (writer, outcome)
+}
+
+/// Puts numbers right as `renumber` does. The viewer sees the items of the transmission while it is read. Where the sequences of the lines
+/// that were read don't go on is answered too.
+pub fn renumber_viewed<R: Source, W: Target + Drop, V: Viewer>(
+    alloc: Global,
+    limits: Limits,
+    reader: &mut R,
+    viewer: &mut V,
+    writer: W,
+) -> (W, Result<JoinReport, ToolFault>, Jumps)
+    ensures renumbers { Renumbers limits (R.remaining reader.old) W.contents writer result.0
+        result.1 }
+    ensures accepted { RenumbersAccepted limits (R.remaining reader.old) W.contents writer result.0
+        result.1 }
+    ensures leaves { IfErr result.1 (LeavesRenumbered limits (R.remaining reader.old) W.contents
+        writer result.0) }
+    ensures writer_failures { CountsWriter result.1 (W.failures writer) (W.failures result.0) }
+    ensures handed_on { OnOk result.1 (W.handed_on result.0 ≡ true) }
+    // Where the text with its numbers put right is accepted, it saw the items of its transmission.
+    ensures seen { OnOk result.1 (SeesText limits V.has_seen
+        (option_map renumbered_text (R.remaining reader.old)) viewer.old viewer.new) }
+{
     let mut source = Renumbered::new(reader);
-    let (writer, joined) = join(alloc, limits, from_mut(&mut source), writer);
-    (writer, of_one(joined))
+    let (writer, joined) = join_viewed(alloc, limits, from_mut(&mut source), viewer, writer);
+    let jumps = source.take_jumps();
+    (writer, of_one(joined), jumps)
 }

@@ -4,11 +4,13 @@ ghost use Rattle.std.specs.Prelude.{◌≡◌, ◌≤◌, ◌+◌, false, length
 ghost use Rattle.cwr_lines.specs.declared.lines.LineEnd.TheVariants.{Open};
 ghost use Rattle.cwr_lines.specs.Steps.Held.{ended_too_long};
 
+use crate::jumps::Jumps;
 use crate::lines::put_line;
 use crate::takings::take_line;
 use cwr_devices::{DeviceFault, Source};
 use cwr_lines::{LineBuf, LineEnd, RenumberedLine};
 use cwr_shape::Numbering;
+use std::mem;
 
 /// Whether a line ended before a byte too many.
 fn is_too_long(ended: LineEnd) -> bool
@@ -24,6 +26,8 @@ pub(crate) struct Renumbered<'a, R> {
     /// The bytes of the next line that were taken.
     line: LineBuf,
     numbering: Numbering,
+    /// Where the sequences of the lines that were taken don't go on.
+    jumps: Jumps,
     /// The line that is handed out.
     out: RenumberedLine,
     /// How many bytes it has.
@@ -47,6 +51,7 @@ impl<R> Drop for Renumbered<'_, R> {
             inner: _,
             line: _,
             numbering: _,
+            jumps: _,
             out: _,
             end: _,
             at: _,
@@ -73,12 +78,18 @@ impl<'a, R: Source> Renumbered<'a, R> {
             inner,
             line: LineBuf::new(),
             numbering: Numbering::new(),
+            jumps: Jumps::none(),
             out: RenumberedLine::new(),
             end: 0,
             at: 0,
             shown: 0,
             is_over: false,
         }
+    }
+
+    /// Where the sequences of the lines that were taken don't go on. None is kept any more.
+    pub(crate) fn take_jumps(&mut self) -> Jumps {
+        mem::replace(&mut self.jumps, Jumps::none())
     }
 
     /// Takes the next line, where nothing is left of the one that is handed out. At the end of the source there is none.
@@ -97,7 +108,12 @@ impl<'a, R: Source> Renumbered<'a, R> {
         if let LineEnd::Open = ended {
             return Ok(());
         }
-        put_line(&mut self.numbering, &self.line.cut(), &mut self.out);
+        put_line(
+            &mut self.numbering,
+            &self.line.cut(),
+            &mut self.jumps,
+            &mut self.out,
+        );
         self.line.clear();
         self.is_over = is_too_long(ended);
         self.end = self.out.as_slice().len();

@@ -26,7 +26,14 @@ fn explained(
         text: Vec::new(rt.alloc()),
         room,
     });
-    let (writer, answer, _) = explain(rt.alloc(), limits, "a.cwr", &mut watch, &mut reader, writer);
+    let (writer, answer, _, _) = explain(
+        rt.alloc(),
+        limits,
+        "a.cwr",
+        &mut watch,
+        &mut reader,
+        writer,
+    );
     (writer.into_inner().text, answer)
 }
 

@@ -22,3 +22,5 @@ pub mod WatchedRuns
 pub mod NotedTexts
 -- A report after transactions of which nothing is told: it is as if these had been read and their lines put.
 pub mod ToldReports
+-- What a viewer sees comes item by item, up to the last of a transmission.
+pub mod Viewed

@@ -3,4 +3,5 @@ pub mod Laws
 pub mod Reports
 pub mod Texts
 pub mod Verdicts
+pub mod Viewing
 pub mod Watching

@@ -83,19 +83,20 @@ pub fn check_watched<R: Source, W: Target + Drop>(
 
 /// Checks a transmission as `check` does, and writes what that writes, with lines under each finding: where its record stands, the
 /// rule in words, how much it rejects, and the cells that it speaks of. These lines begin with two spaces. Beside its answer comes
-/// how far it came. The watch sees the findings that are told.
+/// how far it came. The watch sees the findings that are told, and they are counted.
 pub fn check_explained<R: Source, W: Target + Drop>(
     alloc: Global,
     limits: Limits,
     watch: &mut Watch,
     reader: &mut R,
     writer: W,
-) -> (W, Result<Verdict, ToolFault>, Front)
+) -> (W, Result<Verdict, ToolFault>, Front, FindingCount)
     ensures reported { Reports lines_of_explained limits (R.remaining reader.old)
         (R.remaining reader.new) W.contents writer result.0 result.1 }
     ensures told { ReportsText lines_of_explained limits (R.remaining reader.old)
         (R.remaining reader.new) W.contents writer result.0 result.1 }
     ensures seen { OnOk result.1 (SeesAccepted limits (R.remaining reader.old) watch.old watch.new) }
+    ensures told_of { OnOk result.1 (CountsAccepted limits (R.remaining reader.old) result.3) }
     ensures reader_failures { CountsReaderFault result.1 (R.failures reader.old)
         (R.failures reader.new) }
     ensures writer_failures { CountsWriterFault result.1 (W.failures writer) (W.failures result.0) }
@@ -108,7 +109,7 @@ pub fn check_explained<R: Source, W: Target + Drop>(
     let mut lines = FindingLines::new(true, false);
     let (writer, outcome, front) = write_report(&mut lines, true, alloc, limits, reader, writer);
     watch.see(lines.told.worst);
-    (writer, outcome, front)
+    (writer, outcome, front, lines.told)
 }
 
 /// How far a check came.

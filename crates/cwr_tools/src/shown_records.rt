@@ -70,7 +70,7 @@ fn put_transaction<W: Target>(
 }
 
 /// Puts the lines of an item's records, whose first has that number.
-fn put_records<W: Target>(
+pub(crate) fn put_records<W: Target>(
     first: u64,
     item: &Item,
     lines: &mut RecordLines,

@@ -80,6 +80,16 @@ impl FindingCount {
         }
     }
 
+    /// Whether one has the level, or a worse one; where no level is given, none has.
+    pub fn reaches(&self, from: Option<Level>) -> bool
+        ensures { result ≡ is_reached from self.now.worst }
+    {
+        match (from, self.worst) {
+            (Some(from), Some(worst)) => reach(from) <= reach(worst),
+            _ => false,
+        }
+    }
+
     /// These are.
     pub(crate) fn add(&mut self, found: &[Finding])
         ensures counted { self.new.findings ≡ min (self.old.findings + length found.now) (2 ^ 64 - 1) }

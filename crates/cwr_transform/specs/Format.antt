@@ -2,3 +2,4 @@
 pub mod Endings
 pub mod Imports
 pub mod Joins
+pub mod Openings

@@ -3,7 +3,7 @@
 ghost use Rattle.std.specs.Prelude.{◌≡◌, true};
 ghost use Rattle.cwr_files.specs.Format.Faults.{IfErr, IsUnkept};
 ghost use Rattle.cwr_transform.specs.Format.Endings.{EndsAfterFault};
-ghost use Rattle.cwr_transform.specs.Steps.Looks.{follows, status_in, whole_status};
+ghost use Rattle.cwr_transform.specs.Steps.Looks.{follows, good_status, status_in, whole_status};
 
 use cwr_causes::Trailing;
 use cwr_files::{Fault, Name, NewFile, Told};
@@ -53,7 +53,7 @@ pub fn follows(trailing: &Trailing) -> bool
 }
 
 /// The status of a run on a transmission that is good, by what follows that where nothing may. `None` where the input failed there.
-pub(crate) fn status_after(whole: bool, look: Look) -> Option<Status>
+fn status_after(whole: bool, look: Look) -> Option<Status>
     ensures { result ≡ whole_status whole look }
 {
     match look {
@@ -63,15 +63,31 @@ pub(crate) fn status_after(whole: bool, look: Look) -> Option<Status>
     }
 }
 
+/// The status of a run on a transmission that is good, where `found` says whether a finding came that is unwanted. `None` where nothing
+/// may follow it, and the input failed there.
+pub(crate) fn good_status(wanted: Wanted, look: Look, found: bool) -> Option<Status>
+    ensures { result ≡ good_status wanted look found }
+{
+    if found {
+        return Some(Status::Refused);
+    }
+    status_after(wanted.whole, look)
+}
+
+/// The status of a good transmission, where `found` says whether a finding came that is unwanted.
+pub(crate) fn status_by(found: bool) -> Status {
+    if found { Status::Refused } else { Status::Good }
+}
+
 /// The status of a verdict, where `found` says whether a finding came that is unwanted. `None` where nothing may follow the
 /// transmission, and the input failed there.
 pub fn status_of(wanted: Wanted, verdict: &Verdict, look: Look, found: bool) -> Option<Status>
     ensures { result ≡ status_in wanted verdict.now look found }
 {
-    if found || !matches!(verdict, Verdict::Good { .. }) {
-        return Some(Status::Refused);
+    match verdict {
+        Verdict::Good { .. } => good_status(wanted, look, found),
+        Verdict::Refused(_) | Verdict::Truncated { .. } => Some(Status::Refused),
     }
-    status_after(wanted.whole, look)
 }
 
 /// What the end of a run means for the program, by the fault at which it stopped: that of the input, that of the output, or another.

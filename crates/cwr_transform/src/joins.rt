@@ -1,10 +1,13 @@
 //! Transmissions that are joined to one.
 
-ghost use Rattle.std.specs.Prelude.{◌≡◌, ◌<◌, length, IfOk};
+ghost use Rattle.std.specs.Prelude.{◌≡◌, ◌<◌, ◌&&◌, not, length, IfOk, IfSome};
 ghost use Rattle.cwr_files.specs.Format.Faults.{IfErr};
-ghost use Rattle.cwr_transform.specs.Format.Joins.{EndsAfterJoin, EndsAsJoin, EndsJoined, IsRefusedOut, IsUnjoined, IsUnread, IsUnwritten, is_wanted};
+ghost use Rattle.cwr_transform.specs.Format.Joins.{EndsAfterJoin, EndsAsJoin, EndsJoined, IsRefusedOut, IsRefusedSender, IsUnjoined, IsUnread, IsUnwritten, is_wanted};
 
-use crate::endings::{Look, Status, ended_by, follows, settle};
+use crate::endings::{Look, Status, Wanted, ended_by, follows, settle};
+use crate::finding_notes::{tell_findings, tell_unwritten};
+use crate::join_notes::{other_sender, tell_repeated, tell_senders, word_of};
+use crate::join_views::JoinView;
 use crate::looks::{look_beyond, tell_following};
 use crate::splits::hand_on;
 use cwr_devices::{ReadAhead, Sink, Source};
@@ -12,7 +15,7 @@ use cwr_files::{
     Fault, Gathered, Input, Name, Pace, Paced, Told, Unwatched, create_output, gathered,
     identity_of, identity_of_input, is_standard, is_there, open_input, told_of,
 };
-use cwr_parts::{join, put_join_outcome};
+use cwr_parts::{join_viewed, put_join_outcome};
 use cwr_shape::Limits;
 use cwr_tools::{JoinFault, JoinReport};
 use std::alloc::Global;
@@ -23,12 +26,16 @@ use std::rt::Files;
 #[derive(Clone, Copy, Debug)]
 pub struct Union<'a> {
     pub limits: Limits,
-    /// Nothing may follow a transmission.
-    pub whole: bool,
+    /// What is wanted of each transmission.
+    pub wanted: Wanted,
     /// The name of the file that is written.
     pub out: &'a str,
     /// That file may replace none.
     pub only_new: bool,
+    /// A sender that is another than that of the first transmission is refused.
+    pub same_sender: bool,
+    /// The numbers of so many works are kept, and those that stand in two transmissions are told.
+    pub repeated: u32,
 }
 
 /// An input that is read. How far that is isn't followed: the result is, as it is written.
@@ -94,7 +101,7 @@ fn told_at<F: Drop, I: Drop>(
 }
 
 /// What a word that names an input is called in messages.
-fn name_of(word: &str) -> Name<'_> {
+pub(crate) fn name_of(word: &str) -> Name<'_> {
     if is_standard(Some(word)) {
         Name::StandardInput
     } else {
@@ -132,20 +139,24 @@ struct Joined<'a> {
     outcome: Result<JoinReport, JoinFault>,
     /// Whether bytes follow the transmission of an input, or the number of the input that failed there. `None` where the join failed.
     after: Option<Result<bool, usize>>,
+    /// Whether a finding in them is unwanted.
+    found: bool,
     /// What is known of the file that was written.
     written: Told<'a>,
 }
 
 impl Joined<'_> {
-    /// Whether what was written is what is wanted: a transmission, and where nothing may follow those of the inputs nothing does.
+    /// Whether what was written is what is wanted: a transmission, without an unwanted finding, and where nothing may follow those of the
+    /// inputs nothing does.
     fn is_wanted(&self, whole: bool) -> bool
-        ensures { result ≡ is_wanted whole self.now.after }
+        ensures { result ≡ (is_wanted whole self.now.after && not self.now.found) }
     {
-        match self.after {
+        let is_whole = match self.after {
             Some(Ok(follows)) => !(whole && follows),
             Some(Err(_)) => !whole,
             None => false,
-        }
+        };
+        is_whole && !self.found
     }
 }
 
@@ -154,6 +165,7 @@ fn write_joined<'a, R: Source, F: Write + Drop, P: Pace>(
     alloc: Global,
     union: &Union<'a>,
     readers: &mut [R],
+    view: &mut JoinView,
     file: F,
     pace: &mut P,
 ) -> Option<(Result<JoinReport, JoinFault>, Told<'a>)>
@@ -161,33 +173,77 @@ fn write_joined<'a, R: Source, F: Write + Drop, P: Pace>(
 {
     let name = Name::File(union.out);
     let writer = gathered(alloc, Paced::new(file, name, &mut *pace), name).ok()?;
-    let (writer, outcome) = join(alloc, union.limits, readers, writer);
+    let (writer, outcome) = join_viewed(alloc, union.limits, readers, view, writer);
     let written = told_of(writer);
     pace.end();
     Some((outcome, written))
+}
+
+/// Tells what was seen of transmissions that are joined: who sent them, which works stand in two of them, and their findings. `is_kept`
+/// says whether the file of that name has its name.
+fn tell_view<E: Write>(
+    error: &mut E,
+    out: Name<'_>,
+    names: &[&str],
+    view: &JoinView,
+    is_kept: bool,
+    found: bool,
+) {
+    tell_senders(&mut *error, names, view.openings.as_slice());
+    tell_repeated(&mut *error, names, view);
+    let count = &view.findings.count;
+    if is_kept {
+        tell_findings(error, out, count, Status::Good);
+    } else if found {
+        tell_unwritten(error, out, count);
+    }
+}
+
+/// The fault of a join that succeeded: memory was refused for what was seen, or a transmission has another sender than the first and may
+/// not.
+fn fault_seen<'a>(union: &Union<'_>, names: &[&'a str], view: &JoinView) -> Option<Fault<'a>>
+    ensures { IfSome result (IsRefusedSender union.now.same_sender) }
+{
+    if view.lacks_memory() {
+        return Some(Fault::Memory);
+    }
+    if !union.same_sender {
+        return None;
+    }
+    let number = other_sender(view.openings.as_slice())?;
+    Some(Fault::IsOther(name_of(word_of(names, number)?)))
 }
 
 /// Joins the inputs to a file, which gets its name where that is what is wanted.
 fn join_to_file<'a, R: Files + AllocGlobal, S: Source, P: Pace, E: Write>(
     rt: &R,
     union: &Union<'a>,
-    names: &[&str],
+    names: &[&'a str],
     readers: &mut [S],
     pace: &mut P,
     error: &mut E,
 ) -> Result<Joined<'a>, Fault<'a>>
     requires { 0 < length readers.old }
-    ensures { IfErr result (IsUnjoined (Name.File union.now.out)) }
+    ensures { IfErr result (IsUnjoined union.now) }
 {
     let alloc = rt.alloc();
     let (made, file) = match create_output(rt, alloc, union.out) {
         Ok(made) => made,
         Err(fault) => return Err(fault),
     };
-    let Some((outcome, written)) = write_joined(alloc, union, &mut *readers, file, pace) else {
+    let mut view = JoinView::new(alloc, union.repeated);
+    let Some((outcome, written)) = write_joined(alloc, union, &mut *readers, &mut view, file, pace)
+    else {
         made.discard(rt);
         return Err(Fault::Memory);
     };
+    if outcome.is_ok() {
+        if let Some(fault) = fault_seen(union, names, &view) {
+            made.discard(rt);
+            tell_senders(error, names, view.openings.as_slice());
+            return Err(fault);
+        }
+    }
     let after = match outcome {
         Ok(_) => Some(look_after_each(readers, names, &mut *error)),
         Err(_) => None,
@@ -195,10 +251,18 @@ fn join_to_file<'a, R: Files + AllocGlobal, S: Source, P: Pace, E: Write>(
     let joined = Joined {
         outcome,
         after,
+        found: outcome.is_ok() && view.findings.count.reaches(union.wanted.fail_on),
         written,
     };
-    match settle(rt, made, union.out, joined.is_wanted(union.whole), error) {
-        Ok(()) => Ok(joined),
+    let is_kept = joined.is_wanted(union.wanted.whole);
+    match settle(rt, made, union.out, is_kept, &mut *error) {
+        Ok(()) => {
+            if joined.outcome.is_ok() {
+                let name = Name::File(union.out);
+                tell_view(error, name, names, &view, is_kept, joined.found);
+            }
+            Ok(joined)
+        }
         Err(fault) => Err(fault),
     }
 }
@@ -221,11 +285,12 @@ fn ending<'a, F: Drop, I: Drop>(
     union: &Union<'a>,
     readers: Vec<Reader<'a, F, I>>,
 ) -> Result<Status, Fault<'a>>
-    ensures { EndsJoined union.now joined.entry.outcome joined.entry.after result }
+    ensures { EndsJoined union.now joined.entry.outcome joined.entry.found joined.entry.after result }
 {
     let written = joined.written;
     match joined.outcome {
-        Ok(_) => after_join(joined.after, union.whole, readers, written),
+        Ok(_) if joined.found => Ok(Status::Refused),
+        Ok(_) => after_join(joined.after, union.wanted.whole, readers, written),
         Err(stopped) => {
             let read = told_at(readers, stopped.input).unwrap_or(written);
             let made = Fault::Output(Name::File(union.out), None);
@@ -293,7 +358,7 @@ pub fn join_files<'a, R: Files + AllocGlobal, I: Read + Drop, P: Pace, O: Write 
         Ok(joined) => joined,
         Err(fault) => return Err(fault),
     };
-    if let Err(fault) = put_joined(&joined, union.whole, lines) {
+    if let Err(fault) = put_joined(&joined, union.wanted.whole, lines) {
         return Err(fault);
     }
     ending(joined, union, readers)

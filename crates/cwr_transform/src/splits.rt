@@ -4,19 +4,23 @@ ghost use Rattle.cwr_transform.specs.Format.Endings.{EndsAsSplit};
 ghost use Rattle.cwr_transform.specs.Format.Joins.{IsUnwritten};
 ghost use Rattle.cwr_files.specs.Format.Faults.{IfErr};
 ghost use Rattle.cwr_files.specs.Steps.Inputs.{remaining_of};
-ghost use Rattle.cwr_transform.specs.Steps.Looks.{whole_status};
+ghost use Rattle.cwr_transform.specs.Steps.Looks.{good_status};
+ghost use Rattle.cwr_tools.specs.Format.Watching.{CountsAccepted};
+ghost use Rattle.std.specs.Prelude.{OnOk};
 ghost use Rattle.cwr_transform.specs.Steps.Splits.{JudgesCut, SplitEndsAs};
 
-use crate::endings::{Look, Status, ended_by, status_after};
+use crate::endings::{Look, Status, Wanted, ended_by, good_status, status_by};
+use crate::finding_notes::tell_findings;
 use crate::looks::{look_beyond, tell_following};
 use cwr_devices::{Outputs, ReadAhead, Sink, SinkFault, Source, Target};
 use cwr_files::{
     Fault, Gathered, Identity, Input, Name, NumberedFiles, Pace, Told, gathered, identity_of_input,
     part_number, part_that_is, told_of,
 };
-use cwr_parts::{put_split_outcome, split};
+use cwr_moments::Moment;
+use cwr_parts::{put_split_outcome, split_viewed};
 use cwr_shape::Limits;
-use cwr_tools::{SplitReport, ToolFault};
+use cwr_tools::{FindingCount, FindingView, SplitReport, ToolFault};
 use std::alloc::{AllocError, Global};
 use std::io::{Read, Write};
 use std::num::NonZeroU32;
@@ -26,14 +30,16 @@ use std::rt::Files;
 #[derive(Clone, Copy, Debug)]
 pub struct Cut<'a> {
     pub limits: Limits,
-    /// Nothing may follow the transmission.
-    pub whole: bool,
+    /// What is wanted of the transmission.
+    pub wanted: Wanted,
     /// The transactions of a part.
     pub transactions: NonZeroU32,
     /// The word that names the input.
     pub file: &'a str,
     /// What the names of the parts begin with.
     pub prefix: &'a str,
+    /// When the first part is created, and each other one a second later; without it when the transmission was.
+    pub created: Option<Moment>,
     /// No part may replace a file.
     pub only_new: bool,
 }
@@ -66,18 +72,27 @@ fn part_of_input<R: Files>(
     }
 }
 
-/// Cuts the transmission of a reader into outputs, and looks what stands after it there.
+/// Cuts the transmission of a reader into outputs, counts the findings in it, and looks what stands after it there.
 fn cut_source<R: Source, O: Outputs>(
     alloc: Global,
     cut: &Cut<'_>,
     reader: &mut R,
     outputs: &mut O,
-) -> (Result<SplitReport, ToolFault>, Look)
-    ensures { JudgesCut cut.now.limits (R.remaining reader.old) result.0 result.1 }
+) -> (Result<SplitReport, ToolFault>, Look, FindingCount)
+    ensures judged { JudgesCut cut.now.limits (R.remaining reader.old) result.0 result.1 }
+    ensures counted { OnOk result.0
+        (CountsAccepted cut.now.limits (R.remaining reader.old) result.2) }
 {
-    match split(alloc, cut.limits, reader, cut.transactions.get(), outputs) {
-        Ok(report) => (Ok(report), look_beyond(reader)),
-        Err(fault) => (Err(fault), Look::Unasked),
+    let mut view = FindingView::new(alloc);
+    let size = cut.transactions.get();
+    match split_viewed(alloc, cut.limits, reader, size, &mut view, outputs) {
+        Ok(report) => {
+            if view.lacks_memory {
+                return (Err(ToolFault::Memory), Look::Unasked, view.count);
+            }
+            (Ok(report), look_beyond(reader), view.count)
+        }
+        Err(fault) => (Err(fault), Look::Unasked, view.count),
     }
 }
 
@@ -96,7 +111,7 @@ pub fn split_file<
     output: O,
     error: &mut E,
 ) -> Result<Status, Fault<'a>>
-    ensures { EndsAsSplit cut.now.limits cut.now.whole
+    ensures { EndsAsSplit cut.now.limits cut.now.wanted
         (remaining_of R.File.remaining I.remaining input.entry) result }
 {
     let alloc = rt.alloc();
@@ -108,29 +123,34 @@ pub fn split_file<
     }
     let lines = gathered(alloc, output, Name::StandardOutput).map_err(|_| Fault::Memory)?;
     let mut reader = ReadAhead::new(input);
-    let mut files = NumberedFiles::new(rt, alloc, cut.prefix, own, cut.only_new);
-    let (outcome, look) = cut_source(alloc, cut, &mut reader, &mut files);
+    let mut files = NumberedFiles::new(rt, alloc, cut.prefix, own, cut.only_new, cut.created);
+    let (outcome, look, count) = cut_source(alloc, cut, &mut reader, &mut files);
     let told = reader.into_inner().told();
     let mut sink = Sink::new(lines);
     let put = put_split_outcome(&outcome, &mut sink);
     hand_on(put, sink)?;
     tell_following(&mut *error, told.name, &look);
-    files.tell_replaced(error);
-    split_ending(outcome, cut.whole, look, told, files.fault())
+    files.tell_replaced(&mut *error);
+    let found = count.reaches(cut.wanted.fail_on);
+    if outcome.is_ok() {
+        tell_findings(error, told.name, &count, status_by(found));
+    }
+    split_ending(outcome, cut.wanted, look, found, told, files.fault())
 }
 
-/// How a split ends the run: by what came of it, and by what follows the transmission where nothing may.
+/// How a split ends the run: by what came of it, by what follows the transmission where nothing may, and by whether a finding is unwanted.
 fn split_ending<'a>(
     outcome: Result<SplitReport, ToolFault>,
-    whole: bool,
+    wanted: Wanted,
     look: Look,
+    found: bool,
     told: Told<'a>,
     made: Fault<'a>,
 ) -> Result<Status, Fault<'a>>
-    ensures { SplitEndsAs told.entry made.entry outcome (whole_status whole look) result }
+    ensures { SplitEndsAs told.entry made.entry outcome (good_status wanted look found) result }
 {
     match outcome {
-        Ok(_) => match status_after(whole, look) {
+        Ok(_) => match good_status(wanted, look, found) {
             Some(status) => Ok(status),
             None => Err(Fault::Read(told)),
         },

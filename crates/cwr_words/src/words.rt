@@ -1,20 +1,21 @@
 //! The words of the command line.
 
-ghost use Rattle.std.specs.Prelude.{◌≡◌, map, None, Some, IfOk, IfSome, IsOkAnd, IsSomeAnd, codes, false, true, if◌then◌else◌};
+ghost use Rattle.std.specs.Prelude.{◌≡◌, map, None, Some, IfOk, IfSome, IsOkAnd, IsSomeAnd, codes, option_map, false, true, if◌then◌else◌};
 ghost use Rattle.std.specs.Str.{bytes_eq};
 ghost use Rattle.clap.specs.Words.{first_value, found_of, has_subcommand};
 ghost use Rattle.cwr_shape.specs.Format.Ranges.{limit_values};
-ghost use Rattle.cwr_words.specs.Format.Words.{AreLimitsOf, AreNamesOf, AreValuesOf, IsAskedBy, IsJudgingOf, IsOwnWork, IsPlainCheck, IsWorkOf, level_named, rows_named, states_given};
+ghost use Rattle.cwr_words.specs.Format.Words.{AreLimitsOf, AreNamesOf, AreValuesOf, IsAskedBy, IsCreatedBy, IsJoinOfNames, IsJudgingOf, IsOwnWork, IsPlainCheck, IsWorkOf, level_given, level_named, rows_named, states_given, written_in};
 
 use clap::error::ErrorKind;
 use clap::{ArgMatches, Error};
 use cwr_fields::Kind;
 use cwr_grammar::{
-    ACKS, ADVICE, ADVISE, AS_JSON, BY_PLACE, CSV, EXPLAIN, EXPLAINED, FAIL_ON, FILE, GROUPS, JOIN,
-    JSON, KIND, LINE, LINT, MANUAL, NEW, NO_PROGRESS, NUMBER, NUMBERS, OUT, PREFIX, PROGRESS,
-    QUIET, RECORDS, RENUMBER, REPEATED, SENT, SHOW, SPLIT, STATE, TRANSACTION, UTF8, WHOLE, WORKS,
-    WRITE, command,
+    ACKS, ADVICE, ADVISE, AS_JSON, BY_PLACE, CREATED, CSV, EXPLAIN, EXPLAINED, FAIL_ON, FILE,
+    GROUPS, INTO, JOIN, JSON, KIND, LINE, LINT, MANUAL, NEW, NO_PROGRESS, NUMBER, NUMBERS, OUT,
+    PREFIX, PROGRESS, QUIET, RECORDS, RENUMBER, REPEATED, SAME_SENDER, SENT, SHOW, SPLIT, STATE,
+    TRANSACTION, UTF8, WHOLE, WORKS, WRITE, command,
 };
+use cwr_moments::Moment;
 use cwr_shape::{Level, Limits};
 use cwr_states::States;
 use std::alloc::{AllocError, Global};
@@ -46,8 +47,13 @@ pub enum Rows {
 pub enum Work<'a> {
     /// Transmissions are checked.
     Check(Judging<'a>),
-    /// The records of one are shown, that of the file, or without one that on standard input.
-    Show(Option<&'a str>),
+    /// The records of one are shown.
+    Show {
+        /// The name of the transmission's file, or none for that on standard input.
+        file: Option<&'a str>,
+        /// A finding of this level, or of a worse one, ends the run as a refusal does.
+        fail_on: Option<Level>,
+    },
     /// They are checked, and what is found is explained.
     Explain(Judging<'a>),
     /// Every fault of them is told.
@@ -65,6 +71,8 @@ pub enum Work<'a> {
     Advise {
         /// The names of the transmissions' files; without one standard input is read.
         files: Vec<&'a str>,
+        /// Only what isn't good is printed, and advice.
+        quiet: bool,
         /// The numbers of so many works are kept, and those that stand twice are told.
         repeated: u32,
     },
@@ -122,8 +130,12 @@ pub enum Work<'a> {
         file: &'a str,
         /// What the names of the parts' files begin with.
         prefix: &'a str,
+        /// When the first part was created, and each other one a second later; without it when the transmission was.
+        created: Option<Moment>,
         /// No part may replace a file.
         only_new: bool,
+        /// A finding of this level, or of a worse one, ends the run as a refusal does.
+        fail_on: Option<Level>,
     },
     /// Transmissions are joined to one.
     Join {
@@ -133,6 +145,12 @@ pub enum Work<'a> {
         files: Vec<&'a str>,
         /// The file that is written may replace none.
         only_new: bool,
+        /// A finding of this level, or of a worse one, ends the run as a refusal does.
+        fail_on: Option<Level>,
+        /// A sender that is another than that of the first transmission is refused.
+        same_sender: bool,
+        /// The numbers of so many works are kept, and those that stand twice are told.
+        repeated: u32,
     },
     /// The numbers of one are put right.
     Renumber {
@@ -142,6 +160,8 @@ pub enum Work<'a> {
         out: Option<&'a str>,
         /// The file that is written may replace none.
         only_new: bool,
+        /// A finding of this level, or of a worse one, ends the run as a refusal does.
+        fail_on: Option<Level>,
     },
     /// The manual is printed.
     Manual,
@@ -218,6 +238,20 @@ fn level_of(letter: &str) -> Option<Level>
     }
 }
 
+/// The level of findings that ends a run as a refusal does, if one is given.
+fn fail_on_in(given: &ArgMatches<'_>) -> Option<Level>
+    ensures { result ≡ level_given (first_value (found_of given.now) (codes "fail-on")) }
+{
+    given.get_str(FAIL_ON).and_then(level_of)
+}
+
+/// What is written: what the option `-o` names, or else the word of that id.
+fn written_in<'a>(given: &ArgMatches<'a>, id: &str) -> Option<&'a str>
+    ensures { option_map (λ name. name.now) result ≡ written_in (found_of given.now) id.now }
+{
+    given.get_str(INTO).or(given.get_str(id))
+}
+
 /// Which transmissions are judged, and how.
 fn judging_in<'a>(alloc: Global, given: &ArgMatches<'a>) -> Result<Judging<'a>, AllocError>
     ensures { IfOk result (IsJudgingOf (found_of given.now)) }
@@ -225,8 +259,18 @@ fn judging_in<'a>(alloc: Global, given: &ArgMatches<'a>) -> Result<Judging<'a>, 
     Ok(Judging {
         files: names_in(alloc, given)?,
         quiet: given.get_flag(QUIET),
-        fail_on: given.get_str(FAIL_ON).and_then(level_of),
+        fail_on: fail_on_in(given),
     })
+}
+
+/// The work of showing.
+fn show_in<'a>(given: &ArgMatches<'a>) -> Work<'a>
+    ensures { IsOwnWork (codes "show") (found_of given.now) result }
+{
+    Work::Show {
+        file: given.get_str(FILE),
+        fail_on: fail_on_in(given),
+    }
 }
 
 /// The work of a lint.
@@ -250,6 +294,7 @@ fn advice_in<'a>(alloc: Global, given: &ArgMatches<'a>) -> Result<Option<Work<'a
     };
     Ok(Some(Work::Advise {
         files: names_in(alloc, given)?,
+        quiet: given.get_flag(QUIET),
         repeated,
     }))
 }
@@ -326,6 +371,16 @@ fn import_in<'a>(given: &ArgMatches<'a>) -> Option<Work<'a>>
     })
 }
 
+/// When the parts of a split were created, where a word says so. `None` where that is no moment.
+fn created_in(given: &ArgMatches<'_>) -> Option<Option<Moment>>
+    ensures { IfSome result (IsCreatedBy (first_value (found_of given.now) (codes "created"))) }
+{
+    match given.get_str(CREATED) {
+        Some(text) => Some(Some(Moment::read(text)?)),
+        None => Some(None),
+    }
+}
+
 /// The work of a split. `None` where a word is missing or out of its range.
 fn split_in<'a>(given: &ArgMatches<'a>) -> Option<Work<'a>>
     ensures { IfSome result (IsOwnWork (codes "split") (found_of given.now)) }
@@ -334,22 +389,50 @@ fn split_in<'a>(given: &ArgMatches<'a>) -> Option<Work<'a>>
     Some(Work::Split {
         transactions: NonZeroU32::new(number)?,
         file: given.get_str(FILE)?,
-        prefix: given.get_str(PREFIX)?,
+        prefix: written_in(given, PREFIX)?,
+        created: created_in(given)?,
         only_new: given.get_flag(NEW),
+        fail_on: fail_on_in(given),
     })
 }
 
-/// The work of a join. `None` where a word is missing.
+/// What a join writes and reads: with the option `-o` all words are read, and else those after the first. `None` where there is nothing
+/// to read.
+fn joined_in<'a>(
+    alloc: Global,
+    given: &ArgMatches<'a>,
+) -> Result<Option<(&'a str, Vec<&'a str>)>, AllocError>
+    ensures { IfOk result (λ found. IfSome found
+        (λ names. IsJoinOfNames (found_of given.now) names.0.now (map (λ name. name.now) names.1.items))) }
+{
+    let mut others = names_in(alloc, given)?;
+    let Some(first) = given.get_str(OUT) else {
+        return Ok(None);
+    };
+    let Some(out) = given.get_str(INTO) else {
+        return Ok((!others.is_empty()).then_some((first, others)));
+    };
+    others.insert(0, first)?;
+    Ok(Some((out, others)))
+}
+
+/// The work of a join. `None` where a word is missing or out of its range.
 fn join_in<'a>(alloc: Global, given: &ArgMatches<'a>) -> Result<Option<Work<'a>>, AllocError>
     ensures { IfOk result (λ found. IfSome found (IsOwnWork (codes "join") (found_of given.now))) }
 {
-    let Some(out) = given.get_str(OUT) else {
+    let Some(repeated) = given.get_one::<u32>(REPEATED) else {
+        return Ok(None);
+    };
+    let Some((out, files)) = joined_in(alloc, given)? else {
         return Ok(None);
     };
     Ok(Some(Work::Join {
         out,
-        files: names_in(alloc, given)?,
+        files,
         only_new: given.get_flag(NEW),
+        fail_on: fail_on_in(given),
+        same_sender: given.get_flag(SAME_SENDER),
+        repeated,
     }))
 }
 
@@ -359,8 +442,9 @@ fn renumber_in<'a>(given: &ArgMatches<'a>) -> Work<'a>
 {
     Work::Renumber {
         file: given.get_str(FILE),
-        out: given.get_str(OUT),
+        out: written_in(given, OUT),
         only_new: given.get_flag(NEW),
+        fail_on: fail_on_in(given),
     }
 }
 
@@ -394,7 +478,7 @@ fn work_in<'a>(
     } else if name == MANUAL {
         Ok(Some(Work::Manual))
     } else if name == SHOW {
-        Ok(Some(Work::Show(given.get_str(FILE))))
+        Ok(Some(show_in(given)))
     } else if name == EXPLAIN {
         Ok(Some(Work::Explain(judging_in(alloc, given)?)))
     } else {
@@ -447,10 +531,21 @@ const NO_STATE: &str = "\
 a word for '--fail-on <STATES>' is no state
   [possible values: accepted, pending, rejected, conflict, duplicate, claim-rejected, no-participation, unanswered]";
 
+/// What is told where a split has no name to write to, or no moment.
+fn split_refusal(given: &ArgMatches<'_>) -> &'static str {
+    if written_in(given, PREFIX).is_none() {
+        "the following required arguments were not provided:\n  <PREFIX>, or -o <PREFIX>"
+    } else {
+        "the word for '--created <MOMENT>' is no moment: YYYYMMDDTHHMMSS, as 20240131T093000"
+    }
+}
+
 /// What is told where a word is missing or out of its range, and `clap` took it.
 fn refusal_of(matches: &ArgMatches<'_>) -> &'static str {
     match matches.subcommand() {
         Some((ACKS, _)) => NO_STATE,
+        Some((SPLIT, given)) => split_refusal(given),
+        Some((JOIN, _)) => "the following required arguments were not provided:\n  <FILE>...",
         // `clap` has judged the numbers already, but its clauses don't say so of a subcommand's.
         _ => "a word is missing, or a number is out of its range",
     }

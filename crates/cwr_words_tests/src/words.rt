@@ -20,12 +20,12 @@ fn asked(rt: &(impl Abort + AllocGlobal), words: &[&str]) -> Option<(String, Lim
 
 /// Words, what they ask for, and its limits.
 #[rattlefmt::skip]
-static ASKED: [(&[&str], &str, Numbers); 29] = [
+static ASKED: [(&[&str], &str, Numbers); 37] = [
     (&["cwr"], "Check(Judging { files: [], quiet: false, fail_on: None })", LARGEST),
     (&["cwr", "check"], "Check(Judging { files: [], quiet: false, fail_on: None })", LARGEST),
-    (&["cwr", "show"], "Show(None)", LARGEST),
+    (&["cwr", "show"], "Show { file: None, fail_on: None }", LARGEST),
     (&["cwr", "explain"], "Explain(Judging { files: [], quiet: false, fail_on: None })", LARGEST),
-    (&["cwr", "show", "a.cwr"], "Show(Some(\"a.cwr\"))", LARGEST),
+    (&["cwr", "show", "a.cwr"], "Show { file: Some(\"a.cwr\"), fail_on: None }", LARGEST),
     (&["cwr", "check", "a.cwr"], "Check(Judging { files: [\"a.cwr\"], quiet: false, fail_on: None })", LARGEST),
     (&["cwr", "check", "--records", "5", "--groups=2", "--transaction", "7", "a.cwr"], "Check(Judging { files: [\"a.cwr\"], quiet: false, fail_on: None })", (5, 2, 7)),
     (&["cwr", "check", "a.cwr", "-", "--quiet", "--fail-on", "G"], "Check(Judging { files: [\"a.cwr\", \"-\"], quiet: true, fail_on: Some(G) })", LARGEST),
@@ -42,14 +42,22 @@ static ASKED: [(&[&str], &str, Numbers); 29] = [
     (&["cwr", "acks", "--sent", "c.cwr", "a.cwr", "--by-place", "--sent=b.cwr", "--state"], "Acks { files: [\"a.cwr\"], sent: [\"c.cwr\", \"b.cwr\"], as_json: false, by_place: true, state: true, fail_on: States { accepted: false, pending: false, rejected: false, conflict: false, duplicate: false, claim_rejected: false, no_participation: false, unanswered: false } }", LARGEST),
     (&["cwr", "acks", "--fail-on", "conflict,rejected", "--sent", "-", "a.cwr"], "Acks { files: [\"a.cwr\"], sent: [\"-\"], as_json: false, by_place: false, state: false, fail_on: States { accepted: false, pending: false, rejected: true, conflict: true, duplicate: false, claim_rejected: false, no_participation: false, unanswered: false } }", LARGEST),
     (&["cwr", "write", "--utf8", "-o", "b.cwr", "--line=9", "a.jsonl"], "Write { file: Some(\"a.jsonl\"), out: Some(\"b.cwr\"), line: 9, utf8: true }", LARGEST),
-    (&["cwr", "show", "--groups", "3"], "Show(None)", (99_999_999, 3, 999_999)),
-    (&["cwr", "split", "-n", "1", "a.cwr", "part-"], "Split { transactions: 1, file: \"a.cwr\", prefix: \"part-\", only_new: false }", LARGEST),
-    (&["cwr", "split", "a.cwr", "-n99999999", "part-"], "Split { transactions: 99999999, file: \"a.cwr\", prefix: \"part-\", only_new: false }", LARGEST),
-    (&["cwr", "split", "--groups", "9", "a.cwr", "part-", "-n", "250"], "Split { transactions: 250, file: \"a.cwr\", prefix: \"part-\", only_new: false }", (99_999_999, 9, 999_999)),
-    (&["cwr", "split", "--new", "-n", "1", "a.cwr", "part-"], "Split { transactions: 1, file: \"a.cwr\", prefix: \"part-\", only_new: true }", LARGEST),
-    (&["cwr", "join", "out.cwr", "a.cwr"], "Join { out: \"out.cwr\", files: [\"a.cwr\"], only_new: false }", LARGEST),
-    (&["cwr", "join", "out.cwr", "a.cwr", "b.cwr"], "Join { out: \"out.cwr\", files: [\"a.cwr\", \"b.cwr\"], only_new: false }", LARGEST),
-    (&["cwr", "join", "out.cwr", "a.cwr", "b.cwr", "a.cwr"], "Join { out: \"out.cwr\", files: [\"a.cwr\", \"b.cwr\", \"a.cwr\"], only_new: false }", LARGEST),
+    (&["cwr", "show", "--groups", "3"], "Show { file: None, fail_on: None }", (99_999_999, 3, 999_999)),
+    (&["cwr", "split", "-n", "1", "a.cwr", "part-"], "Split { transactions: 1, file: \"a.cwr\", prefix: \"part-\", created: None, only_new: false, fail_on: None }", LARGEST),
+    (&["cwr", "split", "a.cwr", "-n99999999", "part-"], "Split { transactions: 99999999, file: \"a.cwr\", prefix: \"part-\", created: None, only_new: false, fail_on: None }", LARGEST),
+    (&["cwr", "split", "--groups", "9", "a.cwr", "part-", "-n", "250"], "Split { transactions: 250, file: \"a.cwr\", prefix: \"part-\", created: None, only_new: false, fail_on: None }", (99_999_999, 9, 999_999)),
+    (&["cwr", "split", "--new", "-n", "1", "a.cwr", "part-"], "Split { transactions: 1, file: \"a.cwr\", prefix: \"part-\", created: None, only_new: true, fail_on: None }", LARGEST),
+    (&["cwr", "join", "out.cwr", "a.cwr"], "Join { out: \"out.cwr\", files: [\"a.cwr\"], only_new: false, fail_on: None, same_sender: false, repeated: 0 }", LARGEST),
+    (&["cwr", "join", "out.cwr", "a.cwr", "b.cwr"], "Join { out: \"out.cwr\", files: [\"a.cwr\", \"b.cwr\"], only_new: false, fail_on: None, same_sender: false, repeated: 0 }", LARGEST),
+    (&["cwr", "show", "--fail-on", "T", "a.cwr"], "Show { file: Some(\"a.cwr\"), fail_on: Some(T) }", LARGEST),
+    (&["cwr", "advise", "--quiet", "--repeated", "7", "a.cwr"], "Advise { files: [\"a.cwr\"], quiet: true, repeated: 7 }", LARGEST),
+    (&["cwr", "split", "--fail-on=R", "-n", "1", "a.cwr", "-o", "part-", "--created", "20240131T235959"], "Split { transactions: 1, file: \"a.cwr\", prefix: \"part-\", created: Some(Moment { date: CivilDate { year: 2024, month: 1, day: 31 }, time: TimeOfDay { hour: 23, minute: 59, second: 59 } }), only_new: false, fail_on: Some(R) }", LARGEST),
+    (&["cwr", "join", "-o", "out.cwr", "a.cwr"], "Join { out: \"out.cwr\", files: [\"a.cwr\"], only_new: false, fail_on: None, same_sender: false, repeated: 0 }", LARGEST),
+    (&["cwr", "join", "a.cwr", "b.cwr", "-o", "out.cwr", "--new", "--same-sender", "--repeated", "9", "--fail-on", "T"], "Join { out: \"out.cwr\", files: [\"a.cwr\", \"b.cwr\"], only_new: true, fail_on: Some(T), same_sender: true, repeated: 9 }", LARGEST),
+    (&["cwr", "renumber"], "Renumber { file: None, out: None, only_new: false, fail_on: None }", LARGEST),
+    (&["cwr", "renumber", "a.cwr", "b.cwr", "--new"], "Renumber { file: Some(\"a.cwr\"), out: Some(\"b.cwr\"), only_new: true, fail_on: None }", LARGEST),
+    (&["cwr", "renumber", "-o", "b.cwr", "--fail-on", "F"], "Renumber { file: None, out: Some(\"b.cwr\"), only_new: false, fail_on: Some(F) }", LARGEST),
+    (&["cwr", "join", "out.cwr", "a.cwr", "b.cwr", "a.cwr"], "Join { out: \"out.cwr\", files: [\"a.cwr\", \"b.cwr\", \"a.cwr\"], only_new: false, fail_on: None, same_sender: false, repeated: 0 }", LARGEST),
 ];
 
 #[test]
@@ -64,7 +72,7 @@ fn work_that_is_asked_for(rt: HostRuntime) {
 
 /// Words that are missing or out of range.
 #[rattlefmt::skip]
-static WRONG: [&[&str]; 19] = [
+static WRONG: [&[&str]; 26] = [
     &["cwr", "csv"],
     &["cwr", "csv", "swr"],
     &["cwr", "check", "--fail-on", "X"],
@@ -82,8 +90,15 @@ static WRONG: [&[&str]; 19] = [
     &["cwr", "split", "-n", "100000000", "a.cwr", "part-"],
     &["cwr", "split", "-n", "two", "a.cwr", "part-"],
     &["cwr", "split", "-n", "1", "a.cwr", "part-", "more"],
+    &["cwr", "split", "-n", "1", "a.cwr", "part-", "-o", "part-"],
+    &["cwr", "split", "-n", "1", "a.cwr", "part-", "--created", "20240131"],
+    &["cwr", "split", "-n", "1", "a.cwr", "part-", "--created", "20240230T000000"],
+    &["cwr", "split", "-n", "1", "a.cwr", "part-", "--created", "20240131T240000"],
+    &["cwr", "split", "-n", "1", "a.cwr", "part-", "--created", "20240131 000000"],
     &["cwr", "join"],
     &["cwr", "join", "out.cwr"],
+    &["cwr", "join", "-o", "out.cwr"],
+    &["cwr", "renumber", "a.cwr", "b.cwr", "-o", "c.cwr"],
 ];
 
 #[test]
@@ -102,9 +117,12 @@ fn told(rt: &(impl Abort + AllocGlobal), words: &[&str]) -> Option<String> {
 
 /// Words that are wrong, and what is told of them.
 #[rattlefmt::skip]
-static TOLD: [(&[&str], &str); 4] = [
+static TOLD: [(&[&str], &str); 7] = [
     (&["cwr", "acks", "a.cwr", "--state"], "--sent <SENT>"),
     (&["cwr", "acks", "a.cwr", "--by-place"], "--sent <SENT>"),
+    (&["cwr", "split", "-n", "1", "a.cwr"], "-o <PREFIX>"),
+    (&["cwr", "split", "-n", "1", "a.cwr", "part-", "--created", "today"], "YYYYMMDDTHHMMSS"),
+    (&["cwr", "join", "out.cwr"], "<FILE>..."),
     (&["cwr", "acks", "a.cwr", "--fail-on", "rejected"], "--sent <SENT>"),
     (&["cwr", "acks", "a.cwr", "--sent", "b.cwr", "--fail-on", "refused"], "accepted, pending, rejected, conflict, duplicate, claim-rejected, no-participation, unanswered"),
 ];

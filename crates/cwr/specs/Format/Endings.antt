@@ -1,5 +1,5 @@
--- What the end of a run over an input means for the program.
-use Rattle.std.specs.Prelude.{◌≡◌, Bool, true, List, [], ℕ, map, Option, None, Some, IfSome, option_map, Result, Ok, Err}
+-- Which runs are on standard input, and the status of a run over that.
+use Rattle.std.specs.Prelude.{◌≡◌, Bool, true, List, [], ℕ, map, Option, None, Some, IfSome, option_map}
 use Rattle.cwr_shape.specs.declared.limits.Limits.{Limits}
 use Rattle.cwr_words.specs.declared.words.Work.{Work}
 use Rattle.cwr_words.specs.declared.words.Work.TheVariants.{Check, Show, Explain, Lint, Advise, Json, Csv, Acks}
@@ -11,19 +11,7 @@ use Rattle.cwr_transform.specs.declared.endings.Status.TheVariants as statuses
 use Rattle.cwr_transform.specs.declared.endings.Wanted.{Wanted}
 use Rattle.cwr_transform.specs.Format.Endings.{IsStatusOn}
 
--- the run has the status on the text, or an input, standard output or memory failed
-abbrev pub EndsOn : Limits → Wanted → List ℕ → Result Status Fault → Type 0
-EndsOn limits wanted text (Ok status) = IsStatusOn limits wanted text status
-EndsOn limits wanted text (Err (faults.Read told)) = Unit {0}
-EndsOn limits wanted text (Err (faults.Write told)) = Unit {0}
-EndsOn limits wanted text (Err faults.Memory) = Unit {0}
-EndsOn limits wanted text (Err fault) = ⊥
-
--- so it is where the bytes of the input are known
-abbrev pub EndsOnInput : Limits → Wanted → Option (List ℕ) → Result Status Fault → Type 0
-EndsOnInput limits wanted input ending = IfSome input (λ text. EndsOn limits wanted text ending)
-
--- the status that the run then has: that of a fault where an input, standard output or memory failed
+-- the status that a run has on an input whose bytes are known: that of a fault where the input, standard output or memory failed
 abbrev pub StatusOnInput : Limits → Wanted → Option (List ℕ) → Status → Type 0
 StatusOnInput limits wanted input statuses.Fault = Unit {0}
 StatusOnInput limits wanted input status = IfSome input (λ text. IsStatusOn limits wanted text status)
@@ -32,21 +20,22 @@ StatusOnInput limits wanted input status = IfSome input (λ text. IsStatusOn lim
 abbrev pub IsOfInput : Work → Type 0
 IsOfInput (Check judging) = are_standard (map (λ name. name.now) judging.files.items) ≡ true
 IsOfInput (Explain judging) = are_standard (map (λ name. name.now) judging.files.items) ≡ true
-IsOfInput (Show file) = is_standard (option_map (λ name. name.now) file) ≡ true
+IsOfInput (Show file fail_on) = is_standard (option_map (λ name. name.now) file) ≡ true
 IsOfInput (Json file out numbers utf8) = (is_standard (option_map (λ name. name.now) file) ≡ true) × (out ≡ None)
 IsOfInput (Csv rows file out) = (is_standard (option_map (λ name. name.now) file) ≡ true) × (out ≡ None)
 IsOfInput (Acks files sent as_json by_place state fail_on) =
     (are_standard (map (λ name. name.now) files.items) ≡ true) × (sent.items ≡ [])
 IsOfInput (Lint files quiet explained advised) = are_standard (map (λ name. name.now) files.items) ≡ true
-IsOfInput (Advise files repeated) = are_standard (map (λ name. name.now) files.items) ≡ true
+IsOfInput (Advise files quiet repeated) = are_standard (map (λ name. name.now) files.items) ≡ true
 IsOfInput work = ⊥
 
 -- what is wanted of the transmission: the options of a judgement say which findings end it
 abbrev pub wanted_in : Bool → Work → Wanted
 wanted_in whole (Check judging) = record { whole = whole; fail_on = judging.fail_on }
 wanted_in whole (Explain judging) = record { whole = whole; fail_on = judging.fail_on }
+wanted_in whole (Show file fail_on) = record { whole = whole; fail_on = fail_on }
 wanted_in whole (Lint files quiet explained advised) = record { whole = whole; fail_on = None }
-wanted_in whole (Advise files repeated) = record { whole = whole; fail_on = None }
+wanted_in whole (Advise files quiet repeated) = record { whole = whole; fail_on = None }
 wanted_in whole work = record { whole = whole; fail_on = None }
 
 -- the status of a fault: what was to be written may not be, or what was to be read can't be, or a file, a device or memory failed
@@ -54,4 +43,6 @@ abbrev pub fault_status : Fault → Status
 fault_status (faults.IsInput name) = statuses.CommandLine
 fault_status (faults.IsThere name) = statuses.CommandLine
 fault_status (faults.IsTwice name) = statuses.CommandLine
+fault_status (faults.IsOther name) = statuses.CommandLine
+fault_status (faults.IsLate name) = statuses.CommandLine
 fault_status fault = statuses.Fault

@@ -36,7 +36,7 @@ use Rattle.cwr_parts.proofs.lemmas.JoinedItems.{joined_all, joined_whole, next_j
 
 -- ---- the same inputs
 
-same_input : {R : Type 0} (limits : Limits) (remaining : R → Option (List ℕ)) (hand left : R) (v w : TransmissionValue)
+pub same_input : {R : Type 0} (limits : Limits) (remaining : R → Option (List ℕ)) (hand left : R) (v w : TransmissionValue)
     → TakesFront limits (remaining hand) v (remaining left) → HasInput limits remaining hand w → v ≡ w
 same_input limits remaining hand left v w t h = by (remaining hand) t.front h.2
   where

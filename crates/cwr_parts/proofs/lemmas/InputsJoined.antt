@@ -48,7 +48,7 @@ pub record AreJoinedSoFar {R W : Type 0} (limits : Limits) (remaining : R → Op
   pub quiet : counts (joined_writer j) ≡ counts (joined_writer old)
   pub limits_are : encoder_limits j.encoder ≡ limits
 
-pub none_joined : {R W : Type 0} (limits : Limits) (remaining : R → Option (List ℕ)) (failures : R → ℕ)
+unfoldable pub none_joined : {R W : Type 0} (limits : Limits) (remaining : R → Option (List ℕ)) (failures : R → ℕ)
     (contents : W → Option (List ℕ)) (counts : W → ℕ) (readers : List R) (j : Joined W)
     → HasJoined contents (contents (joined_writer j)) [] j → is_stopped j.encoder ≡ false → encoder_limits j.encoder ≡ limits
     → AreJoinedSoFar limits remaining failures contents counts 0 readers readers j j
@@ -86,7 +86,7 @@ taken_whole limits remaining failures (o ∷ olds) (v ∷ vs) (n ∷ news) h =
     (h.0.takes.accepted.whole, taken_whole limits remaining failures olds vs news h.1)
 taken_whole limits remaining failures olds vs news h = absurd h
 
-take_more : {R : Type 0} (limits : Limits) (remaining : R → Option (List ℕ)) (failures : R → ℕ) (olds : List R)
+pub take_more : {R : Type 0} (limits : Limits) (remaining : R → Option (List ℕ)) (failures : R → ℕ) (olds : List R)
     (vs : List TransmissionValue) (news : List R) (old : R) (v : TransmissionValue) (new : R)
     → TakeInputs limits remaining failures olds vs news → TakesInput limits remaining failures old v new
     → TakeInputs limits remaining failures (olds ++ old ∷ []) (vs ++ v ∷ []) (news ++ new ∷ [])
@@ -95,7 +95,7 @@ take_more limits remaining failures (o ∷ olds) (w ∷ vs) (n ∷ news) old v n
     (h.0, take_more limits remaining failures olds vs news old v new h.1 t)
 take_more limits remaining failures olds vs news old v new h t = absurd h
 
-first_is : (inputs : List TransmissionValue) (count : ℕ) → count ≡ length inputs → nat_eq count 0 ≡ is_first inputs
+pub first_is : (inputs : List TransmissionValue) (count : ℕ) → count ≡ length inputs → nat_eq count 0 ≡ is_first inputs
 first_is [] count e = ap (λ (n : ℕ). nat_eq n 0) e
 first_is (v ∷ others) count e = ap (λ (n : ℕ). nat_eq n 0) e ∙ eqb-suc-zero (length others)
 
@@ -115,11 +115,11 @@ between_inputs limits remaining failures contents counts count before now old j 
 -- ---- the one in hand
 
 -- the reader in hand stands after those that are finished
-record IsNext {R : Type 0} (others : List R) (hand : R) : Type 0 where
-  later : List R
-  others_are : others ≡ hand ∷ later
+pub record IsNext {R : Type 0} (others : List R) (hand : R) : Type 0 where
+  pub later : List R
+  pub others_are : others ≡ hand ∷ later
 
-next_hand : {R : Type 0} (finished others now : List R) (count : ℕ) (hand : R) → now ≡ finished ++ others
+pub next_hand : {R : Type 0} (finished others now : List R) (count : ℕ) (hand : R) → now ≡ finished ++ others
     → count ≡ length finished → count < length now → hand ≡ get_or now count hand → IsNext others hand
 next_hand {R = R} finished [] now count hand e n lt is = absurd (omega (arith, n, lt, ap length e, length-append finished []))
 next_hand {R = R} finished (other ∷ later) now count hand e n lt is =
@@ -128,14 +128,14 @@ next_hand {R = R} finished (other ∷ later) now count hand e n lt is =
     ∙ get_or-append_seam finished other later hand in
     record { later = later; others_are = ap (λ (r : R). r ∷ later) (sym same) }
 
-changed : {R : Type 0} (finished others later now : List R) (count : ℕ) (hand left : R) → now ≡ finished ++ others
+pub changed : {R : Type 0} (finished others later now : List R) (count : ℕ) (hand left : R) → now ≡ finished ++ others
     → count ≡ length finished → others ≡ hand ∷ later → slice_set now count left ≡ finished ++ left ∷ later
 changed {R = R} finished others later now count hand left e n o =
     ap (λ (l : List R). slice_set l count left) (e ∙ ap (λ (l : List R). finished ++ l) o)
     ∙ ap (λ (k : ℕ). slice_set (finished ++ hand ∷ later) k left) n ∙ set-append_seam finished hand later left
 
 -- one input more is joined
-pub one_joined : {R W : Type 0} (limits : Limits) (remaining : R → Option (List ℕ)) (failures : R → ℕ)
+unfoldable pub one_joined : {R W : Type 0} (limits : Limits) (remaining : R → Option (List ℕ)) (failures : R → ℕ)
     (contents : W → Option (List ℕ)) (counts : W → ℕ) (count : ℕ) (before now : List R) (old j next : Joined W) (hand left : R)
     (u : Unit {0})
     → AreJoinedSoFar limits remaining failures contents counts count before now old j → count < length now

@@ -40,7 +40,7 @@ pub record IsJoining {W : Type 0} (limits : Limits) (first : Bool) (d : Standing
   pub counted : count ≡ length given
   pub on : JoinsOn contents failures (filter (is_joined first) given) old j
 
-pub none_yet : {W : Type 0} (limits : Limits) (first : Bool) (d : Standing) (before now : Option (List ℕ))
+unfoldable pub none_yet : {W : Type 0} (limits : Limits) (first : Bool) (d : Standing) (before now : Option (List ℕ))
     (contents : W → Option (List ℕ)) (failures : W → ℕ) (j : Joined W) → IsReadingOn limits d before now []
     → is_stopped j.encoder ≡ false → IsJoining limits first d before now contents failures 0 j j
 none_yet limits first d before now contents failures j reading unfailed =
@@ -48,7 +48,7 @@ none_yet limits first d before now contents failures j reading unfailed =
 
 -- ---- one item more
 
-joins_more : {W : Type 0} (contents : W → Option (List ℕ)) (failures : W → ℕ) (added more : List Item) (old mid new : Joined W)
+pub joins_more : {W : Type 0} (contents : W → Option (List ℕ)) (failures : W → ℕ) (added more : List Item) (old mid new : Joined W)
     → JoinsOn contents failures added old mid → JoinsOn contents failures more mid new
     → JoinsOn contents failures (added ++ more) old new
 joins_more contents failures added more old mid new p q = record {
@@ -60,11 +60,11 @@ joins_more contents failures added more old mid new p q = record {
   limits = q.limits ∙ p.limits;
 }
 
-split_filter : (first : Bool) (given : List Item) (item : Item)
+pub split_filter : (first : Bool) (given : List Item) (item : Item)
     → filter (is_joined first) given ++ filter (is_joined first) (item ∷ []) ≡ filter (is_joined first) (given ++ item ∷ [])
 split_filter first given item = sym (filter-append (is_joined first) given (item ∷ []))
 
-pub item_added : {W : Type 0} (limits : Limits) (first : Bool) (d new : Standing) (before left after : Option (List ℕ))
+unfoldable pub item_added : {W : Type 0} (limits : Limits) (first : Bool) (d new : Standing) (before left after : Option (List ℕ))
     (contents : W → Option (List ℕ)) (failures : W → ℕ) (count : ℕ) (old j next : Joined W) (item : Item) (u : Unit {0})
     → (h : IsJoining limits first d before left contents failures count old j)
     → IsReadingOn limits new before after (h.given ++ item ∷ [])

@@ -44,7 +44,7 @@ pub record IsSplitting {O W : Type 0} (limits : Limits) (n : ℕ) (d : Standing)
   pub transactions : s.report.transactions ≡ count_by is_transaction given
   pub over : stage_in n Start given ≡ Over → d.state ≡ states.Ended
 
-pub none_split : {O W : Type 0} (limits : Limits) (n : ℕ) (d : Standing) (before now : Option (List ℕ)) (told : Told O W)
+unfoldable pub none_split : {O W : Type 0} (limits : Limits) (n : ℕ) (d : Standing) (before now : Option (List ℕ)) (told : Told O W)
     (s : Splitting W) (o : O) → s ≡ is_new limits n → IsReadingOn limits d
     before now []
     → IsSplitting limits n d before now told 0 o s o
@@ -145,7 +145,7 @@ few_handed_out limits n d new before left after told count begin s o item h read
       fewer_left limits new before after (h.given ++ item ∷ []) reading,
     )
 
-pub item_taken : {O W : Type 0} (limits : Limits) (n : ℕ) (d new : Standing) (before left after : Option (List ℕ))
+unfoldable pub item_taken : {O W : Type 0} (limits : Limits) (n : ℕ) (d new : Standing) (before left after : Option (List ℕ))
     (told : Told O W) (count : ℕ) (begin : O) (s next : Splitting W) (o later : O) (item : Item)
     → 0 < n → (h : IsSplitting limits n d before left told count begin s o)
     → IsReadingOn limits new before after (h.given ++ item ∷ []) → LeavesRead (Ok (Some item)) new.state

@@ -11,13 +11,14 @@ use Rattle.cwr_values.specs.declared.items.Item.TheVariants.{Opened, Ended}
 use Rattle.cwr_values.specs.Format.Values.{TransmissionValue, IsTransmission, FitsIn}
 use Rattle.cwr_values.specs.Format.Rows.{rows, canonical_text}
 use Rattle.cwr_judge.specs.Format.Ends.{IsAccepted}
-use Rattle.cwr_judge.specs.Format.Items.{group_items, records_in}
+use Rattle.cwr_judge.specs.Format.Items.{group_items, records_in, value_items}
 use Rattle.cwr_decode.specs.Format.Runs.{TakesFront}
 use Rattle.cwr_encode.specs.Format.Written.{IsPart}
 use Rattle.cwr_tools.specs.declared.verdicts.JoinReport.{JoinReport}
 use Rattle.cwr_tools.specs.declared.verdicts.JoinFault.{JoinFault}
 use Rattle.cwr_tools.specs.declared.verdicts.ToolFault.{ToolFault}
 use Rattle.cwr_tools.specs.declared.verdicts.ToolFault.TheVariants.{Reader, Writer, Memory}
+use Rattle.cwr_tools.specs.Format.Viewing.{SeesItems}
 use Rattle.cwr_parts.specs.Format.Splits.{join_of}
 
 -- ---- the items of a join
@@ -147,3 +148,8 @@ JoinsAccepted limits remaining contents before old new result = (inputs : List T
     → MatchResult result
     (λ report. (report ≡ join_report (length before) joined) × Appends (contents old) (contents new) (canonical_text joined))
     (λ stopped. IsOfDevice stopped.fault)
+
+-- where the readers' bytes are accepted, a viewer saw the items of all their transmissions
+abbrev pub SeesInputs : {R V : Type 0} → Limits → (R → Option (List ℕ)) → (V → List Item → Type 0) → List R → V → V → Type 0
+SeesInputs limits remaining has_seen readers old new = (inputs : List TransmissionValue)
+    → AllZip (HasInput limits remaining) readers inputs → SeesItems has_seen old new (flat_map value_items inputs)

@@ -36,6 +36,7 @@ use Rattle.cwr_tools.specs.Steps.Reports.{HasHandedOut}
 use Rattle.cwr_parts.specs.Format.Joins.{AreJoined, CountsInputFault, CountsJoinWriter, TakeInputs, is_first, is_joined}
 use Rattle.cwr_parts.specs.Format.Joins.{join_report, joined_inputs}
 use Rattle.cwr_parts.specs.Steps.Joins.{StopsJoin}
+use Rattle.cwr_tools.specs.Format.Viewing.{SeesItems}
 use Rattle.cwr_tools.specs.Steps.Verdicts.{StopsAfter}
 
 -- the numbers are those of the items
@@ -228,3 +229,8 @@ EndsJoin contents failures count old new result = CountsJoinWriter result (failu
     × ((start : Option (List ℕ)) (inputs : List TransmissionValue) → length inputs ≡ count → 0 < count
     → AllByRecursion IsTransmission inputs → HasJoined contents start (joined_inputs inputs) old
     → EndsWithAll contents count start inputs old new result)
+
+-- a viewer saw the items of an input that was taken
+abbrev pub SeesInput : {V : Type 0} → Limits → (V → List Item → Type 0) → Option (List ℕ) → Option (List ℕ) → V → V → Type 0
+SeesInput limits has_seen before after old new =
+    (v : TransmissionValue) × TakesFront limits before v after × SeesItems has_seen old new (value_items v)

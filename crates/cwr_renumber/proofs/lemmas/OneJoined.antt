@@ -1,10 +1,13 @@
 -- A join of one input is that input.
 use Rattle.std.proofs.Common.{◌≡◌, ℕ, List, [], ◌∷◌, ◌++◌, length, drop, Option, Some, None, sym, ap, inl, inr, subst, ◌∙◌, arith}
 use Rattle.std.proofs.Common.{append-nil}
-use Rattle.std.specs.Prelude.{Result, Ok, Err, IfErr, IfSome, MatchResult, option_map}
+use Rattle.std.specs.Prelude.{Result, Ok, Err, IfErr, IfSome, MatchResult, OnOk, option_map}
 use Rattle.std.specs.Io.KnownBytes.{Appends}
 use Rattle.std.proofs.lemmas.List.{length-append}
 use Rattle.cwr_shape.specs.declared.limits.Limits.{Limits}
+use Rattle.cwr_values.specs.declared.items.Item.{Item}
+use Rattle.cwr_judge.specs.Format.Items.{value_items}
+use Rattle.cwr_tools.specs.Format.Viewing.{SeesText}
 use Rattle.cwr_values.specs.Format.Values.{GroupValue, TransmissionValue}
 use Rattle.cwr_values.specs.Format.Rows.{canonical_text}
 use Rattle.cwr_judge.specs.Format.Ends.{IsAccepted, IsRefused, IsTruncated}
@@ -12,7 +15,7 @@ use Rattle.cwr_tools.specs.declared.verdicts.JoinFault.{JoinFault}
 use Rattle.cwr_tools.specs.declared.verdicts.JoinReport.{JoinReport}
 use Rattle.cwr_tools.specs.declared.verdicts.ToolFault.{ToolFault}
 use Rattle.cwr_tools.specs.declared.verdicts.ToolFault.TheVariants as faults
-use Rattle.cwr_parts.specs.Format.Joins.{AreJoined, CountsJoinWriter, IsOfDevice, JoinsAccepted, JoinsAll, TakeInputs}
+use Rattle.cwr_parts.specs.Format.Joins.{AreJoined, CountsJoinWriter, IsOfDevice, JoinsAccepted, JoinsAll, SeesInputs, TakeInputs}
 use Rattle.cwr_parts.specs.Format.Joins.{join_report}
 use Rattle.cwr_parts.specs.Format.Splits.{join_of}
 use Rattle.cwr_parts.specs.Format.Told.{IsJoinedText, JoinsBefore, JoinsSoFar, JoinsTexts}
@@ -235,3 +238,24 @@ pub writer_one : (joined : Result JoinReport JoinFault) (result : Result JoinRep
     → result ≡ of_one joined → CountsJoinWriter joined old new → CountsWriter result old new
 writer_one joined result old new answer h =
     subst (λ (r : Result JoinReport ToolFault). CountsWriter r old new) (sym answer) (writer_by joined old new h)
+
+-- ---- what is seen of one input
+
+seen_in : {R V : Type 0} (limits : Limits) (remaining : R → Option (List ℕ)) (has_seen : V → List Item → Type 0) (old : R)
+    (before : Option (List ℕ)) (v w : V) → remaining old ≡ before → SeesInputs limits remaining has_seen (old ∷ []) v w
+    → SeesText limits has_seen before v w
+seen_in limits remaining has_seen old None v w e seen = tt
+seen_in limits remaining has_seen old (Some text) v w e seen = λ value n a items h.
+    subst (λ (given : List Item). has_seen w (items ++ given)) (append-nil (value_items value))
+    (seen (value ∷ []) ((text, n, e, a), tt) items h)
+
+pub seen_one : {R V : Type 0} (limits : Limits) (remaining : R → Option (List ℕ)) (has_seen : V → List Item → Type 0) (old : R)
+    (readers : List R) (before : Option (List ℕ)) (joined : Result JoinReport JoinFault) (answer : Result JoinReport ToolFault)
+    (v w : V) → readers ≡ old ∷ [] → remaining old ≡ before → answer ≡ of_one joined
+    → OnOk joined (SeesInputs limits remaining has_seen readers v w) → OnOk answer (SeesText limits has_seen before v w)
+seen_one limits remaining has_seen old readers before (Ok report) answer v w same e is seen =
+    subst (λ (r : Result JoinReport ToolFault). OnOk r (SeesText limits has_seen before v w)) (sym is)
+    (seen_in limits remaining has_seen old before v w e
+    (subst (λ (l : List _). SeesInputs limits remaining has_seen l v w) same seen))
+seen_one limits remaining has_seen old readers before (Err stopped) answer v w same e is seen =
+    subst (λ (r : Result JoinReport ToolFault). OnOk r (SeesText limits has_seen before v w)) (sym is) tt

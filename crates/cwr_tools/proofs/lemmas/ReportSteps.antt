@@ -1,5 +1,5 @@
 -- What a report puts, from what stands before the items to what stands for the verdict, where it writes the lines of `it`.
-use Rattle.std.proofs.Common.{◌≡◌, ℕ, Bool, List, [], ◌∷◌, ◌++◌, Option, refl, sym, ap, subst, ◌∙◌, false, append-nil}
+use Rattle.std.proofs.Common.{◌≡◌, ℕ, Bool, List, [], ◌∷◌, ◌++◌, Option, refl, sym, ap, subst, ◌∙◌, false, true, append-nil}
 use Rattle.std.specs.Prelude.{Result, Ok, Err}
 use Rattle.cwr_devices.specs.declared.sinks.Sink.{Sink}
 use Rattle.cwr_devices.specs.declared.sinks.SinkFault.{SinkFault}
@@ -7,7 +7,7 @@ use Rattle.cwr_devices.specs.Steps.Sinks.{HasWritten, Puts, has_failed, written_
 use Rattle.cwr_levels.specs.Steps.Putting.{PutsText}
 use Rattle.cwr_values.specs.declared.items.Item.{Item}
 use Rattle.cwr_tools.specs.declared.verdicts.ToolFault.{ToolFault}
-use Rattle.cwr_tools.specs.declared.verdicts.ToolFault.TheVariants.{Writer}
+use Rattle.cwr_tools.specs.declared.verdicts.ToolFault.TheVariants.{Memory, Writer}
 use Rattle.cwr_tools.specs.declared.verdicts.Verdict.{Verdict}
 use Rattle.cwr_tools.specs.Format.Reports.{ItemLines}
 use Rattle.cwr_tools.specs.Steps.Reports.{PutsLines, PutsNext}
@@ -27,6 +27,14 @@ pub lines_put : {W : Type 0} (contents : W → Option (List ℕ)) (failures : W 
     (u : Unit {0}) (old new : Sink W) → Puts {E = SinkFault} contents failures text (Ok u) old new → PutsLines contents failures
     take_memory text (Ok u) old new
 lines_put contents failures take_memory text u old new p = record { written = p.written; failed = p.failed; counts = p.counts }
+
+-- memory was refused for what is told of it
+pub memory_refused : {W : Type 0} (contents : W → Option (List ℕ)) (failures : W → ℕ) (take_memory : Bool) (text : List ℕ)
+    (result : Result (Unit {0}) ToolFault) (fault : ToolFault) (sink : Sink W) → result ≡ Err fault
+    → (fault ≡ Memory) × (take_memory ≡ true) → PutsLines contents failures take_memory text result sink sink
+memory_refused contents failures take_memory text result fault sink e is =
+    subst (λ (r : Result (Unit {0}) ToolFault). PutsLines contents failures take_memory text r sink sink)
+    (sym (e ∙ ap (λ (f : ToolFault). Err f) is.0)) (is.1, refl)
 
 -- the writer failed in it
 pub lines_cut : {W : Type 0} (contents : W → Option (List ℕ)) (failures : W → ℕ) (take_memory : Bool) (text : List ℕ)

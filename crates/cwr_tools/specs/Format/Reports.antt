@@ -66,6 +66,10 @@ transaction_lines true group sequence n t = explained_in group sequence n (Trans
 abbrev pub lines_of_records : ItemLines
 lines_of_records = record { lines = show_lines; last = verdict_line; take_memory = λ item. false }
 
+-- the same, while the findings in them are counted
+abbrev pub lines_of_counted : ItemLines
+lines_of_counted = record { lines = show_lines; last = verdict_line; take_memory = has_findings }
+
 -- the data of each item, its cells shown by the encoding, with notes or without, and nothing for the verdict
 abbrev pub lines_of_data : Encoding → Bool → ItemLines
 lines_of_data enc noted = record { lines = data_lines enc noted; last = λ verdict. []; take_memory = λ item. false }

@@ -54,4 +54,6 @@ of_file import input (Err (faults.Output name reason)) h = tt
 of_file import input (Err (faults.IsInput name)) h = h
 of_file import input (Err (faults.IsThere name)) h = h
 of_file import input (Err (faults.IsTwice name)) h = h
+of_file import input (Err (faults.IsOther name)) h = h
+of_file import input (Err (faults.IsLate name)) h = h
 of_file import input (Err faults.Memory) h = tt

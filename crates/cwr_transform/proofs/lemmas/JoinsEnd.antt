@@ -7,7 +7,6 @@ use Rattle.cwr_tools.specs.declared.verdicts.ToolFault.{ToolFault}
 use Rattle.cwr_tools.specs.declared.verdicts.ToolFault.TheVariants as tool_faults
 use Rattle.cwr_files.specs.declared.faults.Fault.{Fault}
 use Rattle.cwr_files.specs.declared.faults.Fault.TheVariants as faults
-use Rattle.cwr_files.specs.declared.faults.Name.{Name}
 use Rattle.cwr_files.specs.declared.faults.Name.TheVariants.{File}
 use Rattle.cwr_files.specs.declared.faults.Told.{Told}
 use Rattle.cwr_files.specs.Format.Faults.{IsUnkept, IsUnmade, IsUnopened}
@@ -15,8 +14,8 @@ use Rattle.cwr_transform.specs.declared.endings.Status.{Status}
 use Rattle.cwr_transform.specs.declared.endings.Status.TheVariants as statuses
 use Rattle.cwr_transform.specs.declared.joins.Union.{Union}
 use Rattle.cwr_transform.specs.Format.Endings.{EndsAfterFault}
-use Rattle.cwr_transform.specs.Format.Joins.{EndsAfterJoin, EndsAsJoin, EndsJoined, EndsLooked, EndsUnseen, IsJoinFault}
-use Rattle.cwr_transform.specs.Format.Joins.{IsRefusedOut, IsUnjoined, IsUnread, IsUnwritten}
+use Rattle.cwr_transform.specs.Format.Joins.{EndsAfterJoin, EndsAsJoin, EndsFound, EndsJoined, EndsLooked, EndsUnseen, IsJoinFault}
+use Rattle.cwr_transform.specs.Format.Joins.{IsRefusedOut, IsRefusedSender, IsUnjoined, IsUnread, IsUnwritten}
 
 -- ---- faults
 
@@ -28,6 +27,8 @@ unread union (faults.Output name reason) h = absurd h
 unread union (faults.IsInput name) h = absurd h
 unread union (faults.IsThere name) h = absurd h
 unread union (faults.IsTwice name) h = absurd h
+unread union (faults.IsOther name) h = absurd h
+unread union (faults.IsLate name) h = absurd h
 unread union faults.Memory h = tt
 
 pub unwritten : (union : Union) (fault : Fault) → IsUnwritten fault → IsJoinFault union fault
@@ -38,6 +39,8 @@ unwritten union (faults.Output name reason) h = absurd h
 unwritten union (faults.IsInput name) h = absurd h
 unwritten union (faults.IsThere name) h = absurd h
 unwritten union (faults.IsTwice name) h = absurd h
+unwritten union (faults.IsOther name) h = absurd h
+unwritten union (faults.IsLate name) h = absurd h
 unwritten union faults.Memory h = absurd h
 
 pub refused_out : (union : Union) (fault : Fault) → IsRefusedOut (File union.out) union.only_new fault → IsJoinFault union fault
@@ -48,9 +51,11 @@ refused_out union (faults.Output name reason) h = absurd h
 refused_out union (faults.IsInput name) h = h
 refused_out union (faults.IsThere name) h = h
 refused_out union (faults.IsTwice name) h = absurd h
+refused_out union (faults.IsOther name) h = absurd h
+refused_out union (faults.IsLate name) h = absurd h
 refused_out union faults.Memory h = absurd h
 
-pub unjoined : (union : Union) (fault : Fault) → IsUnjoined (File union.out) fault → IsJoinFault union fault
+pub unjoined : (union : Union) (fault : Fault) → IsUnjoined union fault → IsJoinFault union fault
 unjoined union (faults.Open name reason) h = tt
 unjoined union (faults.Read told) h = absurd h
 unjoined union (faults.Write told) h = absurd h
@@ -58,27 +63,33 @@ unjoined union (faults.Output name reason) h = tt
 unjoined union (faults.IsInput name) h = absurd h
 unjoined union (faults.IsThere name) h = absurd h
 unjoined union (faults.IsTwice name) h = absurd h
+unjoined union (faults.IsOther name) h = h
+unjoined union (faults.IsLate name) h = absurd h
 unjoined union faults.Memory h = tt
 
-pub unmade : (name : Name) (fault : Fault) → IsUnmade name fault → IsUnjoined name fault
-unmade name (faults.Open of reason) h = h.0
-unmade name (faults.Read told) h = absurd h
-unmade name (faults.Write told) h = absurd h
-unmade name (faults.Output of reason) h = absurd h
-unmade name (faults.IsInput of) h = absurd h
-unmade name (faults.IsThere of) h = absurd h
-unmade name (faults.IsTwice of) h = absurd h
-unmade name faults.Memory h = tt
+pub unmade : (union : Union) (fault : Fault) → IsUnmade (File union.out) fault → IsUnjoined union fault
+unmade union (faults.Open of reason) h = h.0
+unmade union (faults.Read told) h = absurd h
+unmade union (faults.Write told) h = absurd h
+unmade union (faults.Output of reason) h = absurd h
+unmade union (faults.IsInput of) h = absurd h
+unmade union (faults.IsThere of) h = absurd h
+unmade union (faults.IsTwice of) h = absurd h
+unmade union (faults.IsOther of) h = absurd h
+unmade union (faults.IsLate of) h = absurd h
+unmade union faults.Memory h = tt
 
-pub unkept : (name : Name) (fault : Fault) → IsUnkept name fault → IsUnjoined name fault
-unkept name (faults.Open of reason) h = absurd h
-unkept name (faults.Read told) h = absurd h
-unkept name (faults.Write told) h = absurd h
-unkept name (faults.Output of reason) h = h.0
-unkept name (faults.IsInput of) h = absurd h
-unkept name (faults.IsThere of) h = absurd h
-unkept name (faults.IsTwice of) h = absurd h
-unkept name faults.Memory h = absurd h
+pub unkept : (union : Union) (fault : Fault) → IsUnkept (File union.out) fault → IsUnjoined union fault
+unkept union (faults.Open of reason) h = absurd h
+unkept union (faults.Read told) h = absurd h
+unkept union (faults.Write told) h = absurd h
+unkept union (faults.Output of reason) h = h.0
+unkept union (faults.IsInput of) h = absurd h
+unkept union (faults.IsThere of) h = absurd h
+unkept union (faults.IsTwice of) h = absurd h
+unkept union (faults.IsOther of) h = absurd h
+unkept union (faults.IsLate of) h = absurd h
+unkept union faults.Memory h = absurd h
 
 -- ---- the end
 
@@ -111,10 +122,27 @@ failed union n read written (tool_faults.Refused r) ending some h = as_join unio
 failed union n read written (tool_faults.Truncated k) ending some h = as_join union n ending (Ok statuses.Refused) h some
 failed union n read written (tool_faults.Limit l) ending some h = as_join union n ending (Ok statuses.Refused) h some
 
-pub join_ends : (union : Union) (n : ℕ) (outcome : Result JoinReport JoinFault) (found : Option (Result Bool ℕ))
-    (ending : Result Status Fault) → 0 < n → EndsJoined union outcome found ending → EndsAsJoin union n ending
-join_ends union n (Ok report) found ending some h = after union n union.whole found ending some h
-join_ends union n (Err stopped) found ending some h = failed union n h.0 h.1 stopped.fault ending some h.2
+pub refused_sender : (union : Union) (fault : Fault) → IsRefusedSender union.same_sender fault → IsUnjoined union fault
+refused_sender union (faults.Open of reason) h = absurd h
+refused_sender union (faults.Read told) h = absurd h
+refused_sender union (faults.Write told) h = absurd h
+refused_sender union (faults.Output of reason) h = absurd h
+refused_sender union (faults.IsInput of) h = absurd h
+refused_sender union (faults.IsThere of) h = absurd h
+refused_sender union (faults.IsTwice of) h = absurd h
+refused_sender union (faults.IsOther of) h = h
+refused_sender union (faults.IsLate of) h = absurd h
+refused_sender union faults.Memory h = tt
+
+found_or_after : (union : Union) (n : ℕ) (found whole : Bool) (looked : Option (Result Bool ℕ)) (ending : Result Status Fault)
+    → 0 < n → EndsFound found whole looked ending → EndsAsJoin union n ending
+found_or_after union n true whole looked ending some h = as_join union n ending (Ok statuses.Refused) h some
+found_or_after union n false whole looked ending some h = after union n whole looked ending some h
+
+pub join_ends : (union : Union) (n : ℕ) (outcome : Result JoinReport JoinFault) (found : Bool) (looked : Option (Result Bool ℕ))
+    (ending : Result Status Fault) → 0 < n → EndsJoined union outcome found looked ending → EndsAsJoin union n ending
+join_ends union n (Ok report) found looked ending some h = found_or_after union n found union.wanted.whole looked ending some h
+join_ends union n (Err stopped) found looked ending some h = failed union n h.0 h.1 stopped.fault ending some h.2
 
 pub unopened : (fault : Fault) → IsUnopened fault → IsUnread fault
 unopened (faults.Open name reason) h = tt
@@ -124,4 +152,6 @@ unopened (faults.Output name reason) h = absurd h
 unopened (faults.IsInput name) h = absurd h
 unopened (faults.IsThere name) h = absurd h
 unopened (faults.IsTwice name) h = absurd h
+unopened (faults.IsOther name) h = absurd h
+unopened (faults.IsLate name) h = absurd h
 unopened faults.Memory h = absurd h

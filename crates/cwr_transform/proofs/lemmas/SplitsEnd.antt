@@ -1,22 +1,26 @@
 -- A split ends as its text does.
-use Rattle.std.proofs.Common.{◌≡◌, ℕ, List, Bool, false, Option, Some, None, refl, sym, subst, inl, inr}
-use Rattle.std.specs.Prelude.{Result, Ok, Err}
+use Rattle.std.proofs.Common.{◌≡◌, ℕ, List, [], Bool, false, Option, Some, None, refl, sym, subst, inl, inr, ◌∙◌}
+use Rattle.std.specs.Prelude.{Result, Ok, Err, OnOk}
 use Rattle.cwr_shape.specs.declared.limits.Limits.{Limits}
 use Rattle.cwr_judge.specs.declared.refusals.Refusal.{Refusal}
-use Rattle.cwr_judge.specs.Format.Items.{value_items}
 use Rattle.cwr_tools.specs.declared.verdicts.SplitReport.{SplitReport}
 use Rattle.cwr_tools.specs.declared.verdicts.ToolFault.{ToolFault}
 use Rattle.cwr_tools.specs.declared.verdicts.ToolFault.TheVariants as tool_faults
+use Rattle.cwr_tools.specs.declared.watch.FindingCount.{FindingCount}
+use Rattle.cwr_tools.specs.declared.viewing.FindingView.{FindingView}
+use Rattle.cwr_tools.specs.Format.Viewing.{SeesText}
+use Rattle.cwr_tools.specs.Format.Watching.{AreFindingsIn, CountsAccepted, is_reached}
 use Rattle.cwr_parts.specs.Format.Splitting.{JudgesSplit}
 use Rattle.cwr_transform.specs.declared.endings.Look.{Look}
 use Rattle.cwr_transform.specs.declared.endings.Status.{Status}
 use Rattle.cwr_transform.specs.declared.endings.Status.TheVariants as statuses
+use Rattle.cwr_transform.specs.declared.endings.Wanted.{Wanted}
 use Rattle.cwr_files.specs.declared.faults.Told.{Told}
 use Rattle.cwr_files.specs.declared.faults.Fault.{Fault}
 use Rattle.cwr_transform.specs.Format.Endings.{EndsAsSplit}
-use Rattle.cwr_transform.specs.Steps.Looks.{IsLook, whole_status}
+use Rattle.cwr_transform.specs.Steps.Looks.{IsLook, good_status}
 use Rattle.cwr_transform.specs.Steps.Splits.{JudgesCut, SplitEndsAs}
-use Rattle.cwr_transform.proofs.lemmas.StatusesOnTexts.{none_from, status_good}
+use Rattle.cwr_transform.proofs.lemmas.StatusesOnTexts.{status_good}
 
 -- what was split is looked after
 pub cut_judged : (limits : Limits) (before mid after : Option (List ℕ)) (report : SplitReport) (look : Look)
@@ -36,46 +40,60 @@ cut_failed limits before mid (tool_faults.Refused r) look h = h
 cut_failed limits before mid (tool_faults.Truncated n) look h = h
 cut_failed limits before mid (tool_faults.Limit l) look h = h
 
+-- ---- the findings
+
+-- where memory was never refused, those that were counted are those of the transmission
+pub findings_seen : (limits : Limits) (before : Option (List ℕ)) (old new : FindingView) → AreFindingsIn old.count []
+    → new.lacks_memory ≡ false
+    → SeesText limits (λ view items. view.lacks_memory ≡ false → AreFindingsIn view.count items) before old new
+    → CountsAccepted limits before new.count
+findings_seen limits None old new none had seen = tt
+findings_seen limits (Some text) old new none had seen = λ v n a. seen v n a [] (λ _. none) had
+
 -- ---- the end
 
-ends_good : (limits : Limits) (whole : Bool) (before : Option (List ℕ)) (report : SplitReport) (look : Look) (status : Status)
-    → JudgesCut limits before (Ok report) look → whole_status whole look ≡ Some status
-    → EndsAsSplit limits whole before (Ok status)
-ends_good limits whole None report look status judged e = tt
-ends_good limits whole (Some text) report look status judged e =
-    status_good limits (record { whole = whole; fail_on = None }) text judged.0 judged.1 look false status judged.2
-    (none_from (value_items judged.0)) judged.3 judged.4 e
+ends_good : (limits : Limits) (wanted : Wanted) (before : Option (List ℕ)) (report : SplitReport) (look : Look) (count : FindingCount)
+    (found : Bool) (status : Status) → JudgesCut limits before (Ok report) look → CountsAccepted limits before count
+    → found ≡ is_reached wanted.fail_on count.worst → good_status wanted look found ≡ Some status
+    → EndsAsSplit limits wanted before (Ok status)
+ends_good limits wanted None report look count found status judged counted is e = tt
+ends_good limits wanted (Some text) report look count found status judged counted is e =
+    status_good limits wanted text judged.0 judged.1 look found status judged.2
+    (sym (is ∙ (counted judged.0 judged.1 judged.2).worst wanted.fail_on)) judged.3 judged.4 e
 
-ends_refused : (limits : Limits) (whole : Bool) (before : Option (List ℕ)) (r : Refusal)
-    → JudgesSplit limits before before (Err (tool_faults.Refused r)) → EndsAsSplit limits whole before (Ok statuses.Refused)
-ends_refused limits whole None r judged = tt
-ends_refused limits whole (Some text) r judged = inl (r, judged)
+ends_refused : (limits : Limits) (wanted : Wanted) (before : Option (List ℕ)) (r : Refusal)
+    → JudgesSplit limits before before (Err (tool_faults.Refused r)) → EndsAsSplit limits wanted before (Ok statuses.Refused)
+ends_refused limits wanted None r judged = tt
+ends_refused limits wanted (Some text) r judged = inl (r, judged)
 
-ends_truncated : (limits : Limits) (whole : Bool) (before : Option (List ℕ)) (n : ℕ)
-    → JudgesSplit limits before before (Err (tool_faults.Truncated n)) → EndsAsSplit limits whole before (Ok statuses.Refused)
-ends_truncated limits whole None n judged = tt
-ends_truncated limits whole (Some text) n judged = inr (inl (n, judged))
+ends_truncated : (limits : Limits) (wanted : Wanted) (before : Option (List ℕ)) (n : ℕ)
+    → JudgesSplit limits before before (Err (tool_faults.Truncated n)) → EndsAsSplit limits wanted before (Ok statuses.Refused)
+ends_truncated limits wanted None n judged = tt
+ends_truncated limits wanted (Some text) n judged = inr (inl (n, judged))
 
-pub split_ends : (limits : Limits) (whole : Bool) (before : Option (List ℕ)) (input : Told) (made : Fault)
-    (outcome : Result SplitReport ToolFault) (look : Look) (ending : Result Status Fault) → JudgesCut limits before outcome look
-    → SplitEndsAs input made outcome (whole_status whole look) ending → EndsAsSplit limits whole before ending
-split_ends limits whole before input made (Ok report) look ending judged ends = by (whole_status whole look) refl ends
+pub split_ends : (limits : Limits) (wanted : Wanted) (before : Option (List ℕ)) (input : Told) (made : Fault)
+    (outcome : Result SplitReport ToolFault) (look : Look) (count : FindingCount) (found : Bool) (ending : Result Status Fault)
+    → JudgesCut limits before outcome look → OnOk outcome (CountsAccepted limits before count)
+    → found ≡ is_reached wanted.fail_on count.worst → SplitEndsAs input made outcome (good_status wanted look found) ending
+    → EndsAsSplit limits wanted before ending
+split_ends limits wanted before input made (Ok report) look count found ending judged counted is ends =
+    by (good_status wanted look found) refl ends
   where
-    by : (o : Option Status) → whole_status whole look ≡ o → SplitEndsAs input made (Ok report) o ending
-        → EndsAsSplit limits whole before ending
-    by None e is = subst (EndsAsSplit limits whole before) (sym is) tt
-    by (Some status) e is =
-        subst (EndsAsSplit limits whole before) (sym is) (ends_good limits whole before report look status judged e)
-split_ends limits whole before input made (Err (tool_faults.Writer n)) look ending judged ends =
-    subst (EndsAsSplit limits whole before) (sym ends) tt
-split_ends limits whole before input made (Err tool_faults.Reader) look ending judged ends =
-    subst (EndsAsSplit limits whole before) (sym ends) tt
-split_ends limits whole before input made (Err tool_faults.Memory) look ending judged ends =
-    subst (EndsAsSplit limits whole before) (sym ends) tt
-split_ends limits whole before input made (Err tool_faults.Output) look ending judged ends =
-    subst (EndsAsSplit limits whole before) (sym ends) tt
-split_ends limits whole before input made (Err (tool_faults.Refused r)) look ending judged ends =
-    subst (EndsAsSplit limits whole before) (sym ends) (ends_refused limits whole before r judged)
-split_ends limits whole before input made (Err (tool_faults.Truncated n)) look ending judged ends =
-    subst (EndsAsSplit limits whole before) (sym ends) (ends_truncated limits whole before n judged)
-split_ends limits whole before input made (Err (tool_faults.Limit l)) look ending judged ends = absurd judged
+    by : (o : Option Status) → good_status wanted look found ≡ o → SplitEndsAs input made (Ok report) o ending
+        → EndsAsSplit limits wanted before ending
+    by None e same = subst (EndsAsSplit limits wanted before) (sym same) tt
+    by (Some status) e same = subst (EndsAsSplit limits wanted before) (sym same)
+        (ends_good limits wanted before report look count found status judged counted is e)
+split_ends limits wanted before input made (Err (tool_faults.Writer n)) look count found ending judged counted is ends =
+    subst (EndsAsSplit limits wanted before) (sym ends) tt
+split_ends limits wanted before input made (Err tool_faults.Reader) look count found ending judged counted is ends =
+    subst (EndsAsSplit limits wanted before) (sym ends) tt
+split_ends limits wanted before input made (Err tool_faults.Memory) look count found ending judged counted is ends =
+    subst (EndsAsSplit limits wanted before) (sym ends) tt
+split_ends limits wanted before input made (Err tool_faults.Output) look count found ending judged counted is ends =
+    subst (EndsAsSplit limits wanted before) (sym ends) tt
+split_ends limits wanted before input made (Err (tool_faults.Refused r)) look count found ending judged counted is ends =
+    subst (EndsAsSplit limits wanted before) (sym ends) (ends_refused limits wanted before r judged)
+split_ends limits wanted before input made (Err (tool_faults.Truncated n)) look count found ending judged counted is ends =
+    subst (EndsAsSplit limits wanted before) (sym ends) (ends_truncated limits wanted before n judged)
+split_ends limits wanted before input made (Err (tool_faults.Limit l)) look count found ending judged counted is ends = absurd judged

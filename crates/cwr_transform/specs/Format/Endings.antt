@@ -49,7 +49,6 @@ IsStatusOn limits wanted text statuses.CommandLine = ⊥
 IsStatusOn limits wanted text statuses.Fault = ⊥
 
 -- A split of the text ends so too, but that each of its files may fail.
-abbrev pub EndsAsSplit : Limits → Bool → Option (List ℕ) → Result Status Fault → Type 0
-EndsAsSplit limits whole input (Ok status) =
-    IfSome input (λ text. IsStatusOn limits (record { whole = whole; fail_on = None }) text status)
-EndsAsSplit limits whole input (Err fault) = Unit {0}
+abbrev pub EndsAsSplit : Limits → Wanted → Option (List ℕ) → Result Status Fault → Type 0
+EndsAsSplit limits wanted input (Ok status) = IfSome input (λ text. IsStatusOn limits wanted text status)
+EndsAsSplit limits wanted input (Err fault) = Unit {0}

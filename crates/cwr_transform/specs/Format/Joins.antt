@@ -31,12 +31,19 @@ IsRefusedOut name only_new (faults.IsInput of) = of ≡ name
 IsRefusedOut name only_new (faults.IsThere of) = (of ≡ name) × (only_new ≡ true)
 IsRefusedOut name only_new fault = ⊥
 
--- the file couldn't be made, or not be given its name, or there was no memory
-abbrev pub IsUnjoined : Name → Fault → Type 0
-IsUnjoined name (faults.Open of reason) = of ≡ name
-IsUnjoined name (faults.Output of reason) = of ≡ name
-IsUnjoined name faults.Memory = Unit {0}
-IsUnjoined name fault = ⊥
+-- an input has another sender than the first where it may not, or there was no memory
+abbrev pub IsRefusedSender : Bool → Fault → Type 0
+IsRefusedSender same_sender (faults.IsOther of) = same_sender ≡ true
+IsRefusedSender same_sender faults.Memory = Unit {0}
+IsRefusedSender same_sender fault = ⊥
+
+-- the file couldn't be made, or not be given its name, or an input has another sender where it may not, or there was no memory
+abbrev pub IsUnjoined : Union → Fault → Type 0
+IsUnjoined union (faults.Open of reason) = of ≡ File union.out
+IsUnjoined union (faults.Output of reason) = of ≡ File union.out
+IsUnjoined union (faults.IsOther of) = union.same_sender ≡ true
+IsUnjoined union faults.Memory = Unit {0}
+IsUnjoined union fault = ⊥
 
 -- ---- the end
 
@@ -69,16 +76,23 @@ EndsAfterJoin whole (Some (Ok follows)) ending = EndsLooked (whole && follows) e
 EndsAfterJoin whole (Some (Err number)) ending = EndsUnseen whole ending
 EndsAfterJoin whole None ending = ending ≡ Ok statuses.Good
 
+-- a finding that is unwanted ends it as refused
+abbrev pub EndsFound : Bool → Bool → Option (Result Bool ℕ) → Result Status Fault → Type 0
+EndsFound true whole after ending = ending ≡ Ok statuses.Refused
+EndsFound false whole after ending = EndsAfterJoin whole after ending
+
 -- so a run ends, by what the join answered
-abbrev pub EndsJoined : Union → Result JoinReport JoinFault → Option (Result Bool ℕ) → Result Status Fault → Type 0
-EndsJoined union (Ok report) after ending = EndsAfterJoin union.whole after ending
-EndsJoined union (Err stopped) after ending = EndsAfterJoinFault (File union.out) stopped ending
+abbrev pub EndsJoined : Union → Result JoinReport JoinFault → Bool → Option (Result Bool ℕ) → Result Status Fault → Type 0
+EndsJoined union (Ok report) found after ending = EndsFound found union.wanted.whole after ending
+EndsJoined union (Err stopped) found after ending = EndsAfterJoinFault (File union.out) stopped ending
 
 -- the fault of a join
 abbrev pub IsJoinFault : Union → Fault → Type 0
 IsJoinFault union (faults.IsInput of) = of ≡ File union.out
 IsJoinFault union (faults.IsThere of) = (of ≡ File union.out) × (union.only_new ≡ true)
 IsJoinFault union (faults.IsTwice of) = ⊥
+IsJoinFault union (faults.IsOther of) = union.same_sender ≡ true
+IsJoinFault union (faults.IsLate of) = ⊥
 IsJoinFault union fault = Unit {0}
 
 -- A join of so many inputs ends well or as refused; where there is none, as words do that ask for nothing. Else a file, a device or

@@ -1,8 +1,10 @@
 -- What was seen after a transmission, and the status of a run by that.
-use Rattle.std.specs.Prelude.{◌≡◌, ℕ, Bool, true, false, not, nat_lt, ◌||◌, List, Option, Some, None, if◌then◌else◌}
+use Rattle.std.specs.Prelude.{◌≡◌, ℕ, Bool, true, false, not, nat_lt, ◌||◌, List, Option, Some, None, Result, Ok, Err, if◌then◌else◌}
 use Rattle.cwr_devices.specs.Format.Failures.{one_more_failure}
 use Rattle.cwr_tools.specs.declared.verdicts.Verdict.{Verdict}
 use Rattle.cwr_tools.specs.declared.verdicts.Verdict.TheVariants.{Good, Refused, Truncated}
+use Rattle.cwr_tools.specs.declared.verdicts.ToolFault.{ToolFault}
+use Rattle.cwr_tools.specs.declared.verdicts.ToolFault.TheVariants as tool_faults
 use Rattle.cwr_causes.specs.declared.trailing.Trailing.{Trailing}
 use Rattle.cwr_causes.specs.Format.Trailing.{IsTrailing}
 use Rattle.cwr_transform.specs.declared.endings.Look.{Look}
@@ -10,6 +12,7 @@ use Rattle.cwr_transform.specs.declared.endings.Look.TheVariants as looks
 use Rattle.cwr_transform.specs.declared.endings.Status.{Status}
 use Rattle.cwr_transform.specs.declared.endings.Status.TheVariants as statuses
 use Rattle.cwr_transform.specs.declared.endings.Wanted.{Wanted}
+use Rattle.cwr_transform.specs.declared.judgements.Judgement.{Judgement}
 
 -- bytes stand after a transmission
 abbrev pub follows : Trailing → Bool
@@ -45,3 +48,18 @@ IsLook left after looks.Unasked = ⊥
 abbrev pub CountsLook : Look → ℕ → ℕ → Type 0
 CountsLook looks.Failed old new = new ≡ one_more_failure old
 CountsLook look old new = new ≡ old
+
+-- what the input has left was read, or it failed, where the verdict is good
+abbrev pub LooksOnce : Option (List ℕ) → Option (List ℕ) → Result Verdict ToolFault → Look → Type 0
+LooksOnce left after (Ok (Good groups transactions records)) look = IsLook left after look
+LooksOnce left after outcome look = Unit {0}
+
+-- a verdict with its status, or the input's fault where it has none
+abbrev pub judged_with : Verdict → Look → Option Status → Result Judgement ToolFault
+judged_with verdict look (Some status) = Ok (record { verdict = verdict; look = look; status = status })
+judged_with verdict look None = Err tool_faults.Reader
+
+-- what is made of an input with that outcome
+abbrev pub judgement_in : Wanted → Result Verdict ToolFault → Look → Bool → Result Judgement ToolFault
+judgement_in wanted (Ok verdict) look found = judged_with verdict look (status_in wanted verdict look found)
+judgement_in wanted (Err fault) look found = Err fault

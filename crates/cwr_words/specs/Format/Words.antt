@@ -1,6 +1,6 @@
 -- What the words of a subcommand ask for.
-use Rattle.std.specs.Prelude.{◌≡◌, ℕ, Bool, true, false, List, [], map, Option, Some, None, option_map, codes, if◌then◌else◌}
-use Rattle.std.specs.Option.{option_and_then}
+use Rattle.std.specs.Prelude.{◌≡◌, ◌⊎◌, ℕ, Bool, true, false, List, [], ◌∷◌, map, Option, Some, None, IsSomeAnd, option_map, codes, if◌then◌else◌}
+use Rattle.std.specs.Option.{option_and_then, option_or}
 use Rattle.std.specs.Str.{bytes_eq}
 use Rattle.std.specs.Int.NonZero.{non_zero_u32_get}
 use Rattle.std.specs.Str.Parse.{digits_value, without_leading_plus}
@@ -12,6 +12,8 @@ use Rattle.cwr_shape.specs.declared.limits.Limits.{Limits}
 use Rattle.cwr_shape.specs.declared.reasons.Level.{Level}
 use Rattle.cwr_shape.specs.declared.reasons.Level.TheVariants as levels
 use Rattle.cwr_shape.specs.Format.Ranges.{limit_values}
+use Rattle.cwr_moments.specs.declared.moments.Moment.{Moment}
+use Rattle.cwr_moments.specs.Format.Moments.{moment_text}
 use Rattle.cwr_states.specs.declared.state_sets.States.{States}
 use Rattle.cwr_states.specs.Format.StateSets.{no_states, states_in}
 use Rattle.cwr_words.specs.declared.words.Judging.{Judging}
@@ -54,30 +56,40 @@ abbrev pub level_given : Option (List ℕ) → Option Level
 level_given None = None
 level_given (Some letter) = level_named letter
 
+-- what is written: what the option -o names, or else the word of that id
+abbrev pub written_in : Found → List ℕ → Option (List ℕ)
+written_in found id = option_or (first_value found (codes "o")) (first_value found id)
+
 -- the transmissions of the files FILE, with what the options of a judgement say
 pub record IsJudgingOf (found : Found) (judging : Judging) : Type 0 where
   pub files : AreNamesOf found (map (λ name. name.now) judging.files.items)
   pub quiet : IsFlagOf found (codes "quiet") judging.quiet
   pub fail_on : judging.fail_on ≡ level_given (first_value found (codes "fail-on"))
 
+-- the moment that the option's text is, or none without the option
+abbrev pub IsCreatedBy : Option (List ℕ) → Option Moment → Type 0
+IsCreatedBy None created = created ≡ None
+IsCreatedBy (Some text) created = IsSomeAnd created (λ moment. moment_text moment ≡ text)
+
 -- a split into parts of so many transactions as N says, of the file FILE to files whose names begin with PREFIX
 abbrev pub IsSplitOf : Found → Work → Type 0
 IsSplitOf found (Check judging) = ⊥
-IsSplitOf found (Show file) = ⊥
+IsSplitOf found (Show file fail_on) = ⊥
 IsSplitOf found (Explain judging) = ⊥
 IsSplitOf found (Lint files quiet explained advised) = ⊥
-IsSplitOf found (Advise files repeated) = ⊥
+IsSplitOf found (Advise files quiet repeated) = ⊥
 IsSplitOf found (Json file out numbers utf8) = ⊥
 IsSplitOf found (Csv rows file out) = ⊥
 IsSplitOf found (Acks files sent as_json by_place state fail_on) = ⊥
 IsSplitOf found (Write file out line utf8) = ⊥
-IsSplitOf found (Split transactions file prefix only_new) =
+IsSplitOf found (Split transactions file prefix created only_new fail_on) =
     ((text : List ℕ) → one_text found (codes "N") ≡ Some text
     → non_zero_u32_get transactions ≡ digits_value 10 (without_leading_plus text))
-    × (first_value found (codes "FILE") ≡ Some file.now) × (first_value found (codes "PREFIX") ≡ Some prefix.now)
-    × IsFlagOf found (codes "new") only_new
-IsSplitOf found (Join out files only_new) = ⊥
-IsSplitOf found (Renumber file out only_new) = ⊥
+    × (first_value found (codes "FILE") ≡ Some file.now) × (written_in found (codes "PREFIX") ≡ Some prefix.now)
+    × IsCreatedBy (first_value found (codes "created")) created × IsFlagOf found (codes "new") only_new
+    × (fail_on ≡ level_given (first_value found (codes "fail-on")))
+IsSplitOf found (Join out files only_new fail_on same_sender repeated) = ⊥
+IsSplitOf found (Renumber file out only_new fail_on) = ⊥
 IsSplitOf found Manual = ⊥
 
 -- every fault of the files FILE, explained where that flag is given, and with advice where that one is
@@ -89,8 +101,9 @@ IsLintOf found work = ⊥
 
 -- advice on the transmissions of the files FILE, where the numbers of so many works are kept as that option says
 abbrev pub IsAdviceOf : Found → Work → Type 0
-IsAdviceOf found (Advise files repeated) =
-    AreNamesOf found (map (λ name. name.now) files.items) × ((text : List ℕ) → one_text found (codes "repeated") ≡ Some text
+IsAdviceOf found (Advise files quiet repeated) =
+    AreNamesOf found (map (λ name. name.now) files.items) × IsFlagOf found (codes "quiet") quiet
+    × ((text : List ℕ) → one_text found (codes "repeated") ≡ Some text
     → repeated ≡ digits_value 10 (without_leading_plus text))
 IsAdviceOf found work = ⊥
 
@@ -138,18 +151,27 @@ IsImportOf found (Write file out line utf8) =
     × IsFlagOf found (codes "utf8") utf8
 IsImportOf found work = ⊥
 
--- a join of the files FILE, in their order, to the file OUT
+-- what a join writes and reads: OUT and the files FILE, or with the option -o what that names, and all the others
+abbrev pub IsJoinOfNames : Found → List ℕ → List (List ℕ) → Type 0
+IsJoinOfNames found out names =
+    ((first_value found (codes "o") ≡ None) × (first_value found (codes "OUT") ≡ Some out) × AreNamesOf found names)
+    ⊎ ((first_value found (codes "o") ≡ Some out) × (first : List ℕ) × (others : List (List ℕ))
+    × (names ≡ first ∷ others) × (first_value found (codes "OUT") ≡ Some first) × AreNamesOf found others)
+
+-- a join of files, in their order, to a file; the numbers of so many works are kept as that option says
 abbrev pub IsJoinOf : Found → Work → Type 0
-IsJoinOf found (Join out files only_new) =
-    (first_value found (codes "OUT") ≡ Some out.now) × AreNamesOf found (map (λ name. name.now) files.items)
-    × IsFlagOf found (codes "new") only_new
+IsJoinOf found (Join out files only_new fail_on same_sender repeated) =
+    IsJoinOfNames found out.now (map (λ name. name.now) files.items) × IsFlagOf found (codes "new") only_new
+    × (fail_on ≡ level_given (first_value found (codes "fail-on"))) × IsFlagOf found (codes "same-sender") same_sender
+    × ((text : List ℕ) → one_text found (codes "repeated") ≡ Some text → repeated ≡ digits_value 10 (without_leading_plus text))
 IsJoinOf found work = ⊥
 
 -- the file FILE with its numbers put right, to the file OUT
 abbrev pub IsRenumberingOf : Found → Work → Type 0
-IsRenumberingOf found (Renumber file out only_new) =
+IsRenumberingOf found (Renumber file out only_new fail_on) =
     (option_map (λ f. f.now) file ≡ first_value found (codes "FILE"))
-    × (option_map (λ f. f.now) out ≡ first_value found (codes "OUT")) × IsFlagOf found (codes "new") only_new
+    × (option_map (λ f. f.now) out ≡ written_in found (codes "OUT")) × IsFlagOf found (codes "new") only_new
+    × (fail_on ≡ level_given (first_value found (codes "fail-on")))
 IsRenumberingOf found work = ⊥
 
 -- Work of the subcommand of that name: transmissions are checked, explained, linted or advised on; one is shown, or written as JSON or as a table, that of the
@@ -158,12 +180,14 @@ IsRenumberingOf found work = ⊥
 abbrev pub IsWorkOf : List ℕ → Found → Work → Type 0
 IsWorkOf name found (Check judging) =
     (bytes_eq name (codes "show") ≡ false) × (bytes_eq name (codes "explain") ≡ false) × IsJudgingOf found judging
-IsWorkOf name found (Show file) =
+IsWorkOf name found (Show file fail_on) =
     (bytes_eq name (codes "show") ≡ true) × (option_map (λ f. f.now) file ≡ first_value found (codes "FILE"))
+    × (fail_on ≡ level_given (first_value found (codes "fail-on")))
 IsWorkOf name found (Explain judging) = (bytes_eq name (codes "explain") ≡ true) × IsJudgingOf found judging
 IsWorkOf name found (Lint files quiet explained advised) =
     (bytes_eq name (codes "lint") ≡ true) × IsLintOf found (Lint files quiet explained advised)
-IsWorkOf name found (Advise files repeated) = (bytes_eq name (codes "advise") ≡ true) × IsAdviceOf found (Advise files repeated)
+IsWorkOf name found (Advise files quiet repeated) =
+    (bytes_eq name (codes "advise") ≡ true) × IsAdviceOf found (Advise files quiet repeated)
 IsWorkOf name found (Json file out numbers utf8) =
     (bytes_eq name (codes "json") ≡ true) × IsExportOf found (Json file out numbers utf8)
 IsWorkOf name found (Csv rows file out) = (bytes_eq name (codes "csv") ≡ true) × IsTableOf found (Csv rows file out)
@@ -171,11 +195,12 @@ IsWorkOf name found (Acks files sent as_json by_place state fail_on) =
     (bytes_eq name (codes "acks") ≡ true) × IsAcksOf found (Acks files sent as_json by_place state fail_on)
 IsWorkOf name found (Write file out line utf8) =
     (bytes_eq name (codes "write") ≡ true) × IsImportOf found (Write file out line utf8)
-IsWorkOf name found (Split transactions file prefix only_new) =
-    (bytes_eq name (codes "split") ≡ true) × IsSplitOf found (Split transactions file prefix only_new)
-IsWorkOf name found (Join out files only_new) = (bytes_eq name (codes "join") ≡ true) × IsJoinOf found (Join out files only_new)
-IsWorkOf name found (Renumber file out only_new) =
-    (bytes_eq name (codes "renumber") ≡ true) × IsRenumberingOf found (Renumber file out only_new)
+IsWorkOf name found (Split transactions file prefix created only_new fail_on) =
+    (bytes_eq name (codes "split") ≡ true) × IsSplitOf found (Split transactions file prefix created only_new fail_on)
+IsWorkOf name found (Join out files only_new fail_on same_sender repeated) =
+    (bytes_eq name (codes "join") ≡ true) × IsJoinOf found (Join out files only_new fail_on same_sender repeated)
+IsWorkOf name found (Renumber file out only_new fail_on) =
+    (bytes_eq name (codes "renumber") ≡ true) × IsRenumberingOf found (Renumber file out only_new fail_on)
 IsWorkOf name found Manual = bytes_eq name (codes "manual") ≡ true
 
 -- so it is of the subcommand of that name

@@ -1,5 +1,5 @@
 use Rattle.cwr.specs.Format.Endings.{wanted_in}
-use Rattle.cwr.proofs.lemmas.EndsOnTexts.{fault_ends, status_ends}
+use Rattle.cwr.proofs.lemmas.EndsOnInputs.{fault_ends, status_ends}
 use Rattle.cwr.proofs.program.carry_out.Goals as goal
 
 pub returns-in-Ok : goal.returns-in-Ok

@@ -19,11 +19,11 @@ returns-in-Err-clause-explains g c =
 pub returns-in-Some-clause-explains : goal.returns-in-Some-clause-explains
 returns-in-Some-clause-explains g c =
     explains_after c.args.limits _ _ _ _ g.W.Target.contents c.args.writer c.check_explained-writer.result.0 _
-    c.check_explained-writer.result.1 c.in-Ok.verdict c.in-Some.last c.add_explanation.result.1
+    c.check_explained-writer.result.1 c.in-Ok.verdict c.in-Some.last c.add_explanation-writer.result.1
     c.check_explained-writer.ensures.reported c.in-Ok.is
     (read_last c.args.limits _ _ c.check_explained-writer.result.1 c.check_explained-writer.result.2.last c.in-Ok.verdict c.in-Some.last
     c.check_explained-writer.ensures.last c.in-Ok.is c.in-Some.is)
-    c.add_explanation.ensures.answered c.add_explanation.ensures.says c.add_explanation.ensures.taken
+    c.add_explanation-writer.ensures.answered c.add_explanation-writer.ensures.says c.add_explanation-writer.ensures.taken
 
 pub returns-in-None-clause-explains : goal.returns-in-None-clause-explains
 returns-in-None-clause-explains g c =
@@ -38,9 +38,9 @@ returns-in-Err-clause-told g c =
 pub returns-in-Some-clause-told : goal.returns-in-Some-clause-told
 returns-in-Some-clause-told g c =
     told_after c.args.limits _ _ _ _ g.W.Target.contents c.args.writer c.check_explained-writer.result.0 _
-    c.check_explained-writer.result.1 c.in-Ok.verdict c.in-Some.last c.add_explanation.result.1
-    c.check_explained-writer.ensures.told c.in-Ok.is c.add_explanation.ensures.answered c.add_explanation.ensures.says
-    c.add_explanation.ensures.taken
+    c.check_explained-writer.result.1 c.in-Ok.verdict c.in-Some.last c.add_explanation-writer.result.1
+    c.check_explained-writer.ensures.told c.in-Ok.is c.add_explanation-writer.ensures.answered c.add_explanation-writer.ensures.says
+    c.add_explanation-writer.ensures.taken
 
 pub returns-in-None-clause-told : goal.returns-in-None-clause-told
 returns-in-None-clause-told g c =
@@ -50,13 +50,13 @@ returns-in-None-clause-told g c =
 pub returns-in-Some-clause-found : goal.returns-in-Some-clause-found
 returns-in-Some-clause-found g c =
     finds_after c.args.limits _ _ _ g.W.Target.contents c.args.writer c.check_explained-writer.result.0 c.in-Ok.verdict
-    c.add_explanation.result.1 c.add_explanation.result.2
+    c.add_explanation-writer.result.1 c.add_explanation-writer.result.2
     (subst (λ (r : Result Verdict ToolFault). IfOk r (JudgesAccepted lines_of_explained c.args.limits
     (g.R.Source.remaining c.args.reader.now) (g.R.Source.remaining c.check_explained-writer.new.reader) g.W.Target.contents
     c.args.writer c.check_explained-writer.result.0)) c.in-Ok.is (accepted_text lines_of_explained c.args.limits _ _
     g.W.Target.contents c.args.writer c.check_explained-writer.result.0 c.check_explained-writer.result.1
     c.check_explained-writer.ensures.told))
-    c.add_explanation.ensures.found
+    c.add_explanation-writer.ensures.found
 
 pub returns-in-Err-clause-judged : goal.returns-in-Err-clause-judged
 returns-in-Err-clause-judged g c =
@@ -72,11 +72,11 @@ returns-in-None-clause-judged g c =
 
 pub returns-in-Some-clause-judged : goal.returns-in-Some-clause-judged
 returns-in-Some-clause-judged g c =
-    judged_after c.args.limits (g.R.Source.remaining c.args.reader.now) c.in-Ok.verdict c.add_explanation.result.1
+    judged_after c.args.limits (g.R.Source.remaining c.args.reader.now) c.in-Ok.verdict c.add_explanation-writer.result.1
     (subst (JudgesText c.args.limits (g.R.Source.remaining c.args.reader.now)) c.in-Ok.is
     (judged_text lines_of_explained c.args.limits _ _ g.W.Target.contents c.args.writer c.check_explained-writer.result.0
     c.check_explained-writer.result.1 c.check_explained-writer.ensures.told))
-    c.add_explanation.ensures.answered
+    c.add_explanation-writer.ensures.answered
 
 pub returns-in-Err-clause-written : goal.returns-in-Err-clause-written
 returns-in-Err-clause-written g c =
@@ -85,6 +85,6 @@ returns-in-Err-clause-written g c =
 
 pub returns-in-Some-clause-written : goal.returns-in-Some-clause-written
 returns-in-Some-clause-written g c =
-    counts_all g.W.Target.contents c.args.writer c.check_explained-writer.result.0 c.add_explanation.result.0
-    c.check_explained-writer.result.2.written c.add_explanation.result.1 c.check_explained-writer.ensures.counted
-    c.add_explanation.ensures.counted
+    counts_all g.W.Target.contents c.args.writer c.check_explained-writer.result.0 c.add_explanation-writer.result.0
+    c.check_explained-writer.result.2.written c.add_explanation-writer.result.1 c.check_explained-writer.ensures.counted
+    c.add_explanation-writer.ensures.counted

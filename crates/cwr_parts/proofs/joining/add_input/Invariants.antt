@@ -1,11 +1,13 @@
 use Rattle.std.proofs.Common.{◌≡◌, ◌-◌}
 use Rattle.cwr_parts.proofs.lemmas.OneInputJoined.{IsJoining}
+use Rattle.cwr_tools.specs.Format.Viewing.{SeesItems}
 use Rattle.cwr_parts.proofs.joining.add_input.Given as goal
 
 abbrev pub invariant-items : goal.invariant-items
 invariant-items g l = record {
   joining : IsJoining l.fn.limits l.first l.reading.decoder (g.R.Source.remaining l.fn.reader)
       (g.R.Source.remaining l.reading.reader.now) g.W.Target.contents g.W.Target.failures l.handed_out l.fn.joined l.joined;
+  seen : SeesItems g.V.Viewer.has_seen l.fn.viewer l.viewer joining.given;
   failures : g.R.Source.failures l.reading.reader.now ≡ g.R.Source.failures l.fn.reader;
   same : l.reading.reader.ghost_name ≡ l.initial.reading.reader.ghost_name;
 }

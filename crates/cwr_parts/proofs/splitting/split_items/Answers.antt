@@ -12,9 +12,11 @@ use Rattle.cwr_parts.proofs.lemmas.SplittingOn.{few_handed_out, item_taken, leav
 use Rattle.cwr_parts.proofs.lemmas.SplitsEnded.{all_split, no_output_left, output_stopped, reading_stopped}
 use Rattle.cwr_parts.specs.Steps.SplitWriters.{TellsOpen}
 use Rattle.cwr_parts.proofs.lemmas.WritersCounted.{known_still, ok_tells, open_failed, reading_tells}
+use Rattle.cwr_tools.proofs.lemmas.Viewed.{sees_more, sees_none, sees_text}
 use Rattle.cwr_parts.proofs.splitting.split_items.Goals as goal
 
 pub items-init : goal.items-init
+unfolding none_split
 items-init g c =
     let new = c.new-reading.ensures in
     let reading =
@@ -27,6 +29,7 @@ items-init g c =
           (g.R.Source.remaining c.new-reading.result.reader.now)
           (told_by g.O.Outputs.texts g.O.Outputs.failures g.O.Outputs.given_up g.O.W.Target.contents g.O.W.Target.failures)
           c.args.splitting.now c.args.outputs.now c.requires.fresh reading;
+      seen = sees_none g.V.Viewer.has_seen c.args.viewer.now;
       lent = λ others e. e;
       began = λ known e b. b;
       failures = ap g.R.Source.failures new.kept;
@@ -86,6 +89,7 @@ items-smaller g c =
     )
 
 pub items-preserved : goal.items-preserved
+unfolding item_taken
 items-preserved g c =
     let reading =
     next_item c.args.limits c.args.splitting.now.size c.items.reading.decoder c.next_item.new.self.decoder
@@ -111,6 +115,9 @@ items-preserved g c =
           c.take_item.new.outputs c.in-Ok-Some.item c.requires.some c.items.invariant.splitting reading (leaves_item
           c.in-Ok-Some.field-0 c.in-Ok-Some.item c.next_item.new.self.decoder.state c.in-Ok-Some.field-0-is
           c.in-Ok-Some.ensures.reads.leaves) may.0.stage may.1 (c.in_ok-take_item-in-Ok-Some.ensures.takes may.0);
+      seen =
+          sees_more g.V.Viewer.has_seen c.args.viewer.now c.items.viewer c.see.new.self c.items.invariant.splitting.given
+          c.in-Ok-Some.item c.items.invariant.seen c.see.ensures;
       lent = λ others e. c.in_ok-take_item-in-Ok-Some.ensures.lent others (c.items.invariant.lent others e);
       began = λ known e b.
           let now =
@@ -221,3 +228,13 @@ returns-in_err-take_item-in-Ok-Some-clause-written g c = λ known e b.
     (g.O.Outputs.had c.take_item.new.outputs) c.in_err-take_item-in-Ok-Some.field-0.0 c.from_residual.result
     c.from_residual.ensures.1
     (c.in_err-take_item-in-Ok-Some.ensures.written now.0 now.1) (c.items.invariant.began known e b)
+
+pub returns-in-Ok-None-clause-seen : goal.returns-in-Ok-None-clause-seen
+returns-in-Ok-None-clause-seen g c =
+    let all : HasReadAll c.args.limits (g.R.Source.remaining c.args.reader.now)
+    (g.R.Source.remaining c.next_item.new.self.reader.now) c.items.invariant.splitting.given
+    = none_read c.args.limits c.items.reading.decoder c.next_item.new.self.decoder (g.R.Source.remaining c.args.reader.now) _ _
+    c.items.invariant.splitting.given c.in-Ok-None.field-0 _ c.in-Ok-None.field-0-is
+    c.items.invariant.splitting.reading c.in-Ok-None.ensures.reads c.in-Ok-None.ensures.again (λ e. ap g.R.Source.remaining e) in
+    sees_text c.args.limits g.V.Viewer.has_seen (g.R.Source.remaining c.args.reader.now) _ c.args.viewer.now c.items.viewer
+    c.items.invariant.splitting.given all c.items.invariant.seen

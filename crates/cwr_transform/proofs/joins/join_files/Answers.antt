@@ -9,4 +9,4 @@ returns g c =
     c.in-Ok-open_inputs.ensures.opened in
     let some : 0 < length c.args.names.now = grind (arith, common_steps, opened) in
     join_ends c.args.union.now (length c.args.names.now) c.in-Ok-join_to_file.joined.outcome
-    c.in-Ok-join_to_file.joined.after c.ending.result some c.ending.ensures
+    c.in-Ok-join_to_file.joined.found c.in-Ok-join_to_file.joined.after c.ending.result some c.ending.ensures

@@ -1,0 +1,521 @@
+//! Acknowledgements of one or several transmissions, matched with what was sent.
+
+ghost use Rattle.std.specs.Prelude.{IfOk};
+ghost use Rattle.cwr_sent.specs.Format.SentRows.{IsFresh};
+
+use cwr_acks::{Answers, Form, Manner, acks, put_rest};
+use cwr_delivery::Delivery;
+use cwr_devices::{Counted, ReadAhead, Sink, Target};
+use cwr_files::{
+    Fault, FileLines, Input, Name, Pace, Told, gathered, is_standard, open_input, shown_name,
+    tell_fault, told_of,
+};
+use cwr_sent::{Sent, read_sent};
+use cwr_shape::Limits;
+use cwr_state_rows::{RowFault, count_rows, put_rows, put_state_line};
+use cwr_states::States;
+use cwr_tools::{ToolFault, Verdict, put_verdict_line, verdict_of};
+use cwr_transform::{
+    Judgement, Status, Sums, Wanted, judgement_of, look_after, tell_following, tell_verdict,
+};
+use std::alloc::Global;
+use std::io;
+use std::io::{Read, Write};
+use std::rt::Files;
+
+/// Acknowledgements, and how they are told.
+#[derive(Clone, Copy, Debug)]
+pub struct Answering<'t, 'a> {
+    pub alloc: Global,
+    pub limits: Limits,
+    /// Nothing may follow a transmission of acknowledgements.
+    pub whole: bool,
+    /// How it is told what they say.
+    pub form: Form,
+    /// The names of their transmissions' files; without one that on standard input is read.
+    pub files: &'t [&'a str],
+    /// The names of the files of what was sent; without one they are matched with nothing.
+    pub sent: &'t [&'a str],
+    /// They are matched by the place that they name alone.
+    pub by_place: bool,
+    /// A table of what became of each transaction stands in the place of the lines.
+    pub state: bool,
+    /// A row of that table with one of these states ends the run as a refusal does.
+    pub fail_on: States,
+}
+
+/// Tells on standard error with what verdict a transmission was read, with its name before it. What standard error doesn't take is lost.
+fn tell_named<E: Write>(error: &mut E, name: Name<'_>, verdict: &Verdict) {
+    let _ = write!(error, "{name}: ");
+    let _ = put_verdict_line(verdict, &mut Sink::new(Counted::new(error)));
+}
+
+/// What was sent, from the file of that name, or how the run ends.
+fn sent_of<'a, R: Files + AllocGlobal, I: Read + Drop, P: Pace, E: Write>(
+    rt: &R,
+    answering: &Answering<'_, 'a>,
+    name: &'a str,
+    standard: &mut Option<I>,
+    pace: &mut P,
+    error: &mut E,
+) -> Result<Result<Sent, Status>, Fault<'a>>
+    ensures { IfOk result (λ read. IfOk read IsFresh) }
+{
+    let input = open_input(rt, Some(name), standard, &mut *pace)?;
+    let mut reader = ReadAhead::new(input);
+    let read = read_sent(answering.alloc, answering.limits, &mut reader);
+    let told: Told<'a> = reader.into_inner().told();
+    match read {
+        Ok(sent) => Ok(Ok(sent)),
+        Err(fault) => match verdict_of(fault) {
+            Ok(verdict) => {
+                tell_named(error, told.name, &verdict);
+                Ok(Err(Status::Refused))
+            }
+            Err(ToolFault::Reader) => Err(Fault::Read(told)),
+            Err(_) => Err(Fault::Memory),
+        },
+    }
+}
+
+/// All that was sent, or how the run ends; none where no file is named.
+fn delivery_of<'a, R: Files + AllocGlobal, I: Read + Drop, P: Pace, E: Write>(
+    rt: &R,
+    answering: &Answering<'_, 'a>,
+    standard: &mut Option<I>,
+    pace: &mut P,
+    error: &mut E,
+) -> Result<Result<Option<Delivery>, Status>, Fault<'a>> {
+    if answering.sent.is_empty() {
+        return Ok(Ok(None));
+    }
+    let mut delivery = Delivery::new(answering.alloc, answering.by_place).map_err(
+        |_| Fault::Memory,
+    )?;
+    for name in answering.sent {
+        match sent_of(rt, answering, name, standard, &mut *pace, error)? {
+            Ok(sent) => delivery.add(sent).map_err(|_| Fault::Memory)?,
+            Err(status) => return Ok(Err(status)),
+        }
+    }
+    Ok(Ok(Some(delivery)))
+}
+
+/// The names of what was sent as they are told, where there are several; else none.
+fn names_told(answering: &Answering<'_, '_>) -> Result<Vec<Vec<u8>>, Fault<'static>> {
+    let mut names = Vec::new(answering.alloc);
+    if answering.sent.len() > 1 {
+        for name in answering.sent {
+            let told = cwr_acks::shown_name(
+                answering.alloc,
+                answering.form,
+                shown_name(name),
+            ).map_err(|_| Fault::Memory)?;
+            names.push(told).map_err(|_| Fault::Memory)?;
+        }
+    }
+    Ok(names)
+}
+
+/// What is there while transmissions of acknowledgements are read: where their lines go, what was sent with what answers it, and how
+/// many acknowledgements there were.
+#[derive(Drop)]
+struct Reading<W: Target> {
+    lines: W,
+    delivery: Option<Delivery>,
+    answers: Answers,
+}
+
+/// Why no transmission more is read.
+#[derive(Drop)]
+enum Stop<'a> {
+    /// The lines could not be written.
+    Lines,
+    Fault(Fault<'a>),
+}
+
+/// Why the run ends where an input failed so.
+fn stop_of<'a>(fault: ToolFault, told: Told<'a>) -> Stop<'a> {
+    match fault {
+        ToolFault::Reader => Stop::Fault(Fault::Read(told)),
+        ToolFault::Writer { .. } => Stop::Lines,
+        _ => Stop::Fault(Fault::Memory),
+    }
+}
+
+/// Reads a transmission of acknowledgements after others, and writes its lines, with that before each.
+fn read_input<'a, F: Read + Drop, I: Read + Drop, P: Pace + Drop, W: Target + Drop>(
+    answering: &Answering<'_, 'a>,
+    manner: Manner<'_>,
+    before_each: Option<&str>,
+    input: Input<'a, F, I, P>,
+    reading: Reading<W>,
+) -> (Reading<W>, Result<Judgement, ToolFault>, Told<'a>) {
+    let Reading {
+        lines,
+        delivery,
+        answers,
+    } = reading;
+    let mut reader = ReadAhead::new(input);
+    let lines = FileLines::new(lines, before_each, false);
+    let (lines, delivery, more, outcome) = acks(
+        answering.alloc,
+        answering.limits,
+        manner,
+        delivery,
+        &mut reader,
+        lines,
+    );
+    let look = look_after(&mut reader, &outcome);
+    let wanted = Wanted {
+        whole: answering.whole,
+        fail_on: None,
+    };
+    let judged = judgement_of(wanted, outcome, look, false);
+    let reading = Reading {
+        lines: lines.into_inner(),
+        delivery,
+        answers: answers.add(&more),
+    };
+    (reading, judged, reader.into_inner().told())
+}
+
+/// Reads the transmission of the one file, or of standard input.
+fn read_alone<'a, R: Files, I: Read + Drop, P: Pace, W: Target + Drop, E: Write>(
+    rt: &R,
+    answering: &Answering<'_, 'a>,
+    names: &[Vec<u8>],
+    standard: &mut Option<I>,
+    pace: &mut P,
+    reading: Reading<W>,
+    error: &mut E,
+) -> (Reading<W>, Result<Status, Stop<'a>>) {
+    let name = answering.files.first().copied();
+    let input = match open_input(rt, name, standard, &mut *pace) {
+        Ok(input) => input,
+        Err(fault) => return (reading, Err(Stop::Fault(fault))),
+    };
+    let manner = Manner {
+        form: answering.form,
+        file: None,
+        names,
+    };
+    let (reading, judged, told) = read_input(answering, manner, None, input, reading);
+    match judged {
+        Ok(judgement) => {
+            tell_verdict(error, told.name, &judgement);
+            (reading, Ok(judgement.status))
+        }
+        Err(fault) => (reading, Err(stop_of(fault, told))),
+    }
+}
+
+/// How it is told what the transmission of one of several files says.
+fn manner_among<'n>(form: Form, file: &'n [u8], names: &'n [Vec<u8>]) -> Manner<'n> {
+    Manner {
+        form,
+        file: Some(file),
+        names,
+    }
+}
+
+/// Reads the transmissions of several files one after another. A file that fails is told of on standard error, and the next one follows.
+fn read_several<'a, R: Files, I: Read + Drop, P: Pace, W: Target + Drop, E: Write>(
+    rt: &R,
+    answering: &Answering<'_, 'a>,
+    names: &[Vec<u8>],
+    standard: &mut Option<I>,
+    pace: &mut P,
+    reading: Reading<W>,
+    error: &mut E,
+) -> (Reading<W>, Result<Sums, Stop<'a>>) {
+    let mut reading = reading;
+    let mut sums = Sums::new();
+    for name in answering.files {
+        let input = match open_input(rt, Some(*name), standard, &mut *pace) {
+            Ok(input) => input,
+            Err(fault) => {
+                tell_fault(error, &fault);
+                sums.count_failed();
+                continue;
+            }
+        };
+        let shown = shown_name(name);
+        let Ok(file) = cwr_acks::shown_name(answering.alloc, answering.form, shown) else {
+            return (reading, Err(Stop::Fault(Fault::Memory)));
+        };
+        let manner = manner_among(answering.form, file.as_slice(), names);
+        let before_each = match answering.form {
+            Form::Words => Some(shown),
+            Form::Json => None,
+        };
+        let (after, judged, told) = read_input(answering, manner, before_each, input, reading);
+        reading = after;
+        match judged {
+            Ok(judgement) => {
+                tell_named(error, told.name, &judgement.verdict);
+                tell_following(error, told.name, &judgement.look);
+                sums.count(&judgement);
+            }
+            Err(ToolFault::Reader) => {
+                tell_fault(error, &Fault::Read(told));
+                sums.count_failed();
+            }
+            Err(fault) => return (reading, Err(stop_of(fault, told))),
+        }
+    }
+    (reading, Ok(sums))
+}
+
+/// Writes what stands after the last of several transmissions.
+fn end_lines<W: Target + Drop>(
+    form: Form,
+    names: &[Vec<u8>],
+    reading: Reading<W>,
+) -> (Reading<W>, bool) {
+    let Reading {
+        lines,
+        delivery,
+        answers,
+    } = reading;
+    let manner = Manner {
+        form,
+        file: None,
+        names,
+    };
+    let mut sink = Sink::new(lines);
+    let put = put_rest(&manner, &delivery, &Answers::new().add(&answers), &mut sink);
+    let mut lines = sink.into_inner();
+    let written = put.is_ok() && lines.flush().is_ok();
+    let reading = Reading {
+        lines,
+        delivery,
+        answers,
+    };
+    (reading, written)
+}
+
+/// Reads the transmissions of all files, and writes their lines. On standard error stands what verdict each has.
+fn read_all<'a, R: Files, I: Read + Drop, P: Pace, W: Target + Drop, E: Write>(
+    rt: &R,
+    answering: &Answering<'_, 'a>,
+    names: &[Vec<u8>],
+    standard: &mut Option<I>,
+    pace: &mut P,
+    reading: Reading<W>,
+    error: &mut E,
+) -> (Reading<W>, Result<Status, Stop<'a>>) {
+    if answering.files.len() < 2 {
+        return read_alone(rt, answering, names, standard, pace, reading, error);
+    }
+    let (reading, read) = read_several(rt, answering, names, standard, pace, reading, error);
+    let sums = match read {
+        Ok(sums) => sums,
+        Err(stop) => return (reading, Err(stop)),
+    };
+    let (reading, written) = end_lines(answering.form, names, reading);
+    if !written {
+        return (reading, Err(Stop::Lines));
+    }
+    match sums.line(answering.alloc, answering.files.len()) {
+        Ok(line) => {
+            // What standard error doesn't take is lost.
+            let _ = error.write_all(line.as_bytes());
+            (reading, Ok(sums.status))
+        }
+        Err(fault) => (reading, Err(Stop::Fault(fault))),
+    }
+}
+
+/// How a run ends that read all with that status: as with a refusal where a transaction has one of the states that fail it.
+fn status_by(
+    answering: &Answering<'_, '_>,
+    delivery: &Option<Delivery>,
+    status: Status,
+) -> Result<Status, Fault<'static>> {
+    let Some(delivery) = delivery else {
+        return Ok(status);
+    };
+    // Nothing is counted, and no memory asked for, where no state is given.
+    if answering.fail_on == States::none() {
+        return Ok(status);
+    }
+    let counts = count_rows(answering.alloc, delivery).map_err(|_| Fault::Memory)?;
+    if counts.has_any(&answering.fail_on) {
+        Ok(status.max(Status::Refused))
+    } else {
+        Ok(status)
+    }
+}
+
+/// Writes the lines on what the acknowledgements say.
+fn tell_lines<'a, R: Files, I: Read + Drop, P: Pace, O: Write + Drop, E: Write>(
+    rt: &R,
+    answering: &Answering<'_, 'a>,
+    delivery: Option<Delivery>,
+    standard: &mut Option<I>,
+    pace: &mut P,
+    output: O,
+    error: &mut E,
+) -> Result<Status, Fault<'a>> {
+    let names = names_told(answering)?;
+    let lines = gathered(answering.alloc, output, Name::StandardOutput).map_err(|_| Fault::Memory)?;
+    let reading = Reading {
+        lines,
+        delivery,
+        answers: Answers::new(),
+    };
+    let (reading, read) = read_all(
+        rt,
+        answering,
+        names.as_slice(),
+        standard,
+        pace,
+        reading,
+        error,
+    );
+    match read {
+        Ok(status) => status_by(answering, &reading.delivery, status),
+        Err(Stop::Lines) => Err(Fault::Write(told_of(reading.lines))),
+        Err(Stop::Fault(fault)) => Err(fault),
+    }
+}
+
+/// The names of what was sent as the table has them.
+fn names_of_rows(
+    alloc: Global,
+    form: cwr_state_rows::Form,
+    sent: &[&str],
+) -> Result<Vec<Vec<u8>>, Fault<'static>> {
+    let mut names = Vec::new(alloc);
+    for name in sent {
+        let told = cwr_state_rows::shown_name(alloc, form, shown_name(name)).map_err(
+            |_| Fault::Memory,
+        )?;
+        names.push(told).map_err(|_| Fault::Memory)?;
+    }
+    Ok(names)
+}
+
+/// Writes the table of what became of each transaction that was sent, and on standard error how many have which state.
+fn put_table<'a, O: Write + Drop, E: Write>(
+    answering: &Answering<'_, 'a>,
+    delivery: &Delivery,
+    output: O,
+    error: &mut E,
+) -> Result<bool, Fault<'a>> {
+    let form = match answering.form {
+        Form::Words => cwr_state_rows::Form::Csv,
+        Form::Json => cwr_state_rows::Form::Json,
+    };
+    let names = names_of_rows(answering.alloc, form, answering.sent)?;
+    let counts = count_rows(answering.alloc, delivery).map_err(|_| Fault::Memory)?;
+    let lines = gathered(answering.alloc, output, Name::StandardOutput).map_err(|_| Fault::Memory)?;
+    let mut sink = Sink::new(lines);
+    let put = put_rows(answering.alloc, form, names.as_slice(), delivery, &mut sink);
+    let mut lines = sink.into_inner();
+    match put {
+        Ok(()) => {}
+        Err(RowFault::Memory) => return Err(Fault::Memory),
+        Err(RowFault::Writer(_)) => return Err(Fault::Write(told_of(lines))),
+    }
+    if lines.flush().is_err() {
+        return Err(Fault::Write(told_of(lines)));
+    }
+    // What standard error doesn't take is lost.
+    let _ = put_state_line(
+        &counts,
+        &delivery.tally(),
+        &mut Sink::new(Counted::new(error)),
+    );
+    Ok(counts.has_any(&answering.fail_on))
+}
+
+/// Writes the table of what became of each transaction that was sent, once all acknowledgements are read.
+fn tell_table<'a, R: Files, I: Read + Drop, P: Pace, O: Write + Drop, E: Write>(
+    rt: &R,
+    answering: &Answering<'_, 'a>,
+    delivery: Option<Delivery>,
+    standard: &mut Option<I>,
+    pace: &mut P,
+    output: O,
+    error: &mut E,
+) -> Result<Status, Fault<'a>> {
+    let reading = Reading {
+        lines: Counted::new(io::sink()),
+        delivery,
+        answers: Answers::new(),
+    };
+    let none = Vec::new(answering.alloc);
+    let (reading, read) = read_all(
+        rt,
+        answering,
+        none.as_slice(),
+        standard,
+        pace,
+        reading,
+        error,
+    );
+    let status = match read {
+        Ok(status) => status,
+        // What nobody reads is always taken.
+        Err(Stop::Lines) => return Err(Fault::Memory),
+        Err(Stop::Fault(fault)) => return Err(fault),
+    };
+    let Some(delivery) = reading.delivery else {
+        return Ok(status);
+    };
+    if put_table(answering, &delivery, output, error)? {
+        Ok(status.max(Status::Refused))
+    } else {
+        Ok(status)
+    }
+}
+
+/// How many of the inputs are on standard input.
+fn standard_inputs(answering: &Answering<'_, '_>) -> usize {
+    let files = answering
+        .files
+        .iter()
+        .filter(|name| is_standard(Some(**name)))
+        .count();
+    let sent = answering
+        .sent
+        .iter()
+        .filter(|name| is_standard(Some(**name)))
+        .count();
+    let unnamed = usize::from(answering.files.is_empty());
+    files + sent + unnamed
+}
+
+/// Tells what acknowledgements say, matched with what was sent where that is named, or what became of each transaction. Only one of the
+/// inputs can be on standard input.
+pub fn match_answers<
+    'a,
+    R: Files + AllocGlobal,
+    I: Read + Drop,
+    P: Pace,
+    O: Write + Drop,
+    E: Write,
+>(
+    rt: &R,
+    answering: &Answering<'_, 'a>,
+    standard: I,
+    pace: &mut P,
+    output: O,
+    error: &mut E,
+) -> Result<Status, Fault<'a>> {
+    if standard_inputs(answering) > 1 {
+        return Err(Fault::IsTwice(Name::StandardInput));
+    }
+    let mut standard = Some(standard);
+    let delivery = match delivery_of(rt, answering, &mut standard, &mut *pace, error)? {
+        Ok(delivery) => delivery,
+        Err(status) => return Ok(status),
+    };
+    if answering.state {
+        tell_table(rt, answering, delivery, &mut standard, pace, output, error)
+    } else {
+        tell_lines(rt, answering, delivery, &mut standard, pace, output, error)
+    }
+}

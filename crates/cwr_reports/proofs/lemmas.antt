@@ -1,0 +1,2 @@
+-- A run over a text ends as that text does.
+pub mod EndsOnTexts

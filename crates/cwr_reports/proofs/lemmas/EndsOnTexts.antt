@@ -1,0 +1,283 @@
+-- A run over a text ends as that text does.
+use Rattle.std.proofs.Common.{◌≡◌, ℕ, ◌<◌, Bool, true, false, ◌||◌, List, [], ◌∷◌, length, drop}
+use Rattle.std.proofs.Common.{Option, Some, None, refl, sym, ap, subst, ◌∙◌, inl, inr, arith, true≢false}
+use Rattle.std.specs.Prelude.{if◌then◌else◌, IfOk, IfSome, IsSomeAnd, OnErr, OnOk, Result, Ok, Err}
+use Rattle.cwr_shape.specs.declared.limits.Limits.{Limits}
+use Rattle.cwr_shape.specs.declared.reasons.Level.{Level}
+use Rattle.cwr_values.specs.declared.items.Item.{Item}
+use Rattle.cwr_judge.specs.Format.Items.{value_items}
+use Rattle.cwr_tools.specs.declared.verdicts.Verdict.{Verdict}
+use Rattle.cwr_tools.specs.declared.verdicts.Verdict.TheVariants as verdicts
+use Rattle.cwr_tools.specs.declared.verdicts.ToolFault.{ToolFault}
+use Rattle.cwr_tools.specs.declared.verdicts.ToolFault.TheVariants as tool_faults
+use Rattle.cwr_tools.specs.declared.watch.Watch.{Watch}
+use Rattle.cwr_tools.specs.Format.Reports.{CountsReaderFault, CountsWriterFault, ItemLines, JudgesAccepted, ReportsText}
+use Rattle.cwr_tools.specs.Format.Verdicts.{IsVerdictOn, JudgesText}
+use Rattle.cwr_tools.specs.Format.Watching.{SeesAccepted, any_from, watched}
+use Rattle.cwr_tools.specs.declared.watch.FindingCount.{FindingCount}
+use Rattle.cwr_tools.proofs.lemmas.RightReports.{accepted_text}
+use Rattle.cwr_causes.specs.declared.trailing.Trailing.{Trailing}
+use Rattle.cwr_causes.specs.Format.Trailing.{IsTrailing}
+use Rattle.cwr_explain.specs.Format.Explained.{FindsAfter}
+use Rattle.cwr_files.specs.declared.faults.Told.{Told}
+use Rattle.cwr_files.specs.declared.faults.Fault.{Fault}
+use Rattle.cwr_files.specs.declared.faults.Fault.TheVariants as faults
+use Rattle.cwr_transform.specs.declared.endings.Look.{Look}
+use Rattle.cwr_transform.specs.declared.endings.Look.TheVariants as looks
+use Rattle.cwr_transform.specs.declared.endings.Status.{Status}
+use Rattle.cwr_transform.specs.declared.endings.Status.TheVariants as statuses
+use Rattle.cwr_transform.specs.declared.endings.Wanted.{Wanted}
+use Rattle.cwr_transform.specs.Format.Endings.{IsStatusOn}
+use Rattle.cwr_transform.specs.Steps.Looks.{CountsLook, IsLook, LooksOnce, follows, good_status, judged_with, judgement_in, status_after, status_in}
+use Rattle.cwr_transform.proofs.lemmas.StatusesOnTexts.{none_from, status_good}
+use Rattle.cwr_transform.specs.declared.judgements.Judgement.{Judgement}
+use Rattle.cwr_reports.specs.declared.reports.Telling.{Telling}
+use Rattle.cwr_reports.specs.Format.Endings.{EndsOnInput}
+use Rattle.cwr_reports.specs.Steps.Tellings.{CountsFindings, CountsInput, CountsReading, CountsWriting, TellsText, TellsUpTo}
+use Rattle.cwr_reports.specs.Steps.Looks.{JudgesOn, LooksAfter, look_of}
+
+-- ---- the status of a verdict
+
+status_on : (limits : Limits) (wanted : Wanted) (text : List ℕ) (verdict : Verdict) (look : Look) (old new : Watch)
+    (status : Status) → old ≡ record { from = wanted.fail_on; found = false } → IsVerdictOn limits text verdict
+    → SeesAccepted limits (Some text) old new → LooksAfter limits (Some text) look
+    → status_in wanted verdict look new.found ≡ Some status → IsStatusOn limits wanted text status
+status_on limits wanted text (verdicts.Good groups transactions records) look old new status fresh judged seen looked e =
+    let v = judged.0 in
+    let n = judged.1 in
+    let saw : any_from wanted.fail_on (value_items v) ≡ new.found =
+    sym (ap (λ (w : Watch). w.found) (seen v n judged.2 ∙ ap (λ (w : Watch). watched w (value_items v)) fresh)) in
+    status_good limits wanted text v n look new.found status judged.2 saw (looked v n judged.2).0 (looked v n judged.2).1 e
+status_on limits wanted text (verdicts.Refused refusal) look old new status fresh judged seen looked e =
+    let refused : statuses.Refused ≡ status = cc e in
+    subst (IsStatusOn limits wanted text) refused (inl (refusal, judged))
+status_on limits wanted text (verdicts.Truncated records) look old new status fresh judged seen looked e =
+    let refused : statuses.Refused ≡ status = cc e in
+    subst (IsStatusOn limits wanted text) refused (inr (inl (records, judged)))
+
+-- where its bytes are known
+pub status_on_input : (limits : Limits) (wanted : Wanted) (before : Option (List ℕ)) (verdict : Verdict) (look : Look)
+    (old new : Watch) (status : Status) → old ≡ record { from = wanted.fail_on; found = false }
+    → JudgesText limits before (Ok verdict) → SeesAccepted limits before old new → LooksAfter limits before look
+    → status_in wanted verdict look new.found ≡ Some status → IfSome before (λ text. IsStatusOn limits wanted text status)
+status_on_input limits wanted None verdict look old new status fresh judged seen looked e = tt
+status_on_input limits wanted (Some text) verdict look old new status fresh judged seen looked e =
+    status_on limits wanted text verdict look old new status fresh judged seen looked e
+
+-- ---- what is seen and looked for
+
+or_false : (b : Bool) → (b || false) ≡ b
+or_false true = refl
+or_false false = refl
+
+watched_same : (watch : Watch) (from : Option Level) (given : List Item) → watch.from ≡ from → from ≡ None
+    → watch ≡ watched watch given
+watched_same watch from given e none =
+    ap (λ (b : Bool). record watch {
+      found =
+          b;
+    }) (sym (ap (λ (b : Bool). watch.found || b) (ap (λ (l : Option Level). any_from l given) (e ∙ none) ∙ none_from given)
+    ∙ or_false watch.found))
+
+-- a watch without a level sees nothing
+pub sees_nothing : (limits : Limits) (before : Option (List ℕ)) (watch : Watch) (outcome : Result Verdict ToolFault)
+    → watch.from ≡ None → OnOk outcome (SeesAccepted limits before watch watch)
+sees_nothing limits before watch (Err fault) none = tt
+sees_nothing limits None watch (Ok verdict) none = tt
+sees_nothing limits (Some text) watch (Ok verdict) none = λ v n a. watched_same watch watch.from (value_items v) refl none
+
+-- after a report that left what stands after the transmission
+pub looks_after : {W : Type 0} (of : ItemLines) (limits : Limits) (before mid after : Option (List ℕ))
+    (contents : W → Option (List ℕ)) (old new : W) (outcome : Result Verdict ToolFault) (look : Look)
+    → IfOk outcome (JudgesAccepted of limits before mid contents old new) → LooksOnce mid after outcome look
+    → OnOk outcome (LooksAfter limits before look)
+looks_after of limits before mid after contents old new (Err fault) look judged once = tt
+looks_after of limits None mid after contents old new (Ok verdict) look judged once = tt
+looks_after of limits (Some text) mid after contents old new (Ok verdict) look judged once = λ v n a.
+    let j = judged v n a in (
+      after,
+      subst (λ (m : Option (List ℕ)). IsLook m after look) j.1
+          (subst (λ (it : Verdict). LooksOnce mid after (Ok it) look) j.0 once),
+    )
+
+-- after one of which all is told
+pub looks_told : {W : Type 0} (of : ItemLines) (limits : Limits) (before mid after : Option (List ℕ))
+    (contents : W → Option (List ℕ)) (old new : W) (outcome : Result Verdict ToolFault) (look : Look)
+    → ReportsText of limits before mid contents old new outcome → LooksOnce mid after outcome look
+    → OnOk outcome (LooksAfter limits before look)
+looks_told of limits before mid after contents old new outcome look told once =
+    looks_after of limits before mid after contents old new outcome look
+    (accepted_text of limits before mid contents old new outcome told) once
+
+-- after one that explained what stands there
+pub looks_found : (limits : Limits) (before after : Option (List ℕ)) (outcome : Result Verdict ToolFault)
+    (found : Option Trailing) → OnOk outcome (FindsAfter limits before after found) → OnOk outcome
+    (LooksAfter limits before (look_of found))
+looks_found limits before after (Err fault) found h = tt
+looks_found limits None after (Ok verdict) found h = tt
+looks_found limits (Some text) after (Ok verdict) found h = λ v n a. (after, by (Some (drop n text)) found (h v n a)) where
+  by : (left : Option (List ℕ)) (it : Option Trailing) → IsSomeAnd it (IsTrailing left after) → IsLook left after (look_of it)
+  by left None s = absurd s
+  by left (Some t) s = s
+
+-- what is made of an input is right of its bytes
+pub judges_on : (limits : Limits) (wanted : Wanted) (before : Option (List ℕ)) (outcome : Result Verdict ToolFault) (look : Look)
+    (old new : Watch) → old ≡ record { from = wanted.fail_on; found = false }
+    → JudgesText limits before outcome → OnOk outcome (SeesAccepted limits before old new)
+    → OnOk outcome (LooksAfter limits before look)
+    → JudgesOn limits wanted before (judgement_in wanted outcome look new.found)
+judges_on limits wanted before (Ok verdict) look old new fresh judged seen looked =
+    by (status_in wanted verdict look new.found) refl where
+      by : (o : Option Status) → status_in wanted verdict look new.found ≡ o
+          → JudgesOn limits wanted before (judged_with verdict look o)
+      by None e = tt
+      by (Some status) e = status_on_input limits wanted before verdict look old new status fresh judged seen looked e
+judges_on limits wanted before (Err tool_faults.Reader) look old new fresh judged seen looked = tt
+judges_on limits wanted before (Err (tool_faults.Writer written)) look old new fresh judged seen looked = tt
+judges_on limits wanted before (Err tool_faults.Memory) look old new fresh judged seen looked = tt
+judges_on limits wanted before (Err (tool_faults.Refused refusal)) look old new fresh judged seen looked = absurd judged
+judges_on limits wanted before (Err (tool_faults.Truncated records)) look old new fresh judged seen looked = absurd judged
+judges_on limits wanted before (Err (tool_faults.Limit limit)) look old new fresh judged seen looked = absurd judged
+judges_on limits wanted before (Err tool_faults.Output) look old new fresh judged seen looked = absurd judged
+
+-- ---- what is told, and counted
+
+-- what was written is what is asked for
+pub told_as : {W : Type 0} (telling by : Telling) (limits : Limits) (before after : Option (List ℕ))
+    (contents : W → Option (List ℕ)) (old new : W) (outcome : Result Verdict ToolFault) → telling ≡ by → TellsUpTo by limits
+    before after contents old new outcome
+    → TellsText telling limits before contents old new outcome
+told_as telling by limits before after contents old new outcome is told =
+    (after, subst (λ (t : Telling). TellsUpTo t limits before after contents old new outcome) (sym is) told)
+
+-- after a run the look is made only where there is a verdict
+pub counts_reading : (outcome : Result Verdict ToolFault) (look : Look) (old mid new : ℕ) → CountsReaderFault outcome old mid
+    → OnErr outcome (look ≡ looks.Unasked) → CountsLook look mid new → CountsReading outcome look old new
+counts_reading (Ok verdict) look old mid new run unasked looked = subst (λ (n : ℕ). CountsLook look n new) run looked
+counts_reading (Err fault) look old mid new run unasked looked =
+    let same : new ≡ mid =
+    subst (λ (l : Look). CountsLook l mid new) unasked looked in
+    subst (λ (n : ℕ). CountsReaderFault (Err fault) old n) (sym same) run
+
+-- an explanation looks itself
+pub counts_explained : (outcome : Result Verdict ToolFault) (found : Option Trailing) (old new : ℕ)
+    → CountsReaderFault outcome old new → CountsReading outcome (look_of found) old new
+counts_explained (Ok verdict) None old new run = run
+counts_explained (Ok verdict) (Some trailing) old new run = run
+counts_explained (Err fault) found old new run = run
+
+-- a good verdict has no status only where the look failed
+look_failed : (look : Look) → status_after look ≡ None → look ≡ looks.Failed
+look_failed (looks.Found trailing) e = by (follows trailing) e
+  where
+    by : (b : Bool) → (if b then Some statuses.Refused else Some statuses.Good) ≡ None → looks.Found trailing ≡ looks.Failed
+    by true f = absurd (cc f)
+    by false f = absurd (cc f)
+look_failed looks.Failed e = refl
+look_failed looks.Unasked e = absurd (cc e)
+
+failed_whole : (whole : Bool) (look : Look) → (if whole then status_after look else Some statuses.Good) ≡ None
+    → look ≡ looks.Failed
+failed_whole true look e = look_failed look e
+failed_whole false look e = absurd (cc e)
+
+failed_good : (wanted : Wanted) (look : Look) (found : Bool) → good_status wanted look found ≡ None → look ≡ looks.Failed
+failed_good wanted look true e = absurd (cc e)
+failed_good wanted look false e = failed_whole wanted.whole look e
+
+failed_in : (wanted : Wanted) (verdict : Verdict) (look : Look) (found : Bool) → status_in wanted verdict look found ≡ None
+    → look ≡ looks.Failed
+failed_in wanted (verdicts.Good groups transactions records) look found e = failed_good wanted look found e
+failed_in wanted (verdicts.Refused refusal) look found e = absurd (cc e)
+failed_in wanted (verdicts.Truncated records) look found e = absurd (cc e)
+
+-- what is judged counts the input's failures as the run did
+pub counts_input : (wanted : Wanted) (outcome : Result Verdict ToolFault) (look : Look) (found : Bool) (old new : ℕ)
+    → CountsReading outcome look old new → CountsInput (judgement_in wanted outcome look found) old new
+counts_input wanted (Err fault) look found old new counted = counted
+counts_input wanted (Ok verdict) look found old new counted = by (status_in wanted verdict look found) refl
+  where
+    by : (o : Option Status) → status_in wanted verdict look found ≡ o → CountsInput (judged_with verdict look o) old new
+    by (Some status) e = counted
+    by None e = subst (λ (l : Look). CountsLook l old new) (failed_in wanted verdict look found e) counted
+
+-- what holds of the outcome holds of the verdict that was judged
+pub judged_told : (P : Result Verdict ToolFault → Type 0) (wanted : Wanted) (outcome : Result Verdict ToolFault) (look : Look)
+    (found : Bool) → P outcome → IfOk (judgement_in wanted outcome look found) (λ judgement. P (Ok judgement.verdict))
+judged_told P wanted (Err fault) look found p = tt
+judged_told P wanted (Ok verdict) look found p = by (status_in wanted verdict look found)
+  where
+    by : (o : Option Status) → IfOk (judged_with verdict look o) (λ judgement. P (Ok judgement.verdict))
+    by None = tt
+    by (Some status) = p
+
+-- so does what was told
+pub told_verdict : {W : Type 0} (telling : Telling) (limits : Limits) (before : Option (List ℕ)) (contents : W → Option (List ℕ))
+    (old new : W) (wanted : Wanted) (outcome : Result Verdict ToolFault) (look : Look) (found : Bool)
+    → TellsText telling limits before contents old new outcome → IfOk (judgement_in wanted outcome look found)
+    (λ judgement. TellsText telling limits before contents old new (Ok judgement.verdict))
+told_verdict telling limits before contents old new wanted outcome look found told =
+    judged_told (λ o. TellsText telling limits before contents old new o) wanted outcome look found told
+
+pub judged_on : (P : Type 0) (wanted : Wanted) (outcome : Result Verdict ToolFault) (look : Look) (found : Bool) → OnOk outcome P
+    → OnOk (judgement_in wanted outcome look found) P
+judged_on P wanted (Err fault) look found p = tt
+judged_on P wanted (Ok verdict) look found p = by (status_in wanted verdict look found)
+  where
+    by : (o : Option Status) → OnOk (judged_with verdict look o) P
+    by None = tt
+    by (Some status) = p
+
+-- the writer's failures are those of the outcome
+pub judged_counts : (wanted : Wanted) (outcome : Result Verdict ToolFault) (look : Look) (found : Bool) (old new : ℕ)
+    → CountsWriterFault outcome old new → CountsWriting (judgement_in wanted outcome look found) old new
+judged_counts wanted (Ok verdict) look found old new e = by (status_in wanted verdict look found)
+  where
+    by : (o : Option Status) → CountsWriting (judged_with verdict look o) old new
+    by None = e
+    by (Some status) = e
+judged_counts wanted (Err (tool_faults.Writer written)) look found old new e = e
+judged_counts wanted (Err tool_faults.Reader) look found old new e = e
+judged_counts wanted (Err tool_faults.Memory) look found old new e = e
+judged_counts wanted (Err (tool_faults.Refused refusal)) look found old new e = e
+judged_counts wanted (Err (tool_faults.Truncated records)) look found old new e = e
+judged_counts wanted (Err (tool_faults.Limit limit)) look found old new e = e
+judged_counts wanted (Err tool_faults.Output) look found old new e = e
+
+-- ---- how a run ends
+
+pub ends_ok : (limits : Limits) (wanted : Wanted) (before : Option (List ℕ)) (judged : Result Judgement ToolFault)
+    (judgement : Judgement) → judged ≡ Ok judgement → JudgesOn limits wanted before judged → EndsOnInput limits wanted before
+    (Ok judgement.status)
+ends_ok limits wanted before judged judgement e h = subst (JudgesOn limits wanted before) e h
+
+pub ends_read : (limits : Limits) (wanted : Wanted) (before : Option (List ℕ)) (told : Told)
+    → EndsOnInput limits wanted before (Err (faults.Read told))
+ends_read limits wanted None told = tt
+ends_read limits wanted (Some text) told = tt
+
+pub ends_write : (limits : Limits) (wanted : Wanted) (before : Option (List ℕ)) (told : Told)
+    → EndsOnInput limits wanted before (Err (faults.Write told))
+ends_write limits wanted None told = tt
+ends_write limits wanted (Some text) told = tt
+
+pub ends_memory : (limits : Limits) (wanted : Wanted) (before : Option (List ℕ))
+    → EndsOnInput limits wanted before (Err faults.Memory)
+ends_memory limits wanted None = tt
+ends_memory limits wanted (Some text) = tt
+
+-- ---- how many findings were told
+
+-- nothing is said of that where it isn't the findings that are told
+pub uncounted : (telling other : Telling) (limits : Limits) (before : Option (List ℕ)) (outcome : Result Verdict ToolFault)
+    (count : FindingCount) → telling ≡ other → CountsFindings other limits before count
+    → OnOk outcome (CountsFindings telling limits before count)
+uncounted telling other limits before (Err fault) count is counted = tt
+uncounted telling other limits before (Ok verdict) count is counted =
+    subst (λ (t : Telling). CountsFindings t limits before count) (sym is) counted
+
+pub counted_told : (telling other : Telling) (limits : Limits) (before : Option (List ℕ)) (outcome : Result Verdict ToolFault)
+    (count : FindingCount) → telling ≡ other → OnOk outcome (CountsFindings other limits before count)
+    → OnOk outcome (CountsFindings telling limits before count)
+counted_told telling other limits before outcome count is counted =
+    subst (λ (t : Telling). OnOk outcome (CountsFindings t limits before count)) (sym is) counted

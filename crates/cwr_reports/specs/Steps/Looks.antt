@@ -1,0 +1,46 @@
+-- What was seen of a transmission, and after it.
+use Rattle.std.specs.Prelude.{ℕ, Bool, true, false, List, drop, Option, Some, None, IfSome, Result, Ok, Err}
+use Rattle.cwr_shape.specs.declared.limits.Limits.{Limits}
+use Rattle.cwr_values.specs.Format.Values.{TransmissionValue}
+use Rattle.cwr_judge.specs.Format.Ends.{IsAccepted}
+use Rattle.cwr_tools.specs.declared.verdicts.ToolFault.{ToolFault}
+use Rattle.cwr_tools.specs.declared.verdicts.ToolFault.TheVariants as tool_faults
+use Rattle.cwr_causes.specs.declared.trailing.Trailing.{Trailing}
+use Rattle.cwr_transform.specs.declared.endings.Look.{Look}
+use Rattle.cwr_transform.specs.declared.endings.Look.TheVariants as looks
+use Rattle.cwr_transform.specs.declared.endings.Wanted.{Wanted}
+use Rattle.cwr_transform.specs.Format.Endings.{IsStatusOn}
+use Rattle.cwr_transform.specs.Steps.Looks.{IsLook}
+use Rattle.cwr_transform.specs.declared.judgements.Judgement.{Judgement}
+use Rattle.cwr_reports.specs.declared.reports.Telling.{Telling}
+use Rattle.cwr_reports.specs.declared.reports.Telling.TheVariants as tellings
+
+-- what stands after the transmission was read, or the input failed, where the text is accepted
+abbrev pub LooksAfter : Limits → Option (List ℕ) → Look → Type 0
+LooksAfter limits before look =
+    IfSome before (λ text. (v : TransmissionValue) (n : ℕ) → IsAccepted limits text v n
+    → (after : Option (List ℕ)) × IsLook (Some (drop n text)) after look)
+
+-- what was found, if it was looked for
+abbrev pub look_of : Option Trailing → Look
+look_of None = looks.Unasked
+look_of (Some trailing) = looks.Found trailing
+
+-- the findings of a transmission are told or counted
+abbrev pub tells_findings : Telling → Bool
+tells_findings tellings.Findings = true
+tells_findings (tellings.Explained name) = true
+tells_findings (tellings.Faults name advised) = false
+tells_findings tellings.Records = true
+tells_findings (tellings.Data encoding numbers) = false
+tells_findings (tellings.Rows table) = false
+tells_findings (tellings.Answers form) = false
+tells_findings (tellings.Advice repeated) = false
+
+-- an input whose bytes are known has the status on them, or a device or memory failed
+abbrev pub JudgesOn : Limits → Wanted → Option (List ℕ) → Result Judgement ToolFault → Type 0
+JudgesOn limits wanted before (Ok judgement) = IfSome before (λ text. IsStatusOn limits wanted text judgement.status)
+JudgesOn limits wanted before (Err tool_faults.Reader) = Unit {0}
+JudgesOn limits wanted before (Err (tool_faults.Writer written)) = Unit {0}
+JudgesOn limits wanted before (Err tool_faults.Memory) = Unit {0}
+JudgesOn limits wanted before (Err fault) = ⊥

@@ -1,0 +1,82 @@
+-- What is written of a transmission, and which failures of its devices are counted.
+use Rattle.std.specs.Prelude.{◌≡◌, [], ℕ, List, Option, None, IfOk, Result, Ok, Err}
+use Rattle.std.specs.Option.{is_some}
+use Rattle.cwr_devices.specs.Format.Failures.{one_more_failure}
+use Rattle.cwr_shape.specs.declared.limits.Limits.{Limits}
+use Rattle.cwr_tools.specs.declared.watch.FindingCount.{FindingCount}
+use Rattle.cwr_tools.specs.declared.verdicts.Verdict.{Verdict}
+use Rattle.cwr_tools.specs.declared.verdicts.ToolFault.{ToolFault}
+use Rattle.cwr_tools.specs.declared.verdicts.ToolFault.TheVariants.{Writer}
+use Rattle.cwr_tools.specs.Format.Reports.{CountsReaderFault, lines_of_data, lines_of_counted, lines_of_findings}
+use Rattle.cwr_tools.specs.Format.Watching.{CountsAccepted}
+use Rattle.cwr_tools.specs.Steps.Reports.{Reports}
+use Rattle.cwr_acks.specs.declared.forms.Form.{Form}
+use Rattle.cwr_acks.specs.Format.AckLines.{lines_of_acks}
+use Rattle.cwr_acks.specs.Format.AckLines.{Telling as AckTelling}
+use Rattle.cwr_advise.specs.Format.AdviceLines.{lines_of_advice}
+use Rattle.cwr_csv.specs.Format.TableLines.{lines_of_table}
+use Rattle.cwr_explain.specs.Steps.Explained.{Explains}
+use Rattle.cwr_lint.specs.Format.Wanted.{wanting}
+use Rattle.cwr_lint.specs.Steps.Lints.{Lints, Tells}
+use Rattle.cwr_transform.specs.declared.endings.Look.{Look}
+use Rattle.cwr_transform.specs.Steps.Looks.{CountsLook}
+use Rattle.cwr_transform.specs.declared.judgements.Judgement.{Judgement}
+use Rattle.cwr_reports.specs.declared.reports.Telling.{Telling}
+use Rattle.cwr_reports.specs.declared.reports.Telling.TheVariants as tellings
+
+-- how it is told what acknowledgements say where there is one file, and nothing that was sent
+abbrev pub telling_alone : Form → AckTelling
+telling_alone form = record {
+  form = form;
+  file = None;
+  names = [];
+}
+
+-- the lines that are asked for were written, while the input was read from the one state to the other
+abbrev pub TellsUpTo : {W : Type 0} → Telling → Limits → Option (List ℕ) → Option (List ℕ) → (W → Option (List ℕ)) → W → W
+    → Result Verdict ToolFault → Type 0
+TellsUpTo tellings.Findings limits before after contents old new outcome =
+    Reports lines_of_findings limits before after contents old new outcome
+TellsUpTo (tellings.Explained name) limits before after contents old new outcome =
+    Explains limits name.now before after contents old new outcome
+TellsUpTo (tellings.Faults name advised) limits before after contents old new outcome =
+    Lints (wanting (is_some name) advised) limits before after contents old new outcome
+    × IfOk outcome (Tells (wanting (is_some name) advised) limits before after contents old new)
+TellsUpTo tellings.Records limits before after contents old new outcome =
+    Reports lines_of_counted limits before after contents old new outcome
+TellsUpTo (tellings.Data encoding numbers) limits before after contents old new outcome =
+    Reports (lines_of_data encoding numbers) limits before after contents old new outcome
+TellsUpTo (tellings.Rows table) limits before after contents old new outcome =
+    Reports (lines_of_table table) limits before after contents old new outcome
+TellsUpTo (tellings.Answers form) limits before after contents old new outcome =
+    Reports (lines_of_acks (telling_alone form) None) limits before after contents old new outcome
+TellsUpTo (tellings.Advice repeated) limits before after contents old new outcome =
+    Reports (lines_of_advice repeated) limits before after contents old new outcome
+
+-- so it was, before what follows the transmission was looked at
+abbrev pub TellsText : {W : Type 0} → Telling → Limits → Option (List ℕ) → (W → Option (List ℕ)) → W → W
+    → Result Verdict ToolFault → Type 0
+TellsText telling limits before contents old new outcome =
+    (after : Option (List ℕ)) × TellsUpTo telling limits before after contents old new outcome
+
+-- where the findings are told or counted, they are those of the transmission
+abbrev pub CountsFindings : Telling → Limits → Option (List ℕ) → FindingCount → Type 0
+CountsFindings tellings.Findings limits before count = CountsAccepted limits before count
+CountsFindings (tellings.Explained name) limits before count = CountsAccepted limits before count
+CountsFindings tellings.Records limits before count = CountsAccepted limits before count
+CountsFindings telling limits before count = Unit {0}
+
+-- the reader's failures are those of the look after a verdict, and else of the run, whose fault is answered
+abbrev pub CountsReading : Result Verdict ToolFault → Look → ℕ → ℕ → Type 0
+CountsReading (Ok verdict) look old new = CountsLook look old new
+CountsReading (Err fault) look old new = CountsReaderFault (Err fault) old new
+
+-- so it is once that was judged: a look that failed where nothing may follow is the reader's fault
+abbrev pub CountsInput : Result Judgement ToolFault → ℕ → ℕ → Type 0
+CountsInput (Ok judgement) old new = CountsLook judgement.look old new
+CountsInput (Err fault) old new = CountsReaderFault (Err fault) old new
+
+-- the writer's failures count one more where its fault is answered, and else they stay
+abbrev pub CountsWriting : Result Judgement ToolFault → ℕ → ℕ → Type 0
+CountsWriting (Err (Writer written)) old new = new ≡ one_more_failure old
+CountsWriting judged old new = new ≡ old

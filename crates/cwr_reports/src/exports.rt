@@ -1,0 +1,89 @@
+//! Data and tables of a transmission that are written to a file.
+
+ghost use Rattle.std.specs.Prelude.{◌≡◌, false, None};
+ghost use Rattle.cwr_reports.specs.Steps.Looks.{tells_findings};
+
+use crate::reports::{Asked, Telling, judge_input, tell_aside};
+use cwr_files::{DASH, Fault, Input, Name, Pace, create_output, gathered, open_input, told_of};
+use cwr_tools::{ToolFault, Verdict};
+use cwr_transform::{Judgement, Status, refuse_out, settle};
+use std::io::{Read, Write};
+use std::rt::Files;
+
+/// Tells on standard error where what was written of a transmission ends, if that isn't whole. What standard error doesn't take is lost.
+pub(crate) fn tell_cut<E: Write>(
+    error: &mut E,
+    telling: Telling<'_>,
+    name: Name<'_>,
+    verdict: &Verdict,
+) {
+    let what = match telling {
+        Telling::Data { .. } => "data",
+        Telling::Rows(_) => "table",
+        _ => return,
+    };
+    let record = match verdict {
+        Verdict::Good { .. } => return,
+        Verdict::Refused(refusal) => refusal.rec,
+        Verdict::Truncated { records } => *records,
+    };
+    let _ = writeln!(
+        error,
+        "cwr: the {what} ends at record {record} of {name} and is not whole"
+    );
+}
+
+/// Writes what is told of an input to a file, which gets its name where the transmission is what is wanted.
+fn report_to_file<'a, R: Files + AllocGlobal, I: Read + Drop, P: Pace + Drop, E: Write>(
+    rt: &R,
+    asked: &Asked,
+    telling: Telling<'_>,
+    input: Input<'a, R::File, I, P>,
+    out: &'a str,
+    error: &mut E,
+) -> Result<Status, Fault<'a>>
+    requires { tells_findings telling ≡ false → asked.now.wanted.fail_on ≡ None }
+{
+    let (made, file) = create_output(rt, asked.alloc, out)?;
+    let Ok(lines) = gathered(asked.alloc, file, Name::File(out)) else {
+        made.discard(rt);
+        return Err(Fault::Memory);
+    };
+    let (lines, judged, told, count) = judge_input(asked, telling, input, lines);
+    let written = told_of(lines);
+    let is_wanted = matches!(
+        judged,
+        Ok(Judgement {
+            status: Status::Good,
+            ..
+        },)
+    );
+    settle(rt, made, out, is_wanted, &mut *error)?;
+    match judged {
+        Ok(judgement) => {
+            tell_aside(error, telling, told.name, &judgement, &count);
+            Ok(judgement.status)
+        }
+        Err(ToolFault::Reader) => Err(Fault::Read(told)),
+        Err(ToolFault::Writer { .. }) => Err(Fault::Write(written)),
+        Err(_) => Err(Fault::Memory),
+    }
+}
+
+/// Writes what is told of the transmission of the file of that name, or of that on standard input, to a file that is none of these.
+pub fn export<'a, R: Files + AllocGlobal, I: Read + Drop, P: Pace + Drop, E: Write>(
+    rt: &R,
+    asked: &Asked,
+    telling: Telling<'_>,
+    name: Option<&'a str>,
+    out: &'a str,
+    standard: I,
+    pace: P,
+    error: &mut E,
+) -> Result<Status, Fault<'a>>
+    requires { tells_findings telling ≡ false → asked.now.wanted.fail_on ≡ None }
+{
+    refuse_out(rt, out, false, &[name.unwrap_or(DASH)])?;
+    let input = open_input(rt, name, &mut Some(standard), pace)?;
+    report_to_file(rt, asked, telling, input, out, error)
+}

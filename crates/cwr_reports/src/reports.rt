@@ -1,0 +1,361 @@
+//! Transmissions that are judged, shown, or written as data.
+
+ghost use Rattle.std.specs.Prelude.{◌≡◌, ◌||◌, true, false, not, IfOk, Ok, OnOk, None};
+ghost use Rattle.cwr_acks.specs.Format.AckLines.{lines_of_acks};
+ghost use Rattle.cwr_tools.specs.Format.Reports.{CountsReaderFault, CountsWriterFault, ReportsText};
+ghost use Rattle.cwr_tools.specs.Steps.Reports.{Reports};
+ghost use Rattle.cwr_tools.specs.Format.Verdicts.{JudgesText};
+ghost use Rattle.cwr_tools.specs.Format.Watching.{SeesAccepted};
+ghost use Rattle.cwr_reports.specs.Format.Endings.{EndsOnInput};
+ghost use Rattle.cwr_files.specs.Steps.Inputs.{remaining_of};
+ghost use Rattle.cwr_reports.specs.Steps.Tellings.{CountsFindings, CountsInput, CountsReading, CountsWriting, TellsText, telling_alone};
+ghost use Rattle.cwr_reports.specs.Steps.Looks.{JudgesOn, LooksAfter, look_of, tells_findings};
+
+use crate::exports::tell_cut;
+use cwr_acks::{Form, Manner, acks};
+use cwr_advise::advise;
+use cwr_causes::Trailing;
+use cwr_csv::{Table, csv};
+use cwr_devices::{ReadAhead, Sink, SinkFault, Source, Target};
+use cwr_explain::explain;
+use cwr_files::{
+    Fault, FileLines, Gathered, Input, Name, Pace, Told, gathered, shown_name, told_of,
+};
+use cwr_json::Encoding;
+use cwr_lint::lint;
+use cwr_shape::Limits;
+use cwr_tools::{
+    FindingCount, ToolFault, Verdict, Watch, check_watched, json, put_verdict_line, show_watched,
+};
+use cwr_transform::{
+    Judgement, Look, Status, Wanted, judgement_of, look_after, tell_findings, tell_following,
+    tell_profile, tell_verdict, worst_level,
+};
+use std::alloc::Global;
+use std::io::{Read, Write};
+
+/// What is written of a transmission.
+#[derive(Clone, Copy, Debug)]
+pub enum Telling<'a> {
+    /// The findings, and the verdict.
+    Findings,
+    /// The same with what explains them, in which the input has that name.
+    Explained(&'a str),
+    /// Every fault in the place of a refusal; with what explains them where the input's name is given, and with advice or without.
+    Faults {
+        name: Option<&'a str>,
+        advised: bool,
+    },
+    /// The records with their cells, and the verdict.
+    Records,
+    /// The data as lines of JSON, and the verdict to standard error.
+    Data {
+        /// How cells are shown.
+        encoding: Encoding,
+        /// With the numbers of groups, transactions and lines.
+        numbers: bool,
+    },
+    /// A table, and the verdict to standard error.
+    Rows(Table),
+    /// What the acknowledgements say, in that form, and the verdict to standard error.
+    Answers(Form),
+    /// The findings with what explains them, the advice, and the verdict. The numbers of so many works are kept.
+    Advice(u32),
+}
+
+/// What is told of an input that is judged, where it is explained too.
+pub fn telling_of<'a>(asked: &Asked, explained: bool, word: &'a str) -> Telling<'a>
+    ensures { tells_findings result ≡ not (asked.now.faults || asked.now.advised) }
+{
+    let name = shown_name(word);
+    match (asked.faults, asked.advised, explained) {
+        (true, advised, _) => Telling::Faults {
+            name: explained.then_some(name),
+            advised,
+        },
+        (false, true, _) => Telling::Advice(asked.repeated),
+        (false, false, true) => Telling::Explained(name),
+        (false, false, false) => Telling::Findings,
+    }
+}
+
+/// How an input is judged.
+#[derive(Clone, Copy, Debug)]
+pub struct Asked {
+    pub alloc: Global,
+    pub limits: Limits,
+    pub wanted: Wanted,
+    /// Nothing is written of what is good.
+    pub quiet: bool,
+    /// Every fault is told.
+    pub faults: bool,
+    /// Advice is told.
+    pub advised: bool,
+    /// For that the numbers of so many works are kept.
+    pub repeated: u32,
+}
+
+/// What was found after a transmission, if that was looked for.
+fn look_of(found: Option<Trailing>) -> Look
+    ensures { result ≡ look_of found }
+{
+    match found {
+        Some(trailing) => Look::Found(trailing),
+        None => Look::Unasked,
+    }
+}
+
+/// Writes what the acknowledgements of one transmission say, matched with nothing. The writer comes back.
+fn acks_alone<R: Source, W: Target + Drop>(
+    alloc: Global,
+    limits: Limits,
+    form: Form,
+    reader: &mut R,
+    writer: W,
+) -> (W, Result<Verdict, ToolFault>)
+    ensures reported { Reports (lines_of_acks (telling_alone form) None) limits
+        (R.remaining reader.old) (R.remaining reader.new) W.contents writer result.0 result.1 }
+    ensures told { ReportsText (lines_of_acks (telling_alone form) None) limits
+        (R.remaining reader.old) (R.remaining reader.new) W.contents writer result.0 result.1 }
+    ensures handed_on { OnOk result.1 (W.handed_on result.0 ≡ true) }
+    ensures reader_failures { CountsReaderFault result.1 (R.failures reader.old)
+        (R.failures reader.new) }
+    ensures writer_failures { CountsWriterFault result.1 (W.failures writer) (W.failures result.0) }
+{
+    let manner = Manner {
+        form,
+        file: None,
+        names: &[],
+    };
+    let (writer, _, _, outcome) = acks(alloc, limits, manner, None, reader, writer);
+    (writer, outcome)
+}
+
+/// Reads a transmission, writes what is told of it, and looks what stands after it. The writer comes back, and how many
+/// findings were told, where these are all that is.
+fn tell<R: Source, W: Target + Drop>(
+    alloc: Global,
+    limits: Limits,
+    telling: Telling<'_>,
+    watch: &mut Watch,
+    reader: &mut R,
+    writer: W,
+) -> (W, Result<Verdict, ToolFault>, Look, FindingCount)
+    requires { tells_findings telling ≡ false → watch.old.from ≡ None }
+    ensures judged { JudgesText limits (R.remaining reader.old) result.1 }
+    ensures seen { OnOk result.1 (SeesAccepted limits (R.remaining reader.old) watch.old watch.new) }
+    ensures looks { OnOk result.1 (LooksAfter limits (R.remaining reader.old) result.2) }
+    ensures counted { OnOk result.1
+        (CountsFindings telling.entry limits (R.remaining reader.old) result.3) }
+    // What is asked for was written, and handed on.
+    ensures told { TellsText telling.entry limits (R.remaining reader.old) W.contents writer
+        result.0 result.1 }
+    ensures handed_on { OnOk result.1 (W.handed_on result.0 ≡ true) }
+    // No failure is passed over, and none is answered that didn't come.
+    ensures reader_failures { CountsReading result.1 result.2 (R.failures reader.old)
+        (R.failures reader.new) }
+    ensures writer_failures { CountsWriterFault result.1 (W.failures writer) (W.failures result.0) }
+{
+    match telling {
+        Telling::Findings => {
+            let (writer, outcome, count) = check_watched(alloc, limits, watch, reader, writer);
+            let look = look_after(reader, &outcome);
+            (writer, outcome, look, count)
+        }
+        Telling::Explained(name) => {
+            let (writer, outcome, found, count) = explain(
+                alloc, limits, name, watch, reader, writer,
+            );
+            (writer, outcome, look_of(found), count)
+        }
+        Telling::Faults { name, advised } => {
+            let (writer, outcome) = lint(alloc, limits, name, advised, reader, writer);
+            let look = look_after(reader, &outcome);
+            (writer, outcome, look, FindingCount::new())
+        }
+        Telling::Records => {
+            let (writer, outcome, count) = show_watched(alloc, limits, watch, reader, writer);
+            let look = look_after(reader, &outcome);
+            (writer, outcome, look, count)
+        }
+        Telling::Data { encoding, numbers } => {
+            let (writer, outcome) = json(alloc, limits, encoding, numbers, reader, writer);
+            let look = look_after(reader, &outcome);
+            (writer, outcome, look, FindingCount::new())
+        }
+        Telling::Rows(table) => {
+            let (writer, outcome) = csv(alloc, limits, table, reader, writer);
+            let look = look_after(reader, &outcome);
+            (writer, outcome, look, FindingCount::new())
+        }
+        Telling::Answers(form) => {
+            let (writer, outcome) = acks_alone(alloc, limits, form, reader, writer);
+            let look = look_after(reader, &outcome);
+            (writer, outcome, look, FindingCount::new())
+        }
+        Telling::Advice(repeated) => {
+            let (writer, outcome) = advise(alloc, limits, repeated, reader, writer);
+            let look = look_after(reader, &outcome);
+            (writer, outcome, look, FindingCount::new())
+        }
+    }
+}
+
+/// Judges what a reader has, and writes what is told of it. The writer comes back, with how many findings were told.
+fn judge_source<R: Source, W: Target + Drop>(
+    asked: &Asked,
+    telling: Telling<'_>,
+    reader: &mut R,
+    writer: W,
+) -> (W, Result<Judgement, ToolFault>, FindingCount)
+    requires { tells_findings telling ≡ false → asked.now.wanted.fail_on ≡ None }
+    ensures judges { JudgesOn asked.now.limits asked.now.wanted (R.remaining reader.old) result.1 }
+    ensures counted { OnOk result.1
+        (CountsFindings telling.entry asked.now.limits (R.remaining reader.old) result.2) }
+    ensures told { IfOk result.1 (λ judgement. TellsText telling.entry asked.now.limits
+        (R.remaining reader.old) W.contents writer result.0 (Ok judgement.verdict)) }
+    ensures handed_on { OnOk result.1 (W.handed_on result.0 ≡ true) }
+    // A fault of a device is answered only where that device counted one more failure.
+    ensures reader_failures { CountsInput result.1 (R.failures reader.old) (R.failures reader.new) }
+    ensures writer_failures { CountsWriting result.1 (W.failures writer) (W.failures result.0) }
+{
+    let mut watch = Watch::new(asked.wanted.fail_on);
+    let (writer, outcome, look, count) = tell(
+        asked.alloc,
+        asked.limits,
+        telling,
+        &mut watch,
+        reader,
+        writer,
+    );
+    let judged = judgement_of(asked.wanted, outcome, look, watch.found);
+    (writer, judged, count)
+}
+
+/// Judges an input, and writes what is told of it. The writer comes back, what is known of the input where it fails, and
+/// how many findings were told.
+pub(crate) fn judge_input<'a, F: Read + Drop, I: Read + Drop, P: Pace + Drop, W: Target + Drop>(
+    asked: &Asked,
+    telling: Telling<'_>,
+    input: Input<'a, F, I, P>,
+    writer: W,
+) -> (W, Result<Judgement, ToolFault>, Told<'a>, FindingCount)
+    requires { tells_findings telling ≡ false → asked.now.wanted.fail_on ≡ None }
+    ensures judges { JudgesOn asked.now.limits asked.now.wanted
+        (remaining_of F.remaining I.remaining input.entry) result.1 }
+    ensures counted { OnOk result.1 (CountsFindings telling.entry asked.now.limits
+        (remaining_of F.remaining I.remaining input.entry) result.3) }
+    ensures told { IfOk result.1 (λ judgement. TellsText telling.entry asked.now.limits
+        (remaining_of F.remaining I.remaining input.entry) W.contents writer result.0
+        (Ok judgement.verdict)) }
+    ensures handed_on { OnOk result.1 (W.handed_on result.0 ≡ true) }
+    ensures writer_failures { CountsWriting result.1 (W.failures writer) (W.failures result.0) }
+{
+    let mut reader = ReadAhead::new(input);
+    let (writer, judged, count) = judge_source(asked, telling, &mut reader, writer);
+    let told = reader.into_inner().told();
+    (writer, judged, told, count)
+}
+
+/// Tells on standard error what is not among the lines: what follows the transmission, what findings beside a good verdict mean, and the
+/// verdict beside data.
+pub(crate) fn tell_aside<E: Write>(
+    error: &mut E,
+    telling: Telling<'_>,
+    name: Name<'_>,
+    judgement: &Judgement,
+    count: &FindingCount,
+) {
+    match telling {
+        // What follows stands in the explanation.
+        Telling::Explained(_) => {}
+        Telling::Findings | Telling::Records => {
+            tell_following(error, name, &judgement.look);
+            if let Verdict::Good { .. } = judgement.verdict {
+                tell_findings(error, name, count, judgement.status);
+            }
+        }
+        Telling::Faults { .. } | Telling::Advice(_) => {
+            tell_following(error, name, &judgement.look);
+        }
+        Telling::Data { .. } | Telling::Rows(_) | Telling::Answers(_) => {
+            tell_verdict(error, name, judgement);
+        }
+    }
+}
+
+/// Puts the verdict on what is good and has less than was wanted, which quiet lines leave out.
+pub(crate) fn put_unwanted<W: Target + Drop>(
+    quiet: bool,
+    judgement: &Judgement,
+    lines: W,
+) -> (W, Result<(), SinkFault>) {
+    let is_good = matches!(judgement.verdict, Verdict::Good { .. });
+    if !quiet || !is_good || judgement.status == Status::Good {
+        return (lines, Ok(()));
+    }
+    let mut sink = Sink::new(lines);
+    let put = put_verdict_line(&judgement.verdict, &mut sink);
+    (sink.into_inner(), put)
+}
+
+/// The lines on an input, to standard output.
+fn lines_on<'a, F: Read + Drop, I: Read + Drop, P: Pace + Drop, O: Write + Drop>(
+    asked: &Asked,
+    telling: Telling<'_>,
+    input: Input<'a, F, I, P>,
+    lines: Gathered<'a, O>,
+) -> (
+    Gathered<'a, O>,
+    Result<Judgement, ToolFault>,
+    Told<'a>,
+    FindingCount,
+)
+    requires { tells_findings telling ≡ false → asked.now.wanted.fail_on ≡ None }
+    ensures { JudgesOn asked.now.limits asked.now.wanted
+        (remaining_of F.remaining I.remaining input.entry) result.1 }
+{
+    if asked.quiet {
+        let lines = FileLines::new(lines, None, true);
+        let (lines, judged, told, count) = judge_input(asked, telling, input, lines);
+        (lines.into_inner(), judged, told, count)
+    } else {
+        judge_input(asked, telling, input, lines)
+    }
+}
+
+/// Reports on an input: writes what is told of it to standard output, and what isn't among those lines to standard error.
+pub fn report_input<'a, F: Read + Drop, I: Read + Drop, P: Pace + Drop, O: Write + Drop, E: Write>(
+    asked: &Asked,
+    telling: Telling<'_>,
+    input: Input<'a, F, I, P>,
+    output: O,
+    error: &mut E,
+) -> Result<Status, Fault<'a>>
+    requires { tells_findings telling ≡ false → asked.now.wanted.fail_on ≡ None }
+    ensures { EndsOnInput asked.now.limits asked.now.wanted
+        (remaining_of F.remaining I.remaining input.entry) result }
+{
+    let lines = match gathered(asked.alloc, output, Name::StandardOutput) {
+        Ok(lines) => lines,
+        Err(_) => return Err(Fault::Memory),
+    };
+    let (lines, judged, told, count) = lines_on(asked, telling, input, lines);
+    match judged {
+        Ok(judgement) => {
+            let (mut lines, put) = put_unwanted(asked.quiet, &judgement, lines);
+            if put.is_err() || lines.flush().is_err() {
+                return Err(Fault::Write(told_of(lines)));
+            }
+            tell_aside(&mut *error, telling, told.name, &judgement, &count);
+            if let Telling::Explained(_) = telling {
+                tell_profile(&mut *error, worst_level(&judgement.verdict, &count));
+            }
+            tell_cut(error, telling, told.name, &judgement.verdict);
+            Ok(judgement.status)
+        }
+        Err(ToolFault::Reader) => Err(Fault::Read(told)),
+        Err(ToolFault::Writer { .. }) => Err(Fault::Write(told_of(lines))),
+        Err(_) => Err(Fault::Memory),
+    }
+}

@@ -1,0 +1,63 @@
+//! What is made of an input that is read: its verdict, what stands after it, and the status.
+
+ghost use Rattle.std.specs.Prelude.{◌≡◌, OnErr};
+ghost use Rattle.cwr_transform.specs.Steps.Looks.{CountsLook, LooksOnce, judgement_in};
+
+use crate::endings::{Look, Status, Wanted, status_of};
+use crate::looks::{look_beyond, tell_following};
+use cwr_devices::{Counted, Sink, Source};
+use cwr_files::Name;
+use cwr_tools::{ToolFault, Verdict, put_verdict_line};
+use std::io::Write;
+
+/// What was made of an input that could be read: the verdict, what stands after it, and the status.
+#[derive(Clone, Copy, Debug)]
+pub struct Judgement {
+    pub verdict: Verdict,
+    pub look: Look,
+    pub status: Status,
+}
+
+/// Looks what an input has left after its transmission, where the verdict is good.
+pub fn look_after<R: Source>(reader: &mut R, outcome: &Result<Verdict, ToolFault>) -> Look
+    ensures looks { LooksOnce (R.remaining reader.old) (R.remaining reader.new) outcome.now result }
+    ensures unasked { OnErr outcome.now (result ≡ Look.Unasked) }
+    ensures failures { CountsLook result (R.failures reader.old) (R.failures reader.new) }
+{
+    match outcome {
+        Ok(Verdict::Good { .. }) => look_beyond(reader),
+        _ => Look::Unasked,
+    }
+}
+
+/// What is made of an input with that outcome, where `found` says whether a finding came that is unwanted. Where nothing may follow the
+/// transmission, and the input failed there, that is its fault.
+pub fn judgement_of(
+    wanted: Wanted,
+    outcome: Result<Verdict, ToolFault>,
+    look: Look,
+    found: bool,
+) -> Result<Judgement, ToolFault>
+    ensures { result ≡ judgement_in wanted outcome look found }
+{
+    match outcome {
+        Ok(verdict) => match status_of(wanted, &verdict, look, found) {
+            Some(status) => Ok(Judgement {
+                verdict,
+                look,
+                status,
+            }),
+            None => Err(ToolFault::Reader),
+        },
+        Err(fault) => Err(fault),
+    }
+}
+
+/// Tells on standard error the verdict on a transmission, and what follows that. What standard error doesn't take is lost.
+pub fn tell_verdict<E: Write>(error: &mut E, name: Name<'_>, judgement: &Judgement) {
+    let _ = put_verdict_line(
+        &judgement.verdict,
+        &mut Sink::new(Counted::new(&mut *error)),
+    );
+    tell_following(error, name, &judgement.look);
+}

@@ -1,0 +1,224 @@
+//! A transmission whose numbers are put right.
+
+use crate::endings::{Look, Status, Wanted, ended_by, follows, settle, status_by};
+use crate::finding_notes::{tell_findings, tell_unwritten};
+use crate::joins::refuse_out;
+use crate::looks::{look_beyond, tell_following};
+use crate::splits::hand_on;
+use cwr_devices::{Counted, ReadAhead, Sink};
+use cwr_files::{
+    DASH, Fault, Gathered, Input, Name, Pace, Told, create_output, gathered, open_input, told_of,
+};
+use cwr_renumber::{Jump, Jumps, Step, put_renumber_outcome, renumber_viewed};
+use cwr_shape::Limits;
+use cwr_tools::{FindingCount, FindingView, JoinReport, ToolFault};
+use std::alloc::Global;
+use std::io;
+use std::io::{Read, Write};
+use std::rt::Files;
+
+/// How numbers are put right.
+#[derive(Clone, Copy, Debug)]
+pub struct Repair<'a> {
+    pub limits: Limits,
+    /// What is wanted of the transmission.
+    pub wanted: Wanted,
+    /// The name of the transmission's file, or none for that on standard input.
+    pub file: Option<&'a str>,
+    /// The name of the file that is written, or none for standard output.
+    pub out: Option<&'a str>,
+    /// That file may replace none.
+    pub only_new: bool,
+}
+
+/// What came of a run.
+#[derive(Drop)]
+struct Repaired<'a> {
+    outcome: Result<JoinReport, ToolFault>,
+    /// What follows the transmission.
+    look: Look,
+    /// The findings in it.
+    count: FindingCount,
+    /// Whether one is unwanted.
+    found: bool,
+    /// What is known of the input.
+    read: Told<'a>,
+    /// What is known of the output.
+    written: Told<'a>,
+}
+
+impl Repaired<'_> {
+    /// Whether what was written is what is wanted: a transmission without an unwanted finding, and where nothing may follow it in the input
+    /// nothing does.
+    fn is_wanted(&self, whole: bool) -> bool {
+        let alone = match &self.look {
+            Look::Found(trailing) => !follows(trailing),
+            Look::Failed => false,
+            Look::Unasked => true,
+        };
+        self.outcome.is_ok() && (alone || !whole) && !self.found
+    }
+}
+
+/// Writes how a sequence doesn't go on at a line, and what that may mean.
+fn put_jump<E: Write>(error: &mut E, name: Name<'_>, jump: &Jump) -> io::Result<()> {
+    write!(error, "cwr: {name}: line {}: ", jump.line)?;
+    match jump.step {
+        Step::Record { before, here } => writeln!(
+            error,
+            "in mid-transaction the record sequence goes from {before} to {here}: the header of a transaction may be missing before it"
+        ),
+        Step::Transaction {
+            before: Some(before),
+            here,
+        } => writeln!(
+            error,
+            "the transaction sequence goes from {before} to {here}: transactions may be missing before it"
+        ),
+        Step::Transaction { before: None, here } => writeln!(
+            error,
+            "the transaction sequence of the group's first transaction is {here}: transactions may be missing before it"
+        ),
+    }
+}
+
+/// Tells on standard error where the sequences of an input don't go on. What standard error doesn't take is lost.
+fn tell_jumps<E: Write>(error: &mut E, name: Name<'_>, jumps: &Jumps) {
+    for jump in jumps.first.as_slice() {
+        let _ = put_jump(error, name, jump);
+    }
+    let told = jumps.first.len() as u64;
+    if jumps.count > told {
+        let more = jumps.count - told;
+        let _ = writeln!(error, "cwr: {name}: {more} more such lines");
+    }
+}
+
+/// Writes the transmission of an input with its numbers put right, and looks what follows it there.
+fn run<'a, F: Read + Drop, I: Read + Drop, P: Pace + Drop, O: Write + Drop, E: Write>(
+    alloc: Global,
+    repair: &Repair<'_>,
+    input: Input<'a, F, I, P>,
+    writer: Gathered<'a, O>,
+    error: &mut E,
+) -> Repaired<'a> {
+    let mut reader = ReadAhead::new(input);
+    let mut view = FindingView::new(alloc);
+    let (writer, outcome, jumps) = renumber_viewed(
+        alloc,
+        repair.limits,
+        &mut reader,
+        &mut view,
+        writer,
+    );
+    let outcome = match outcome {
+        Ok(_) if view.lacks_memory => Err(ToolFault::Memory),
+        outcome => outcome,
+    };
+    let look = match outcome {
+        Ok(_) => look_beyond(&mut reader),
+        Err(_) => Look::Unasked,
+    };
+    let read = reader.into_inner().told();
+    tell_jumps(error, read.name, &jumps);
+    tell_following(error, read.name, &look);
+    Repaired {
+        outcome,
+        look,
+        found: outcome.is_ok() && view.count.reaches(repair.wanted.fail_on),
+        count: view.count,
+        read,
+        written: told_of(writer),
+    }
+}
+
+/// Tells on standard error what the findings in a transmission mean that was written under that name, or because of which it wasn't.
+fn tell_count<E: Write>(error: &mut E, name: Name<'_>, repaired: &Repaired<'_>, is_kept: bool) {
+    if repaired.outcome.is_err() {
+        return;
+    }
+    if is_kept {
+        tell_findings(error, name, &repaired.count, status_by(repaired.found));
+    } else if repaired.found {
+        tell_unwritten(error, name, &repaired.count);
+    }
+}
+
+/// How a run ends, where `made` is what the output's fault is.
+fn ending<'a>(repaired: Repaired<'a>, whole: bool, made: Fault<'a>) -> Result<Status, Fault<'a>> {
+    let is_wanted = repaired.is_wanted(whole);
+    match (repaired.outcome, repaired.look) {
+        (Ok(_), Look::Failed) if !is_wanted => Err(Fault::Read(repaired.read)),
+        (Ok(_), _) if !is_wanted => Ok(Status::Refused),
+        (outcome, _) => ended_by(outcome.err(), repaired.read, repaired.written, made),
+    }
+}
+
+/// Writes the transmission to a file, which gets its name where that is whole, and the line that says how that ended to the output.
+fn repair_to_file<
+    'a,
+    R: Files + AllocGlobal,
+    I: Read + Drop,
+    P: Pace + Drop,
+    O: Write + Drop,
+    E: Write,
+>(
+    rt: &R,
+    repair: &Repair<'a>,
+    input: Input<'a, R::File, I, P>,
+    out: &'a str,
+    output: O,
+    error: &mut E,
+) -> Result<Status, Fault<'a>> {
+    let alloc = rt.alloc();
+    let name = Name::File(out);
+    let lines = gathered(alloc, output, Name::StandardOutput).map_err(|_| Fault::Memory)?;
+    refuse_out(rt, out, repair.only_new, &[repair.file.unwrap_or(DASH)])?;
+    let (made, file) = create_output(rt, alloc, out)?;
+    let Ok(writer) = gathered(alloc, file, name) else {
+        made.discard(rt);
+        return Err(Fault::Memory);
+    };
+    let repaired = run(alloc, repair, input, writer, &mut *error);
+    let is_kept = repaired.is_wanted(repair.wanted.whole);
+    settle(rt, made, out, is_kept, &mut *error)?;
+    tell_count(error, name, &repaired, is_kept);
+    if !is_kept && repaired.outcome.is_ok() {
+        return ending(repaired, repair.wanted.whole, Fault::Output(name, None));
+    }
+    let mut sink = Sink::new(lines);
+    let put = put_renumber_outcome(&repaired.outcome, &mut sink);
+    hand_on(put, sink)?;
+    ending(repaired, repair.wanted.whole, Fault::Output(name, None))
+}
+
+/// Writes the transmission of a file, or of standard input, with its numbers put right: to a file, or to the output. There the line
+/// that says how that ended goes to standard error.
+pub fn repair_numbers<
+    'a,
+    R: Files + AllocGlobal,
+    I: Read + Drop,
+    P: Pace + Drop,
+    O: Write + Drop,
+    E: Write,
+>(
+    rt: &R,
+    repair: &Repair<'a>,
+    standard: I,
+    pace: P,
+    output: O,
+    error: &mut E,
+) -> Result<Status, Fault<'a>> {
+    let alloc = rt.alloc();
+    let input = open_input(rt, repair.file, &mut Some(standard), pace)?;
+    if let Some(out) = repair.out {
+        return repair_to_file(rt, repair, input, out, output, error);
+    }
+    let writer = gathered(alloc, output, Name::StandardOutput).map_err(|_| Fault::Memory)?;
+    let repaired = run(alloc, repair, input, writer, &mut *error);
+    // What standard error doesn't take is lost.
+    let _ = put_renumber_outcome(&repaired.outcome, &mut Sink::new(Counted::new(&mut *error)));
+    tell_count(error, Name::StandardOutput, &repaired, true);
+    let written = repaired.written;
+    ending(repaired, repair.wanted.whole, Fault::Write(written))
+}
