@@ -14,10 +14,10 @@ const TYPES = [
 class NoRoom extends Error {}
 
 class Library {
-  /** The library that the bytes of the module are. */
-  static async load(bytes) {
+  /** The library of a compiled module. */
+  static async load(module) {
     const library = new Library();
-    library.calls = (await WebAssembly.instantiate(bytes, {})).instance.exports;
+    library.calls = (await WebAssembly.instantiate(module, {})).exports;
     return library;
   }
 

@@ -5,6 +5,8 @@ const ROW = 22;
 /** The tallest that an element may be in every browser: a longer list is scrolled by its share. */
 const TALLEST = 8_000_000;
 const PER_PAGE = 200;
+/** So many columns have their number above them. */
+const RULED = 1030;
 
 const by = (id) => document.getElementById(id);
 
@@ -15,29 +17,58 @@ function made(tag, properties = {}, ...content) {
   return element;
 }
 
-const state = { name: "", lines: 0, layouts: {}, told: [], marks: new Map(), line: 0, field: 1, shown: new Map(), works: 0, group: 0 };
+const state = { name: "", lines: 0, layouts: {}, told: [], marks: new Map(), line: 0, field: 1, works: 0, group: 0 };
 
 // ---- the worker
 
-const worker = new Worker(URL.createObjectURL(new Blob([WORKER], { type: "text/javascript" })));
-const waiting = new Map();
-let asked = 0;
+const SCRIPT = URL.createObjectURL(new Blob([WORKER], { type: "text/javascript" }));
 
-function ask(what, rest = {}, given = []) {
-  asked += 1;
-  const id = asked;
-  return new Promise((answer, fail) => {
-    waiting.set(id, { answer, fail });
-    worker.postMessage({ id, ask: what, ...rest }, given);
-  });
+/** The work on one file, in a worker of its own. Once it is ended, nothing that was asked of it is answered. */
+class Work {
+  constructor(module) {
+    this.worker = new Worker(SCRIPT);
+    this.waiting = new Map();
+    this.asked = 0;
+    this.worker.onmessage = ({ data: { id, answer, fault } }) => {
+      const { done, fail } = this.waiting.get(id);
+      this.waiting.delete(id);
+      if (fault === undefined) done(answer);
+      else fail(new Error(fault));
+    };
+    this.started = this.ask("start", { module });
+    this.started.catch(() => {});
+  }
+
+  ask(what, given = {}) {
+    this.asked += 1;
+    const id = this.asked;
+    return new Promise((done, fail) => {
+      this.waiting.set(id, { done, fail });
+      this.worker.postMessage({ id, ask: what, ...given });
+    });
+  }
+
+  end() {
+    // an answer that is on its way is dropped
+    this.worker.onmessage = null;
+    this.worker.terminate();
+  }
 }
 
-worker.onmessage = ({ data: { id, answer, fault } }) => {
-  const { answer: done, fail } = waiting.get(id);
-  waiting.delete(id);
-  if (fault === undefined) done(answer);
-  else fail(new Error(fault));
-};
+let work = null;
+
+function ask(what, given) {
+  return work.ask(what, given);
+}
+
+const begun = { open: 0, go: 0, draw: 0, outline: 0, find: 0 };
+
+/** Begins something. The answer says whether nothing of its kind was begun since, and no file: only then is its outcome shown. */
+function begin(what) {
+  begun[what] += 1;
+  const [mine, file] = [begun[what], begun.open];
+  return () => begun[what] === mine && begun.open === file;
+}
 
 // ---- a file
 
@@ -47,40 +78,96 @@ function tell(words, how) {
   verdict.className = how;
 }
 
-function verdictWords({ verdict, told }) {
-  const faults = told.filter((it) => it.fault).length;
-  const findings = told.length - faults;
+/** What is said of a file that doesn't begin as one of the format, with the library's notes on it. */
+function headless({ told }) {
+  const [first] = told;
+  if (!first?.fault || first.line > 0 || first.field > 1 || first.level !== "E") return "";
+  return [WORDS.headless, ...first.notes.filter((it) => it.startsWith("note ")).map((it) => it.replace(/^note +/, ""))].join(" ");
+}
+
+function refusedWords(answer) {
+  const { told, lines, isCutOff, isEarly } = answer;
+  const faults = told.filter((it) => it.fault && !(isCutOff && it.line === lines - 1)).length;
+  const refused = WORDS.refused(Math.max(faults, 1)) + (isEarly ? WORDS.early : "");
+  return headless(answer) || (isCutOff ? WORDS.cutOff(lines) + (faults > 0 ? WORDS.besides(faults) : "") : refused);
+}
+
+function verdictWords(answer) {
+  const { verdict, told } = answer;
+  const findings = told.filter((it) => !it.fault).length;
   const more = findings > 0 ? WORDS.withFindings(findings) : "";
   if (verdict.ending === 0) return [WORDS.good(verdict) + more, findings > 0 ? "finding" : "good"];
   if (verdict.ending === 2) return [WORDS.truncated + more, "bad"];
-  if (verdict.ending === 1) return [WORDS.refused(Math.max(faults, 1)) + more, "bad"];
+  if (verdict.ending === 1) return [refusedWords(answer) + more, "bad"];
   return [WORDS.noMemory, "bad"];
 }
 
+/** What is told where the page can't go on. */
+function faultWords({ message }) {
+  return { browser: WORDS.oldBrowser, room: WORDS.noMemory, unreadable: WORDS.unreadable }[message] ?? WORDS.failed(message);
+}
+
+/** Ends the work on a file. Nothing is shown but the name of the next one. */
+function clear(name) {
+  work?.end();
+  work = null;
+  Object.assign(state, { name, lines: 0, told: [], marks: new Map(), line: 0, field: 1, works: 0 });
+  by("name").textContent = name;
+  by("start").hidden = true;
+  document.querySelector("main").hidden = true;
+  by("files").hidden = true;
+  by("saved").textContent = "";
+  by("words").value = "";
+  for (const id of ["faults", "works", "statuses", "hits", "rows", "fieldpart", "workpart"]) by(id).replaceChildren();
+}
+
 async function open(file) {
-  tell(WORDS.reading(file.name), "");
+  const isLatest = begin("open");
+  // a name is shown in one line
+  clear(file.name.replace(/[\x00-\x1f\x7f]/g, "?"));
+  tell(WORDS.reading, "");
   try {
-    const answer = await ask("open", { file });
-    if (answer.tooLarge) return tell(WORDS.tooLarge(answer.most), "bad");
-    Object.assign(state, { name: file.name, lines: answer.lines, told: answer.told, works: answer.transactions, line: 0, field: 1 });
-    state.shown.clear();
-    state.marks = new Map();
-    for (const it of answer.told) state.marks.set(it.line, [...(state.marks.get(it.line) ?? []), it]);
-    tell(...verdictWords(answer));
-    by("start").hidden = true;
-    document.querySelector("main").hidden = false;
-    by("files").hidden = false;
-    by("data").disabled = answer.verdict.ending !== 0;
-    showFaults();
-    await showOutline();
-    size();
-    by("scroll").scrollTo(0, 0);
-    if (answer.told.length > 0) await go(answer.told[0].line, answer.told[0].field);
-    else await go(0, 1);
+    const module = await ready;
+    if (!isLatest()) return;
+    work = new Work(module);
+    const answer = await ask("open", { file, name: state.name });
+    if (answer.tooLarge) fail(WORDS.tooLarge(answer.most));
+    else await show(answer);
   } catch (fault) {
-    tell(fault.message === "room" ? WORDS.noMemory : WORDS.failed(fault.message), "bad");
+    if (isLatest()) fail(faultWords(fault));
   }
-  return undefined;
+}
+
+/** No file is shown, and this is why. */
+function fail(words) {
+  clear(state.name);
+  by("start").hidden = false;
+  tell(words, "bad");
+}
+
+async function show(answer) {
+  Object.assign(state, { lines: answer.lines, told: answer.told, works: answer.transactions });
+  for (const it of answer.told) state.marks.set(it.line, [...(state.marks.get(it.line) ?? []), it]);
+  tell(...verdictWords(answer));
+  by("start").hidden = true;
+  document.querySelector("main").hidden = false;
+  by("files").hidden = false;
+  by("data").disabled = answer.verdict.ending !== 0;
+  by("why").hidden = answer.verdict.ending === 0;
+  showFaults(answer);
+  size();
+  by("scroll").scrollTo(0, 0);
+  const [first] = state.told;
+  await Promise.all([showOutline(), go(first?.line ?? 0, first?.field ?? 1)]);
+}
+
+/** One file is opened. Several are listed, and one of them is opened once it is chosen. */
+function take(files) {
+  const list = files.length > 1 ? files : [];
+  by("several").hidden = list.length === 0;
+  by("several").replaceChildren(...list.map((file) => made("button", { textContent: file.name, onclick: () => open(file) })));
+  if (list.length > 0) by("several").prepend(made("span", { textContent: WORDS.several(list.length) }));
+  if (files.length === 1) open(files[0]);
 }
 
 // ---- lines
@@ -91,8 +178,8 @@ function tall() {
 
 function size() {
   by("rows").style.height = `${tall()}px`;
-  const tens = Array.from({ length: 103 }, (_, i) => String(i * 10 + 1).padEnd(10)).join("");
-  by("ruler").textContent = tens;
+  by("scroll").setAttribute("aria-rowcount", state.lines);
+  by("ruler").textContent = Array.from({ length: RULED / 10 }, (_, i) => String(i * 10 + 1).padEnd(10)).join("");
 }
 
 /** The first line that is seen, and how many are. */
@@ -106,48 +193,69 @@ function seen() {
   return [Math.max(0, Math.min(first, state.lines - 1)), room + 1];
 }
 
-let drawing = 0;
+/** The latest drawing: one that another was begun after ends with that. */
+let drawn = null;
 
-async function draw() {
-  drawing += 1;
-  const mine = drawing;
+function draw() {
+  drawn = drawLines(begin("draw"));
+  return drawn;
+}
+
+async function drawLines(isLatest) {
+  const mine = begun.draw;
   const [first, count] = seen();
   const from = Math.max(0, first - 5);
-  const { found } = await ask("lines", { from, count: count + 10 });
-  if (mine !== drawing) return;
+  const { texts } = await ask("lines", { from, count: count + 10 });
+  if (!isLatest()) return begun.draw === mine ? undefined : drawn;
   const top = state.lines * ROW <= TALLEST ? from * ROW : by("scroll").scrollTop - (first - from) * ROW;
-  state.shown = new Map(found.map((text, i) => [from + i, text]));
-  by("rows").replaceChildren(...found.map((text, i) => row(from + i, text, top + i * ROW)));
+  // each line is as wide as all, so that its number and its kind stay in sight
+  const longest = Math.max(RULED, ...texts.map((it) => it.text.length));
+  by("rows").style.width = `calc(var(--number) + ${longest}ch + 10rem)`;
+  by("rows").replaceChildren(...texts.map((it, i) => row(from + i, it, top + i * ROW)));
+  if (by("chosen")) by("scroll").setAttribute("aria-activedescendant", "chosen");
+  else by("scroll").removeAttribute("aria-activedescendant");
+  return undefined;
 }
 
-/** The cells of a line: each field's, and what stands behind the last one. */
+/** The cells of a line: each field's, filled up with spaces, and what stands behind the last one. */
 function cells(text) {
   const fields = state.layouts[text.slice(0, 3)];
-  if (!fields) return [{ j: 1, text: text.slice(0, 3), kind: true }, { j: 2, text: text.slice(3) }];
-  const found = fields.map((field, i) => ({ j: i + 1, text: text.slice(field.start, field.start + field.width), derived: field.derived, kind: i === 0 }));
+  if (!fields) return [{ j: 1, text: text.slice(0, 3) || " ", kind: true }, { j: 2, text: text.slice(3) }].filter((cell) => cell.text !== "");
+  const all = fields.map(({ name, start, width, derived }, i) => {
+    return { j: i + 1, name, text: text.slice(start, start + width).padEnd(width), derived, kind: i === 0 };
+  });
   const last = fields[fields.length - 1];
-  found.push({ j: fields.length + 1, text: text.slice(last.start + last.width) });
-  return found.filter((cell) => cell.text !== "");
+  const behind = text.slice(last.start + last.width);
+  return behind === "" ? all : [...all, { j: fields.length + 1, name: WORDS.behind, text: behind }];
 }
 
-function row(at, text, top) {
+/** A text with a sign for each character that has none. */
+function visible(text) {
+  return text.replace(/[\x00-\x1f\x7f-\x9f]/g, "\u2423");
+}
+
+function row(at, { text, rest }, top) {
   const marks = state.marks.get(at) ?? [];
   const number = made("span", { className: "number", textContent: at + 1 });
   number.setAttribute("role", "rowheader");
   if (marks.some((it) => it.fault)) number.classList.add("at");
   else if (marks.length > 0) number.classList.add("noted");
-  const parts = cells(text).map(({ j, text: shown, derived, kind }) => {
-    const cell = made("span", { className: "cell", textContent: shown.replace(/[\x00-\x1f\x7f]/g, "\u2423") });
+  const parts = cells(text).map(({ j, name, text: shown, derived, kind }) => {
+    const cell = made("span", { className: "cell", textContent: visible(shown) });
     cell.setAttribute("role", "gridcell");
+    cell.setAttribute("aria-colindex", j + 1);
     cell.dataset.field = j;
-    const field = state.layouts[text.slice(0, 3)]?.[j - 1];
-    if (field) cell.setAttribute("aria-label", `${field.name}: ${shown.trimEnd() || WORDS.blank}`);
+    if (name) cell.setAttribute("aria-label", `${name}: ${shown.trimEnd() || WORDS.blank}`);
     if (kind) cell.classList.add("kind");
     else if (derived) cell.classList.add("derived");
     for (const it of marks) if (it.field === j) cell.classList.add(it.fault ? "at" : "noted");
-    if (at === state.line && j === state.field) cell.classList.add("chosen");
+    if (at === state.line && j === state.field) {
+      cell.classList.add("chosen");
+      cell.id = "chosen";
+    }
     return cell;
   });
+  if (rest > 0) parts.push(made("small", { textContent: WORDS.rest(rest) }));
   const line = made("div", { className: "line" }, number, ...parts);
   line.setAttribute("role", "row");
   line.setAttribute("aria-rowindex", at + 1);
@@ -157,41 +265,50 @@ function row(at, text, top) {
   return line;
 }
 
+/** Scrolls to where a line is seen. */
+function bring(line) {
+  const [first, count] = seen();
+  if (line >= first + 1 && line <= first + count - 4) return;
+  const area = by("scroll");
+  const wanted = Math.max(0, line - 3);
+  area.scrollTop = state.lines * ROW <= TALLEST
+    ? wanted * ROW
+    : (wanted / Math.max(state.lines - count + 3, 1)) * (tall() + ROW + 1 - area.clientHeight);
+}
+
 /** Goes to a line and a field of it, and tells of both. */
 async function go(line, field, focus = true) {
+  if (state.lines === 0) return;
+  const isLatest = begin("go");
   state.line = Math.max(0, Math.min(line, state.lines - 1));
   state.field = field;
-  const [first, count] = seen();
-  if (state.line < first + 1 || state.line > first + count - 4) {
-    const area = by("scroll");
-    const wanted = Math.max(0, state.line - 3);
-    area.scrollTop = state.lines * ROW <= TALLEST
-      ? wanted * ROW
-      : (wanted / Math.max(state.lines - count + 3, 1)) * (tall() + ROW + 1 - area.clientHeight);
-  }
+  bring(state.line);
+  const place = await ask("place", { line: state.line });
+  if (!isLatest()) return;
+  const least = state.layouts[place.text.slice(0, 3)]?.length ?? 1;
+  state.field = Math.min(field, Math.max(least, cells(place.text).length));
   await draw();
-  const cell = document.querySelector(".cell.chosen");
-  cell?.scrollIntoView({ block: "nearest", inline: "nearest" });
+  if (!isLatest()) return;
+  by("chosen")?.scrollIntoView({ block: "nearest", inline: "nearest" });
   if (focus) by("scroll").focus({ preventScroll: true });
-  tellField();
-  await tellWork();
+  tellField(place.text);
+  tellWork(place);
   for (const entry of document.querySelectorAll(".entry[data-line]")) {
     entry.setAttribute("aria-current", Number(entry.dataset.line) === state.line && (entry.dataset.field === undefined || Number(entry.dataset.field) === state.field));
   }
 }
 
-function tellField() {
-  const text = state.shown.get(state.line) ?? "";
+function tellField(text) {
   const kind = text.slice(0, 3);
   const field = state.layouts[kind]?.[state.field - 1];
-  const part = [made("h2", { textContent: `${WORDS.line(state.line + 1)}, ${kind}${field ? `, ${field.name}` : ""}` })];
+  const part = [made("h2", { textContent: `${WORDS.line(state.line + 1)}, ${visible(kind)}${field ? `, ${field.name}` : ""}` })];
   if (!state.layouts[kind]) part.push(made("p", { className: "bad", textContent: WORDS.unknownKind }));
   if (field) {
     const held = text.slice(field.start, field.start + field.width).trimEnd();
     const may = field.codes.length > 0 ? WORDS.oneOf(field.codes) : WORDS.types[field.type];
     const list = made("dl");
     list.append(
-      made("dt", { textContent: WORDS.value }), made("dd", { textContent: held === "" ? WORDS.blank : held }),
+      made("dt", { textContent: WORDS.value }), made("dd", { textContent: held === "" ? WORDS.blank : visible(held) }),
       made("dt", { textContent: WORDS.mayHold }), made("dd", { textContent: `${may} (${WORDS.bytes(field.start + 1, field.start + field.width)})` }),
     );
     if (field.derived && state.field > 1) list.append(made("dd", { textContent: WORDS.derived }));
@@ -236,8 +353,7 @@ function names(title, parties) {
   return [made("h2", { textContent: title }), made("ul", {}, ...items)];
 }
 
-async function tellWork() {
-  const { records, group } = await ask("work", { line: state.line });
+function tellWork({ records, group }) {
   if (records.length === 0) return by("workpart").replaceChildren(made("p", { textContent: WORDS.noWork }));
   const [{ kind, cells: head }, ...others] = records;
   const publishers = others.filter((it) => it.kind === "SPU" || it.kind === "OPU");
@@ -281,28 +397,44 @@ function paged(list, into, draw) {
   next(0);
 }
 
-function showFaults() {
+/** The record and the field of a fault, by their names. */
+function placeWords({ line, kind, field }) {
+  const fields = state.layouts[kind];
+  const name = fields?.[field - 1]?.name ?? (fields ? WORDS.behind : "");
+  return [WORDS.line(line + 1), fields ? kind : "", name].filter(Boolean).join(" · ");
+}
+
+function toldEntry(it) {
+  return entry(it.line, it.field, it.words, `${placeWords(it)} · ${it.level}: ${WORDS.levels[it.level]}`, it.fault ? "bad" : "finding");
+}
+
+function showFaults(answer) {
   const panel = by("faults");
   if (state.told.length === 0) return panel.replaceChildren(made("p", { textContent: WORDS.noFaults }));
-  return paged(state.told, panel, (it) => entry(it.line, it.field, it.words, `${WORDS.line(it.line + 1)} · ${it.level}: ${WORDS.levels[it.level]}`, it.fault ? "bad" : "finding"));
+  if (state.told.length === 1 || !headless(answer)) return paged(state.told, panel, toldEntry);
+  // of a file that doesn't begin as one the first fault says all, until the others are asked for
+  const more = made("button", { textContent: WORDS.others(state.told.length - 1), onclick: () => paged(state.told, panel, toldEntry) });
+  return panel.replaceChildren(toldEntry(state.told[0]), more);
 }
 
 async function showOutline() {
-  const into = by("works");
-  into.replaceChildren();
-  state.group = 0;
+  const isLatest = begin("outline");
   const { counts } = await ask("statuses");
+  if (!isLatest()) return;
+  by("works").replaceChildren();
+  state.group = 0;
   by("statuses").replaceChildren(...(Object.keys(counts).length === 0 ? [] : [
     made("h2", { textContent: WORDS.statuses }),
     made("p", { textContent: Object.entries(counts).map(([status, count]) => `${status} ${count}`).join(" · ") }),
   ]));
-  await moreWorks(0);
+  await moreWorks(0, isLatest);
 }
 
-async function moreWorks(from) {
+async function moreWorks(from, isLatest) {
   const into = by("works");
-  const { found, total } = await ask("works", { from, count: PER_PAGE, only: by("faulty").checked });
-  for (const it of found) {
+  const { works, total } = await ask("works", { from, count: PER_PAGE, only: by("faulty").checked });
+  if (!isLatest()) return;
+  for (const it of works) {
     if (it.group !== state.group) {
       state.group = it.group;
       into.append(made("h2", { textContent: WORDS.group(it.group) }));
@@ -310,26 +442,37 @@ async function moreWorks(from) {
     const small = [it.number, it.status, it.parties.join(", ")].filter(Boolean).join(" · ");
     into.append(entry(it.line, undefined, `${it.kind} ${it.title}`, small, it.faulty ? "bad" : ""));
   }
-  const next = from + found.length;
+  const next = from + works.length;
   if (next < total) {
     const more = made("button", { textContent: `… ${total - next}` });
     more.onclick = () => {
       more.remove();
-      moreWorks(next);
+      moreWorks(next, isLatest);
     };
     into.append(more);
   }
 }
 
-async function find() {
+/** The search is begun once no key came for so many milliseconds. */
+const PAUSE = 250;
+let paused = 0;
+
+function find() {
+  const isLatest = begin("find");
+  clearTimeout(paused);
   const words = by("words").value;
-  if (words === "") return by("hits").replaceChildren();
-  const { found } = await ask("search", { words });
-  if (found.length === 0) return by("hits").replaceChildren(made("p", { textContent: WORDS.findNone }));
-  const head = found.length === 1000 ? [made("p", { textContent: WORDS.findMany })] : [];
+  by("hits").replaceChildren(...(words === "" ? [] : [made("p", { textContent: WORDS.finding })]));
+  paused = setTimeout(() => showFound(words, isLatest), words === "" ? 0 : PAUSE);
+}
+
+async function showFound(words, isLatest) {
+  if (!isLatest()) return;
+  const { lines } = await ask("search", { words });
+  if (!isLatest() || lines === null || words === "") return;
   const list = made("div");
-  paged(found, list, (it) => entry(it.line, undefined, it.text.slice(19).trim().slice(0, 60), `${WORDS.line(it.line + 1)} · ${it.text.slice(0, 3)}`));
-  return by("hits").replaceChildren(...head, list);
+  paged(lines, list, (it) => entry(it.line, undefined, it.text.slice(19).trim().slice(0, 60), `${WORDS.line(it.line + 1)} · ${it.text.slice(0, 3)}`));
+  const head = lines.length === 0 ? WORDS.findNone : lines.length === 1000 ? WORDS.findMany : WORDS.findAll(lines.length);
+  by("hits").replaceChildren(made("p", { textContent: head }), list);
 }
 
 function choose(tab) {
@@ -343,13 +486,28 @@ function choose(tab) {
 
 // ---- files down
 
+/** Saves what is made of the file, or says beside the verdict why it isn't made. */
 async function down(what, ending) {
-  const { ending: how, line, made: bytes } = await ask("down", { what, name: state.name });
-  if (how !== 0) return tell(WORDS.notMended(line), "bad");
-  const link = made("a", { href: URL.createObjectURL(new Blob([bytes])), download: state.name.replace(/(\.[^.]*)?$/, ending) });
-  link.click();
-  setTimeout(() => URL.revokeObjectURL(link.href), 60000);
-  return undefined;
+  const file = begun.open;
+  const say = (words, how) => Object.assign(by("saved"), { textContent: words, className: how });
+  say(WORDS.making, "");
+  try {
+    const { ending: how, line, made: bytes } = await ask("down", { what, name: state.name });
+    if (begun.open !== file) return;
+    if (how !== 0) return void say(notMended(line), "bad");
+    const link = made("a", { href: URL.createObjectURL(new Blob([bytes])), download: state.name.replace(/(\.[^.]*)?$/, ending) });
+    link.click();
+    setTimeout(() => URL.revokeObjectURL(link.href), 60000);
+    say(WORDS.saved(link.download), "");
+  } catch (fault) {
+    if (begun.open === file) say(faultWords(fault), "bad");
+  }
+}
+
+/** Why no numbers are made, with the first fault of the line where that came. */
+function notMended(line) {
+  const fault = state.marks.get(line - 1)?.find((it) => it.fault);
+  return WORDS.notMended(line) + (fault ? ` ${placeWords(fault)}: ${fault.words}.` : "");
 }
 
 // ---- what the person does
@@ -369,37 +527,41 @@ const KEYS = {
   PageUp: () => go(state.line - seen()[1] + 3, state.field),
   Home: () => go(0, 1),
   End: () => go(state.lines - 1, 1),
-  ArrowRight: () => go(state.line, Math.min(state.field + 1, cells(state.shown.get(state.line) ?? "").length || 1)),
+  ArrowRight: () => go(state.line, state.field + 1),
   ArrowLeft: () => go(state.line, Math.max(state.field - 1, 1)),
+};
+const KEYS_OF_PAGE = {
   n: () => nextFault(1),
   p: () => nextFault(-1),
+  "/": () => {
+    choose(by("tab-find"));
+    by("words").focus();
+  },
 };
 
-by("scroll").onkeydown = (event) => {
-  const act = event.ctrlKey || event.metaKey || event.altKey ? undefined : KEYS[event.key];
-  if (act) {
-    event.preventDefault();
-    act();
-  }
-};
-by("scroll").onscroll = () => draw();
+/** Does what a key stands for, if anything. */
+function press(event, keys) {
+  const act = event.ctrlKey || event.metaKey || event.altKey ? undefined : keys[event.key.length === 1 ? event.key.toLowerCase() : event.key];
+  if (!act) return;
+  event.preventDefault();
+  act();
+}
+
+by("scroll").onkeydown = (event) => press(event, KEYS);
+by("scroll").onscroll = () => state.lines > 0 && draw();
 by("scroll").onclick = (event) => {
   const line = event.target.closest(".line");
   if (line) go(Number(line.dataset.line), Number(event.target.closest(".cell")?.dataset.field ?? 1));
 };
 by("scroll").onmouseover = (event) => {
   const cell = event.target.closest(".cell");
-  const text = cell && state.shown.get(Number(cell.closest(".line").dataset.line));
-  const field = text && state.layouts[text.slice(0, 3)]?.[cell.dataset.field - 1];
+  const field = cell && state.layouts[cell.closest(".line").querySelector(".kind").textContent]?.[cell.dataset.field - 1];
   if (field) cell.title = `${field.name}: ${field.codes.length > 0 ? WORDS.oneOf(field.codes) : WORDS.types[field.type]}`;
 };
 document.onkeydown = (event) => {
-  if (event.key === "/" && !event.target.closest("input") && !document.querySelector("main").hidden) {
-    event.preventDefault();
-    choose(by("tab-find"));
-    by("words").focus();
-  }
+  if (state.lines > 0 && !event.target.closest("[type=search]")) press(event, KEYS_OF_PAGE);
 };
+by("words").onkeydown = (event) => press(event, { Escape: () => by("scroll").focus({ preventScroll: true }) });
 for (const tab of document.querySelectorAll("[role=tab]")) {
   tab.onclick = () => choose(tab);
   tab.onkeydown = ({ key }) => {
@@ -416,23 +578,33 @@ by("words").oninput = () => find();
 by("mended").onclick = () => down("mended", "-numbered.V21");
 by("data").onclick = () => down("data", ".jsonl");
 by("table").onclick = () => down("table", ".csv");
-by("pick").onchange = ({ target }) => target.files.length > 0 && open(target.files[0]);
+by("pick").onchange = ({ target }) => {
+  const files = [...target.files];
+  // the name of the file that is shown stands beside it, and the same file may be chosen again
+  target.value = "";
+  if (files.length > 0) take(files);
+};
 document.ondragover = (event) => event.preventDefault();
 document.ondrop = (event) => {
   event.preventDefault();
-  if (event.dataTransfer.files.length > 0) open(event.dataTransfer.files[0]);
+  const files = [...event.dataTransfer.files];
+  if (files.length > 0) take(files);
 };
 addEventListener("resize", () => state.lines > 0 && draw());
 
 for (const element of document.querySelectorAll("[data-word]")) element.textContent = WORDS[element.dataset.word];
+for (const element of document.querySelectorAll("[data-label]")) element.setAttribute("aria-label", WORDS[element.dataset.label]);
 document.title = WORDS.title;
-by("scroll").setAttribute("aria-label", WORDS.lines);
 
-const module = Uint8Array.from(atob(MODULE), (it) => it.charCodeAt(0)).buffer;
-ask("start", { module }, [module]).then(
-  ({ layouts }) => {
-    state.layouts = layouts;
-    document.body.dataset.ready = "yes";
-  },
-  () => tell(WORDS.oldBrowser, "bad"),
-);
+/** The module of the library, once it is compiled and the layouts are known. */
+const ready = (async () => {
+  const module = await WebAssembly.compile(Uint8Array.from(atob(MODULE), (it) => it.charCodeAt(0)));
+  const first = new Work(module);
+  ({ layouts: state.layouts } = await first.started);
+  first.end();
+  document.body.dataset.ready = "yes";
+  return module;
+})().catch(() => {
+  throw new Error("browser");
+});
+ready.catch((fault) => tell(faultWords(fault), "bad"));

@@ -1,8 +1,14 @@
-// What the page asks of a file, apart from the page: it is read, judged, cut into lines and searched here.
+// What the page asks of a file, apart from the page: it is read, judged, cut into lines and searched here. A worker has one file.
 "use strict";
 
 const MOST_BYTES = 500_000_000;
+/** So many characters of a line are shown: of a longer one it is counted how many more there are. */
+const MOST_SHOWN = 2_000;
+/** A search goes over so many bytes before another question is answered. */
+const PART = 4_000_000;
+const MOST_FOUND = 1_000;
 const HEADERS = ["AGR", "NWR", "REV", "ACK"];
+const OUTSIDE = ["HDR", "GRH", "GRT", "TRL"];
 const LF = 10;
 
 let library = null;
@@ -10,19 +16,35 @@ let layouts = {};
 let bytes = new Uint8Array();
 /** Where each line begins, and behind the last one the end. */
 let starts = new Float64Array(1);
-/** Of each transaction, and of each group, the line of its header. */
+/** Of each transaction the lines of its records, and of each group the line of its header. */
 let transactions = [];
 let groups = [];
 /** The transactions in which a fault or a finding is told. */
 let faulty = new Set();
 
-const letters = new TextDecoder("latin1");
+/** Bytes as characters of the same numbers. */
+function characters(part) {
+  let text = "";
+  for (let at = 0; at < part.length; at += 8192) text += String.fromCharCode(...part.subarray(at, at + 8192));
+  return text;
+}
 
-function line(i) {
+/** Where the text of a line ends: its line feed isn't of it, nor is a carriage return before that. */
+function endOfLine(i) {
   let end = starts[i + 1];
   if (end > starts[i] && bytes[end - 1] === LF) end -= 1;
   if (end > starts[i] && bytes[end - 1] === 13) end -= 1;
-  return letters.decode(bytes.subarray(starts[i], end));
+  return end;
+}
+
+/** A line, as far as it is shown. */
+function line(i) {
+  return characters(bytes.subarray(starts[i], Math.min(endOfLine(i), starts[i] + MOST_SHOWN)));
+}
+
+/** How many more bytes a line has. */
+function rest(i) {
+  return Math.max(0, endOfLine(i) - starts[i] - MOST_SHOWN);
 }
 
 function cut(text) {
@@ -42,8 +64,8 @@ function kindOf(i) {
 }
 
 /** A record begins a transaction where its kind may and its own sequence is 0: a copy within an acknowledgement has another. */
-function begins(i) {
-  if (!HEADERS.includes(kindOf(i))) return false;
+function begins(i, kind) {
+  if (!HEADERS.includes(kind)) return false;
   for (let at = starts[i] + 11; at < starts[i] + 19; at += 1) if (bytes[at] !== 48) return false;
   return true;
 }
@@ -51,17 +73,20 @@ function begins(i) {
 function outline() {
   groups = [];
   transactions = [];
-  for (let i = 0; i < starts.length - 1; i += 1) {
-    if (kindOf(i) === "GRH") groups.push({ line: i, first: transactions.length });
-    else if (begins(i)) transactions.push({ line: i, group: groups.length });
+  const lines = starts.length - 1;
+  let open = null;
+  for (let i = 0; i < lines; i += 1) {
+    const kind = kindOf(i);
+    const isBegun = begins(i, kind);
+    if (!isBegun && !OUTSIDE.includes(kind)) continue;
+    if (open) open.end = i;
+    open = null;
+    if (kind === "GRH") groups.push({ line: i, first: transactions.length });
+    if (isBegun) {
+      open = { line: i, end: lines, group: groups.length };
+      transactions.push(open);
+    }
   }
-}
-
-/** The last line of a transaction, from the line of its header. */
-function endOf(first) {
-  let i = first + 1;
-  while (i < starts.length - 1 && !begins(i) && !["GRH", "GRT", "TRL", "HDR"].includes(kindOf(i))) i += 1;
-  return i;
 }
 
 /** Which transaction has the line, or -1. */
@@ -73,53 +98,70 @@ function transactionOf(wanted) {
     if (transactions[middle].line <= wanted) low = middle + 1;
     else high = middle;
   }
-  return low > 0 && wanted < endOf(transactions[low - 1].line) ? low - 1 : -1;
+  return low > 0 && wanted < transactions[low - 1].end ? low - 1 : -1;
 }
 
 /** What the outline says of a transaction. */
 function outlined(i) {
-  const { line: first, group } = transactions[i];
-  const [{ kind, cells }] = recordsOf(first);
+  const it = transactions[i];
+  const records = recordsOf(it);
+  const [{ kind, cells }] = records;
   return {
-    line: first,
-    group,
+    line: it.line,
+    group: it.group,
     kind,
     title: cells.title || cells["creation title"] || cells["submitter agreement number"] || "",
     number: cells["submitter work number"] || cells["submitter creation number"] || "",
     status: cells["transaction status"] || "",
-    parties: parties(first),
+    parties: parties(records),
     faulty: faulty.has(i),
   };
 }
 
-/** The faults, the findings and the last line of what a lint writes. */
+/** The faults and the findings that a lint tells, and whether it says that the text ends too early. */
 function read(report) {
   const told = [];
-  let last = "";
+  let isAtEnd = false;
+  let isEarly = false;
   for (const row of report.split("\n")) {
     if (row.startsWith("  ")) {
-      if (last === "") told[told.length - 1]?.notes.push(row.slice(2));
+      if (!isAtEnd) told[told.length - 1]?.notes.push(row.slice(2));
       continue;
     }
     const fault = /^FAULT record (\d+) field (\d+) level (.) (.*)$/.exec(row);
     const finding = /^FINDING group (\d+) transaction (\d+) record (\d+) field (\d+) level (.) rule (V\d+)$/.exec(row);
-    if (fault) told.push({ line: fault[1] - 1, field: +fault[2], level: fault[3], words: fault[4], notes: [], fault: true });
+    if (fault) told.push(place(fault[1] - 1, +fault[2], fault[3], fault[4], true));
     else if (finding) told.push(found(finding));
-    else if (row !== "") last = row;
+    else if (row !== "") isAtEnd = true;
+    isEarly = isEarly || row.startsWith("TRUNCATED");
   }
-  return { told, last };
+  return { told, isEarly };
+}
+
+function place(at, field, level, words, fault) {
+  return { line: at, field, level, words, fault, kind: at < starts.length - 1 ? kindOf(at) : "", notes: [] };
 }
 
 function found([, group, transaction, record, field, level, rule]) {
   const at = transactions[(groups[group - 1]?.first ?? 0) + Number(transaction)];
-  return { line: (at?.line ?? 0) + Number(record), field: +field, level, words: rule, notes: [], fault: false };
+  return place((at?.line ?? 0) + Number(record), +field, level, rule, false);
+}
+
+/** Whether a fault is told in the last line, and that line has no end and isn't whole: so the file ends within it. */
+function isCutOff(told) {
+  const last = starts.length - 2;
+  if (last < 0 || bytes[bytes.length - 1] === LF || !told.some((it) => it.fault && it.line === last)) return false;
+  const fields = layouts[kindOf(last)];
+  const whole = fields ? fields[fields.length - 1].start + fields[fields.length - 1].width : 3;
+  return bytes.length - starts[last] < whole;
 }
 
 function judged(name) {
   const text = library.put(bytes);
   try {
-    const { told, made } = library.report(REPORTS.explainedLint, text, name);
-    return { verdict: told, ...read(letters.decode(made)) };
+    const { told: verdict, made } = library.report(REPORTS.explainedLint, text, name);
+    const report = read(new TextDecoder().decode(made));
+    return { verdict, ...report, isCutOff: isCutOff(report.told) };
   } finally {
     library.free(text[0]);
   }
@@ -136,9 +178,9 @@ function made(what, name) {
 }
 
 /** The texts of a transaction's records, by the names of their fields. */
-function recordsOf(first) {
+function recordsOf({ line: first, end }) {
   const records = [];
-  for (let i = first; i < endOf(first); i += 1) {
+  for (let i = first; i < end; i += 1) {
     const kind = kindOf(i);
     const text = line(i);
     const cells = {};
@@ -148,11 +190,42 @@ function recordsOf(first) {
   return records;
 }
 
-function search(words) {
-  const wanted = words.toUpperCase();
+/** Of each byte that of the small letter, as far as Latin-1 has one. */
+const SMALL = Uint8Array.from({ length: 256 }, (_, byte) => {
+  const small = String.fromCharCode(byte).toLowerCase();
+  return small.length === 1 && small.charCodeAt(0) < 256 ? small.charCodeAt(0) : byte;
+});
+const oneOfEach = new TextDecoder("latin1");
+
+/** A text of one character for each byte, in small letters: it is compared, and never shown. */
+function inSmall(part) {
+  const small = new Uint8Array(part.length);
+  for (let at = 0; at < part.length; at += 1) small[at] = SMALL[part[at]];
+  return oneOfEach.decode(small);
+}
+
+let searches = 0;
+
+/** The first lines that have the words, in whatever letters; null where another search was begun meanwhile. */
+async function search(words) {
+  searches += 1;
+  const mine = searches;
+  const codes = Array.from(words, (it) => it.codePointAt(0));
+  if (words === "" || codes.some((code) => code > 255)) return [];
+  const wanted = inSmall(Uint8Array.from(codes));
   const lines = [];
-  for (let i = 0; i < starts.length - 1 && lines.length < 1000; i += 1) {
-    if (line(i).toUpperCase().includes(wanted)) lines.push({ line: i, text: line(i).slice(0, 200) });
+  for (let i = 0; i < starts.length - 1 && lines.length < MOST_FOUND; ) {
+    let to = i + 1;
+    while (to < starts.length - 1 && starts[to + 1] - starts[i] <= PART) to += 1;
+    const text = inSmall(bytes.subarray(starts[i], starts[to]));
+    let here = i;
+    for (let at = text.indexOf(wanted); at >= 0 && lines.length < MOST_FOUND; at = text.indexOf(wanted, starts[here + 1] - starts[i])) {
+      while (starts[here + 1] - starts[i] <= at) here += 1;
+      lines.push({ line: here, text: line(here).slice(0, 200) });
+    }
+    i = to;
+    await new Promise((next) => setTimeout(next));
+    if (mine !== searches) return null;
   }
   return lines;
 }
@@ -171,23 +244,23 @@ function nameOf({ cells }) {
 }
 
 /** The names of a transaction's parties, each once. */
-function parties(first) {
-  return [...new Set(recordsOf(first).filter(({ kind }) => PARTIES.includes(kind)).map(nameOf).filter(Boolean))];
+function parties(records) {
+  return [...new Set(records.filter(({ kind }) => PARTIES.includes(kind)).map(nameOf).filter(Boolean))];
 }
 
 /** The works as a table: a row for each writer and publisher. */
 function table() {
   const rows = [row(["group", "transaction", "type", "work_number", "title", "iswc", "record", "name", "pr_share", "mr_share", "sr_share"])];
-  transactions.forEach(({ line: first, group }) => {
-    const [header, ...others] = recordsOf(first);
-    const work = [String(group), header.cells["transaction sequence"] ?? "", header.kind, header.cells["submitter work number"] ?? "", header.cells.title ?? "", header.cells.iswc ?? ""];
+  for (const it of transactions) {
+    const [header, ...others] = recordsOf(it);
+    const work = [String(it.group), header.cells["transaction sequence"] ?? "", header.kind, header.cells["submitter work number"] ?? "", header.cells.title ?? "", header.cells.iswc ?? ""];
     const owners = others.filter(({ kind }) => PARTIES.slice(0, 4).includes(kind));
     for (const owner of owners) {
       const { kind, cells } = owner;
       rows.push(row([...work, kind, nameOf(owner), cells["pr share"] ?? "", cells["mr share"] ?? "", cells["sr share"] ?? ""]));
     }
     if (owners.length === 0) rows.push(row([...work, "", "", "", "", ""]));
-  });
+  }
   return new TextEncoder().encode(rows.join(""));
 }
 
@@ -197,31 +270,33 @@ const ANSWERS = {
     layouts = library.layouts();
     return { layouts };
   },
-  async open({ file }) {
+  async open({ file, name }) {
     if (file.size > MOST_BYTES) return { tooLarge: true, most: MOST_BYTES };
     bytes = new Uint8Array(await file.arrayBuffer());
     starts = cut(bytes);
     outline();
-    const found = judged(file.name);
-    faulty = new Set(found.told.map((it) => transactionOf(it.line)).filter((i) => i >= 0));
-    return { size: bytes.length, lines: starts.length - 1, transactions: transactions.length, ...found };
+    const answer = judged(name);
+    faulty = new Set(answer.told.map((it) => transactionOf(it.line)).filter((i) => i >= 0));
+    return { lines: starts.length - 1, transactions: transactions.length, ...answer };
   },
   lines({ from, count }) {
-    const found = [];
-    for (let i = from; i < Math.min(from + count, starts.length - 1); i += 1) found.push(line(i));
-    return { from, found };
+    const texts = [];
+    for (let i = from; i < Math.min(from + count, starts.length - 1); i += 1) texts.push({ text: line(i), rest: rest(i) });
+    return { texts };
   },
   works({ from, count, only }) {
     const all = only ? [...faulty].sort((a, b) => a - b) : transactions;
-    const found = all.slice(from, from + count).map((it, i) => outlined(only ? it : from + i));
-    return { found, total: all.length };
+    const works = all.slice(from, from + count).map((it, i) => outlined(only ? it : from + i));
+    return { works, total: all.length };
   },
-  work({ line: wanted }) {
+  /** A line, and the records of the transaction that it is of. */
+  place({ line: wanted }) {
     const i = transactionOf(wanted);
-    return i < 0 ? { records: [] } : { group: transactions[i].group, records: recordsOf(transactions[i].line) };
+    const text = wanted < starts.length - 1 ? line(wanted) : "";
+    return i < 0 ? { text, records: [] } : { text, group: transactions[i].group, records: recordsOf(transactions[i]) };
   },
-  search({ words }) {
-    return { found: search(words) };
+  async search({ words }) {
+    return { lines: await search(words) };
   },
   statuses() {
     const counts = {};
@@ -239,10 +314,21 @@ const ANSWERS = {
   },
 };
 
-onmessage = async ({ data: { id, ask, ...rest } }) => {
+/** What a fault is called where the page has words for it. */
+function named(fault) {
+  if (fault instanceof NoRoom || fault instanceof RangeError) return "room";
+  return ["NotFoundError", "NotReadableError"].includes(fault.name) ? "unreadable" : String(fault);
+}
+
+let started = null;
+
+onmessage = async ({ data: { id, ask, ...given } }) => {
   try {
-    postMessage({ id, answer: await ANSWERS[ask](rest) });
+    // nothing is answered before the library is there
+    if (ask === "start") started = ANSWERS.start(given);
+    const answer = await started;
+    postMessage({ id, answer: ask === "start" ? answer : await ANSWERS[ask](given) });
   } catch (fault) {
-    postMessage({ id, fault: fault instanceof NoRoom || fault instanceof RangeError ? "room" : String(fault) });
+    postMessage({ id, fault: named(fault) });
   }
 };
