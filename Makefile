@@ -35,6 +35,11 @@ need = @command -v $(1) > /dev/null || { echo "make: $(1) is missing: $(2)" >&2;
 debian = $(call need,$(1),Debian's package $(2) has it)
 rt = $(call need,rt,it is the Rattle toolchain's)
 
+# Has programs find the library where it was installed, or says what they need. What is only packed is found where it is unpacked.
+found = test -n "$(DESTDIR)" || { PATH="$$PATH:/sbin:/usr/sbin"; \
+	if test "$$(id -u)" = 0; then ldconfig; fi; ldconfig -p | grep -q " $(lib)/libcwr.so.1$$" || \
+	echo "make: programs don't find $(lib)/libcwr.so.1 yet: run ldconfig as root, or set LD_LIBRARY_PATH=$(lib)"; }
+
 # what is made of the manual, of the program's help and of the toolchain's licences
 made = $(addprefix $(OUT)/made/,cwr.1 cwr.bash copyright)
 
@@ -105,6 +110,7 @@ install_library: $(OUT)/c/cwr.pc
 	ln -sf libcwr.so.1 $(lib)/libcwr.so
 	install -m 644 $(OUT)/c/cwr.pc $(lib)/pkgconfig
 	install -m 644 bindings/c/cwr.h $(include)
+	@$(found)
 
 uninstall: ## removes what install put there
 	rm -f $(bin)/cwr $(man)/cwr.1 $(bash)/cwr $(zsh)/_cwr $(fish)/cwr.fish
@@ -114,7 +120,7 @@ uninstall: ## removes what install put there
 dist: ## packs what install puts as OUT/cwr-VERSION-linux-x86_64.tar.gz, and its SHA-256
 	$(call debian,$(STRIP),binutils)
 	rm -rf $(OUT)/dist $(OUT)/made
-	$(MAKE) install DESTDIR= PREFIX=$(abspath $(OUT))/dist/$(RELEASE)
+	$(MAKE) install DESTDIR=$(abspath $(OUT))/dist PREFIX=/$(RELEASE)
 	$(STRIP) -R .comment $(OUT)/dist/$(RELEASE)/bin/cwr
 	tar -C $(OUT)/dist --sort=name --owner=0 --group=0 --numeric-owner --mode=u=rwX,go=rX --mtime=@$(SOURCE_DATE_EPOCH) \
 	    --format=ustar -cf $(OUT)/$(RELEASE).tar $(RELEASE)

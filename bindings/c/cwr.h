@@ -184,10 +184,10 @@ size_t cwr_blank(const uint8_t *kind, size_t kind_size, uint8_t *line, size_t li
 /// How writing ended.
 enum cwr_writing {
     CWR_WRITTEN = 0,
-    CWR_NOT_A_RECORD = 1,     ///< the line carries no record
+    CWR_NOT_A_RECORD = 1,     ///< the line carries no record; a lint of it alone (cwr_report) tells the fields, and why
     CWR_OUT_OF_ORDER = 2,     ///< its record can't come there
     CWR_WRONG_KIND = 3,       ///< it is of another kind than its group's
-    CWR_INCOMPLETE = 4,       ///< what it ends isn't whole
+    CWR_INCOMPLETE = 4,       ///< the transaction that it begins, or the group that it ends, isn't whole
     CWR_OVER_LIMIT = 5,       ///< a limit is passed: `detail` is one of cwr_limit
     CWR_WRITE_NO_MEMORY = 6,  ///< memory was refused
     CWR_WRITE_BAD_LIMITS = 7, ///< a limit isn't in its range
@@ -199,7 +199,7 @@ enum cwr_writing {
 typedef struct cwr_written {
     uint32_t ending; ///< one of cwr_writing
     uint32_t detail; ///< of a limit
-    uint64_t line;   ///< from 1; 0 where it came behind all lines
+    uint64_t line;   ///< the line that isn't taken, from 1: of a transaction its first; 0 where it came behind all lines
 } cwr_written;
 
 /// The canonical text of the transmission whose records the lines carry, into `room`. The lines may be trimmed or not, and end

@@ -23,8 +23,10 @@ use std::alloc::Global;
 pub(crate) enum WriteFault {
     /// A line carries no record.
     NotARecord,
-    /// The encoder refused a record, or the transaction before it.
+    /// The encoder refused a record outside transactions.
     Encode(EncodeFault),
+    /// The encoder refused the transaction before the line, which has so many records.
+    Held(EncodeFault, u64),
     /// A record can't stand there.
     Misplaced,
     /// Memory was refused.
@@ -38,6 +40,16 @@ fn encoded(answer: Result<(), EncodeFault>) -> Result<(), WriteFault>
     match answer {
         Ok(()) => Ok(()),
         Err(fault) => Err(WriteFault::Encode(fault)),
+    }
+}
+
+/// What an encoder answered to a transaction of so many records.
+fn encoded_held(answer: Result<(), EncodeFault>, records: u64) -> Result<(), WriteFault>
+    ensures { OnOk result (answer ≡ Ok tt) }
+{
+    match answer {
+        Ok(()) => Ok(()),
+        Err(fault) => Err(WriteFault::Held(fault, records)),
     }
 }
 
@@ -66,7 +78,7 @@ fn put_foot<W: Target>(encoder: &mut Encoder<W>, value: &Record) -> Result<(), W
 fn put_whole<W: Target>(encoder: &mut Encoder<W>, value: &Transaction) -> Result<(), WriteFault>
     ensures { OnOk result (GoesOn W.contents value.now encoder.old encoder.new) }
 {
-    encoded(encoder.transaction(value))
+    encoded_held(encoder.transaction(value), value.len() as u64)
 }
 
 /// Writes the transaction that is held.
@@ -274,6 +286,17 @@ struct Stop {
     fault: WriteFault,
 }
 
+/// A stop at a line: or, where the transaction before it isn't taken, at that one's first line, since each of its lines has a record.
+fn stop_at(line: u64, fault: WriteFault) -> Stop {
+    match fault {
+        WriteFault::Held(_, records) => Stop {
+            line: line.saturating_sub(records),
+            fault,
+        },
+        _ => Stop { line, fault },
+    }
+}
+
 /// Puts the records that the lines of the text carry, up to TRL or the text's end, and the transaction that is then held.
 fn put_lines<W: Target>(alloc: Global, encoder: &mut Encoder<W>, text: &[u8]) -> Result<(), Stop>
     ensures { OnOk result (WritesLines W.contents text.now encoder.old encoder.new) }
@@ -287,22 +310,14 @@ fn put_lines<W: Target>(alloc: Global, encoder: &mut Encoder<W>, text: &[u8]) ->
         match put_line(alloc, encoder, held, &line) {
             Ok(After::Lines(left)) => held = left,
             Ok(After::Trailer) => return Ok(()),
-            Err(fault) => {
-                return Err(Stop {
-                    line: number,
-                    fault,
-                });
-            }
+            Err(fault) => return Err(stop_at(number, fault)),
         }
         used += taken;
         line.clear();
     }
     match end_transaction(encoder, held) {
         Ok(()) => Ok(()),
-        Err(fault) => Err(Stop {
-            line: number,
-            fault,
-        }),
+        Err(fault) => Err(stop_at(number.saturating_add(1), fault)),
     }
 }
 
@@ -315,7 +330,7 @@ pub struct CwrWritten {
     pub ending: u32,
     /// Of a limit: 1 records, 2 groups, 3 transaction.
     pub detail: u32,
-    /// The number of the line at which that came, from 1; 0 where it came after all lines.
+    /// The number of the line that isn't taken, from 1: of a transaction its first; 0 where it came after all lines.
     pub line: u64,
 }
 
@@ -330,6 +345,19 @@ pub(crate) fn written(ending: u32, line: u64, detail: u32) -> CwrWritten
     }
 }
 
+/// A fault of an encoder in numbers.
+fn fault_in_c(fault: EncodeFault, line: u64) -> CwrWritten
+    ensures { result.ending ≢ 0 }
+{
+    match fault {
+        EncodeFault::OutOfOrder => written(2, line, 0),
+        EncodeFault::WrongKind => written(3, line, 0),
+        EncodeFault::Incomplete => written(4, line, 0),
+        EncodeFault::Limit(limit) => written(5, line, limit_number(limit)),
+        EncodeFault::Writer { .. } => written(6, line, 0),
+    }
+}
+
 /// A stop in numbers.
 fn stop_in_c(stop: Stop) -> CwrWritten
     ensures { result.ending ≢ 0 }
@@ -338,13 +366,7 @@ fn stop_in_c(stop: Stop) -> CwrWritten
         WriteFault::NotARecord => written(1, stop.line, 0),
         WriteFault::Misplaced => written(2, stop.line, 0),
         WriteFault::Memory => written(6, stop.line, 0),
-        WriteFault::Encode(fault) => match fault {
-            EncodeFault::OutOfOrder => written(2, stop.line, 0),
-            EncodeFault::WrongKind => written(3, stop.line, 0),
-            EncodeFault::Incomplete => written(4, stop.line, 0),
-            EncodeFault::Limit(limit) => written(5, stop.line, limit_number(limit)),
-            EncodeFault::Writer { .. } => written(6, stop.line, 0),
-        },
+        WriteFault::Encode(fault) | WriteFault::Held(fault, _) => fault_in_c(fault, stop.line),
     }
 }
 
