@@ -5,18 +5,22 @@
     verdict = cwr.check("CW240001PB_052.V21")         # true where it is good
     for transaction in cwr.read("CW240001PB_052.V21"):
         for record in transaction.of_kind("SWR"):
-            print(record["last name"], record.value("pr share"))   # DOE 33.05 (percent)
+            print(record["last name"], record.share("pr share"))   # DOE 33.05 (percent)
     print(cwr.explain("CW240001PB_052.V21"))
     text = cwr.write(records)                         # with all numbers made
 
 A source is a path, or bytes that are there already. Sizes are bytes, numbers of records and fields count from 1, shares are in
 percent. A text is judged up to the end of its transmission; what follows isn't looked at.
 """
-from ._documents import NO_LIMITS, Document, check, findings, read
+from ._documents import Document, check, findings, read
 from ._layouts import KINDS, Field, Type, layout
+from ._limits import NO_LIMITS
 from ._records import Place, Record, Transaction
+from ._reports import explain, lint, report, show, to_json
 from ._verdicts import Ending, Error, Finding, Level, RefusedError, TruncatedError, Verdict, WriteError
-from ._writing import explain, from_json, lint, report, show, to_json, write
+from ._writing import from_json, write
+
+__version__ = "0.1.0"
 
 __all__ = [
     "KINDS",

@@ -2,41 +2,31 @@
 import ctypes
 import mmap
 import struct
-from typing import Iterator, List, Optional, Tuple, Union
+from typing import Callable, Iterator, List, Optional, Sequence, Tuple, Union, overload
 
 from . import _library
 from ._layouts import layout
+from ._limits import NO_LIMITS, Limits, limits_of
 from ._records import Record, Transaction
+from ._reports import notes_on
 from ._texts import Source, Text
 from ._verdicts import Ending, Finding, Level, RefusedError, TruncatedError, Verdict, told
-
-NO_LIMITS = (99_999_999, 99_999, 999_999)
-"""The most records, groups, and records of one transaction that any transmission may have."""
-
-Limits = Tuple[int, int, int]
 
 # the shortest line of a record: a carried one without its text
 _SHORTEST = 20
 
 
-def limits_of(limits: Limits) -> Limits:
-    """The limits, each in the range of the library's numbers."""
-    records, groups, transaction = limits
-    if not all(isinstance(it, int) and 0 <= it < 2**32 for it in (records, groups, transaction)):
-        raise ValueError("a limit isn't in its range")
-    return records, groups, transaction
-
-
-class Document:
+class Document(Sequence[Transaction]):
     """A text and the index of its records. The records are cut out of the text as they are asked for.
 
-    It is a list of transactions to a `for`, and may be walked any number of times, from any thread.
+    It is a sequence of its transactions, and may be walked any number of times, from any thread. One that the end of the text or a
+    refusal cut off isn't among them. `records` and `record` have the records, and `record_count` says how many these are.
     """
 
     def __init__(self, source: Source, limits: Limits = NO_LIMITS, mapped: bool = False):
         """Reads a path or bytes. What the text ends with is `verdict`; nothing is raised for it."""
         self._text, raw = Text(source, mapped), _library.Verdict()
-        limits = limits_of(limits)
+        self._limits = limits = limits_of(limits)
         room = min(_lines(self._text.bytes), self._text.size // _SHORTEST) + 1
         while True:
             memory = _library.room(struct.calcsize(_library.LINE) * room)
@@ -59,12 +49,60 @@ class Document:
         offset, length, group, transaction = struct.unpack_from(_library.LINE, self._index, struct.calcsize(_library.LINE) * i)
         return offset, length, group, transaction
 
-    def __len__(self) -> int:
+    @property
+    def record_count(self) -> int:
         """How many records are accepted."""
         return self._count
 
+    def __len__(self) -> int:
+        """How many transactions there are."""
+        if not self._count:
+            return 0
+        offset, _, _, transaction = self._entry(self._count - 1)
+        return transaction if self._text.bytes[offset : offset + 3] in _OUTSIDE else transaction - 1
+
     def __bool__(self) -> bool:
+        """Whether the text begins with a transmission."""
         return bool(self.verdict)
+
+    def __repr__(self) -> str:
+        return f"<Document {self._text.name!r}: {self.verdict}>"
+
+    def _first(self, is_reached: Callable[[int, int], bool]) -> int:
+        """The first entry whose group and transaction are reached; the index has them in order."""
+        low, high = 0, self._count
+        while low < high:
+            middle = (low + high) // 2
+            if is_reached(*self._entry(middle)[2:]):
+                high = middle
+            else:
+                low = middle + 1
+        return low
+
+    @overload
+    def __getitem__(self, at: int) -> Transaction: ...
+
+    @overload
+    def __getitem__(self, at: slice) -> List[Transaction]: ...
+
+    def __getitem__(self, at: Union[int, slice]) -> Union[Transaction, List[Transaction]]:
+        """A transaction, from 0, or a list of several. Raises `IndexError` where there is none."""
+        if isinstance(at, slice):
+            return [self[i] for i in range(*at.indices(len(self)))]
+        number = at + 1 if at >= 0 else len(self) + at + 1
+        if not 0 < number <= len(self):
+            raise IndexError(at)
+        first = self._first(lambda _, transaction: transaction >= number)
+        group = self._entry(first)[2]
+        before = self._entry(self._first(lambda of_group, _: of_group >= group))[3]
+        found = Transaction(group, number, first + 1, sequence=number - 1 - before)
+        for i in range(first, self._count):
+            offset, length, _, transaction = self._entry(i)
+            line = self._text.bytes[offset : offset + length]
+            if transaction != number or line[:3] in _OUTSIDE:
+                break
+            found.append(Record.of_line(line))
+        return found
 
     def record(self, number: int) -> Record:
         """The record of that number, from 1. Raises `IndexError` where there is none."""
@@ -80,7 +118,7 @@ class Document:
             yield of_line(text[offset : offset + length])
 
     def __iter__(self) -> Iterator[Transaction]:
-        """The transactions, in order. One that the end of the text or a refusal cut off isn't among them."""
+        """The transactions, in order."""
         text, of_line, held = self._text.bytes, Record.of_line, None
         last_group, sequence = 0, 0
         for number, (offset, length, group, transaction) in enumerate(struct.iter_unpack(_library.LINE, self._index), 1):
@@ -103,23 +141,32 @@ class Document:
         return self.record(1) if self._count else None
 
     def raise_for_verdict(self) -> None:
-        """Raises `RefusedError` or `TruncatedError` where the text begins with no transmission."""
+        """Raises `RefusedError` or `TruncatedError` where the text begins with no transmission, with the notes of an explanation."""
         verdict = self.verdict
-        if verdict.ending is Ending.REFUSED:
-            raise RefusedError(f"{self._text.name}: {self._place(verdict)}: {verdict.reason}", verdict)
-        if verdict.ending is Ending.TRUNCATED:
-            raise TruncatedError(f"{self._text.name}: it ends after {verdict.records} records, which are no transmission", verdict)
+        if verdict:
+            return
+        notes = notes_on(self._text, self._limits)
+        words = f"{self._text.name}: {self._words(verdict)}{''.join(f'; {it}' for it in notes)}"
+        raise (RefusedError if verdict.ending is Ending.REFUSED else TruncatedError)(words, verdict, notes)
 
-    def _place(self, verdict: Verdict) -> str:
-        """The refused record and field, by number and name."""
-        offset, length = self._entry(self._count - 1)[:2] if self._count else (0, -1)
-        line = self._text.bytes[offset + length + 1 : offset + length + 6].lstrip(b"\r\n")
-        kind, name = line[:3].decode("latin-1"), ""
+    def _words(self, verdict: Verdict) -> str:
+        """The refused record and field, by number and name, and why; or where the text ended."""
+        if verdict.ending is Ending.TRUNCATED:
+            return f"it ends after {verdict.records} records, which are no transmission"
+        kind, name = self._kind_at(self._count).decode("latin-1"), ""
         try:
             name = next((f" ({it.name})" for it in layout(kind) if it.number == verdict.field), "")
         except KeyError:
-            kind = repr(kind)
-        return f"record {verdict.record} ({kind}), field {verdict.field}{name}, level {verdict.level.value if verdict.level else ''}"
+            kind = repr(kind) if kind else "an empty line"
+        return f"record {verdict.record} ({kind}), field {verdict.field}{name}, level {verdict.level.value if verdict.level else ''}: {verdict.reason}"
+
+    def _kind_at(self, count: int) -> bytes:
+        """The first three bytes of the line behind so many records, as far as it has them."""
+        text, start = self._text.bytes, 0
+        if count:
+            offset, length = self._entry(count - 1)[:2]
+            start = text.find(b"\n", offset + length) + 1
+        return text[start : start + 3].split(b"\n")[0].split(b"\r")[0]
 
 
 _OUTSIDE = frozenset((b"HDR", b"GRH", b"GRT", b"TRL"))

@@ -1,7 +1,7 @@
 """Records, cell by cell."""
 import datetime
 from decimal import Decimal
-from typing import Dict, Iterable, Iterator, List, Mapping, NamedTuple, Optional, Union
+from typing import Dict, Iterable, Iterator, List, Mapping, NamedTuple, Optional, Union, cast
 
 from ._layouts import Field, Type, blank, by_name, carried, layout, places
 
@@ -32,27 +32,57 @@ def _read(field: Field, cell: str) -> Optional[Value]:
     return cell.rstrip(" ")
 
 
+_WANTED = {
+    "share": "a share: a Decimal or an int, in percent",
+    "number": "a number: an int",
+    "date": "a date: a datetime.date",
+    "time": "a time of day: a datetime.time",
+    "duration": "a duration: a datetime.timedelta",
+    "flag": "a flag: True or False",
+    "text": "text",
+}
+
+
+def _sort(field: Field) -> str:
+    """What values of a field are: one of the keys above."""
+    if field.type in _NUMBERS:
+        return "number"
+    if field.type in _DATES:
+        return "date"
+    if field.type in _TIMES:
+        return "time"
+    return {Type.SHARE: "share", Type.OPTIONAL_DURATION: "duration", Type.FLAG: "flag"}.get(field.type, "text")
+
+
 def _write(field: Field, value: Optional[Value]) -> str:
-    """The cell of a value."""
+    """The cell of a value. Any field takes a text."""
+    sort = _sort(field)
     if value is None:
         return ""
+    if isinstance(value, str):
+        return value
     if isinstance(value, bool):
-        return "Y" if value else "N"
-    if isinstance(value, Decimal) or (isinstance(value, int) and field.type is Type.SHARE):
+        if sort == "flag":
+            return "Y" if value else "N"
+    elif isinstance(value, (Decimal, int)) and sort == "share":
         hundredths = Decimal(value).scaleb(2)
-        if hundredths != int(hundredths) or hundredths < 0:
+        if not hundredths.is_finite() or hundredths != int(hundredths) or hundredths < 0:
             raise ValueError(f"{field.name}: {value} is no number of hundredths of a percent")
         return f"{int(hundredths):05}"
-    if isinstance(value, int):
+    elif isinstance(value, int) and sort == "number":
+        if value < 0:
+            raise ValueError(f"{field.name}: {value} is below 0")
         return str(value).rjust(field.width, "0")
-    if isinstance(value, datetime.date):
+    elif isinstance(value, datetime.date) and sort == "date":
         return f"{value:%Y%m%d}".rjust(8, "0")
-    if isinstance(value, datetime.time):
+    elif isinstance(value, datetime.time) and sort == "time":
         return f"{value:%H%M%S}"
-    if isinstance(value, datetime.timedelta):
+    elif isinstance(value, datetime.timedelta) and sort == "duration":
         seconds = int(value.total_seconds())
+        if seconds < 0:
+            raise ValueError(f"{field.name}: {value} is below 0")
         return f"{seconds // 3600:02}{seconds // 60 % 60:02}{seconds % 60:02}"
-    return value
+    raise TypeError(f"{field.name}: {value!r} isn't {_WANTED[sort]}; or a str, as it stands in the cell")
 
 
 class Record(Mapping[str, str]):
@@ -97,8 +127,30 @@ class Record(Mapping[str, str]):
         """
         return _read(by_name(self.kind)[name], self[name])
 
+    def _typed(self, name: str, sort: str) -> Optional[Value]:
+        field = by_name(self.kind)[name]
+        if _sort(field) != sort:
+            raise TypeError(f"{self.kind} {name} isn't {_WANTED[sort]}, but {_WANTED[_sort(field)]}")
+        return _read(field, self[name])
+
+    def share(self, name: str) -> Optional[Decimal]:
+        """The share in percent; `None` where it is blank. Raises `TypeError` where the field holds none, else as `value`."""
+        return cast(Optional[Decimal], self._typed(name, "share"))
+
+    def date(self, name: str) -> Optional[datetime.date]:
+        """The date; `None` where it is blank or zeros. Raises `TypeError` where the field holds none, else as `value`."""
+        return cast(Optional[datetime.date], self._typed(name, "date"))
+
+    def number(self, name: str) -> Optional[int]:
+        """The number; `None` where it is blank. Raises `TypeError` where the field holds none, else as `value`."""
+        return cast(Optional[int], self._typed(name, "number"))
+
     def __setitem__(self, name: str, value: Optional[Value]) -> None:
-        """Sets a cell to a text or a value. Raises `ValueError` where it is wider than its field. Nothing else is judged."""
+        """Sets a cell to a text, or to a value of its field's type; `None` makes it blank.
+
+        Raises `TypeError` where the value is of another type, and `ValueError` where it is wider than its field. A text is taken
+        as it is.
+        """
         field = by_name(self.kind)[name]
         cell = _write(field, value).encode("latin-1")
         if len(cell) > field.width:

@@ -2,10 +2,27 @@
 import ctypes
 import mmap
 import os
-from typing import Any, Union
+from typing import Any, BinaryIO, Union
 
 Source = Union[str, "os.PathLike[str]", bytes, bytearray, memoryview]
 """A path, or bytes that are there already."""
+
+
+def _opened(source: "Union[str, os.PathLike[str]]") -> BinaryIO:
+    """The file of a path. A text that was handed in as a `str` is no path."""
+    try:
+        return open(source, "rb")
+    except (OSError, ValueError):
+        if isinstance(source, str) and ("\n" in source or source.startswith("HDR")):
+            raise TypeError("a source is a path or bytes: this str is neither, but a text; hand in text.encode('latin-1')") from None
+        raise
+
+
+def _copied(source: Any) -> bytes:
+    try:
+        return bytes(memoryview(source))
+    except TypeError:
+        raise TypeError(f"a source is a path or bytes, and not {'None' if source is None else type(source).__name__}") from None
 
 
 class Text:
@@ -20,13 +37,13 @@ class Text:
         found: Union[bytes, mmap.mmap]
         if isinstance(source, (str, os.PathLike)):
             self.name = os.fsdecode(source)
-            with open(source, "rb") as it:
+            with _opened(source) as it:
                 if mapped and os.fstat(it.fileno()).st_size:
                     found = mmap.mmap(it.fileno(), 0, flags=mmap.MAP_PRIVATE, prot=mmap.PROT_READ | mmap.PROT_WRITE)
                 else:
                     found = it.read()
         else:
-            found = source if isinstance(source, bytes) else bytes(memoryview(source))
+            found = source if isinstance(source, bytes) else _copied(source)
         self.bytes, self.size = found, len(found)
         self.at: int
         if isinstance(found, bytes):

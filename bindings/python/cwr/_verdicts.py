@@ -1,7 +1,7 @@
 """Verdicts, findings and errors."""
 import enum
 from dataclasses import dataclass
-from typing import Any, Optional
+from typing import Any, Optional, Sequence, Tuple
 
 
 class Error(Exception):
@@ -83,20 +83,25 @@ class Finding:
     """How much it concerns."""
 
 
-class RefusedError(Error):
+class _NotGood(Error):
+    """A text that isn't good."""
+
+    def __init__(self, message: str, verdict: Verdict, notes: Sequence[str] = ()):
+        super().__init__(message)
+        self.verdict = verdict
+        self.notes: Tuple[str, ...] = tuple(notes)
+        """What an explanation notes on it, as that it is a gzip file. The message has them too."""
+
+    def __reduce__(self) -> Tuple[Any, ...]:
+        return type(self), (*self.args, self.verdict, self.notes)
+
+
+class RefusedError(_NotGood):
     """No transmission continues from a record and a field of the text: `verdict` has both, the message names them."""
 
-    def __init__(self, message: str, verdict: Verdict):
-        super().__init__(message)
-        self.verdict = verdict
 
-
-class TruncatedError(Error):
+class TruncatedError(_NotGood):
     """The text ended too early. `verdict` says after how many records."""
-
-    def __init__(self, message: str, verdict: Verdict):
-        super().__init__(message)
-        self.verdict = verdict
 
 
 class WriteError(Error):
@@ -105,6 +110,9 @@ class WriteError(Error):
     def __init__(self, message: str, line: int):
         super().__init__(message)
         self.line = line
+
+    def __reduce__(self) -> Tuple[Any, ...]:
+        return type(self), (*self.args, self.line)
 
 
 def told(raw: Any, **more: int) -> Verdict:

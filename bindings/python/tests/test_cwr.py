@@ -3,9 +3,12 @@
 Run from anywhere, by the standard library alone (`python3 -m unittest discover bindings/python/tests`) or by pytest. PROGRAM
 is the program (crates/cwr/out/cwr), and SEED and COUNT change what is tried.
 """
+import concurrent.futures
 import datetime
 import glob
 import os
+import pathlib
+import pickle
 import random
 import subprocess
 import sys
@@ -13,6 +16,7 @@ import tempfile
 import threading
 import unittest
 from decimal import Decimal
+from unittest import mock
 
 HERE = os.path.dirname(os.path.abspath(__file__))
 TOP = os.path.dirname(os.path.dirname(os.path.dirname(HERE)))
@@ -124,8 +128,17 @@ class Samples(unittest.TestCase):
         name = os.path.join(TOP, "samples", "refused", "wrong_code.cwr")
         with self.assertRaises(cwr.RefusedError) as caught:
             cwr.read(name)
-        self.assertIn("record 5 (NWR), field 10 (distribution category), level T: cell not a code", str(caught.exception))
+        self.assertTrue(str(caught.exception).endswith("record 5 (NWR), field 10 (distribution category), level T: cell not a code"))
         self.assertEqual(caught.exception.verdict.record, 5)
+        for name, words in (
+            ("refused/empty_line.cwr", "record 3 (an empty line), field 1, level G: unknown kind"),
+            ("refused/gzip.cwr", "; this is a gzip file: unpack it"),
+            ("refused/byte_order_mark.cwr", "; the line begins with a byte order mark (EF BB BF): save the file without it"),
+            ("refused/cut_off.cwr", "; the last line has no line end and 87 of 159 bytes: the file may have been cut off"),
+        ):
+            with self.assertRaises(cwr.Error) as caught:
+                cwr.read(os.path.join(TOP, "samples", name))
+            self.assertIn(words, str(caught.exception))
         for name in SAMPLES:
             verdict = cwr.check(name)
             if verdict.ending is cwr.Ending.GOOD:
@@ -135,6 +148,53 @@ class Samples(unittest.TestCase):
                 with self.assertRaises(kind) as caught:
                     cwr.read(name)
                 self.assertEqual(caught.exception.verdict, cwr.Document(name).verdict)
+
+
+def refusal(name):
+    """The error of a sample that isn't good."""
+    try:
+        cwr.read(name)
+    except cwr.Error as error:
+        return error
+    return None
+
+
+class Errors(unittest.TestCase):
+    """What is raised."""
+
+    def test_an_error_comes_from_another_process_as_it_was(self):
+        errors = [it for it in map(refusal, SAMPLES) if it] + [cwr.WriteError("record 2 (NWR) can't come there", 2)]
+        for error in errors:
+            again = pickle.loads(pickle.dumps(error))
+            self.assertEqual((type(again), str(again), vars(again)), (type(error), str(error), vars(error)))
+        with concurrent.futures.ProcessPoolExecutor(1) as pool:
+            with self.assertRaises(cwr.RefusedError) as caught:
+                pool.submit(cwr.read, os.path.join(TOP, "samples", "refused", "gzip.cwr")).result(60)
+            self.assertEqual(caught.exception.notes, ("this is a gzip file: unpack it",))
+            self.assertEqual(pool.submit(cwr.check, WORKS).result(60), cwr.check(WORKS))
+
+    def test_what_is_no_source(self):
+        with open(WORKS, encoding="ascii") as it:
+            text = it.read()
+        for source, words in (
+            (text, "hand in text.encode('latin-1')"),
+            (text[:90], "hand in text.encode('latin-1')"),
+            (None, "a source is a path or bytes, and not None"),
+            (5, "a source is a path or bytes, and not int"),
+        ):
+            for call in (cwr.check, cwr.read, cwr.findings, cwr.explain):
+                with self.assertRaises(TypeError) as caught:
+                    call(source)
+                self.assertIn(words, str(caught.exception))
+        with self.assertRaises(FileNotFoundError):
+            cwr.check("nothing.V21")
+        for call in (cwr.write, cwr.from_json):
+            for given in (None, 5, [None] if call is cwr.write else 0.5):
+                with self.assertRaises(TypeError) as caught:
+                    call(given)
+                self.assertIn(" and not ", str(caught.exception))
+        with self.assertRaises(TypeError):
+            cwr.write(text)
 
 
 class Records(unittest.TestCase):
@@ -197,6 +257,44 @@ class Records(unittest.TestCase):
         self.assertEqual(head.value("creation time"), datetime.time(10, 15))
         self.assertEqual(head["edi standard version"], "01.10")
 
+    def test_cells_of_a_type(self):
+        record = cwr.Record("SWR", {"pr share": Decimal("33.05"), "writer unknown": True})
+        work = cwr.Record("NWR", {"copyright date": datetime.date(2024, 2, 29), "title": "A"})
+        self.assertEqual((record.share("pr share"), record.share("mr share")), (Decimal("33.05"), None))
+        self.assertEqual((work.date("copyright date"), cwr.Record("NWR").date("copyright date")), (datetime.date(2024, 2, 29), None))
+        self.assertEqual((work.number("transaction sequence"), cwr.read(WORKS)[0].header.number("transaction sequence")), (None, 0))
+        for record, call, name in ((record, "share", "last name"), (work, "date", "title"), (work, "number", "copyright date"), (work, "share", "duration")):
+            with self.assertRaises(TypeError):
+                getattr(record, call)(name)
+        with self.assertRaises(KeyError):
+            work.share("nothing")
+
+    def test_a_cell_takes_what_is_of_its_type(self):
+        values = {
+            "share": [50, Decimal("0.01")], "number": [7], "date": [datetime.date(2024, 2, 29)], "time": [datetime.time(1, 2)],
+            "duration": [datetime.timedelta(minutes=3)], "flag": [True, False], "text": [], None: [0.5, b"A", [], datetime.tzinfo()],
+        }
+        fields = {
+            "share": ("SWR", "pr share"), "number": ("GRH", "group id"), "date": ("NWR", "copyright date"), "time": ("HDR", "creation time"),
+            "duration": ("NWR", "duration"), "flag": ("SWR", "writer unknown"), "text": ("NWR", "title"),
+        }
+        for sort, (kind, name) in fields.items():
+            record = cwr.Record(kind, {name: None})
+            record[name] = ""
+            for of, some in values.items():
+                for value in some:
+                    # an int is a share, in percent, or a number
+                    if of == sort or (type(value) is int and sort in ("share", "number")):
+                        record[name] = value
+                        self.assertEqual(record.value(name), value)
+                    else:
+                        with self.assertRaises(TypeError, msg=(kind, name, value)) as caught:
+                            record[name] = value
+                        self.assertIn(name, str(caught.exception))
+        for kind, name, value in (("SWR", "pr share", -1), ("SWR", "pr share", Decimal("NaN")), ("GRH", "group id", -1), ("NWR", "duration", -datetime.timedelta(1))):
+            with self.assertRaises(ValueError):
+                cwr.Record(kind, {name: value})
+
     def test_every_cell_of_the_samples_has_a_value(self):
         for name in SAMPLES:
             for record in cwr.Document(name).records():
@@ -225,6 +323,33 @@ class Records(unittest.TestCase):
             cwr.write([head])
         self.assertEqual(caught.exception.line, 0)
 
+    def test_a_fault_names_the_record_that_is_not_taken(self):
+        kinds = {it.kind: it for it in cwr.read(EVERY_KIND).records()}
+        head, rev, nwr, writer, foot = (kinds[it] for it in ("HDR", "REV", "NWR", "SWR", "GRT"))
+        of_nwr, of_agr = (cwr.Record("GRH", {**kinds["GRH"].fields, "transaction type": it}) for it in ("NWR", "AGR"))
+        bad = {
+            "share": cwr.Record("SWR", {**writer.fields, "pr share": "0330X"}),
+            "no kind": cwr.Record.of_line(b"XYZ"),
+            "excess": cwr.Record.of_line(writer.line.ljust(len(cwr.Record("SWR").line)) + b"x"),
+            "empty": cwr.Record.of_line(b""),
+        }
+        free = cwr.NO_LIMITS
+        for records, limits, line, words in (
+            ([head, of_nwr, rev, writer, nwr, writer, foot], free, 3, "record 3 (REV) is of another kind than its group's"),
+            ([head, nwr, writer, nwr, foot], free, 2, "record 2 (NWR) can't come there"),
+            ([head, of_nwr, nwr, writer, nwr, writer, writer], (99, 9, 2), 5, "record 5 (NWR) passes the limit of transaction"),
+            ([head, of_agr, kinds["AGR"], foot], free, 3, "record 3 (AGR) begins or ends what isn't whole"),
+            ([head, of_nwr, foot], free, 3, "record 3 (GRT) begins or ends what isn't whole"),
+            ([head, of_nwr, writer, foot], free, 3, "record 3 (SWR) can't come there"),
+            ([head, of_nwr, nwr, bad["share"], foot], free, 4, "record 4 (SWR) carries no record, field 12 (pr share): cell not digits"),
+            ([head, of_nwr, nwr, bad["no kind"], foot], free, 4, "record 4 (XYZ) carries no record, field 1: unknown kind"),
+            ([head, of_nwr, nwr, bad["excess"], foot], free, 4, f"record 4 (SWR) carries no record, field {len(cwr.layout('SWR')) + 1}: excess"),
+            ([head, of_nwr, nwr, bad["empty"], foot], free, 4, "record 4 () carries no record, field 1: unknown kind"),
+        ):
+            with self.assertRaises(cwr.WriteError) as caught:
+                cwr.write(records, limits=limits)
+            self.assertEqual((caught.exception.line, str(caught.exception)), (line, words))
+
     def test_numbers_are_made(self):
         records = list(cwr.read(EVERY_KIND).records())
         with open(EVERY_KIND, "rb") as it:
@@ -243,6 +368,12 @@ class Records(unittest.TestCase):
         self.assertEqual((caught.exception.line, str(caught.exception).startswith("REFUSED line 1")), (1, True))
         with self.assertRaises(cwr.WriteError):
             cwr.from_json("")
+        # the lines of a message are those of the text, empty ones too
+        first, *others = cwr.to_json(WORKS).splitlines()
+        with self.assertRaises(cwr.WriteError) as caught:
+            cwr.from_json("\n".join([first, "", "", "{}", *others]))
+        told = run("write", text="\n".join([first, "", "", "{}", *others]).encode()).stderr.decode()
+        self.assertEqual(str(caught.exception).splitlines()[0], told.splitlines()[0])
 
     def test_files_are_whole(self):
         with tempfile.TemporaryDirectory() as folder:
@@ -251,6 +382,48 @@ class Records(unittest.TestCase):
             with open(out, "rb") as it:
                 self.assertEqual(it.read(), text)
             self.assertEqual(os.listdir(folder), ["out.V21"])
+            for name in (b"bytes.V21", "path.V21"):
+                path = os.path.join(os.fsencode(folder), name) if isinstance(name, bytes) else pathlib.Path(folder, name)
+                cwr.write(cwr.read(WORKS), path=path)
+                with open(path, "rb") as it:
+                    self.assertEqual(it.read(), text)
+            self.assertEqual(sorted(os.listdir(folder)), ["bytes.V21", "out.V21", "path.V21"])
+
+    def test_a_fault_leaves_no_part(self):
+        with tempfile.TemporaryDirectory() as folder:
+            with self.assertRaises(OSError):
+                cwr.write(cwr.read(WORKS), path=folder)
+            for call in ("os.replace", "os.fsdecode"):
+                with mock.patch(f"cwr._writing.{call}", side_effect=OSError("no room")):
+                    with self.assertRaises(OSError):
+                        cwr.from_json(cwr.to_json(WORKS), path=os.path.join(folder, "out.V21"))
+            self.assertEqual(os.listdir(folder), [])
+            # another run's part stays
+            other = os.path.join(folder, "out.V21.part")
+            open(other, "wb").close()
+            with self.assertRaises(FileExistsError):
+                cwr.write(cwr.read(WORKS), path=os.path.join(folder, "out.V21"))
+            self.assertEqual(os.listdir(folder), ["out.V21.part"])
+
+    def test_a_document_is_the_sequence_of_its_transactions(self):
+        for name in SAMPLES:
+            for mapped in (False, True):
+                document = cwr.Document(name, mapped=mapped)
+                all_of_them = list(document)
+                self.assertEqual(len(document), len(all_of_them), name)
+                self.assertEqual([document[i] for i in range(len(document))], all_of_them)
+                about = [(it.group, it.place, it.number, it.first) for it in all_of_them]
+                self.assertEqual([(it.group, it.place, it.number, it.first) for it in document[:]], about)
+                self.assertEqual(document[-1:], all_of_them[-1:])
+                self.assertEqual(repr(document), f"<Document {name!r}: {document.verdict}>")
+                for at in (len(document), -len(document) - 1):
+                    with self.assertRaises(IndexError):
+                        document[at]
+                if document:
+                    self.assertEqual(cwr.write(document), cwr.write(document.records()))
+
+    def test_the_version_is_the_programs(self):
+        self.assertEqual(run("--version").stderr.decode(), f"cwr {cwr.__version__}\n")
 
 
 class Texts(unittest.TestCase):
@@ -326,7 +499,8 @@ class Changed(unittest.TestCase):
             text = changed(draw.choice(texts), draw)
             verdict, document = cwr.check(text), cwr.Document(text)
             self.assertEqual(verdict, document.verdict, text)
-            self.assertEqual(len(document), verdict.record - 1 if verdict.ending is cwr.Ending.REFUSED else verdict.records)
+            self.assertEqual(document.record_count, verdict.record - 1 if verdict.ending is cwr.Ending.REFUSED else verdict.records)
+            self.assertEqual(len(document), len(list(document)), text)
             if verdict:
                 again = cwr.write(document.records())
                 self.assertEqual(str(cwr.check(again)), str(verdict))
