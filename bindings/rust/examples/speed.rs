@@ -21,8 +21,7 @@ fn main() -> Result<(), Box<dyn std::error::Error>> {
     let text = std::fs::read(words.next().ok_or("a file is wanted")?)?;
     let turns = words.next().map_or(Ok(3), |it| it.parse())?;
     let document = cwr::Document::read(&text)?;
-    let fields = cwr::fields("NWR");
-    let title = fields.iter().find(|it| it.name == "title").ok_or("no title")?;
+    let title = cwr::fields("NWR").iter().find(|it| it.name == "title").ok_or("no title")?;
     println!("Rust: check\t{}", least(turns, || cwr::check(&text, &cwr::Limits::NONE)));
     println!("Rust: Document::read\t{}", least(turns, || cwr::Document::read(&text)));
     println!("Rust: the titles of all works\t{}", least(turns, || {

@@ -4,10 +4,8 @@ fn main() -> Result<(), Box<dyn std::error::Error>> {
     let name = std::env::args().nth(1).ok_or("a file is wanted")?;
     let text = std::fs::read(name)?;
     let document = cwr::Document::read(&text)?;
-    let fields = cwr::fields("NWR");
-    let title = fields.iter().find(|it| it.name == "title").ok_or("no title")?;
     for record in document.records().filter(|it| it.kind() == "NWR") {
-        println!("{}", String::from_utf8_lossy(record.cell(title)).trim_end());
+        println!("{}", record.text("title").unwrap_or_default());
     }
     println!("{}", document.verdict());
     Ok(())

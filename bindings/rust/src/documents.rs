@@ -4,10 +4,12 @@ use crate::calls;
 use crate::errors::Error;
 use crate::records::Record;
 use crate::verdicts::{linked, Limits, Verdict};
+use std::fmt;
 
 /// Where a record's line stands in the text.
 #[repr(C)]
 #[derive(Clone, Copy, Debug, Default, PartialEq, Eq)]
+#[non_exhaustive]
 pub struct Line {
     /// Its first byte, from 0.
     pub offset: usize,
@@ -20,12 +22,18 @@ pub struct Line {
 }
 
 /// A text and the index of its records.
-#[derive(Clone, Debug)]
+#[derive(Clone)]
 pub struct Document<'a> {
     text: &'a [u8],
     lines: Vec<Line>,
     verdict: Verdict,
     size: usize,
+}
+
+impl fmt::Debug for Document<'_> {
+    fn fmt(&self, f: &mut fmt::Formatter<'_>) -> fmt::Result {
+        f.debug_struct("Document").field("verdict", &self.verdict).field("records", &self.lines.len()).finish_non_exhaustive()
+    }
 }
 
 /// The shortest line of a record, with its end.
@@ -77,6 +85,11 @@ impl<'a> Document<'a> {
         &self.lines
     }
 
+    /// The record HDR, where there is one.
+    pub fn header(&self) -> Option<Record<'a>> {
+        self.record(1)
+    }
+
     /// The record of that number, from 1.
     pub fn record(&self, number: usize) -> Option<Record<'a>> {
         let it = self.lines.get(number.checked_sub(1)?)?;
@@ -102,11 +115,20 @@ pub struct Transactions<'a, 'd> {
 }
 
 /// A transaction: its records, the header first.
-#[derive(Clone, Debug)]
+#[derive(Clone)]
 pub struct Transaction<'a, 'd> {
     document: &'d Document<'a>,
+    first: usize,
+    /// The next one that it gives as an iterator.
     at: usize,
     end: usize,
+}
+
+impl fmt::Debug for Transaction<'_, '_> {
+    fn fmt(&self, f: &mut fmt::Formatter<'_>) -> fmt::Result {
+        let records: Vec<Record> = self.records().collect();
+        f.debug_struct("Transaction").field("group", &self.group()).field("number", &self.number()).field("records", &records).finish()
+    }
 }
 
 fn is_outside(kind: &[u8]) -> bool {
@@ -128,7 +150,7 @@ impl<'a, 'd> Iterator for Transactions<'a, 'd> {
             // without a record behind it the transaction is cut off
             let it = document.lines.get(*at)?;
             if it.transaction != number || outside(it) {
-                return Some(Transaction { document, at: start, end: *at });
+                return Some(Transaction { document, first: start, at: start, end: *at });
             }
             *at += 1;
         }
@@ -138,12 +160,27 @@ impl<'a, 'd> Iterator for Transactions<'a, 'd> {
 impl<'a, 'd> Transaction<'a, 'd> {
     /// The number of its group in the transmission, from 1.
     pub fn group(&self) -> u32 {
-        self.document.lines.get(self.at).map_or(0, |it| it.group)
+        self.document.lines.get(self.first).map_or(0, |it| it.group)
     }
 
     /// Its number in the transmission, from 1, in all groups.
     pub fn number(&self) -> u32 {
-        self.document.lines.get(self.at).map_or(0, |it| it.transaction)
+        self.document.lines.get(self.first).map_or(0, |it| it.transaction)
+    }
+
+    /// All its records, also those that it gave as an iterator.
+    fn records(&self) -> Transaction<'a, 'd> {
+        Transaction { at: self.first, ..self.clone() }
+    }
+
+    /// Its first record: AGR, NWR, REV or ACK.
+    pub fn header(&self) -> Option<Record<'a>> {
+        self.records().next()
+    }
+
+    /// Its records of a kind, in order.
+    pub fn of_kind(&self, kind: &str) -> Vec<Record<'a>> {
+        self.records().filter(|it| it.kind() == kind).collect()
     }
 }
 

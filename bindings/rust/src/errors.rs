@@ -6,6 +6,7 @@ use std::fmt;
 
 /// Why there is no answer, or the answer is no transmission.
 #[derive(Clone, Debug, PartialEq, Eq)]
+#[non_exhaustive]
 pub enum Error {
     /// Memory was refused.
     Memory,
@@ -45,7 +46,8 @@ impl fmt::Display for Error {
             Error::Truncated { records } => write!(f, "TRUNCATED records {records}"),
             Error::Unwritten { line, why } => match why {
                 Why::Json(words) => f.write_str(words),
-                why => write!(f, "record {line}: {why}"),
+                why if *line == 0 => write!(f, "the end of the records {why}"),
+                why => write!(f, "record {line} {why}"),
             },
         }
     }

@@ -1,9 +1,12 @@
 //! The kinds of records and their layouts, as the library has them.
 
 use crate::calls;
+use std::cell::Cell;
+use std::sync::{Mutex, PoisonError};
 
 /// What the cells of a field hold.
 #[derive(Clone, Copy, Debug, PartialEq, Eq)]
+#[non_exhaustive]
 pub enum Type {
     /// Text without control bytes.
     Text,
@@ -59,6 +62,7 @@ impl Type {
 
 /// A field of a kind.
 #[derive(Clone, Debug, PartialEq, Eq)]
+#[non_exhaustive]
 pub struct Field {
     /// Its number in reports, from 1.
     pub number: u8,
@@ -85,19 +89,32 @@ impl Field {
     }
 }
 
-/// The kinds of this profile, in order: `HDR` first.
-pub fn kinds() -> Vec<String> {
-    (0..)
-        .map(calls::kind)
-        .take_while(|kind| !kind.is_empty())
-        .map(|kind| String::from_utf8_lossy(&kind).into_owned())
-        .collect()
+/// The kinds, and of each its fields, as the library has them.
+struct Layouts {
+    kinds: Vec<String>,
+    fields: Vec<Vec<Field>>,
 }
 
-/// The fields of a kind, in order. Empty where three letters name no kind.
-pub fn fields(kind: &str) -> Vec<Field> {
+impl Layouts {
+    fn read() -> Layouts {
+        let kinds: Vec<String> = (0..)
+            .map(calls::kind)
+            .take_while(|kind| !kind.is_empty())
+            .map(|kind| String::from_utf8_lossy(&kind).into_owned())
+            .collect();
+        let fields = kinds.iter().map(|kind| fields_of(kind.as_bytes())).collect();
+        Layouts { kinds, fields }
+    }
+
+    fn of(&self, kind: &[u8]) -> &[Field] {
+        let at = self.kinds.iter().position(|it| it.as_bytes() == kind);
+        at.and_then(|at| self.fields.get(at)).map_or(&[], Vec::as_slice)
+    }
+}
+
+fn fields_of(kind: &[u8]) -> Vec<Field> {
     (1..=u8::MAX)
-        .map(|number| (number, calls::field(kind.as_bytes(), number)))
+        .map(|number| (number, calls::field(kind, number)))
         .take_while(|(_, (name, _))| !name.is_empty())
         .map(|(number, (name, place))| Field {
             number,
@@ -110,16 +127,33 @@ pub fn fields(kind: &str) -> Vec<Field> {
         .collect()
 }
 
-/// The field of that name.
-pub(crate) fn field_named(kind: &[u8], name: &str) -> Option<(usize, usize, Type)> {
-    for number in 1..=u8::MAX {
-        let (found, place) = calls::field(kind, number);
-        if found.is_empty() {
-            return None;
-        }
-        if found == name.as_bytes() {
-            return Some((place.start, place.width, Type::of(place.ty)));
-        }
+/// The layouts. They are read once, and kept as long as the program runs; a thread that has asked once waits for no other.
+fn layouts() -> &'static Layouts {
+    static KEPT: Mutex<Option<&'static Layouts>> = Mutex::new(None);
+    thread_local! {
+        static NEAR: Cell<Option<&'static Layouts>> = Cell::new(None);
     }
-    None
+    NEAR.with(|near| {
+        near.get().unwrap_or_else(|| {
+            let mut kept = KEPT.lock().unwrap_or_else(PoisonError::into_inner);
+            let found: &'static Layouts = kept.get_or_insert_with(|| &*Box::leak(Box::new(Layouts::read())));
+            near.set(Some(found));
+            found
+        })
+    })
+}
+
+/// The kinds of this profile, in order: `HDR` first.
+pub fn kinds() -> &'static [String] {
+    &layouts().kinds
+}
+
+/// The fields of a kind, in order. Empty where three letters name no kind.
+pub fn fields(kind: &str) -> &'static [Field] {
+    layouts().of(kind.as_bytes())
+}
+
+/// The field of that name.
+pub(crate) fn field_named(kind: &[u8], name: &str) -> Option<&'static Field> {
+    layouts().of(kind).iter().find(|it| it.name == name)
 }

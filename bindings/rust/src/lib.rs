@@ -16,6 +16,11 @@
 
 #![warn(missing_docs)]
 
+// the example of the page is a test
+#[cfg(doctest)]
+#[doc = include_str!("../README.md")]
+struct Page;
+
 mod calls;
 mod documents;
 mod errors;

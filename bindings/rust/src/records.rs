@@ -4,6 +4,7 @@ use crate::calls;
 use crate::errors::Error;
 use crate::layouts::{field_named, Field, Type};
 use std::borrow::Cow;
+use std::fmt;
 
 /// The bytes as text: each byte is the character of its number (Latin-1).
 fn characters(bytes: &[u8]) -> Cow<'_, str> {
@@ -20,9 +21,15 @@ fn trimmed(bytes: &[u8]) -> &[u8] {
 }
 
 /// A record, where it stands in its text.
-#[derive(Clone, Copy, Debug, PartialEq, Eq)]
+#[derive(Clone, Copy, PartialEq, Eq)]
 pub struct Record<'a> {
     line: &'a [u8],
+}
+
+impl fmt::Debug for Record<'_> {
+    fn fmt(&self, f: &mut fmt::Formatter<'_>) -> fmt::Result {
+        f.debug_tuple("Record").field(&characters(self.line)).finish()
+    }
 }
 
 impl<'a> Record<'a> {
@@ -43,21 +50,16 @@ impl<'a> Record<'a> {
 
     /// The cell of a field of its kind, as far as the line has it: what is missing are spaces.
     pub fn cell(&self, field: &Field) -> &'a [u8] {
-        self.part(field.start, field.width)
-    }
-
-    fn part(&self, start: usize, width: usize) -> &'a [u8] {
-        let from = start.min(self.line.len());
-        &self.line[from..(start + width).min(self.line.len())]
+        let from = field.start.min(self.line.len());
+        &self.line[from..field.start.saturating_add(field.width).min(self.line.len())]
     }
 
     fn named(&self, name: &str) -> Option<(&'a [u8], Type)> {
-        let (start, width, ty) = field_named(&self.line[..self.line.len().min(3)], name)?;
-        Some((trimmed(self.part(start, width)), ty))
+        let field = field_named(&self.line[..self.line.len().min(3)], name)?;
+        Some((trimmed(self.cell(field)), field.ty))
     }
 
-    /// The cell of the field of that name as text, without the spaces at its end. `None` where its kind has no such field. The
-    /// name is looked up in each call: for many records take [`crate::fields`] once, and [`Record::cell`].
+    /// The cell of the field of that name as text, without the spaces at its end. `None` where its kind has no such field.
     pub fn text(&self, name: &str) -> Option<Cow<'a, str>> {
         self.named(name).map(|(cell, _)| characters(cell))
     }
@@ -87,9 +89,15 @@ impl<'a> Record<'a> {
 }
 
 /// A record that is made cell by cell.
-#[derive(Clone, Debug, PartialEq, Eq)]
+#[derive(Clone, PartialEq, Eq)]
 pub struct RecordBuf {
     line: Vec<u8>,
+}
+
+impl fmt::Debug for RecordBuf {
+    fn fmt(&self, f: &mut fmt::Formatter<'_>) -> fmt::Result {
+        f.debug_tuple("RecordBuf").field(&characters(&self.line)).finish()
+    }
 }
 
 impl RecordBuf {
@@ -104,7 +112,7 @@ impl RecordBuf {
 
     /// Sets the cell of the field of that name. Characters above U+00FF are refused as too wide; nothing else is judged.
     pub fn set(&mut self, name: &str, text: &str) -> Result<&mut RecordBuf, Error> {
-        let (start, width, _) = field_named(&self.line[..3], name).ok_or(Error::NoSuchField)?;
+        let &Field { start, width, .. } = field_named(&self.line[..3], name).ok_or(Error::NoSuchField)?;
         let mut cell = Vec::with_capacity(width);
         for it in text.chars() {
             cell.push(u8::try_from(u32::from(it)).map_err(|_| Error::TooWide)?);

@@ -6,6 +6,7 @@ use crate::verdicts::{linked, Limits, Verdict};
 
 /// A report: what the program writes to standard output for a command.
 #[derive(Clone, Copy, Debug, PartialEq, Eq)]
+#[non_exhaustive]
 pub enum Report {
     /// `cwr check`.
     Check,

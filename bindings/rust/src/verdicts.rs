@@ -67,6 +67,7 @@ impl Level {
 
 /// What is wrong with a cell.
 #[derive(Clone, Copy, Debug, PartialEq, Eq)]
+#[non_exhaustive]
 pub enum CellFault {
     /// Blank, where something must stand.
     Blank,
@@ -88,6 +89,7 @@ pub enum CellFault {
 
 /// Which limit is passed.
 #[derive(Clone, Copy, Debug, PartialEq, Eq)]
+#[non_exhaustive]
 pub enum LimitKind {
     /// That of all records.
     Records,
@@ -119,6 +121,7 @@ impl LimitKind {
 
 /// Why a record is refused.
 #[derive(Clone, Copy, Debug, PartialEq, Eq)]
+#[non_exhaustive]
 pub enum Reason {
     /// The line's first three letters name no kind of this profile.
     UnknownKind,
@@ -182,6 +185,7 @@ impl fmt::Display for Reason {
 
 /// The first record and field from which no transmission continues.
 #[derive(Clone, Copy, Debug, PartialEq, Eq)]
+#[non_exhaustive]
 pub struct Refusal {
     /// The record, from 1. It is the line of that number.
     pub record: u32,
@@ -277,6 +281,7 @@ pub fn check(text: &[u8], limits: &Limits) -> Result<Verdict, Error> {
 
 /// A rule that a record breaks. The verdict stays as it is.
 #[derive(Clone, Copy, Debug, PartialEq, Eq)]
+#[non_exhaustive]
 pub struct Finding {
     /// The record, from 1. It is the line of that number.
     pub record: u32,

@@ -1,6 +1,8 @@
 //! The crate over the samples and over changed texts, held against the program, which PROGRAM names (crates/cwr/out/cwr).
 
-use cwr::{Document, Error, Limits, Record, RecordBuf, Report, Verdict};
+#![deny(unreachable_patterns)]
+
+use cwr::{CellFault, Document, Error, LimitKind, Limits, Reason, Record, RecordBuf, Report, Type, Verdict, Why};
 use std::fs;
 use std::path::{Path, PathBuf};
 use std::process::Command;
@@ -67,7 +69,10 @@ fn records_are_written_as_they_were_read() {
                 let in_transactions: usize = document.transactions().map(|it| it.len()).sum();
                 let outside = document.records().filter(|it| ["HDR", "GRH", "GRT", "TRL"].contains(&&*it.kind())).count();
                 assert_eq!(in_transactions + outside, document.lines().len());
-                let Verdict::Good { groups, transactions, .. } = document.verdict() else { unreachable!() };
+                let (groups, transactions) = match document.verdict() {
+                    Verdict::Good { groups, transactions, .. } => (groups, transactions),
+                    other => panic!("{other}"),
+                };
                 assert_eq!(document.transactions().count() as u32, transactions);
                 assert!(document.transactions().all(|it| it.group() <= groups && it.number() <= transactions));
             }
@@ -112,7 +117,23 @@ fn a_transmission_from_nothing() {
     assert_eq!(found[1].share("mr share"), None);
     assert_eq!(found[1].number("record sequence"), Some(1));
     assert_eq!(found[1].text("nothing"), None);
-    assert_eq!(cwr::write([head.record(), work.record()], &Limits::NONE), Err(Error::Unwritten { line: 2, why: cwr::Why::OutOfOrder }));
+    assert_eq!(cwr::write([head.record(), work.record()], &Limits::NONE), Err(Error::Unwritten { line: 2, why: Why::OutOfOrder }));
+    assert_eq!(cwr::write([head.record()], &Limits::NONE).unwrap_err().to_string(), "the end of the records begins or ends what isn't whole");
+    let mut bad = writer.clone();
+    bad.set("pr share", "0330X").unwrap();
+    for (record, words) in [
+        (RecordBuf::blank("SWR").unwrap().record(), "record 4 carries no record, field 4 (interested party number): cell blank"),
+        (bad.record(), "record 4 carries no record, field 12 (pr share): cell not digits"),
+        (Record::of_line(b"XYZ"), "record 4 carries no record, field 1: unknown kind"),
+        (Record::of_line(b""), "record 4 carries no record, field 1: unknown kind"),
+    ] {
+        let written = cwr::write([head.record(), group.record(), work.record(), record], &Limits::NONE);
+        assert_eq!(written.unwrap_err().to_string(), words);
+    }
+    let mut other = RecordBuf::blank("REV").unwrap();
+    other.set("title", "B").unwrap().set("submitter work number", "2").unwrap().set("version type", "ORI").unwrap();
+    let records = [head.record(), group.record(), other.record(), writer.record(), work.record(), foot.record()];
+    assert_eq!(cwr::write(records, &Limits::NONE), Err(Error::Unwritten { line: 3, why: Why::WrongKind }));
     assert_eq!(RecordBuf::blank("XYZ"), Err(Error::NoSuchField));
     assert_eq!(work.set("title", &"x".repeat(61)).err(), Some(Error::TooWide));
     assert_eq!(work.set("title", "\u{2026}").err(), Some(Error::TooWide));
@@ -122,7 +143,8 @@ fn a_transmission_from_nothing() {
 fn layouts_and_limits() {
     assert_eq!(cwr::kinds().len(), 40);
     for kind in cwr::kinds() {
-        let fields = cwr::fields(&kind);
+        let fields = cwr::fields(kind);
+        assert!(std::ptr::eq(fields, cwr::fields(kind)), "read again");
         assert!(fields.windows(2).all(|it| it[0].start + it[0].width == it[1].start));
     }
     let group = cwr::fields("GRH");
@@ -132,6 +154,91 @@ fn layouts_and_limits() {
     assert_eq!(cwr::check(b"", &limits), Err(Error::Limits));
     assert_eq!(cwr::check(b"", &Limits::NONE), Ok(Verdict::Truncated { records: 0 }));
     assert!(cwr::from_json(b"{}\n", &Limits::NONE).unwrap_err().to_string().starts_with("REFUSED line 1"));
+}
+
+#[test]
+fn transactions_have_a_header_and_records_of_a_kind() {
+    for name in samples() {
+        let text = fs::read(&name).unwrap();
+        let document = Document::within(&text, &Limits::NONE).unwrap();
+        assert_eq!(document.header(), document.record(1));
+        for transaction in document.transactions() {
+            let records: Vec<Record> = transaction.clone().collect();
+            let mut walked = transaction.clone();
+            assert_eq!(walked.by_ref().count(), records.len());
+            for it in [&transaction, &walked] {
+                assert_eq!((it.group(), it.number()), (transaction.group(), transaction.number()));
+                assert_eq!(it.header(), records.first().copied());
+                for kind in cwr::kinds() {
+                    let of_kind: Vec<Record> = records.iter().filter(|it| it.kind() == *kind).copied().collect();
+                    assert_eq!(it.of_kind(kind), of_kind);
+                }
+            }
+        }
+    }
+}
+
+#[test]
+fn what_is_printed_is_small() {
+    let text = fs::read(top().join("samples/good/works.cwr")).unwrap();
+    let mut long = text.clone();
+    long.resize(20_000_000, b' ');
+    let document = Document::read(&long).unwrap();
+    let first = document.transactions().next().unwrap();
+    let printed = format!("{first:?}");
+    assert!(printed.starts_with("Transaction { group: 1, number: 1, records: [Record(\"NWR0000000000000000BLUE RIVER"), "{printed}");
+    assert!(printed.len() < 2000);
+    assert!(format!("{document:?} {:?}", document.transactions()).len() < 1000);
+    assert!(format!("{:?}", RecordBuf::blank("NWR").unwrap()).starts_with("RecordBuf(\"NWR   "));
+}
+
+#[test]
+fn any_field_may_be_asked_of_any_record() {
+    let mut field = cwr::fields("NWR")[3].clone();
+    for (start, width) in [(0, 0), (5, usize::MAX), (usize::MAX, usize::MAX), (usize::MAX, 1), (500, 3), (2, 1)] {
+        (field.start, field.width) = (start, width);
+        for line in ["", "NWR", "NWR0000000000000000"] {
+            let cell = Record::of_line(line.as_bytes()).cell(&field);
+            assert!(cell.len() <= line.len());
+        }
+    }
+}
+
+/// Further cases may come: a match over these has a last arm, and it can be reached.
+#[test]
+fn cases_may_come() {
+    let error = match Error::Memory {
+        Error::Memory | Error::Limits | Error::Interface | Error::NoSuchField | Error::TooWide => 0,
+        Error::Refused(_) | Error::Truncated { .. } | Error::Unwritten { .. } => 1,
+        _ => 2,
+    };
+    let why = match Why::OutOfOrder {
+        Why::NotARecord(_) | Why::OutOfOrder | Why::WrongKind | Why::Incomplete | Why::Limit(_) | Why::Json(_) => 0,
+        _ => 1,
+    };
+    let reason = match Reason::Excess {
+        Reason::UnknownKind | Reason::Misplaced | Reason::Cell(_) | Reason::Number { .. } | Reason::Limit(_) | Reason::Excess => 0,
+        _ => 1,
+    };
+    let limit = match LimitKind::Groups {
+        LimitKind::Records | LimitKind::Groups | LimitKind::Transaction => 0,
+        _ => 1,
+    };
+    let report = match Report::Check {
+        Report::Check | Report::Show | Report::Explain | Report::Json | Report::NumberedJson | Report::Lint | Report::ExplainedLint => 0,
+        _ => 1,
+    };
+    let fault = match CellFault::Blank {
+        CellFault::Blank | CellFault::Control | CellFault::NotDigits | CellFault::NotADate => 0,
+        CellFault::NotATime | CellFault::OverShare | CellFault::NotACode | CellFault::NotConstant => 1,
+        _ => 2,
+    };
+    let ty = match Type::Text {
+        Type::Text | Type::Required | Type::Digits | Type::OptionalDigits | Type::Date | Type::OptionalDate | Type::Time => 0,
+        Type::OptionalTime | Type::OptionalDuration | Type::Share | Type::Flag | Type::Code | Type::OptionalCode | Type::Constant => 1,
+        _ => 2,
+    };
+    assert_eq!([error, why, reason, limit, report, fault, ty], [0; 7]);
 }
 
 #[test]
