@@ -96,9 +96,6 @@ COMMANDS
        neither it nor the status. Several files are told as `cwr check` tells
        them. The rules are in docs/ADVICE.md of the repository.
 
-       --quiet
-              Prints only what isn't good, advice, and the sums.
-
        --repeated NUMBER
               Tells work numbers that stand in two works of a transmission,
               with the places of both. The numbers of its first NUMBER works
@@ -309,9 +306,12 @@ COMMANDS
 
        A record that is missing stays missing, one that stands twice stays
        twice, and where a header is missing its records go to the work before.
-       So where in FILE a record sequence goes back in mid-transaction, or a
-       transaction sequence isn't one more than that before, standard error
-       says so, with the line.
+       Some of that standard error tells, with the line: where in FILE a
+       record sequence comes again or goes back in mid-transaction, or a
+       transaction sequence isn't one more than that before (0 after 0 is
+       passed over). Of more than ten such lines the number follows. What it
+       doesn't tell may be lost all the same: `cwr lint` tells every number
+       that is wrong.
 
        -o OUT
               OUT, in the place of the second word.
@@ -567,7 +567,8 @@ EXIT STATUS
 
 FILES
        Where a file is replaced, by whatever command, a line on standard error
-       says so.
+       says so. What isn't a regular file, as a pipe or a device, is written
+       in place, and can't be taken back.
 
        PREFIX00000001
               The first part of a split. After a refusal or a fault the parts

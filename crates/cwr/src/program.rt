@@ -354,12 +354,7 @@ fn perform<'a, R: Files + AllocGlobal, I: Read + Drop, P: Pace, O: Write + Drop,
             let names = files.as_slice();
             return judge(rt, &asked, *explained, names, standard, pace, output, error);
         }
-        Work::Advise {
-            files,
-            quiet,
-            repeated,
-        } => {
-            asked.quiet = *quiet;
+        Work::Advise { files, repeated } => {
             asked.advised = true;
             asked.repeated = *repeated;
             let names = files.as_slice();

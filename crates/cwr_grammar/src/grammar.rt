@@ -366,7 +366,7 @@ const LINTED: [Word; 4] = [
 ];
 
 /// The words of advice.
-const ADVISED: [Word; 3] = [SILENT, REPEATS, MANY];
+const ADVISED: [Word; 2] = [REPEATS, MANY];
 
 /// The words of the export.
 const EXPORTED: [Word; 4] = [

@@ -61,7 +61,7 @@ fn report_to_file<'a, R: Files + AllocGlobal, I: Read + Drop, P: Pace + Drop, E:
     settle(rt, made, out, is_wanted, &mut *error)?;
     match judged {
         Ok(judgement) => {
-            tell_aside(error, telling, told.name, &judgement, &count);
+            tell_aside(error, telling, told.name, &judgement, &count, false);
             Ok(judgement.status)
         }
         Err(ToolFault::Reader) => Err(Fault::Read(told)),

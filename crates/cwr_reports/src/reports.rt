@@ -23,7 +23,7 @@ use cwr_files::{
 };
 use cwr_json::Encoding;
 use cwr_lint::lint;
-use cwr_shape::Limits;
+use cwr_shape::{Level, Limits, Reason};
 use cwr_tools::{
     FindingCount, ToolFault, Verdict, Watch, check_watched, json, put_verdict_line, show_watched,
 };
@@ -257,18 +257,31 @@ pub(crate) fn judge_input<'a, F: Read + Drop, I: Read + Drop, P: Pace + Drop, W:
     (writer, judged, told, count)
 }
 
+/// The level at which an input is rejected by this profile, if it is. A limit is the caller's own.
+pub(crate) fn rejected_level(verdict: &Verdict, count: &FindingCount) -> Option<Level> {
+    match verdict {
+        Verdict::Refused(refusal) if matches!(refusal.reason, Reason::Limit(_)) => count.worst,
+        _ => worst_level(verdict, count),
+    }
+}
+
 /// Tells on standard error what is not among the lines: what follows the transmission, what findings beside a good verdict mean, and the
-/// verdict beside data.
+/// verdict beside data. Quiet lines have no findings.
 pub(crate) fn tell_aside<E: Write>(
     error: &mut E,
     telling: Telling<'_>,
     name: Name<'_>,
     judgement: &Judgement,
     count: &FindingCount,
+    quiet: bool,
 ) {
     match telling {
-        // What follows stands in the explanation.
-        Telling::Explained(_) => {}
+        // What follows stands in the explanation, and so do findings.
+        Telling::Explained(_) => {
+            if let (true, Verdict::Good { .. }) = (quiet, judgement.verdict) {
+                tell_findings(error, name, count, judgement.status);
+            }
+        }
         Telling::Findings | Telling::Records => {
             tell_following(error, name, &judgement.look);
             if let Verdict::Good { .. } = judgement.verdict {
@@ -347,9 +360,16 @@ pub fn report_input<'a, F: Read + Drop, I: Read + Drop, P: Pace + Drop, O: Write
             if put.is_err() || lines.flush().is_err() {
                 return Err(Fault::Write(told_of(lines)));
             }
-            tell_aside(&mut *error, telling, told.name, &judgement, &count);
+            tell_aside(
+                &mut *error,
+                telling,
+                told.name,
+                &judgement,
+                &count,
+                asked.quiet,
+            );
             if let Telling::Explained(_) = telling {
-                tell_profile(&mut *error, worst_level(&judgement.verdict, &count));
+                tell_profile(&mut *error, rejected_level(&judgement.verdict, &count));
             }
             tell_cut(error, telling, told.name, &judgement.verdict);
             Ok(judgement.status)

@@ -2,13 +2,13 @@
 
 ghost use Rattle.std.specs.Prelude.{◌≡◌, ◌||◌, true, None};
 
-use crate::reports::{Asked, judge_input, put_unwanted, tell_aside, telling_of};
+use crate::reports::{Asked, judge_input, put_unwanted, rejected_level, tell_aside, telling_of};
 use cwr_devices::{Sink, Target};
 use cwr_files::{
     Fault, FileLines, Gathered, Name, Pace, gathered, open_input, shown_name, tell_fault, told_of,
 };
 use cwr_tools::ToolFault;
-use cwr_transform::{Status, Sums, tell_profile, worse_level, worst_level};
+use cwr_transform::{Status, Sums, tell_profile, worse_level};
 use std::alloc::Global;
 use std::io::{Read, Write};
 use std::rt::Files;
@@ -55,8 +55,8 @@ pub fn report_several<'a, R: Files, I: Read + Drop, P: Pace, O: Write + Drop, E:
                 if put.is_err() || lines.flush().is_err() {
                     return Err(Fault::Write(told_of(lines)));
                 }
-                tell_aside(error, telling, told.name, &judgement, &count);
-                worst = worse_level(worst, worst_level(&judgement.verdict, &count));
+                tell_aside(error, telling, told.name, &judgement, &count, asked.quiet);
+                worst = worse_level(worst, rejected_level(&judgement.verdict, &count));
             }
             Err(ToolFault::Writer { .. }) => {
                 return Err(Fault::Write(told_of(marked.into_inner())));

@@ -71,8 +71,6 @@ pub enum Work<'a> {
     Advise {
         /// The names of the transmissions' files; without one standard input is read.
         files: Vec<&'a str>,
-        /// Only what isn't good is printed, and advice.
-        quiet: bool,
         /// The numbers of so many works are kept, and those that stand twice are told.
         repeated: u32,
     },
@@ -294,7 +292,6 @@ fn advice_in<'a>(alloc: Global, given: &ArgMatches<'a>) -> Result<Option<Work<'a
     };
     Ok(Some(Work::Advise {
         files: names_in(alloc, given)?,
-        quiet: given.get_flag(QUIET),
         repeated,
     }))
 }

@@ -50,7 +50,7 @@ static ASKED: [(&[&str], &str, Numbers); 37] = [
     (&["cwr", "join", "out.cwr", "a.cwr"], "Join { out: \"out.cwr\", files: [\"a.cwr\"], only_new: false, fail_on: None, same_sender: false, repeated: 0 }", LARGEST),
     (&["cwr", "join", "out.cwr", "a.cwr", "b.cwr"], "Join { out: \"out.cwr\", files: [\"a.cwr\", \"b.cwr\"], only_new: false, fail_on: None, same_sender: false, repeated: 0 }", LARGEST),
     (&["cwr", "show", "--fail-on", "T", "a.cwr"], "Show { file: Some(\"a.cwr\"), fail_on: Some(T) }", LARGEST),
-    (&["cwr", "advise", "--quiet", "--repeated", "7", "a.cwr"], "Advise { files: [\"a.cwr\"], quiet: true, repeated: 7 }", LARGEST),
+    (&["cwr", "advise", "--repeated", "7", "a.cwr"], "Advise { files: [\"a.cwr\"], repeated: 7 }", LARGEST),
     (&["cwr", "split", "--fail-on=R", "-n", "1", "a.cwr", "-o", "part-", "--created", "20240131T235959"], "Split { transactions: 1, file: \"a.cwr\", prefix: \"part-\", created: Some(Moment { date: CivilDate { year: 2024, month: 1, day: 31 }, time: TimeOfDay { hour: 23, minute: 59, second: 59 } }), only_new: false, fail_on: Some(R) }", LARGEST),
     (&["cwr", "join", "-o", "out.cwr", "a.cwr"], "Join { out: \"out.cwr\", files: [\"a.cwr\"], only_new: false, fail_on: None, same_sender: false, repeated: 0 }", LARGEST),
     (&["cwr", "join", "a.cwr", "b.cwr", "-o", "out.cwr", "--new", "--same-sender", "--repeated", "9", "--fail-on", "T"], "Join { out: \"out.cwr\", files: [\"a.cwr\", \"b.cwr\"], only_new: true, fail_on: Some(T), same_sender: true, repeated: 9 }", LARGEST),

@@ -26,7 +26,7 @@ IsOfInput (Csv rows file out) = (is_standard (option_map (λ name. name.now) fil
 IsOfInput (Acks files sent as_json by_place state fail_on) =
     (are_standard (map (λ name. name.now) files.items) ≡ true) × (sent.items ≡ [])
 IsOfInput (Lint files quiet explained advised) = are_standard (map (λ name. name.now) files.items) ≡ true
-IsOfInput (Advise files quiet repeated) = are_standard (map (λ name. name.now) files.items) ≡ true
+IsOfInput (Advise files repeated) = are_standard (map (λ name. name.now) files.items) ≡ true
 IsOfInput work = ⊥
 
 -- what is wanted of the transmission: the options of a judgement say which findings end it
@@ -35,7 +35,7 @@ wanted_in whole (Check judging) = record { whole = whole; fail_on = judging.fail
 wanted_in whole (Explain judging) = record { whole = whole; fail_on = judging.fail_on }
 wanted_in whole (Show file fail_on) = record { whole = whole; fail_on = fail_on }
 wanted_in whole (Lint files quiet explained advised) = record { whole = whole; fail_on = None }
-wanted_in whole (Advise files quiet repeated) = record { whole = whole; fail_on = None }
+wanted_in whole (Advise files repeated) = record { whole = whole; fail_on = None }
 wanted_in whole work = record { whole = whole; fail_on = None }
 
 -- the status of a fault: what was to be written may not be, or what was to be read can't be, or a file, a device or memory failed

@@ -77,7 +77,7 @@ IsSplitOf found (Check judging) = ⊥
 IsSplitOf found (Show file fail_on) = ⊥
 IsSplitOf found (Explain judging) = ⊥
 IsSplitOf found (Lint files quiet explained advised) = ⊥
-IsSplitOf found (Advise files quiet repeated) = ⊥
+IsSplitOf found (Advise files repeated) = ⊥
 IsSplitOf found (Json file out numbers utf8) = ⊥
 IsSplitOf found (Csv rows file out) = ⊥
 IsSplitOf found (Acks files sent as_json by_place state fail_on) = ⊥
@@ -101,9 +101,8 @@ IsLintOf found work = ⊥
 
 -- advice on the transmissions of the files FILE, where the numbers of so many works are kept as that option says
 abbrev pub IsAdviceOf : Found → Work → Type 0
-IsAdviceOf found (Advise files quiet repeated) =
-    AreNamesOf found (map (λ name. name.now) files.items) × IsFlagOf found (codes "quiet") quiet
-    × ((text : List ℕ) → one_text found (codes "repeated") ≡ Some text
+IsAdviceOf found (Advise files repeated) =
+    AreNamesOf found (map (λ name. name.now) files.items) × ((text : List ℕ) → one_text found (codes "repeated") ≡ Some text
     → repeated ≡ digits_value 10 (without_leading_plus text))
 IsAdviceOf found work = ⊥
 
@@ -186,8 +185,8 @@ IsWorkOf name found (Show file fail_on) =
 IsWorkOf name found (Explain judging) = (bytes_eq name (codes "explain") ≡ true) × IsJudgingOf found judging
 IsWorkOf name found (Lint files quiet explained advised) =
     (bytes_eq name (codes "lint") ≡ true) × IsLintOf found (Lint files quiet explained advised)
-IsWorkOf name found (Advise files quiet repeated) =
-    (bytes_eq name (codes "advise") ≡ true) × IsAdviceOf found (Advise files quiet repeated)
+IsWorkOf name found (Advise files repeated) =
+    (bytes_eq name (codes "advise") ≡ true) × IsAdviceOf found (Advise files repeated)
 IsWorkOf name found (Json file out numbers utf8) =
     (bytes_eq name (codes "json") ≡ true) × IsExportOf found (Json file out numbers utf8)
 IsWorkOf name found (Csv rows file out) = (bytes_eq name (codes "csv") ≡ true) × IsTableOf found (Csv rows file out)
