@@ -15,13 +15,13 @@ use clap::error::ErrorKind;
 use cwr_acks::Form;
 use cwr_answers::{Answering, match_answers};
 use cwr_csv::Table;
+use cwr_endings::{Status, Wanted, refuse_out};
 use cwr_files::{DASH, Fault, Name, Pace, Progress, is_standard, open_input, print, tell_fault};
 use cwr_json::Encoding;
 use cwr_reports::{Asked, Telling, export, report_input, report_several, telling_of};
 use cwr_shape::Limits;
 use cwr_transform::{
-    Cut, Import, Repair, Status, Union, Wanted, import_file, import_input, join_files, refuse_out,
-    repair_numbers, split_file,
+    Cut, Import, Repair, Union, import_file, import_input, join_files, repair_numbers, split_file,
 };
 use cwr_words::{Rows, Task, Work, task_of};
 use std::convert::AsStr;

@@ -6,6 +6,9 @@ ghost use Rattle.cwr_sent.specs.Format.SentRows.{IsFresh};
 use cwr_acks::{Answers, Form, Manner, acks, put_rest};
 use cwr_delivery::Delivery;
 use cwr_devices::{Counted, ReadAhead, Sink, Target};
+use cwr_endings::{
+    Judgement, Status, Sums, Wanted, judgement_of, look_after, tell_following, tell_verdict,
+};
 use cwr_files::{
     Fault, FileLines, Input, Name, Pace, Told, gathered, is_standard, open_input, shown_name,
     tell_fault, told_of,
@@ -15,9 +18,6 @@ use cwr_shape::Limits;
 use cwr_state_rows::{RowFault, count_rows, put_rows, put_state_line};
 use cwr_states::States;
 use cwr_tools::{ToolFault, Verdict, put_verdict_line, verdict_of};
-use cwr_transform::{
-    Judgement, Status, Sums, Wanted, judgement_of, look_after, tell_following, tell_verdict,
-};
 use std::alloc::Global;
 use std::io;
 use std::io::{Read, Write};

@@ -4,9 +4,9 @@ ghost use Rattle.std.specs.Prelude.{◌≡◌, false, None};
 ghost use Rattle.cwr_reports.specs.Steps.Looks.{tells_findings};
 
 use crate::reports::{Asked, Telling, judge_input, tell_aside};
+use cwr_endings::{Judgement, Status, refuse_out, settle};
 use cwr_files::{DASH, Fault, Input, Name, Pace, create_output, gathered, open_input, told_of};
 use cwr_tools::{ToolFault, Verdict};
-use cwr_transform::{Judgement, Status, refuse_out, settle};
 use std::io::{Read, Write};
 use std::rt::Files;
 

@@ -17,6 +17,10 @@ use cwr_advise::advise;
 use cwr_causes::Trailing;
 use cwr_csv::{Table, csv};
 use cwr_devices::{ReadAhead, Sink, SinkFault, Source, Target};
+use cwr_endings::{
+    Judgement, Look, Status, Wanted, judgement_of, look_after, tell_findings, tell_following,
+    tell_profile, tell_verdict, worst_level,
+};
 use cwr_explain::explain;
 use cwr_files::{
     Fault, FileLines, Gathered, Input, Name, Pace, Told, gathered, shown_name, told_of,
@@ -26,10 +30,6 @@ use cwr_lint::lint;
 use cwr_shape::{Level, Limits, Reason};
 use cwr_tools::{
     FindingCount, ToolFault, Verdict, Watch, check_watched, json, put_verdict_line, show_watched,
-};
-use cwr_transform::{
-    Judgement, Look, Status, Wanted, judgement_of, look_after, tell_findings, tell_following,
-    tell_profile, tell_verdict, worst_level,
 };
 use std::alloc::Global;
 use std::io::{Read, Write};

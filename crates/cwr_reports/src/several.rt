@@ -4,11 +4,11 @@ ghost use Rattle.std.specs.Prelude.{◌≡◌, ◌||◌, true, None};
 
 use crate::reports::{Asked, judge_input, put_unwanted, rejected_level, tell_aside, telling_of};
 use cwr_devices::{Sink, Target};
+use cwr_endings::{Status, Sums, tell_profile, worse_level};
 use cwr_files::{
     Fault, FileLines, Gathered, Name, Pace, gathered, open_input, shown_name, tell_fault, told_of,
 };
 use cwr_tools::ToolFault;
-use cwr_transform::{Status, Sums, tell_profile, worse_level};
 use std::alloc::Global;
 use std::io::{Read, Write};
 use std::rt::Files;

@@ -1,5 +1,3 @@
--- The status of a run is right of its text.
-pub mod StatusesOnTexts
 -- A split ends as its text does.
 pub mod SplitsEnd
 -- An import ends as its text does.

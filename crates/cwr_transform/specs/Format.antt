@@ -1,5 +1,5 @@
 -- What is promised, in the words of the format.
-pub mod Endings
 pub mod Imports
 pub mod Joins
 pub mod Openings
+pub mod Splits

@@ -3,8 +3,8 @@
 ghost use Rattle.cwr_files.specs.Steps.Inputs.{remaining_of};
 ghost use Rattle.cwr_transform.specs.Format.Imports.{EndsAsFileImport, EndsAsImport, ImportEndsAs, JudgesImport};
 
-use crate::endings::{Status, settle};
 use cwr_devices::{Counted, ReadAhead, Sink};
+use cwr_endings::{Status, settle};
 use cwr_files::{Fault, Gathered, Input, Name, Pace, Told, create_output, gathered, told_of};
 use cwr_json::Encoding;
 use cwr_shape::Limits;

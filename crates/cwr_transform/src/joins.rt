@@ -1,16 +1,17 @@
 //! Transmissions that are joined to one.
 
 ghost use Rattle.std.specs.Prelude.{◌≡◌, ◌<◌, ◌&&◌, not, length, IfOk, IfSome};
+ghost use Rattle.cwr_endings.specs.Format.Endings.{IsUnwritten};
 ghost use Rattle.cwr_files.specs.Format.Faults.{IfErr};
-ghost use Rattle.cwr_transform.specs.Format.Joins.{EndsAfterJoin, EndsAsJoin, EndsJoined, IsRefusedOut, IsRefusedSender, IsUnjoined, IsUnread, IsUnwritten, is_wanted};
+ghost use Rattle.cwr_transform.specs.Format.Joins.{EndsAfterJoin, EndsAsJoin, EndsJoined, IsRefusedSender, IsUnjoined, IsUnread, is_wanted};
 
-use crate::endings::{Look, Status, Wanted, ended_by, follows, settle};
-use crate::finding_notes::{tell_findings, tell_unwritten};
 use crate::join_notes::{other_sender, tell_repeated, tell_senders, word_of};
 use crate::join_views::JoinView;
-use crate::looks::{look_beyond, tell_following};
-use crate::splits::hand_on;
 use cwr_devices::{ReadAhead, Sink, Source};
+use cwr_endings::{
+    Look, Status, Wanted, ended_by, follows, hand_on, look_beyond, refuse_out, settle,
+    tell_findings, tell_following, tell_unwritten,
+};
 use cwr_files::{
     Fault, Gathered, Input, Name, Pace, Paced, Told, Unwatched, create_output, gathered,
     identity_of, identity_of_input, is_standard, is_there, open_input, told_of,
@@ -64,27 +65,6 @@ fn open_inputs<'a, R: Files, I: Read + Drop>(
         }
     }
     Ok(readers)
-}
-
-/// Refuses to write to one of the inputs, or to a file that is there where only a new one may be made.
-pub fn refuse_out<'a, R: Files>(
-    rt: &R,
-    out: &'a str,
-    only_new: bool,
-    names: &[&'a str],
-) -> Result<(), Fault<'a>>
-    ensures { IfErr result (IsRefusedOut (Name.File out.entry) only_new) }
-{
-    let own = identity_of(rt, out);
-    for name in names {
-        if own.is_some() && identity_of_input(rt, name) == own {
-            return Err(Fault::IsInput(Name::File(out)));
-        }
-    }
-    if only_new && is_there(rt, out) {
-        return Err(Fault::IsThere(Name::File(out)));
-    }
-    Ok(())
 }
 
 /// What is known of the input of that number, from 1.

@@ -1,11 +1,10 @@
 //! A transmission whose numbers are put right.
 
-use crate::endings::{Look, Status, Wanted, ended_by, follows, settle, status_by};
-use crate::finding_notes::{tell_findings, tell_unwritten};
-use crate::joins::refuse_out;
-use crate::looks::{look_beyond, tell_following};
-use crate::splits::hand_on;
 use cwr_devices::{Counted, ReadAhead, Sink};
+use cwr_endings::{
+    Look, Status, Wanted, ended_by, follows, hand_on, look_beyond, refuse_out, settle, status_by,
+    tell_findings, tell_following, tell_unwritten,
+};
 use cwr_files::{
     DASH, Fault, Gathered, Input, Name, Pace, Told, create_output, gathered, open_input, told_of,
 };

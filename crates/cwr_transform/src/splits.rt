@@ -1,18 +1,19 @@
 //! Transmissions that are cut into files.
 
-ghost use Rattle.cwr_transform.specs.Format.Endings.{EndsAsSplit};
-ghost use Rattle.cwr_transform.specs.Format.Joins.{IsUnwritten};
+ghost use Rattle.cwr_transform.specs.Format.Splits.{EndsAsSplit};
+ghost use Rattle.cwr_endings.specs.Format.Endings.{IsUnwritten};
 ghost use Rattle.cwr_files.specs.Format.Faults.{IfErr};
 ghost use Rattle.cwr_files.specs.Steps.Inputs.{remaining_of};
-ghost use Rattle.cwr_transform.specs.Steps.Looks.{good_status};
+ghost use Rattle.cwr_endings.specs.Steps.Looks.{good_status};
 ghost use Rattle.cwr_tools.specs.Format.Watching.{CountsAccepted};
 ghost use Rattle.std.specs.Prelude.{OnOk};
 ghost use Rattle.cwr_transform.specs.Steps.Splits.{JudgesCut, SplitEndsAs};
 
-use crate::endings::{Look, Status, Wanted, ended_by, good_status, status_by};
-use crate::finding_notes::tell_findings;
-use crate::looks::{look_beyond, tell_following};
 use cwr_devices::{Outputs, ReadAhead, Sink, SinkFault, Source, Target};
+use cwr_endings::{
+    Look, Status, Wanted, ended_by, good_status, hand_on, look_beyond, status_by, tell_findings,
+    tell_following,
+};
 use cwr_files::{
     Fault, Gathered, Identity, Input, Name, NumberedFiles, Pace, Told, gathered, identity_of_input,
     part_number, part_that_is, told_of,
@@ -42,20 +43,6 @@ pub struct Cut<'a> {
     pub created: Option<Moment>,
     /// No part may replace a file.
     pub only_new: bool,
-}
-
-/// Hands on the lines that were put, where they could be.
-pub fn hand_on<'a, O: Write + Drop>(
-    put: Result<(), SinkFault>,
-    sink: Sink<Gathered<'a, O>>,
-) -> Result<(), Fault<'a>>
-    ensures { IfErr result IsUnwritten }
-{
-    let mut writer = sink.into_inner();
-    match (put, writer.flush()) {
-        (Ok(()), Ok(())) => Ok(()),
-        _ => Err(Fault::Write(told_of(writer))),
-    }
 }
 
 /// The number of the part that would be the input: by its name, or by what is in the prefix's folder.

@@ -6,10 +6,10 @@ use Rattle.cwr_words.specs.declared.words.Work.TheVariants.{Check, Show, Explain
 use Rattle.cwr_files.specs.declared.faults.Fault.{Fault}
 use Rattle.cwr_files.specs.declared.faults.Fault.TheVariants as faults
 use Rattle.cwr_files.specs.Format.Inputs.{are_standard, is_standard}
-use Rattle.cwr_transform.specs.declared.endings.Status.{Status}
-use Rattle.cwr_transform.specs.declared.endings.Status.TheVariants as statuses
-use Rattle.cwr_transform.specs.declared.endings.Wanted.{Wanted}
-use Rattle.cwr_transform.specs.Format.Endings.{IsStatusOn}
+use Rattle.cwr_endings.specs.declared.endings.Status.{Status}
+use Rattle.cwr_endings.specs.declared.endings.Status.TheVariants as statuses
+use Rattle.cwr_endings.specs.declared.endings.Wanted.{Wanted}
+use Rattle.cwr_endings.specs.Format.Endings.{IsStatusOn}
 
 -- the status that a run has on an input whose bytes are known: that of a fault where the input, standard output or memory failed
 abbrev pub StatusOnInput : Limits → Wanted → Option (List ℕ) → Status → Type 0

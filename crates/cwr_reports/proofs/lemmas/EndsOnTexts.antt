@@ -22,15 +22,15 @@ use Rattle.cwr_explain.specs.Format.Explained.{FindsAfter}
 use Rattle.cwr_files.specs.declared.faults.Told.{Told}
 use Rattle.cwr_files.specs.declared.faults.Fault.{Fault}
 use Rattle.cwr_files.specs.declared.faults.Fault.TheVariants as faults
-use Rattle.cwr_transform.specs.declared.endings.Look.{Look}
-use Rattle.cwr_transform.specs.declared.endings.Look.TheVariants as looks
-use Rattle.cwr_transform.specs.declared.endings.Status.{Status}
-use Rattle.cwr_transform.specs.declared.endings.Status.TheVariants as statuses
-use Rattle.cwr_transform.specs.declared.endings.Wanted.{Wanted}
-use Rattle.cwr_transform.specs.Format.Endings.{IsStatusOn}
-use Rattle.cwr_transform.specs.Steps.Looks.{CountsLook, IsLook, LooksOnce, follows, good_status, judged_with, judgement_in, status_after, status_in}
-use Rattle.cwr_transform.proofs.lemmas.StatusesOnTexts.{none_from, status_good}
-use Rattle.cwr_transform.specs.declared.judgements.Judgement.{Judgement}
+use Rattle.cwr_endings.specs.declared.endings.Look.{Look}
+use Rattle.cwr_endings.specs.declared.endings.Look.TheVariants as looks
+use Rattle.cwr_endings.specs.declared.endings.Status.{Status}
+use Rattle.cwr_endings.specs.declared.endings.Status.TheVariants as statuses
+use Rattle.cwr_endings.specs.declared.endings.Wanted.{Wanted}
+use Rattle.cwr_endings.specs.Format.Endings.{IsStatusOn}
+use Rattle.cwr_endings.specs.Steps.Looks.{CountsLook, IsLook, LooksOnce, follows, good_status, judged_with, judgement_in, status_after, status_in}
+use Rattle.cwr_endings.proofs.lemmas.StatusesOnTexts.{none_from, status_good}
+use Rattle.cwr_endings.specs.declared.judgements.Judgement.{Judgement}
 use Rattle.cwr_reports.specs.declared.reports.Telling.{Telling}
 use Rattle.cwr_reports.specs.Format.Endings.{EndsOnInput}
 use Rattle.cwr_reports.specs.Steps.Tellings.{CountsFindings, CountsInput, CountsReading, CountsWriting, TellsText, TellsUpTo}

@@ -3,9 +3,9 @@ use Rattle.std.specs.Prelude.{List, ℕ, Option, IfSome, Result, Ok, Err}
 use Rattle.cwr_shape.specs.declared.limits.Limits.{Limits}
 use Rattle.cwr_files.specs.declared.faults.Fault.{Fault}
 use Rattle.cwr_files.specs.declared.faults.Fault.TheVariants as faults
-use Rattle.cwr_transform.specs.declared.endings.Status.{Status}
-use Rattle.cwr_transform.specs.declared.endings.Wanted.{Wanted}
-use Rattle.cwr_transform.specs.Format.Endings.{IsStatusOn}
+use Rattle.cwr_endings.specs.declared.endings.Status.{Status}
+use Rattle.cwr_endings.specs.declared.endings.Wanted.{Wanted}
+use Rattle.cwr_endings.specs.Format.Endings.{IsStatusOn}
 
 -- the run has the status on the text, or an input, standard output or memory failed
 abbrev pub EndsOn : Limits → Wanted → List ℕ → Result Status Fault → Type 0

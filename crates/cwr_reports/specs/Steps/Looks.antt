@@ -6,12 +6,12 @@ use Rattle.cwr_judge.specs.Format.Ends.{IsAccepted}
 use Rattle.cwr_tools.specs.declared.verdicts.ToolFault.{ToolFault}
 use Rattle.cwr_tools.specs.declared.verdicts.ToolFault.TheVariants as tool_faults
 use Rattle.cwr_causes.specs.declared.trailing.Trailing.{Trailing}
-use Rattle.cwr_transform.specs.declared.endings.Look.{Look}
-use Rattle.cwr_transform.specs.declared.endings.Look.TheVariants as looks
-use Rattle.cwr_transform.specs.declared.endings.Wanted.{Wanted}
-use Rattle.cwr_transform.specs.Format.Endings.{IsStatusOn}
-use Rattle.cwr_transform.specs.Steps.Looks.{IsLook}
-use Rattle.cwr_transform.specs.declared.judgements.Judgement.{Judgement}
+use Rattle.cwr_endings.specs.declared.endings.Look.{Look}
+use Rattle.cwr_endings.specs.declared.endings.Look.TheVariants as looks
+use Rattle.cwr_endings.specs.declared.endings.Wanted.{Wanted}
+use Rattle.cwr_endings.specs.Format.Endings.{IsStatusOn}
+use Rattle.cwr_endings.specs.Steps.Looks.{IsLook}
+use Rattle.cwr_endings.specs.declared.judgements.Judgement.{Judgement}
 use Rattle.cwr_reports.specs.declared.reports.Telling.{Telling}
 use Rattle.cwr_reports.specs.declared.reports.Telling.TheVariants as tellings
 

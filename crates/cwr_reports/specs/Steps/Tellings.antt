@@ -18,9 +18,9 @@ use Rattle.cwr_csv.specs.Format.TableLines.{lines_of_table}
 use Rattle.cwr_explain.specs.Steps.Explained.{Explains}
 use Rattle.cwr_lint.specs.Format.Wanted.{wanting}
 use Rattle.cwr_lint.specs.Steps.Lints.{Lints, Tells}
-use Rattle.cwr_transform.specs.declared.endings.Look.{Look}
-use Rattle.cwr_transform.specs.Steps.Looks.{CountsLook}
-use Rattle.cwr_transform.specs.declared.judgements.Judgement.{Judgement}
+use Rattle.cwr_endings.specs.declared.endings.Look.{Look}
+use Rattle.cwr_endings.specs.Steps.Looks.{CountsLook}
+use Rattle.cwr_endings.specs.declared.judgements.Judgement.{Judgement}
 use Rattle.cwr_reports.specs.declared.reports.Telling.{Telling}
 use Rattle.cwr_reports.specs.declared.reports.Telling.TheVariants as tellings
 

@@ -10,12 +10,12 @@ use Rattle.cwr_files.specs.declared.faults.Fault.TheVariants as faults
 use Rattle.cwr_files.specs.declared.faults.Name.TheVariants.{File}
 use Rattle.cwr_files.specs.declared.faults.Told.{Told}
 use Rattle.cwr_files.specs.Format.Faults.{IsUnkept, IsUnmade, IsUnopened}
-use Rattle.cwr_transform.specs.declared.endings.Status.{Status}
-use Rattle.cwr_transform.specs.declared.endings.Status.TheVariants as statuses
+use Rattle.cwr_endings.specs.declared.endings.Status.{Status}
+use Rattle.cwr_endings.specs.declared.endings.Status.TheVariants as statuses
 use Rattle.cwr_transform.specs.declared.joins.Union.{Union}
-use Rattle.cwr_transform.specs.Format.Endings.{EndsAfterFault}
+use Rattle.cwr_endings.specs.Format.Endings.{EndsAfterFault, IsRefusedOut, IsUnwritten}
 use Rattle.cwr_transform.specs.Format.Joins.{EndsAfterJoin, EndsAsJoin, EndsFound, EndsJoined, EndsLooked, EndsUnseen, IsJoinFault}
-use Rattle.cwr_transform.specs.Format.Joins.{IsRefusedOut, IsRefusedSender, IsUnjoined, IsUnread, IsUnwritten}
+use Rattle.cwr_transform.specs.Format.Joins.{IsRefusedSender, IsUnjoined, IsUnread}
 
 -- ---- faults
 

@@ -11,16 +11,16 @@ use Rattle.cwr_tools.specs.declared.viewing.FindingView.{FindingView}
 use Rattle.cwr_tools.specs.Format.Viewing.{SeesText}
 use Rattle.cwr_tools.specs.Format.Watching.{AreFindingsIn, CountsAccepted, is_reached}
 use Rattle.cwr_parts.specs.Format.Splitting.{JudgesSplit}
-use Rattle.cwr_transform.specs.declared.endings.Look.{Look}
-use Rattle.cwr_transform.specs.declared.endings.Status.{Status}
-use Rattle.cwr_transform.specs.declared.endings.Status.TheVariants as statuses
-use Rattle.cwr_transform.specs.declared.endings.Wanted.{Wanted}
+use Rattle.cwr_endings.specs.declared.endings.Look.{Look}
+use Rattle.cwr_endings.specs.declared.endings.Status.{Status}
+use Rattle.cwr_endings.specs.declared.endings.Status.TheVariants as statuses
+use Rattle.cwr_endings.specs.declared.endings.Wanted.{Wanted}
 use Rattle.cwr_files.specs.declared.faults.Told.{Told}
 use Rattle.cwr_files.specs.declared.faults.Fault.{Fault}
-use Rattle.cwr_transform.specs.Format.Endings.{EndsAsSplit}
-use Rattle.cwr_transform.specs.Steps.Looks.{IsLook, good_status}
+use Rattle.cwr_transform.specs.Format.Splits.{EndsAsSplit}
+use Rattle.cwr_endings.specs.Steps.Looks.{IsLook, good_status}
 use Rattle.cwr_transform.specs.Steps.Splits.{JudgesCut, SplitEndsAs}
-use Rattle.cwr_transform.proofs.lemmas.StatusesOnTexts.{status_good}
+use Rattle.cwr_endings.proofs.lemmas.StatusesOnTexts.{status_good}
 
 -- what was split is looked after
 pub cut_judged : (limits : Limits) (before mid after : Option (List ℕ)) (report : SplitReport) (look : Look)

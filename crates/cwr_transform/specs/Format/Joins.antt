@@ -7,10 +7,10 @@ use Rattle.cwr_files.specs.declared.faults.Fault.TheVariants as faults
 use Rattle.cwr_files.specs.declared.faults.Name.{Name}
 use Rattle.cwr_files.specs.declared.faults.Name.TheVariants.{File}
 use Rattle.cwr_files.specs.declared.faults.Told.{Told}
-use Rattle.cwr_transform.specs.declared.endings.Status.{Status}
-use Rattle.cwr_transform.specs.declared.endings.Status.TheVariants as statuses
+use Rattle.cwr_endings.specs.declared.endings.Status.{Status}
+use Rattle.cwr_endings.specs.declared.endings.Status.TheVariants as statuses
 use Rattle.cwr_transform.specs.declared.joins.Union.{Union}
-use Rattle.cwr_transform.specs.Format.Endings.{EndsAfterFault}
+use Rattle.cwr_endings.specs.Format.Endings.{EndsAfterFault}
 
 -- ---- faults
 
@@ -19,17 +19,6 @@ abbrev pub IsUnread : Fault → Type 0
 IsUnread (faults.Open name reason) = Unit {0}
 IsUnread faults.Memory = Unit {0}
 IsUnread fault = ⊥
-
--- what is written to standard output wasn't taken
-abbrev pub IsUnwritten : Fault → Type 0
-IsUnwritten (faults.Write told) = Unit {0}
-IsUnwritten fault = ⊥
-
--- what was to be written is an input, or is there where only a new file may be made
-abbrev pub IsRefusedOut : Name → Bool → Fault → Type 0
-IsRefusedOut name only_new (faults.IsInput of) = of ≡ name
-IsRefusedOut name only_new (faults.IsThere of) = (of ≡ name) × (only_new ≡ true)
-IsRefusedOut name only_new fault = ⊥
 
 -- an input has another sender than the first where it may not, or there was no memory
 abbrev pub IsRefusedSender : Bool → Fault → Type 0

@@ -7,13 +7,13 @@ use Rattle.cwr_tools.specs.declared.verdicts.SplitReport.{SplitReport}
 use Rattle.cwr_tools.specs.declared.verdicts.ToolFault.{ToolFault}
 use Rattle.cwr_tools.specs.declared.verdicts.ToolFault.TheVariants.{Writer}
 use Rattle.cwr_parts.specs.Format.Splitting.{JudgesSplit}
-use Rattle.cwr_transform.specs.declared.endings.Look.{Look}
-use Rattle.cwr_transform.specs.declared.endings.Status.{Status}
+use Rattle.cwr_endings.specs.declared.endings.Look.{Look}
+use Rattle.cwr_endings.specs.declared.endings.Status.{Status}
 use Rattle.cwr_files.specs.declared.faults.Told.{Told}
 use Rattle.cwr_files.specs.declared.faults.Fault.{Fault}
 use Rattle.cwr_files.specs.declared.faults.Fault.TheVariants as faults
-use Rattle.cwr_transform.specs.Format.Endings.{EndsAfterFault}
-use Rattle.cwr_transform.specs.Steps.Looks.{IsLook}
+use Rattle.cwr_endings.specs.Format.Endings.{EndsAfterFault}
+use Rattle.cwr_endings.specs.Steps.Looks.{IsLook}
 
 -- all of an accepted transmission is split, and what stands after it is looked at; else the fault is right of the text
 abbrev pub JudgesCut : Limits → Option (List ℕ) → Result SplitReport ToolFault → Look → Type 0

@@ -3,7 +3,7 @@ use Rattle.std.specs.Prelude.{IfOk, Ok, OnOk}
 use Rattle.cwr_files.specs.Steps.Inputs.{remaining_of}
 use Rattle.cwr_reports.specs.Steps.Looks.{JudgesOn}
 use Rattle.cwr_reports.specs.Steps.Tellings.{CountsFindings, TellsText}
-use Rattle.cwr_transform.proofs.lemmas.StatusesOnTexts.{from_source}
+use Rattle.cwr_endings.proofs.lemmas.StatusesOnTexts.{from_source}
 use Rattle.cwr_reports.proofs.reports.judge_input.Goals as goal
 
 pub returns-clause-judges : goal.returns-clause-judges

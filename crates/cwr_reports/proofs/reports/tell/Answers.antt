@@ -6,7 +6,7 @@ use Rattle.cwr_tools.specs.Format.Reports.{lines_of_counted, lines_of_data, line
 use Rattle.cwr_acks.specs.Format.AckLines.{lines_of_acks}
 use Rattle.cwr_advise.specs.Format.AdviceLines.{lines_of_advice}
 use Rattle.cwr_csv.specs.Format.TableLines.{lines_of_table}
-use Rattle.cwr_transform.specs.declared.endings.Look.{Look}
+use Rattle.cwr_endings.specs.declared.endings.Look.{Look}
 use Rattle.cwr_reports.specs.Steps.Looks.{LooksAfter, tells_findings}
 use Rattle.cwr_reports.specs.Steps.Tellings.{CountsReading, telling_alone}
 use Rattle.cwr_reports.proofs.lemmas.EndsOnTexts.{counts_explained, counts_reading, looks_after, looks_found, looks_told, sees_nothing}

@@ -1,7 +1,7 @@
 use Rattle.std.proofs.Common.{List, ℕ, Option}
 use Rattle.cwr_files.specs.Steps.Inputs.{remaining_of}
 use Rattle.cwr_transform.specs.Format.Imports.{JudgesImport}
-use Rattle.cwr_transform.proofs.lemmas.StatusesOnTexts.{from_source}
+use Rattle.cwr_endings.proofs.lemmas.StatusesOnTexts.{from_source}
 use Rattle.cwr_transform.proofs.imports.import_from.Goals as goal
 
 pub returns : goal.returns

@@ -1,6 +1,6 @@
 use Rattle.std.specs.Prelude.{Ok, Err}
 use Rattle.cwr_parts.proofs.lemmas.ToldRuns.{told_judged}
-use Rattle.cwr_transform.specs.declared.endings.Look.TheVariants as looks
+use Rattle.cwr_endings.specs.declared.endings.Look.TheVariants as looks
 use Rattle.cwr_transform.proofs.lemmas.SplitsEnd.{cut_failed, cut_judged, findings_seen}
 use Rattle.cwr_transform.proofs.splits.cut_source.Goals as goal
 

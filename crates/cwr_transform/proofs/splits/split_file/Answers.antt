@@ -1,7 +1,7 @@
 use Rattle.std.proofs.Common.{List, ℕ, Option}
-use Rattle.cwr_transform.specs.Format.Endings.{EndsAsSplit}
+use Rattle.cwr_transform.specs.Format.Splits.{EndsAsSplit}
 use Rattle.cwr_files.specs.Steps.Inputs.{remaining_of}
-use Rattle.cwr_transform.proofs.lemmas.StatusesOnTexts.{from_source}
+use Rattle.cwr_endings.proofs.lemmas.StatusesOnTexts.{from_source}
 use Rattle.cwr_transform.proofs.lemmas.SplitsEnd.{split_ends}
 use Rattle.cwr_transform.proofs.splits.split_file.Goals as goal
 

@@ -92,7 +92,7 @@ pub fn tell_findings<E: Write>(
 }
 
 /// Tells the same of a transmission for which the file of that name wasn't written, since one finding is unwanted.
-pub(crate) fn tell_unwritten<E: Write>(error: &mut E, name: Name<'_>, count: &FindingCount) {
+pub fn tell_unwritten<E: Write>(error: &mut E, name: Name<'_>, count: &FindingCount) {
     if let Some(worst) = count.worst {
         let _ = put_count(error, name, count.findings, worst);
         let _ = writeln!(error, ", so it is not written");

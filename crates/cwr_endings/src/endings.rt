@@ -2,8 +2,8 @@
 
 ghost use Rattle.std.specs.Prelude.{◌≡◌, true};
 ghost use Rattle.cwr_files.specs.Format.Faults.{IfErr, IsUnkept};
-ghost use Rattle.cwr_transform.specs.Format.Endings.{EndsAfterFault};
-ghost use Rattle.cwr_transform.specs.Steps.Looks.{follows, good_status, status_in, whole_status};
+ghost use Rattle.cwr_endings.specs.Format.Endings.{EndsAfterFault};
+ghost use Rattle.cwr_endings.specs.Steps.Looks.{follows, good_status, status_in, whole_status};
 
 use cwr_causes::Trailing;
 use cwr_files::{Fault, Name, NewFile, Told};
@@ -65,7 +65,7 @@ fn status_after(whole: bool, look: Look) -> Option<Status>
 
 /// The status of a run on a transmission that is good, where `found` says whether a finding came that is unwanted. `None` where nothing
 /// may follow it, and the input failed there.
-pub(crate) fn good_status(wanted: Wanted, look: Look, found: bool) -> Option<Status>
+pub fn good_status(wanted: Wanted, look: Look, found: bool) -> Option<Status>
     ensures { result ≡ good_status wanted look found }
 {
     if found {
@@ -75,7 +75,7 @@ pub(crate) fn good_status(wanted: Wanted, look: Look, found: bool) -> Option<Sta
 }
 
 /// The status of a good transmission, where `found` says whether a finding came that is unwanted.
-pub(crate) fn status_by(found: bool) -> Status {
+pub fn status_by(found: bool) -> Status {
     if found { Status::Refused } else { Status::Good }
 }
 

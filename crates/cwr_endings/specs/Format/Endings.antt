@@ -8,12 +8,13 @@ use Rattle.cwr_judge.specs.Format.Items.{value_items}
 use Rattle.cwr_tools.specs.declared.verdicts.ToolFault.{ToolFault}
 use Rattle.cwr_tools.specs.declared.verdicts.ToolFault.TheVariants as tool_faults
 use Rattle.cwr_tools.specs.Format.Watching.{any_from}
-use Rattle.cwr_transform.specs.declared.endings.Status.{Status}
-use Rattle.cwr_transform.specs.declared.endings.Status.TheVariants as statuses
-use Rattle.cwr_transform.specs.declared.endings.Wanted.{Wanted}
+use Rattle.cwr_endings.specs.declared.endings.Status.{Status}
+use Rattle.cwr_endings.specs.declared.endings.Status.TheVariants as statuses
+use Rattle.cwr_endings.specs.declared.endings.Wanted.{Wanted}
 use Rattle.cwr_files.specs.declared.faults.Told.{Told}
 use Rattle.cwr_files.specs.declared.faults.Fault.{Fault}
 use Rattle.cwr_files.specs.declared.faults.Fault.TheVariants as faults
+use Rattle.cwr_files.specs.declared.faults.Name.{Name}
 
 -- A run without a fault ends well. An input that is refused or ends too early, and a limit that the result passes, end it
 -- otherwise, and the fault of a device or of memory is reported, with what is known of that device.
@@ -48,7 +49,15 @@ IsStatusOn limits wanted text statuses.Refused =
 IsStatusOn limits wanted text statuses.CommandLine = ⊥
 IsStatusOn limits wanted text statuses.Fault = ⊥
 
--- A split of the text ends so too, but that each of its files may fail.
-abbrev pub EndsAsSplit : Limits → Wanted → Option (List ℕ) → Result Status Fault → Type 0
-EndsAsSplit limits wanted input (Ok status) = IfSome input (λ text. IsStatusOn limits wanted text status)
-EndsAsSplit limits wanted input (Err fault) = Unit {0}
+-- ---- what a run writes
+
+-- what is written to standard output wasn't taken
+abbrev pub IsUnwritten : Fault → Type 0
+IsUnwritten (faults.Write told) = Unit {0}
+IsUnwritten fault = ⊥
+
+-- what was to be written is an input, or is there where only a new file may be made
+abbrev pub IsRefusedOut : Name → Bool → Fault → Type 0
+IsRefusedOut name only_new (faults.IsInput of) = of ≡ name
+IsRefusedOut name only_new (faults.IsThere of) = (of ≡ name) × (only_new ≡ true)
+IsRefusedOut name only_new fault = ⊥

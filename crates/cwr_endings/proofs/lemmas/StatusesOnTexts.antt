@@ -14,13 +14,13 @@ use Rattle.cwr_judge.specs.Format.Items.{value_items}
 use Rattle.cwr_tools.specs.Format.Watching.{any_from}
 use Rattle.cwr_causes.specs.declared.trailing.Trailing.{Trailing}
 use Rattle.cwr_causes.specs.Format.Trailing.{IsTrailing}
-use Rattle.cwr_transform.specs.declared.endings.Look.{Look}
-use Rattle.cwr_transform.specs.declared.endings.Look.TheVariants as looks
-use Rattle.cwr_transform.specs.declared.endings.Status.{Status}
-use Rattle.cwr_transform.specs.declared.endings.Status.TheVariants as statuses
-use Rattle.cwr_transform.specs.declared.endings.Wanted.{Wanted}
-use Rattle.cwr_transform.specs.Format.Endings.{IsStatusOn}
-use Rattle.cwr_transform.specs.Steps.Looks.{IsLook, follows, good_status, status_after}
+use Rattle.cwr_endings.specs.declared.endings.Look.{Look}
+use Rattle.cwr_endings.specs.declared.endings.Look.TheVariants as looks
+use Rattle.cwr_endings.specs.declared.endings.Status.{Status}
+use Rattle.cwr_endings.specs.declared.endings.Status.TheVariants as statuses
+use Rattle.cwr_endings.specs.declared.endings.Wanted.{Wanted}
+use Rattle.cwr_endings.specs.Format.Endings.{IsStatusOn}
+use Rattle.cwr_endings.specs.Steps.Looks.{IsLook, follows, good_status, status_after}
 
 -- ---- what stands after a transmission
 

@@ -1,7 +1,7 @@
 //! What is made of an input that is read: its verdict, what stands after it, and the status.
 
 ghost use Rattle.std.specs.Prelude.{◌≡◌, OnErr};
-ghost use Rattle.cwr_transform.specs.Steps.Looks.{CountsLook, LooksOnce, judgement_in};
+ghost use Rattle.cwr_endings.specs.Steps.Looks.{CountsLook, LooksOnce, judgement_in};
 
 use crate::endings::{Look, Status, Wanted, status_of};
 use crate::looks::{look_beyond, tell_following};

@@ -1,6 +1,6 @@
 //! What stands after a transmission, looked for and told.
 
-ghost use Rattle.cwr_transform.specs.Steps.Looks.{CountsLook, IsLook};
+ghost use Rattle.cwr_endings.specs.Steps.Looks.{CountsLook, IsLook};
 
 use crate::endings::{Look, follows};
 use cwr_causes::{Trailing, read_trailing};

@@ -1,0 +1,2 @@
+-- The status of a run is right of its text.
+pub mod StatusesOnTexts
