@@ -14,7 +14,7 @@ SYNOPSIS
 DESCRIPTION
        `cwr` reads CWR 2.1 transmissions, the fixed-width files in which music
        publishers and societies register works. It says whether a file is
-       good, names the first record and field from which none can go on, shows
+       good, names the first line and field from which none can go on, shows
        what a file has, and writes files whose numbers are right.
 
        Where FILE may be left out, standard input is read. So it is where `-`
@@ -582,6 +582,10 @@ FILES
               may leave it.
 
 EXAMPLES
+       The files of these examples are in `samples/` of the repository, and
+       with an installed program in `share/doc/cwr/samples`: `cp
+       samples/*/*.cwr .` copies them.
+
        Is a file good?
 
            $ cwr check works.cwr; echo $?
