@@ -58,8 +58,11 @@ COMMANDS
        stands, indented, where it is, what was found, what may stand there,
        and how much is rejected. Of a wrong number it says what that points
        to: a record that is missing or stands twice, or a count that wasn't
-       changed. Levels are those of this profile, and societies differ. Where
-       something is rejected, a line on standard error says that, once a run.
+       changed. Of a line that can't stand there it says by its numbers what
+       is missing before it, or that it was moved, and after which records it
+       may stand. Levels are those of this profile, and societies differ.
+       Where something is rejected, a line on standard error says that, once a
+       run.
 
        --quiet
               Prints only what isn't good, and the sums.

@@ -2,6 +2,8 @@
 pub mod ComingTexts
 pub mod Expected
 pub mod Lookings
+pub mod MisplacedTexts
+pub mod Misplacements
 pub mod NumbersAfter
 pub mod Openings
 pub mod Refusals

@@ -2,6 +2,7 @@
 pub mod Coming
 pub mod Laws
 pub mod LinesAtEnd
+pub mod Misplaced
 pub mod Refused
 pub mod Shifts
 pub mod Trailing

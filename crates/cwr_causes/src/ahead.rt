@@ -69,7 +69,7 @@ pub(crate) fn sequence_at(kind: Option<Kind>, field: u8, line: &[u8]) -> Option<
 }
 
 /// Whether a line of the kind, or of none, stands in no transaction.
-fn is_outside(kind: Option<Kind>) -> bool
+pub(crate) fn is_outside(kind: Option<Kind>) -> bool
     ensures { result ≡ is_outside kind }
 {
     matches!(

@@ -8,23 +8,28 @@ ghost use Rattle.cwr_causes.specs.Format.Refusals.{found_words, head_words, name
 ghost use Rattle.cwr_causes.specs.Format.Refusals.{range_words, range_of_file_words, refused_level_words, shown, where_words, without_return};
 ghost use Rattle.cwr_causes.specs.Format.Openings.{note_line, note_words, opening_words};
 ghost use Rattle.cwr_causes.specs.Format.Signs.{end_signs, first_signs, return_line, return_words, shift_signs, signs_words};
-ghost use Rattle.cwr_causes.specs.Format.Wanted.{cell_expected_words, end_expected_words, misplaced_words, number_expected_words, number_of_field};
-ghost use Rattle.cwr_causes.specs.Format.Wanted.{order_words, stands_twice};
+ghost use Rattle.cwr_causes.specs.Format.Misplacements.{belongs, numbers_before, numbers_in};
+ghost use Rattle.cwr_causes.specs.Format.Wanted.{cell_expected_words, end_expected_words, number_expected_words, number_of_field, stands_twice};
 ghost use Rattle.cwr_causes.specs.Steps.Coming.{words_at};
+ghost use Rattle.cwr_causes.specs.Steps.Misplaced.{misplaced_words, order_words, shown_by};
 ghost use Rattle.cwr_causes.specs.Steps.Refused.{ExplainsLine, expected_words, refused_line, wanted_words};
 
 use crate::ahead::Ahead;
 use crate::coming_words::add_coming;
 use crate::expected::{add_cell_type, letters_of};
 use crate::lines_at_end::{LineAtEnd, line_again};
+use crate::misplaced_words::{add_misplacement, add_mistyped};
+use crate::misplacements::{Misplacement, belongs, misplacement_of, numbers_before, numbers_of};
+use crate::next_symbols::closes_at;
 use crate::openings::opening_of;
-use crate::sequences::number_in;
+use crate::sequences::{number_in, numbers_in};
 use crate::shifts::add_shift;
 use crate::texts::{add_beginning, add_cell, add_label};
 use crate::truncated_words::add_cut_off;
 use crate::versions::add_version;
 use crate::wanted::{
     add_another_type, add_counted, add_end_of_line, add_fault, add_limit, add_rule_of, add_twice,
+    is_other_header,
 };
 use crate::wrong_numbers::WrongNumber;
 use cwr_decode::Refusal;
@@ -359,9 +364,28 @@ impl Refused<'_> {
         }
     }
 
+    /// What the line shows, where it is misplaced and of the kind, and the one before it.
+    fn shown_by_numbers(&self, stage: Option<Stage>, kind: Kind) -> Misplacement
+        ensures { result ≡ shown_by stage (refused_line self.now) kind }
+    {
+        let before = numbers_before(self.before);
+        let here = numbers_of(Some(kind), self.line.bytes);
+        misplacement_of(stage, kind, before, here, closes_at(stage))
+    }
+
+    /// Whether the numbers of the line are those that belong there.
+    fn belongs_here(&self, stage: Option<Stage>) -> bool
+        ensures { result ≡ belongs stage (numbers_before (refused_line self.now).before)
+            (numbers_in self.now.line.bytes.now) }
+    {
+        let before = numbers_before(self.before);
+        belongs(stage, before, numbers_in(self.line.bytes))
+    }
+
     /// Adds what a misplaced line of the kind points to.
     fn add_misplaced(
         &self,
+        alloc: Global,
         text: &mut String,
         stage: Option<Stage>,
         kind: Kind,
@@ -371,18 +395,27 @@ impl Refused<'_> {
     {
         if self.stands_twice() {
             add_twice(text)
-        } else {
+        } else if is_other_header(stage, kind) {
             add_another_type(text, stage, kind)
+        } else {
+            let shown = self.shown_by_numbers(stage, kind);
+            add_misplacement(alloc, text, stage, kind, self.line.offset, shown)
         }
     }
 
-    /// Adds what a misplaced line points to.
-    fn add_order(&self, text: &mut String, stage: Option<Stage>) -> Result<(), AllocError>
+    /// Adds what a line points to that is misplaced or names no record.
+    fn add_order(
+        &self,
+        alloc: Global,
+        text: &mut String,
+        stage: Option<Stage>,
+    ) -> Result<(), AllocError>
         ensures { OnOk result (string_bytes text.new ≡ string_bytes text.old
             ++ order_words stage (refused_line self.now) self.now.refusal.now.reason self.now.kind) }
     {
         match (self.refusal.reason, self.kind) {
-            (Reason::Misplaced, Some(kind)) => self.add_misplaced(text, stage, kind),
+            (Reason::Misplaced, Some(kind)) => self.add_misplaced(alloc, text, stage, kind),
+            (Reason::UnknownKind, _) => add_mistyped(text, self.belongs_here(stage)),
             _ => Ok(()),
         }
     }
@@ -452,7 +485,7 @@ impl Refused<'_> {
         self.add_points(text, cell)
     }
 
-    /// Adds what a misplaced line points to, and what may stand there.
+    /// Adds what a line points to that is misplaced or names no record, and what may stand there.
     #[tactic(auto, unfolding(crate::specs::Steps::Refused::wanted_words))]
     fn add_wanted(
         &self,
@@ -465,7 +498,7 @@ impl Refused<'_> {
         ensures { OnOk result (string_bytes text.new ≡ string_bytes text.old
             ++ wanted_words limits.now stage (refused_line self.now) (option_map (λ c. c.now) cell.entry)) }
     {
-        self.add_order(text, stage)?;
+        self.add_order(alloc, text, stage)?;
         self.add_expected(alloc, text, limits, stage, cell)
     }
 

@@ -14,7 +14,7 @@ use std::alloc::{AllocError, Global};
 use std::fmt::Write;
 
 /// Adds a symbol as an order of records names it.
-fn add_symbol(text: &mut String, symbol: Symbol) -> Result<(), AllocError>
+pub(crate) fn add_symbol(text: &mut String, symbol: Symbol) -> Result<(), AllocError>
     ensures { OnOk result (string_bytes text.new ≡ string_bytes text.old ++ symbol_words symbol) }
 {
     match symbol {

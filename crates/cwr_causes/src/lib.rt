@@ -9,6 +9,8 @@ mod coming_words;
 mod expected;
 pub mod laws;
 mod lines_at_end;
+mod misplaced_words;
+mod misplacements;
 mod next_symbols;
 mod openings;
 mod sequences;

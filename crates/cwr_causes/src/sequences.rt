@@ -1,6 +1,7 @@
 //! The sequences of a line and of the line before it.
 
 ghost use Rattle.std.specs.Prelude.{◌≡◌, IfSome, option_and_then, option_map};
+ghost use Rattle.cwr_causes.specs.Format.Misplacements.{numbers_in};
 ghost use Rattle.cwr_causes.specs.Format.Sequences.{HasSequence, capped_number, sequence_in, start_of_sequence};
 
 use cwr_fields::spells;
@@ -20,6 +21,15 @@ pub(crate) struct Sequences {
     pub before: Option<u64>,
     /// That of the line.
     pub here: Option<u64>,
+}
+
+/// The sequences of a record in a transaction.
+#[derive(Clone, Copy, Debug, PartialEq, Eq)]
+pub(crate) struct RecordNumbers {
+    /// That of its transaction.
+    pub transaction: u64,
+    /// Its own.
+    pub own: u64,
 }
 
 /// Where the sequence of that field stands in a line: the first byte, from 0.
@@ -74,4 +84,13 @@ pub(crate) fn sequences_of(line: &[u8], before: Option<&[u8]>, start: usize) -> 
         },
         None => Sequences { before: None, here },
     }
+}
+
+/// The sequences of a record in a transaction that stand in a line, where both do.
+pub(crate) fn numbers_in(line: &[u8]) -> Option<RecordNumbers>
+    ensures { result ≡ numbers_in line.now }
+{
+    let transaction = sequence_in(line, TRANSACTION_SEQUENCE)?;
+    let own = sequence_in(line, RECORD_SEQUENCE)?;
+    Some(RecordNumbers { transaction, own })
 }

@@ -1,7 +1,7 @@
 //! What is said of the bytes after a transmission.
 
 ghost use Rattle.std.specs.Prelude.{◌≡◌, ◌++◌, string_bytes, OnOk};
-ghost use Rattle.cwr_causes.specs.Format.TrailingTexts.{after_words, count_words, least_words, second_words, trailing_words};
+ghost use Rattle.cwr_causes.specs.Format.TrailingTexts.{after_words, count_words, least_words, second_line, second_of_many, second_words, trailing_words};
 
 use crate::texts::add_label;
 use crate::trailing::Trailing;
@@ -31,18 +31,40 @@ fn add_least(text: &mut String, is_all: bool) -> Result<(), AllocError>
     }
 }
 
-/// Adds that they begin as another transmission does, if they do.
-#[tactic(auto, unfolding(crate::specs::Format::TrailingTexts::second_words))]
-fn add_second(text: &mut String, begins: &[u8]) -> Result<(), AllocError>
-    ensures { OnOk result (string_bytes text.new ≡ string_bytes text.old ++ second_words begins.now) }
+/// Adds that so many bytes begin as another transmission does, and how both become one file.
+#[tactic(auto, unfolding(crate::specs::Format::TrailingTexts::second_line))]
+fn add_second_line(text: &mut String, count: u64) -> Result<(), AllocError>
+    ensures { OnOk result (string_bytes text.new ≡ string_bytes text.old ++ second_line count) }
 {
-    if begins != b"HDR".as_slice() {
-        return Ok(());
-    }
+    add_label(text, "note")?;
+    writeln!(
+        text,
+        "it begins with HDR, as a second transmission does: put the last {count} bytes into a file of their own, check both, and put them together: cwr join -o OUT --new A B"
+    )
+}
+
+/// Adds the same where it isn't known how many these are.
+#[tactic(auto, unfolding(crate::specs::Format::TrailingTexts::second_of_many))]
+fn add_second_of_many(text: &mut String) -> Result<(), AllocError>
+    ensures { OnOk result (string_bytes text.new ≡ string_bytes text.old ++ second_of_many) }
+{
     add_label(text, "note")?;
     text.push_str(
         "it begins with HDR, as a second transmission does: check that one in a file of its own\n",
     )
+}
+
+/// Adds the same, if they do.
+fn add_second(text: &mut String, found: &Trailing) -> Result<(), AllocError>
+    ensures { OnOk result (string_bytes text.new ≡ string_bytes text.old ++ second_words found.now) }
+{
+    if &found.begins[..] != b"HDR".as_slice() {
+        Ok(())
+    } else if found.is_all {
+        add_second_line(text, found.bytes)
+    } else {
+        add_second_of_many(text)
+    }
 }
 
 /// Adds how many bytes stand after a transmission, and that nobody judges them.
@@ -68,5 +90,5 @@ pub fn add_trailing(text: &mut String, name: &str, found: &Trailing) -> Result<(
         return Ok(());
     }
     add_after(text, name, found)?;
-    add_second(text, &found.begins[..])
+    add_second(text, found)
 }

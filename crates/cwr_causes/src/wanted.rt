@@ -6,7 +6,7 @@ ghost use Rattle.cwr_shape.specs.declared.symbols.Symbol.{Symbol};
 ghost use Rattle.cwr_shape.specs.Format.NextSymbols.{header_kind, is_header_of};
 ghost use Rattle.cwr_causes.specs.Format.Texts.{hex_words};
 ghost use Rattle.cwr_causes.specs.Format.Wanted.{another_type_line, another_type_words, control_line, control_place, control_words, counted_number};
-ghost use Rattle.cwr_causes.specs.Format.Wanted.{end_of_line_words, fault_words, is_of_another_type, last_byte_words, limit_words, may_be_copy};
+ghost use Rattle.cwr_causes.specs.Format.Wanted.{end_of_line_words, fault_words, is_of_another_type, is_other_header, last_byte_words, limit_words, may_be_copy};
 ghost use Rattle.cwr_causes.specs.Format.Wanted.{most_words, number_in_width, raised_words, rule_words, twice_words};
 
 use crate::expected::{letters_of, number_rule};
@@ -240,7 +240,17 @@ fn add_another_type_line(text: &mut String, found: &str, wanted: &str) -> Result
     )
 }
 
-/// Adds the same where the records before have come to that stage, if it is such a record.
+/// Whether it is such a record, where the records before have come to that stage.
+pub(crate) fn is_other_header(stage: Option<Stage>, kind: Kind) -> bool
+    ensures { result ≡ is_other_header stage kind }
+{
+    match stage {
+        Some(Stage::Within(ty, step)) => is_of_another_type(ty, step, kind),
+        _ => false,
+    }
+}
+
+/// Adds what it points to, if it is such a record.
 pub(crate) fn add_another_type(
     text: &mut String,
     stage: Option<Stage>,

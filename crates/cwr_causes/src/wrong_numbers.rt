@@ -1,9 +1,9 @@
 //! What a wrong number points to: records that are missing or stand twice, or a count that wasn't changed.
 
 ghost use Rattle.std.specs.Prelude.{◌≡◌, ◌++◌, ◌==◌, List, [], if◌then◌else◌, option_map, string_bytes, OnOk};
-ghost use Rattle.cwr_causes.specs.Format.WrongNumbers.{ahead_words, amount_words, beside_words, comparison_words, count_words, difference_words};
-ghost use Rattle.cwr_causes.specs.Format.WrongNumbers.{foot_words, going_on_words, in_order_words, is_header, is_same_line, meaning_words, missing_words};
-ghost use Rattle.cwr_causes.specs.Format.WrongNumbers.{naming, naming_of, neighbours_at, one_missing_words, place_words, points_words, reason_words, record_words, repeated_words, sequence_words};
+ghost use Rattle.cwr_causes.specs.Format.WrongNumbers.{ahead_words, amount_words, beside_words, comparison_words, count_words, counts_on, difference_words};
+ghost use Rattle.cwr_causes.specs.Format.WrongNumbers.{foot_words, going_on_words, in_order_words, is_header, is_same_line, may_be_cut, meaning_words, missing_words};
+ghost use Rattle.cwr_causes.specs.Format.WrongNumbers.{naming, naming_of, neighbours_at, one_missing_words, place_words, points_words, purpose_words, reason_words, record_words, repeated_words, sequence_words};
 ghost use Rattle.cwr_causes.specs.Format.WrongNumbers.{shifted_words, some_missing_words, stands_after, swapped_words, taken_out_words, trailer_words};
 ghost use Rattle.cwr_causes.specs.Format.WrongNumbers.{transaction_words, unless_seen, used_words, wrong_value};
 
@@ -321,6 +321,18 @@ fn add_count(
     add_difference(text, found, expected)
 }
 
+/// Whether the field of a record of the kind is a number that is too high where something was taken out before it.
+fn counts_on(kind: Kind, field: u8) -> bool
+    ensures { result ≡ counts_on kind field }
+{
+    match kind {
+        Kind::Grh | Kind::Trl => true,
+        Kind::Grt => field != 2,
+        _ if is_header(kind) => field == 2,
+        _ => field == 3,
+    }
+}
+
 /// Whether two lines are the same but for their sequences.
 fn is_same_line(line: &[u8], before: &[u8]) -> bool
     ensures { result ≡ is_same_line line.now before.now }
@@ -531,6 +543,26 @@ impl WrongNumber<'_> {
         }
     }
 
+    /// Whether something may have been taken out before the number: it is too high, and the one that belongs here doesn't stand after it.
+    fn may_be_cut(&self) -> bool
+        ensures { result ≡ may_be_cut (wrong_value self.now) }
+    {
+        self.found > self.expected
+            && counts_on(self.kind, self.field)
+            && !stands_after(self.ahead, self.expected)
+    }
+
+    /// Adds what helps where that was done on purpose.
+    fn add_purpose(&self, text: &mut String) -> Result<(), AllocError>
+        ensures { OnOk result (string_bytes text.new ≡ string_bytes text.old ++ purpose_words (wrong_value self.now)) }
+    {
+        if self.may_be_cut() {
+            text.push_str("; if you took it out on purpose: cwr renumber --new FILE OUT")
+        } else {
+            Ok(())
+        }
+    }
+
     /// Adds the line that says what the number points to.
     #[tactic(auto, unfolding(crate::specs::Format::WrongNumbers::points_words))]
     pub(crate) fn add(&self, text: &mut String) -> Result<(), AllocError>
@@ -538,6 +570,7 @@ impl WrongNumber<'_> {
     {
         add_label(text, "points to")?;
         self.add_meaning(text)?;
+        self.add_purpose(text)?;
         text.push('\n')
     }
 }

@@ -49,16 +49,24 @@ pub some_comes : {X E : Type 0} (stage : Stage) (s : Symbol) (result : Result X 
 some_comes stage s (Ok x) h = tt
 some_comes stage s (Err e) h = (s, h)
 
+-- one symbol more that passes a test, and one that doesn't
+pub one_kept : (test : Symbol → Bool) (found : List Symbol) (a : Symbol) (b : Bool) → b ≡ test a → b ≡ true
+    → found ++ a ∷ [] ≡ found ++ filter test (a ∷ [])
+one_kept test found a b exact is = ap (λ (x : Bool). found ++ cond x (a ∷ []) []) (sym is ∙ exact)
+
+pub one_left : (test : Symbol → Bool) (found : List Symbol) (a : Symbol) (b : Bool) → b ≡ test a → b ≡ false
+    → found ≡ found ++ filter test (a ∷ [])
+one_left test found a b exact is =
+    sym (append-nil found) ∙ ap (λ (x : Bool). found ++ cond x (a ∷ []) []) (sym is ∙ exact)
+
 -- one symbol more that may come, and one that may not
 pub one_comes : (stage : Stage) (found : List Symbol) (a : Symbol) (b : Bool) → b ≡ comes stage a → b ≡ true
     → found ++ a ∷ [] ≡ found ++ filter (comes stage) (a ∷ [])
-one_comes stage found a b exact is =
-    ap (λ (x : Bool). found ++ cond x (a ∷ []) []) (sym is ∙ exact)
+one_comes stage found a b exact is = one_kept (comes stage) found a b exact is
 
 pub one_stays : (stage : Stage) (found : List Symbol) (a : Symbol) (b : Bool) → b ≡ comes stage a → b ≡ false
     → found ≡ found ++ filter (comes stage) (a ∷ [])
-one_stays stage found a b exact is =
-    sym (append-nil found) ∙ ap (λ (x : Bool). found ++ cond x (a ∷ []) []) (sym is ∙ exact)
+one_stays stage found a b exact is = one_left (comes stage) found a b exact is
 
 -- what passes a test is kept
 kept : (test : Symbol → Bool) (s : Symbol) (symbols : List Symbol) → test s ≡ true → Contains symbols s

@@ -14,11 +14,23 @@ abbrev pub least_words : Bool → List ℕ
 least_words true = []
 least_words false = codes "at least "
 
--- that they begin as another transmission does, if they do
-unfoldable pub second_words : List ℕ → List ℕ
-second_words begins =
-    if bytes_eq begins (codes "HDR") then label_words (codes "note")
-    ++ codes "it begins with HDR, as a second transmission does: check that one in a file of its own\n" else []
+-- that so many bytes begin as another transmission does, and how both become one file
+unfoldable pub second_line : ℕ → List ℕ
+second_line count =
+    concat
+    (label_words (codes "note") ∷ codes "it begins with HDR, as a second transmission does: put the last " ∷ decimal count
+    ∷ codes " bytes into a file of their own, check both, and put them together: cwr join -o OUT --new A B\n" ∷ [])
+
+-- the same where it isn't known how many these are
+unfoldable pub second_of_many : List ℕ
+second_of_many =
+    label_words (codes "note")
+    ++ codes "it begins with HDR, as a second transmission does: check that one in a file of its own\n"
+
+-- the same, if they do
+abbrev pub second_words : Trailing → List ℕ
+second_words found =
+    if bytes_eq found.begins (codes "HDR") then (if found.is_all then second_line found.bytes else second_of_many) else []
 
 -- how many bytes stand after a transmission, and that nobody judges them
 unfoldable pub after_words : List ℕ → Trailing → List ℕ
@@ -30,4 +42,4 @@ after_words name found =
 -- the same, and how they begin, where there are some
 unfoldable pub trailing_words : List ℕ → Trailing → List ℕ
 trailing_words name found =
-    if found.bytes == 0 then [] else after_words name found ++ second_words found.begins
+    if found.bytes == 0 then [] else after_words name found ++ second_words found

@@ -15,8 +15,6 @@ use Rattle.cwr_fields.specs.Format.Layouts.{FieldLayout, line_width}
 use Rattle.cwr_shape.specs.declared.limits.LimitKind.{LimitKind}
 use Rattle.cwr_shape.specs.declared.limits.LimitKind.TheVariants as limit_kinds
 use Rattle.cwr_shape.specs.declared.limits.Limits.{Limits}
-use Rattle.cwr_shape.specs.declared.reasons.Reason.{Reason}
-use Rattle.cwr_shape.specs.declared.reasons.Reason.TheVariants as reasons
 use Rattle.cwr_shape.specs.declared.stages.Stage.{Stage}
 use Rattle.cwr_shape.specs.declared.stages.Stage.TheVariants.{Within}
 use Rattle.cwr_shape.specs.declared.stages.TransactionStep.{TransactionStep}
@@ -157,11 +155,7 @@ another_type_words (Some (Within ty step)) this_kind =
     if is_of_another_type ty step this_kind then another_type_line (letters this_kind) (letters (header_kind ty)) else []
 another_type_words stage this_kind = []
 
-abbrev pub misplaced_words : Option Stage → RefusedLine → Kind → List ℕ
-misplaced_words stage r this_kind =
-    if stands_twice r.before r.bytes then twice_words else another_type_words stage this_kind
-
--- what a misplaced line points to
-abbrev pub order_words : Option Stage → RefusedLine → Reason → Option Kind → List ℕ
-order_words stage r reasons.Misplaced (Some this_kind) = misplaced_words stage r this_kind
-order_words stage r reason this_kind = []
+-- where the records before have come to that stage, if it is known
+abbrev pub is_other_header : Option Stage → Kind → Bool
+is_other_header (Some (Within ty step)) this_kind = is_of_another_type ty step this_kind
+is_other_header stage this_kind = false

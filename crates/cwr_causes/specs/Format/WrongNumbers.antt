@@ -1,5 +1,5 @@
 -- What is said of a number that isn't the one that belongs there: what is missing or stands twice, or which count wasn't changed.
-use Rattle.std.specs.Prelude.{ℕ, ◌-◌, ◌==◌, ◌&&◌, nat_lt, min, Bool, true, false, List, [], ◌∷◌, ◌++◌, codes, decimal, length}
+use Rattle.std.specs.Prelude.{ℕ, ◌-◌, ◌==◌, ◌&&◌, not, nat_lt, min, Bool, true, false, List, [], ◌∷◌, ◌++◌, codes, decimal, length}
 use Rattle.std.specs.Prelude.{drop, take, Option, None, Some, if◌then◌else◌}
 use Rattle.std.specs.List.{concat}
 use Rattle.std.specs.Str.{bytes_eq}
@@ -285,6 +285,25 @@ meaning_words Grt wrong = foot_words wrong
 meaning_words Trl wrong = trailer_words wrong
 meaning_words this_kind wrong = sequence_words wrong
 
+-- ---- what helps where records were taken out on purpose
+
+-- the field is a number that is then higher than it should be
+abbrev pub counts_on : Kind → ℕ → Bool
+counts_on Grh field = true
+counts_on Grt field = not (field == 2)
+counts_on Trl field = true
+counts_on this_kind field = if is_header this_kind then field == 2 else field == 3
+
+-- something may have been taken out before it: the number is higher, and the one that belongs here doesn't stand after it
+abbrev pub may_be_cut : WrongValue → Bool
+may_be_cut wrong =
+    nat_lt wrong.expected wrong.found && (counts_on wrong.kind wrong.field && not (stands_after wrong.ahead wrong.expected))
+
+abbrev pub purpose_words : WrongValue → List ℕ
+purpose_words wrong =
+    if may_be_cut wrong then codes "; if you took it out on purpose: cwr renumber --new FILE OUT" else []
+
 -- the line that says what the number points to
 unfoldable pub points_words : WrongValue → List ℕ
-points_words wrong = concat (label_words (codes "points to") ∷ meaning_words wrong.kind wrong ∷ codes "\n" ∷ [])
+points_words wrong =
+    concat (label_words (codes "points to") ∷ meaning_words wrong.kind wrong ∷ purpose_words wrong ∷ codes "\n" ∷ [])

@@ -1,7 +1,8 @@
 -- Which symbols may come.
-use Rattle.std.specs.Prelude.{◌↔◌, ℕ, Bool, List, [], ◌∷◌, ◌++◌, Contains, Option, None, Some, is_some}
-use Rattle.std.specs.List.{filter, flat_map}
+use Rattle.std.specs.Prelude.{◌↔◌, ℕ, Bool, false, not, List, [], ◌∷◌, ◌++◌, Contains, Option, None, Some, is_some, map}
+use Rattle.std.specs.List.{filter, flat_map, list_any}
 use Rattle.cwr_fields.specs.declared.codes.Role.TheVariants as roles
+use Rattle.cwr_fields.specs.declared.codes.TransactionType.{TransactionType}
 use Rattle.cwr_fields.specs.declared.codes.TransactionType.TheVariants as types
 use Rattle.cwr_fields.specs.declared.kinds.Kind.{Kind}
 use Rattle.cwr_fields.specs.declared.kinds.Kind.TheVariants as kinds
@@ -9,11 +10,14 @@ use Rattle.cwr_fields.specs.Format.Kinds.{all_kinds}
 use Rattle.cwr_shape.specs.declared.symbols.Symbol.{Symbol}
 use Rattle.cwr_shape.specs.declared.symbols.Symbol.TheVariants.{Plain, Ipa, Grh}
 use Rattle.cwr_shape.specs.declared.stages.Stage.{Stage}
+use Rattle.cwr_shape.specs.declared.stages.Stage.TheVariants.{Within}
+use Rattle.cwr_shape.specs.declared.stages.TransactionStep.{TransactionStep}
+use Rattle.cwr_shape.specs.declared.stages.TransactionStep.TheVariants as steps
 use Rattle.cwr_shape.specs.Format.Outlines.{Continues}
 use Rattle.cwr_shape.specs.Format.AnyTransmission.{Any}
 use Rattle.cwr_shape.specs.Steps.Left.{StandsAt}
 use Rattle.cwr_shape.specs.Steps.NextStages.{next_stage}
-use Rattle.cwr_causes.specs.Format.ComingTexts.{coming_words}
+use Rattle.cwr_causes.specs.Format.ComingTexts.{coming_words, is_carried_symbol}
 
 -- after records that stand at the stage the symbol may come
 abbrev pub ComesAt : Stage → Symbol → Type 0
@@ -49,3 +53,60 @@ coming_at stage = filter (comes stage) all_symbols
 abbrev pub words_at : Option Stage → List ℕ
 words_at None = []
 words_at (Some stage) = coming_words (coming_at stage)
+
+-- ---- after which records a kind may stand
+
+-- the symbols that a record of the kind has once its cells are read
+abbrev pub symbols_of : Kind → List Symbol
+symbols_of kinds.Grh = Grh types.Agreement ∷ Grh types.NewWork ∷ Grh types.RevisedWork ∷ Grh types.Acknowledgement ∷ []
+symbols_of kinds.Ipa = Ipa roles.Assignor ∷ Ipa roles.Acquirer ∷ []
+symbols_of this_kind = Plain this_kind ∷ []
+
+-- a record of the kind may come at the stage
+abbrev pub kind_comes : Kind → Stage → Bool
+kind_comes this_kind stage = list_any (comes stage) (symbols_of this_kind)
+
+abbrev pub kind_comes_if : Kind → Option Stage → Bool
+kind_comes_if this_kind None = false
+kind_comes_if this_kind (Some stage) = kind_comes this_kind stage
+
+-- the symbol may come at the stage, and a record of the kind right after it
+abbrev pub lets : Kind → Symbol → Stage → Bool
+lets this_kind symbol stage = kind_comes_if this_kind (next_stage stage symbol)
+
+-- the symbols that aren't those of records carried as text, in the order of kinds
+unfoldable pub ordered_symbols : List Symbol
+ordered_symbols = flat_map symbols_of (filter (λ k. not (is_carried_symbol (Plain k))) all_kinds)
+
+-- the symbol may come at one of the stages, and a record of the kind right after it
+abbrev pub lets_one : List Stage → Kind → Symbol → Bool
+lets_one stages this_kind symbol = list_any (lets this_kind symbol) stages
+
+-- those of them that may
+unfoldable pub letting : List Stage → Kind → List Symbol
+letting stages this_kind = filter (lets_one stages this_kind) ordered_symbols
+
+-- each step of a group's transactions
+abbrev pub all_steps : List TransactionStep
+all_steps =
+    steps.InGroup ∷ steps.Acked ∷ steps.Agreed ∷ steps.Territories ∷ steps.OneSide roles.Assignor ∷ steps.OneSide roles.Acquirer
+    ∷ steps.Both ∷ steps.Work ∷ steps.Controlled ∷ steps.Other ∷ steps.Writer ∷ steps.OtherWriter ∷ steps.Tail ∷ []
+
+-- each stage in a group of the type
+abbrev pub stages_in : TransactionType → List Stage
+stages_in ty = map (Within ty) all_steps
+
+-- the symbols after which a line of the kind may stand at the stage, if that is known
+abbrev pub letting_at : Option Stage → Kind → List Symbol
+letting_at None this_kind = []
+letting_at (Some stage) this_kind = letting (stage ∷ []) this_kind
+
+-- the symbols after which it may stand in a group like the open one
+abbrev pub preceding_at : Option Stage → Kind → List Symbol
+preceding_at (Some (Within ty step)) this_kind = letting (stages_in ty) this_kind
+preceding_at stage this_kind = []
+
+-- GRT may come at the stage
+abbrev pub closes_at : Option Stage → Bool
+closes_at None = false
+closes_at (Some stage) = comes stage (Plain kinds.Grt)

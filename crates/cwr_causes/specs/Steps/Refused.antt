@@ -25,7 +25,8 @@ use Rattle.cwr_decode.specs.Steps.LastReads.{HoldsLast}
 use Rattle.cwr_causes.specs.declared.causes.Refused.{Refused}
 use Rattle.cwr_causes.specs.Format.Refusals.{RefusedLine, first_kind, head_words, refused_field, refused_level_words}
 use Rattle.cwr_causes.specs.Format.Signs.{signs_words}
-use Rattle.cwr_causes.specs.Format.Wanted.{cell_expected_words, end_expected_words, limit_words, number_expected_words, order_words}
+use Rattle.cwr_causes.specs.Format.Wanted.{cell_expected_words, end_expected_words, limit_words, number_expected_words}
+use Rattle.cwr_causes.specs.Steps.Misplaced.{order_words}
 
 abbrev pub refused_line : Refused → RefusedLine
 refused_line r =
@@ -62,12 +63,12 @@ expected_by limits stage r cell reasons.Excess f = end_expected_words r
 abbrev pub expected_words : Limits → Option Stage → RefusedLine → Option (List ℕ) → List ℕ
 expected_words limits stage r cell = expected_by limits stage r cell r.refusal.reason (refused_field r)
 
--- what a misplaced line points to, and what may stand there
+-- what a line points to that is misplaced or names no record, and what may stand there
 unfoldable pub wanted_words : Limits → Option Stage → RefusedLine → Option (List ℕ) → List ℕ
 wanted_words limits stage r cell = order_words stage r r.refusal.reason r.kind ++ expected_words limits stage r cell
 
 -- What is said of the refusal of the line, whose refused field holds that cell, where the records before have come to that stage:
--- where it is and what stands there, what a misplaced line points to, what may stand there, the level, and what else the line shows.
+-- where it is and what stands there, what it points to, what may stand there, the level, and what else the line shows.
 unfoldable pub refusal_words : Limits → Option Stage → RefusedLine → Option (List ℕ) → List ℕ
 refusal_words limits stage r cell =
     concat (head_words r cell ∷ wanted_words limits stage r cell ∷ refused_level_words r ∷ signs_words r ∷ [])
