@@ -1,6 +1,7 @@
 -- What is promised, in the words of the format.
 pub mod ComingTexts
 pub mod Expected
+pub mod LongLines
 pub mod Lookings
 pub mod MisplacedTexts
 pub mod Misplacements
@@ -15,4 +16,5 @@ pub mod Trailing
 pub mod TrailingTexts
 pub mod TruncatedTexts
 pub mod Wanted
+pub mod WrappedLines
 pub mod WrongNumbers

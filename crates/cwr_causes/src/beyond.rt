@@ -6,7 +6,7 @@ ghost use Rattle.cwr_causes.specs.Format.Lookings.{LooksAfterLine, asks_numbers,
 ghost use Rattle.cwr_causes.specs.Format.NumbersAfter.{FindsAfterLine, followed_at};
 ghost use Rattle.cwr_causes.specs.Format.Refusals.{first_kind};
 ghost use Rattle.cwr_causes.specs.Format.Trailing.{CountsRead, TakesMore};
-ghost use Rattle.cwr_causes.specs.Steps.Refused.{ExplainsLine, ExplainsRefusal, ahead_in, fault_line, goes_on};
+ghost use Rattle.cwr_causes.specs.Steps.Refused.{ExplainsLine, ExplainsRefusal, IsLineBefore, ahead_in, fault_line, goes_on};
 ghost use Rattle.cwr_causes.specs.Steps.Trailing.{found_in};
 
 use crate::ahead::{Ahead, Sequence, look_ahead, sequence_at};
@@ -14,7 +14,7 @@ use crate::causes::Refused;
 use crate::lines_at_end::{LineAtEnd, line_at_end, line_before};
 use crate::trailing::Trailing;
 use crate::truncated_words::kind_of;
-use cwr_decode::{LastRead, Refusal};
+use cwr_decode::{LastBytes, LastRead, Refusal};
 use cwr_devices::{DeviceFault, Source};
 use cwr_lines::LONGEST_LINE;
 use cwr_shape::{Limits, Reason, Stage};
@@ -121,6 +121,13 @@ pub fn look_after_line<R: Source>(
         Some((sequence, number)) => Ok(Beyond::Numbers(look_ahead(reader, sequence, number)?)),
         None => Ok(Beyond::Unasked),
     }
+}
+
+/// The line before the one with which the bytes end that were read, where all of it is still held.
+pub fn before_last(last: &LastBytes) -> Option<&[u8]>
+    ensures { IsLineBefore last.now (option_map (λ b. b.now) result) }
+{
+    line_before(last)
 }
 
 /// The lines that explain a refusal.

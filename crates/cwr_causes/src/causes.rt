@@ -2,14 +2,14 @@
 
 ghost use Rattle.std.specs.Prelude.{◌≡◌, ◌≤◌, ◌<◌, ◌==◌, ◌++◌, not, true, codes, position, length, option_map, string_bytes, Some, IfSome, OnOk};
 ghost use Rattle.cwr_fields.specs.Steps.Views.{field_view};
-ghost use Rattle.cwr_lines.specs.Format.Lines.{without_cr};
 ghost use Rattle.cwr_causes.specs.Format.Refusals.{byte_of_file_words, content_words, end_byte_words, end_of_fields, excess_at, field_name, field_words};
 ghost use Rattle.cwr_causes.specs.Format.Refusals.{found_words, head_words, named_field, number_points_words, place_words, range_beyond_words, refused_field};
 ghost use Rattle.cwr_causes.specs.Format.Refusals.{range_words, range_of_file_words, refused_level_words, shown, where_words, without_return};
 ghost use Rattle.cwr_causes.specs.Format.Openings.{note_line, note_words, opening_words};
-ghost use Rattle.cwr_causes.specs.Format.Signs.{end_signs, first_signs, return_line, return_words, shift_signs, signs_words};
+ghost use Rattle.cwr_causes.specs.Format.Signs.{end_signs, first_signs, return_line, return_words, shift_signs, signs_words, whole_line_signs};
 ghost use Rattle.cwr_causes.specs.Format.Misplacements.{belongs, numbers_before, numbers_in};
 ghost use Rattle.cwr_causes.specs.Format.Wanted.{cell_expected_words, end_expected_words, number_expected_words, number_of_field, stands_twice};
+ghost use Rattle.cwr_causes.specs.Format.WrappedLines.{broken_words};
 ghost use Rattle.cwr_causes.specs.Steps.Coming.{words_at};
 ghost use Rattle.cwr_causes.specs.Steps.Misplaced.{misplaced_words, order_words, shown_by};
 ghost use Rattle.cwr_causes.specs.Steps.Refused.{ExplainsLine, expected_words, refused_line, wanted_words};
@@ -18,6 +18,7 @@ use crate::ahead::Ahead;
 use crate::coming_words::add_coming;
 use crate::expected::{add_cell_type, letters_of};
 use crate::lines_at_end::{LineAtEnd, line_again};
+use crate::long_lines::add_long_id;
 use crate::misplaced_words::{add_misplacement, add_mistyped};
 use crate::misplacements::{Misplacement, belongs, misplacement_of, numbers_before, numbers_of};
 use crate::next_symbols::closes_at;
@@ -31,6 +32,7 @@ use crate::wanted::{
     add_another_type, add_counted, add_end_of_line, add_fault, add_limit, add_rule_of, add_twice,
     is_other_header,
 };
+use crate::wrapped_lines::{add_broken_before, add_broken_here, without_cr};
 use crate::wrong_numbers::WrongNumber;
 use cwr_decode::Refusal;
 use cwr_fields::{CellFault, Field, Kind, field, width};
@@ -59,17 +61,6 @@ pub(crate) struct Refused<'a> {
     pub ahead: Option<Ahead>,
     /// Whether the fault is the first that is explained of the line.
     pub is_first: bool,
-}
-
-/// The line without a carriage return at its end.
-fn without_cr(line: &[u8]) -> &[u8]
-    ensures { result.now ≡ without_cr line.now }
-{
-    if line.ends_with(b"\r") {
-        &line[..line.len() - 1]
-    } else {
-        line
-    }
 }
 
 /// The first byte that isn't a space, from 0.
@@ -502,26 +493,53 @@ impl Refused<'_> {
         self.add_expected(alloc, text, limits, stage, cell)
     }
 
-    /// Adds why the cells may stand elsewhere, where that is said with this fault.
+    /// Adds that the line, or the one before it, may have been broken.
+    fn add_broken(&self, text: &mut String) -> Result<(), AllocError>
+        ensures { OnOk result (string_bytes text.new ≡ string_bytes text.old
+            ++ broken_words (refused_line self.now)) }
+    {
+        match self.refusal.reason {
+            Reason::UnknownKind => add_broken_before(text, self.before),
+            _ => add_broken_here(
+                text,
+                self.line.ended,
+                self.refused_field(),
+                self.without_return(),
+            ),
+        }
+    }
+
+    /// Adds why the cells may stand elsewhere, and that the line may have been broken.
+    #[tactic(auto, unfolding(crate::specs::Format::Signs::whole_line_signs))]
+    fn add_whole_line(&self, text: &mut String) -> Result<(), AllocError>
+        ensures { OnOk result (string_bytes text.new ≡ string_bytes text.old
+            ++ whole_line_signs (refused_line self.now)) }
+    {
+        add_shift(text, self.kind, self.refusal.field, self.without_return())?;
+        self.add_broken(text)
+    }
+
+    /// Adds both, where they are said with this fault.
     fn add_first(&self, text: &mut String) -> Result<(), AllocError>
         ensures { OnOk result (string_bytes text.new ≡ string_bytes text.old
             ++ shift_signs (refused_line self.now)) }
     {
         if self.is_first && !self.is_too_long {
-            add_shift(text, self.kind, self.refusal.field, self.without_return())
+            self.add_whole_line(text)
         } else {
             Ok(())
         }
     }
 
-    /// Adds what its first bytes, and the version that it names, show.
+    /// Adds what its first bytes, the version that it names and a long sender id show.
     #[tactic(auto, unfolding(crate::specs::Format::Signs::first_signs))]
     fn add_notes(&self, text: &mut String) -> Result<(), AllocError>
         ensures { OnOk result (string_bytes text.new ≡ string_bytes text.old
             ++ first_signs (refused_line self.now)) }
     {
         self.add_opening(text)?;
-        add_version(text, self.kind, self.line.bytes)
+        add_version(text, self.kind, self.line.bytes)?;
+        add_long_id(text, self.kind, self.line.bytes)
     }
 
     /// Adds what else the line shows.
@@ -586,7 +604,7 @@ fn add_note(text: &mut String, words: &str) -> Result<(), AllocError>
 }
 
 /// Adds a note, if there is one.
-fn add_note_if(text: &mut String, words: Option<&'static str>) -> Result<(), AllocError>
+pub(crate) fn add_note_if(text: &mut String, words: Option<&'static str>) -> Result<(), AllocError>
     ensures { OnOk result (string_bytes text.new ≡ string_bytes text.old
         ++ note_words (option_map (λ w. w.now) words.entry)) }
 {

@@ -1,8 +1,12 @@
 //! What a line that names no record looks like.
 
 ghost use Rattle.std.specs.Prelude.{◌≡◌, option_map};
-ghost use Rattle.cwr_causes.specs.Format.Openings.{is_empty_line, is_lower_case, is_utf16, opening_of, opening_said};
+ghost use Rattle.std.specs.Char.{is_ascii_lowercase};
+ghost use Rattle.std.specs.List.{list_all, list_any};
+ghost use Rattle.cwr_causes.specs.Format.Openings.{begins_blank, is_base64, is_base64_byte, is_blank, is_empty_line, is_indented, is_lower_case, is_mail_head};
+ghost use Rattle.cwr_causes.specs.Format.Openings.{is_of_societies, is_utf16, opening_of, opening_said, text_opening, without_blanks};
 
+use crate::truncated_words::kind_of;
 use cwr_fields::Kind;
 
 /// What a line that names no record looks like.
@@ -20,6 +24,24 @@ pub(crate) enum Opening {
     Zip,
     /// Its letters would name a record if they were capital.
     LowerCase,
+    /// It begins as a PDF file.
+    Pdf,
+    /// It begins as a text of a word processor.
+    Rtf,
+    /// It begins as HTML or XML.
+    Markup,
+    /// It begins with the mark of a quoted line.
+    Quoted,
+    /// It begins with a double quote.
+    InQuotes,
+    /// Its letters stand behind blanks.
+    Indented,
+    /// It begins as the head of a mail.
+    MailHead,
+    /// It begins as a transaction that societies send.
+    OfSocieties,
+    /// It has bytes of base64 alone.
+    Base64,
     /// Nothing of these.
     Other,
 }
@@ -67,6 +89,118 @@ fn is_lower_case(bytes: &[u8]) -> bool
     }
 }
 
+/// Whether the byte is a space, a tab or one of a non-breaking space.
+fn is_blank(byte: u8) -> bool
+    ensures { result ≡ is_blank byte }
+{
+    byte == b' ' || byte == b'\t' || byte == 160 || byte == 194
+}
+
+/// The text without blanks at its begin.
+fn without_blanks(text: &[u8]) -> &[u8]
+    ensures { result.now ≡ without_blanks text.now }
+{
+    let mut rest = text;
+    while let [first, behind @ ..] = rest {
+        if !is_blank(*first) {
+            break;
+        }
+        rest = behind;
+    }
+    rest
+}
+
+/// Whether it begins with a blank.
+fn begins_blank(bytes: &[u8]) -> bool
+    ensures { result ≡ begins_blank bytes.now }
+{
+    match bytes {
+        [first, ..] => is_blank(*first),
+        [] => false,
+    }
+}
+
+/// Whether its letters name a record behind blanks.
+fn is_indented(bytes: &[u8]) -> bool
+    ensures { result ≡ is_indented bytes.now }
+{
+    begins_blank(bytes) && kind_of(without_blanks(bytes)).is_some()
+}
+
+/// Whether it begins as the head of a mail does.
+fn is_mail_head(bytes: &[u8]) -> bool
+    ensures { result ≡ is_mail_head bytes.now }
+{
+    bytes.starts_with(b"From")
+        || bytes.starts_with(b"Received:")
+        || bytes.starts_with(b"Return-Path:")
+        || bytes.starts_with(b"Delivered-To:")
+        || bytes.starts_with(b"MIME-Version:")
+        || bytes.starts_with(b"Subject:")
+        || bytes.starts_with(b"Date:")
+        || bytes.starts_with(b"Content-Type:")
+}
+
+/// Whether the byte is one of base64, or a carriage return.
+fn is_base64_byte(byte: u8) -> bool
+    ensures { result ≡ is_base64_byte byte }
+{
+    byte.is_ascii_alphanumeric() || byte == b'+' || byte == b'/' || byte == b'=' || byte == b'\r'
+}
+
+/// Whether each byte is.
+fn are_base64_bytes(bytes: &[u8]) -> bool
+    ensures { result ≡ list_all is_base64_byte bytes.now }
+{
+    bytes.iter().all(|byte| is_base64_byte(*byte))
+}
+
+/// Whether one is a small letter.
+fn has_small_letter(bytes: &[u8]) -> bool
+    ensures { result ≡ list_any is_ascii_lowercase bytes.now }
+{
+    bytes.iter().any(|byte| byte.is_ascii_lowercase())
+}
+
+/// Whether it has at least 60 bytes, all of them of base64, and one is a small letter.
+fn is_base64(bytes: &[u8]) -> bool
+    ensures { result ≡ is_base64 bytes.now }
+{
+    bytes.len() >= 60 && are_base64_bytes(bytes) && has_small_letter(bytes)
+}
+
+/// Whether it begins as a transaction that societies send.
+fn is_of_societies(bytes: &[u8]) -> bool
+    ensures { result ≡ is_of_societies bytes.now }
+{
+    bytes.starts_with(b"ISW") || bytes.starts_with(b"EXC")
+}
+
+/// What a line looks like that isn't packed, and no record in small letters.
+fn text_opening(bytes: &[u8]) -> Opening
+    ensures { result ≡ text_opening bytes.now }
+{
+    if bytes.starts_with(b"%PDF") {
+        Opening::Pdf
+    } else if bytes.starts_with(b"{\\rtf") {
+        Opening::Rtf
+    } else if bytes.starts_with(b"<") {
+        Opening::Markup
+    } else if bytes.starts_with(b">") {
+        Opening::Quoted
+    } else if bytes.starts_with(b"\"") {
+        Opening::InQuotes
+    } else if is_indented(bytes) {
+        Opening::Indented
+    } else if is_of_societies(bytes) {
+        Opening::OfSocieties
+    } else if is_base64(bytes) {
+        Opening::Base64
+    } else {
+        Opening::Other
+    }
+}
+
 /// What the line looks like.
 pub(crate) fn opening_of(bytes: &[u8]) -> Opening
     ensures { result ≡ opening_of bytes.now }
@@ -81,10 +215,12 @@ pub(crate) fn opening_of(bytes: &[u8]) -> Opening
         Opening::Zip
     } else if is_utf16(bytes) {
         Opening::Utf16
+    } else if is_mail_head(bytes) {
+        Opening::MailHead
     } else if is_lower_case(bytes) {
         Opening::LowerCase
     } else {
-        Opening::Other
+        text_opening(bytes)
     }
 }
 
@@ -104,6 +240,27 @@ impl Opening {
             Opening::Gzip => Some("this is a gzip file: unpack it"),
             Opening::Zip => Some("this is a zip file: unpack it"),
             Opening::LowerCase => Some("record types are in capital letters"),
+            Opening::Pdf => Some("this is a PDF file: the transmission itself is wanted"),
+            Opening::Rtf => Some("this is a text of a word processor (RTF): save it as plain text"),
+            Opening::Markup => Some(
+                "this looks like HTML or XML: the transmission itself is wanted",
+            ),
+            Opening::Quoted => Some(
+                "the line begins with >, as mail programs quote: remove that from each line, or take the attachment",
+            ),
+            Opening::InQuotes => Some(
+                "the line begins with a double quote, as a spreadsheet writes cells: take the file as it was before that",
+            ),
+            Opening::Indented => Some(
+                "blanks stand before the record type: remove them from each line",
+            ),
+            Opening::MailHead => Some("this looks like the head of a mail: save the attachment"),
+            Opening::OfSocieties => Some(
+                "ISW and EXC are transactions that societies send: this program takes none of them",
+            ),
+            Opening::Base64 => Some(
+                "this looks like base64, in which mails carry files: unpack it",
+            ),
             Opening::Other => None,
         }
     }

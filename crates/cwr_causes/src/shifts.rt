@@ -10,6 +10,7 @@ ghost use Rattle.cwr_causes.specs.Format.Shifts.{sign_words, without_leading};
 ghost use Rattle.cwr_causes.specs.Steps.Shifts.{found_sign};
 
 use crate::expected::letters_of;
+use crate::long_lines::add_long;
 use crate::texts::add_label;
 use cwr_fields::{Field, Kind, field, fields, trimmed, width};
 use std::alloc::AllocError;
@@ -284,14 +285,15 @@ fn add_shift_of(text: &mut String, kind: Kind, refused: u8, bytes: &[u8]) -> Res
 {
     let beyond = bytes_beyond(bytes);
     if beyond == 0 {
-        add_lost(text, kind, refused, bytes)
+        add_lost(text, kind, refused, bytes)?;
+        add_long(text, kind, refused, bytes)
     } else {
         add_characters(text, kind, bytes, beyond)
     }
 }
 
-/// Adds why the cells of a refused line may stand elsewhere than in their places: characters of several bytes, or blanks that were
-/// lost. `refused` is the number of the field at which it is refused.
+/// Adds why the cells of a refused line may stand elsewhere than in their places: characters of several bytes, blanks that were
+/// lost, or bytes too many. `refused` is the number of the field at which it is refused.
 pub(crate) fn add_shift(
     text: &mut String,
     kind: Option<Kind>,

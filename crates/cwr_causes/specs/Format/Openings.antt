@@ -1,16 +1,18 @@
 -- What a line that names no record looks like, and which other version of CWR a line names.
-use Rattle.std.specs.Prelude.{ℕ, ◌==◌, ◌&&◌, ◌||◌, nat_eq, Bool, true, false, List, [], ◌∷◌, codes, drop, Option, None, Some}
+use Rattle.std.specs.Prelude.{ℕ, ◌==◌, ◌&&◌, ◌||◌, nat_eq, nat_le, Bool, true, false, List, [], ◌∷◌, codes, drop, length, Option, None, Some}
 use Rattle.std.specs.Prelude.{if◌then◌else◌}
-use Rattle.std.specs.List.{concat, starts_with}
+use Rattle.std.specs.List.{concat, list_all, list_any, starts_with}
 use Rattle.std.specs.Option.{is_some, option_or}
-use Rattle.std.specs.Char.{is_ascii_alphabetic, to_ascii_uppercase}
+use Rattle.std.specs.Char.{is_ascii_alphabetic, is_ascii_alphanumeric, is_ascii_lowercase, to_ascii_uppercase}
 use Rattle.cwr_fields.specs.declared.kinds.Kind.{Kind}
 use Rattle.cwr_fields.specs.declared.kinds.Kind.TheVariants.{Hdr, Grh}
 use Rattle.cwr_fields.specs.Format.Kinds.{kind_of}
 use Rattle.cwr_shape.specs.declared.reasons.Reason.{Reason}
 use Rattle.cwr_shape.specs.declared.reasons.Reason.TheVariants as reasons
 use Rattle.cwr_causes.specs.declared.openings.Opening.{Opening}
-use Rattle.cwr_causes.specs.declared.openings.Opening.TheVariants.{Empty, ByteOrderMark, Utf16, Gzip, Zip, LowerCase, Other}
+use Rattle.cwr_causes.specs.declared.openings.Opening.TheVariants.{Empty, ByteOrderMark, Utf16, Gzip, Zip, LowerCase, Pdf, Rtf, Markup}
+use Rattle.cwr_causes.specs.declared.openings.Opening.TheVariants.{Quoted, InQuotes, Indented, MailHead, OfSocieties, Base64, Other}
+use Rattle.cwr_causes.specs.Format.Refusals.{first_kind}
 use Rattle.cwr_causes.specs.Format.Texts.{label_words}
 
 -- ---- a line that names no record
@@ -34,6 +36,53 @@ is_lower_case (a ∷ b ∷ c ∷ rest) =
     is_some (kind_of (to_ascii_uppercase a ∷ to_ascii_uppercase b ∷ to_ascii_uppercase c ∷ []))
 is_lower_case line = false
 
+-- a space, a tab or a byte of a non-breaking space
+abbrev pub is_blank : ℕ → Bool
+is_blank b = (b == 32) || ((b == 9) || ((b == 160) || (b == 194)))
+
+-- without blanks at its begin
+abbrev pub without_blanks : List ℕ → List ℕ
+without_blanks [] = []
+without_blanks (b ∷ rest) = if is_blank b then without_blanks rest else b ∷ rest
+
+abbrev pub begins_blank : List ℕ → Bool
+begins_blank [] = false
+begins_blank (b ∷ rest) = is_blank b
+
+-- its letters name a record behind blanks
+abbrev pub is_indented : List ℕ → Bool
+is_indented line = begins_blank line && is_some (first_kind (without_blanks line))
+
+-- it begins as the head of a mail does
+abbrev pub is_mail_head : List ℕ → Bool
+is_mail_head line =
+    starts_with nat_eq line (codes "From") || (starts_with nat_eq line (codes "Received:")
+    || (starts_with nat_eq line (codes "Return-Path:") || (starts_with nat_eq line (codes "Delivered-To:")
+    || (starts_with nat_eq line (codes "MIME-Version:") || (starts_with nat_eq line (codes "Subject:")
+    || (starts_with nat_eq line (codes "Date:") || starts_with nat_eq line (codes "Content-Type:")))))))
+
+-- it has at least 60 bytes, all of those of base64, and one is a small letter
+abbrev pub is_base64_byte : ℕ → Bool
+is_base64_byte b = is_ascii_alphanumeric b || ((b == 43) || ((b == 47) || ((b == 61) || (b == 13))))
+
+abbrev pub is_base64 : List ℕ → Bool
+is_base64 line = nat_le 60 (length line) && (list_all is_base64_byte line && list_any is_ascii_lowercase line)
+
+-- it begins as a transaction that societies send
+abbrev pub is_of_societies : List ℕ → Bool
+is_of_societies line = starts_with nat_eq line (codes "ISW") || starts_with nat_eq line (codes "EXC")
+
+-- what a text looks like that isn't packed, and no record in small letters
+abbrev pub text_opening : List ℕ → Opening
+text_opening line =
+    if starts_with nat_eq line (codes "%PDF") then Pdf
+    else (if starts_with nat_eq line (123 ∷ 92 ∷ 114 ∷ 116 ∷ 102 ∷ []) then Rtf
+    else (if starts_with nat_eq line (codes "<") then Markup
+    else (if starts_with nat_eq line (codes ">") then Quoted
+    else (if starts_with nat_eq line (34 ∷ []) then InQuotes
+    else (if is_indented line then Indented
+    else (if is_of_societies line then OfSocieties else (if is_base64 line then Base64 else Other)))))))
+
 -- what it looks like
 abbrev pub opening_of : List ℕ → Opening
 opening_of line =
@@ -41,7 +90,8 @@ opening_of line =
     else (if starts_with nat_eq line (239 ∷ 187 ∷ 191 ∷ []) then ByteOrderMark
     else (if starts_with nat_eq line (31 ∷ 139 ∷ []) then Gzip
     else (if starts_with nat_eq line (80 ∷ 75 ∷ 3 ∷ 4 ∷ []) then Zip
-    else (if is_utf16 line then Utf16 else (if is_lower_case line then LowerCase else Other)))))
+    else (if is_utf16 line then Utf16
+    else (if is_mail_head line then MailHead else (if is_lower_case line then LowerCase else text_opening line))))))
 
 -- what is said of it
 abbrev pub opening_said : Opening → Option (List ℕ)
@@ -52,6 +102,16 @@ opening_said Utf16 =
 opening_said Gzip = Some (codes "this is a gzip file: unpack it")
 opening_said Zip = Some (codes "this is a zip file: unpack it")
 opening_said LowerCase = Some (codes "record types are in capital letters")
+opening_said Pdf = Some (codes "this is a PDF file: the transmission itself is wanted")
+opening_said Rtf = Some (codes "this is a text of a word processor (RTF): save it as plain text")
+opening_said Markup = Some (codes "this looks like HTML or XML: the transmission itself is wanted")
+opening_said Quoted = Some (codes "the line begins with >, as mail programs quote: remove that from each line, or take the attachment")
+opening_said InQuotes =
+    Some (codes "the line begins with a double quote, as a spreadsheet writes cells: take the file as it was before that")
+opening_said Indented = Some (codes "blanks stand before the record type: remove them from each line")
+opening_said MailHead = Some (codes "this looks like the head of a mail: save the attachment")
+opening_said OfSocieties = Some (codes "ISW and EXC are transactions that societies send: this program takes none of them")
+opening_said Base64 = Some (codes "this looks like base64, in which mails carry files: unpack it")
 opening_said Other = None
 
 -- a note

@@ -11,6 +11,7 @@ use Rattle.cwr_fields.specs.Format.Kinds.{letters}
 use Rattle.cwr_fields.specs.Format.Layouts.{FieldLayout, field_with_start, layout, line_width}
 use Rattle.cwr_causes.specs.declared.shifts.Sign.{Sign}
 use Rattle.cwr_causes.specs.declared.shifts.Sign.TheVariants.{GoesOn, Gap}
+use Rattle.cwr_causes.specs.Format.LongLines.{long_line_words}
 use Rattle.cwr_causes.specs.Format.Refusals.{up_to_largest}
 use Rattle.cwr_causes.specs.Format.Texts.{label_words}
 
@@ -122,7 +123,8 @@ lost_words this_kind refused line =
 -- why the cells of a line of the kind, which is refused at that field, may stand elsewhere
 abbrev pub shift_of : Kind → ℕ → List ℕ → List ℕ
 shift_of this_kind refused line =
-    if bytes_beyond line == 0 then lost_words this_kind refused line else character_words this_kind line (bytes_beyond line)
+    if bytes_beyond line == 0 then lost_words this_kind refused line ++ long_line_words this_kind refused line
+    else character_words this_kind line (bytes_beyond line)
 
 abbrev pub shift_words : Option Kind → ℕ → List ℕ → List ℕ
 shift_words None refused line = []

@@ -2,10 +2,12 @@
 use Rattle.std.specs.Prelude.{ℕ, ◌+◌, ◌-◌, ◌==◌, ◌&&◌, not, if◌then◌else◌, List, [], ◌∷◌, ◌++◌, codes, decimal, length, position, take, Option, None, Some}
 use Rattle.std.specs.List.{concat}
 use Rattle.cwr_causes.specs.Format.Texts.{label_words}
+use Rattle.cwr_causes.specs.Format.LongLines.{long_id_words}
 use Rattle.cwr_causes.specs.Format.Openings.{opening_words, version_words}
 use Rattle.cwr_causes.specs.Format.Refusals.{RefusedLine, without_return}
 use Rattle.cwr_causes.specs.Format.Shifts.{shift_words}
 use Rattle.cwr_causes.specs.Format.TruncatedTexts.{cut_off_words}
+use Rattle.cwr_causes.specs.Format.WrappedLines.{broken_words}
 
 -- which byte of a line is a carriage return, from 1
 unfoldable pub return_line : ℕ → List ℕ
@@ -22,13 +24,17 @@ return_at (Some at) = return_line (at + 1)
 abbrev pub return_words : List ℕ → List ℕ
 return_words line = return_at (position (λ b. b == 13) (take (length line - 1) line))
 
--- what stands first: what its beginning looks like, and which version it names
+-- what stands first: what its beginning looks like, which version it names, and that a sender id is too long
 unfoldable pub first_signs : RefusedLine → List ℕ
-first_signs r = opening_words r.refusal.reason r.bytes ++ version_words r.kind r.bytes
+first_signs r =
+    opening_words r.refusal.reason r.bytes ++ version_words r.kind r.bytes ++ long_id_words r.kind r.bytes
 
--- that its cells may stand elsewhere, which is said with the first fault of a line
+-- that its cells may stand elsewhere, or a mail program broke it, which is said with the first fault of a line
+unfoldable pub whole_line_signs : RefusedLine → List ℕ
+whole_line_signs r = shift_words r.kind r.refusal.field (without_return r) ++ broken_words r
+
 abbrev pub shift_signs : RefusedLine → List ℕ
-shift_signs r = if r.is_first && not r.is_too_long then shift_words r.kind r.refusal.field (without_return r) else []
+shift_signs r = if r.is_first && not r.is_too_long then whole_line_signs r else []
 
 -- what stands last: a carriage return within it, and that it may have been cut off
 unfoldable pub end_signs : RefusedLine → List ℕ

@@ -1,0 +1,78 @@
+-- Lines that a mail program broke.
+use Rattle.std.specs.Prelude.{ℕ, ◌+◌, ◌-◌, ◌&&◌, nat_le, nat_lt, Bool, true, false, List, [], ◌∷◌, ◌++◌, codes, decimal, drop, length, Option, None, Some}
+use Rattle.std.specs.Prelude.{if◌then◌else◌}
+use Rattle.std.specs.List.{concat}
+use Rattle.std.specs.Str.{bytes_eq}
+use Rattle.cwr_fields.specs.declared.kinds.Kind.{Kind}
+use Rattle.cwr_fields.specs.Format.Layouts.{FieldLayout, line_width}
+use Rattle.cwr_lines.specs.Format.Lines.{without_cr}
+use Rattle.cwr_shape.specs.declared.reasons.Reason.{Reason}
+use Rattle.cwr_shape.specs.declared.reasons.Reason.TheVariants as reasons
+use Rattle.cwr_causes.specs.Format.Refusals.{RefusedLine, first_kind, refused_field, up_to_largest, without_return}
+use Rattle.cwr_causes.specs.Format.Texts.{label_words}
+
+-- ---- a line
+
+-- it has as many bytes as lines that mail programs break
+abbrev pub is_mail_wide : List ℕ → Bool
+is_mail_wide line = nat_le 70 (length line) && nat_le (length line) 78
+
+-- it is shorter than one of its kind
+abbrev pub is_short : Option Kind → List ℕ → Bool
+is_short None line = false
+is_short (Some this_kind) line = nat_lt (length line) (line_width this_kind)
+
+-- its last byte is =, with which quoted-printable text goes on
+abbrev pub ends_soft : List ℕ → Bool
+ends_soft line = bytes_eq (drop (length line - 1) line) (codes "=")
+
+-- ---- what is said of it
+
+unfoldable pub soft_line : List ℕ
+soft_line =
+    label_words (codes "note")
+    ++ codes "a line ends with = here, as lines of quoted-printable text do, in which mails carry files: decode it\n"
+
+unfoldable pub broken_before_line : ℕ → List ℕ
+broken_before_line count =
+    concat
+    (label_words (codes "note") ∷ codes "the line before it has " ∷ decimal count
+    ∷ codes " bytes, as lines have that mail programs break: if this one goes on with it, put both together\n" ∷ [])
+
+unfoldable pub broken_here_line : ℕ → List ℕ
+broken_here_line count =
+    concat
+    (label_words (codes "note") ∷ codes "the line has " ∷ decimal count
+    ∷ codes " bytes, as lines have that mail programs break: if the next one goes on with it, put both together\n" ∷ [])
+
+-- what the line before one shows that names no record
+abbrev pub broken_before : List ℕ → List ℕ
+broken_before line =
+    if ends_soft line then soft_line
+    else (if is_mail_wide line && is_short (first_kind line) line then broken_before_line (length line) else [])
+
+abbrev pub broken_before_if : Option (List ℕ) → List ℕ
+broken_before_if None = []
+broken_before_if (Some line) = broken_before (without_cr line)
+
+-- the refused field doesn't stand whole in the line
+abbrev pub is_cut : Option (ℕ × FieldLayout) → List ℕ → Bool
+is_cut None line = false
+is_cut (Some f) line = nat_lt (length line) (up_to_largest (f.0 + f.1.width))
+
+-- what a line with its line feed shows in which the refused field doesn't stand whole
+abbrev pub broken_at : Option (ℕ × FieldLayout) → List ℕ → List ℕ
+broken_at refused line =
+    if is_cut refused line then (if ends_soft line then soft_line
+    else (if is_mail_wide line then broken_here_line (length line) else [])) else []
+
+abbrev pub broken_here : RefusedLine → List ℕ
+broken_here r = if r.ended then broken_at (refused_field r) (without_return r) else []
+
+abbrev pub broken_by : RefusedLine → Reason → List ℕ
+broken_by r reasons.UnknownKind = broken_before_if r.before
+broken_by r reason = broken_here r
+
+-- that the line or the one before it may have been broken
+abbrev pub broken_words : RefusedLine → List ℕ
+broken_words r = broken_by r r.refusal.reason

@@ -1,0 +1,150 @@
+//! Lines that a mail program broke.
+
+ghost use Rattle.std.specs.Prelude.{◌≡◌, ◌++◌, option_map, string_bytes, if◌then◌else◌, [], OnOk};
+ghost use Rattle.cwr_fields.specs.Steps.Views.{field_view};
+ghost use Rattle.cwr_lines.specs.Format.Lines.{without_cr};
+ghost use Rattle.cwr_causes.specs.Format.WrappedLines.{broken_at, broken_before, broken_before_if, broken_before_line, broken_here_line, ends_soft};
+ghost use Rattle.cwr_causes.specs.Format.WrappedLines.{is_cut, is_mail_wide, is_short, soft_line};
+
+use crate::texts::add_label;
+use crate::truncated_words::kind_of;
+use cwr_fields::{Field, Kind, width};
+use std::alloc::AllocError;
+use std::fmt::Write;
+
+/// The line without a carriage return at its end.
+pub(crate) fn without_cr(line: &[u8]) -> &[u8]
+    ensures { result.now ≡ without_cr line.now }
+{
+    if line.ends_with(b"\r") {
+        &line[..line.len() - 1]
+    } else {
+        line
+    }
+}
+
+/// Whether a line has as many bytes as lines that mail programs break.
+fn is_mail_wide(line: &[u8]) -> bool
+    ensures { result ≡ is_mail_wide line.now }
+{
+    line.len() >= 70 && line.len() <= 78
+}
+
+/// Whether it is shorter than one of its kind.
+fn is_short(kind: Option<Kind>, line: &[u8]) -> bool
+    ensures { result ≡ is_short kind line.now }
+{
+    match kind {
+        Some(kind) => line.len() < width(kind),
+        None => false,
+    }
+}
+
+/// Whether its last byte is the one with which quoted-printable text goes on.
+fn ends_soft(line: &[u8]) -> bool
+    ensures { result ≡ ends_soft line.now }
+{
+    &line[line.len().saturating_sub(1)..] == b"=".as_slice()
+}
+
+/// Adds that a line goes on in quoted-printable text.
+#[tactic(auto, unfolding(crate::specs::Format::WrappedLines::soft_line))]
+fn add_soft(text: &mut String) -> Result<(), AllocError>
+    ensures { OnOk result (string_bytes text.new ≡ string_bytes text.old ++ soft_line) }
+{
+    add_label(text, "note")?;
+    text.push_str(
+        "a line ends with = here, as lines of quoted-printable text do, in which mails carry files: decode it\n",
+    )
+}
+
+/// Adds that the line before, of so many bytes, may have been broken.
+#[tactic(auto, unfolding(crate::specs::Format::WrappedLines::broken_before_line))]
+fn add_broken_before_line(text: &mut String, count: usize) -> Result<(), AllocError>
+    ensures { OnOk result (string_bytes text.new ≡ string_bytes text.old ++ broken_before_line count) }
+{
+    add_label(text, "note")?;
+    writeln!(
+        text,
+        "the line before it has {count} bytes, as lines have that mail programs break: if this one goes on with it, put both together"
+    )
+}
+
+/// Adds that the line, of so many bytes, may have been broken.
+#[tactic(auto, unfolding(crate::specs::Format::WrappedLines::broken_here_line))]
+fn add_broken_here_line(text: &mut String, count: usize) -> Result<(), AllocError>
+    ensures { OnOk result (string_bytes text.new ≡ string_bytes text.old ++ broken_here_line count) }
+{
+    add_label(text, "note")?;
+    writeln!(
+        text,
+        "the line has {count} bytes, as lines have that mail programs break: if the next one goes on with it, put both together"
+    )
+}
+
+/// Adds what the line before shows.
+fn add_broken(text: &mut String, before: &[u8]) -> Result<(), AllocError>
+    ensures { OnOk result (string_bytes text.new ≡ string_bytes text.old ++ broken_before before.now) }
+{
+    if ends_soft(before) {
+        add_soft(text)
+    } else if is_mail_wide(before) && is_short(kind_of(before), before) {
+        add_broken_before_line(text, before.len())
+    } else {
+        Ok(())
+    }
+}
+
+/// The same, where that is held.
+pub(crate) fn add_broken_before(text: &mut String, before: Option<&[u8]>) -> Result<(), AllocError>
+    ensures { OnOk result (string_bytes text.new ≡ string_bytes text.old
+        ++ broken_before_if (option_map (λ b. b.now) before.entry)) }
+{
+    match before {
+        Some(before) => add_broken(text, without_cr(before)),
+        None => Ok(()),
+    }
+}
+
+/// Whether the refused field doesn't stand whole in the line.
+fn is_cut(refused: Option<Field>, line: &[u8]) -> bool
+    ensures { result ≡ is_cut (option_map field_view refused) line.now }
+{
+    match refused {
+        Some(refused) => line.len() < refused.start.saturating_add(refused.width),
+        None => false,
+    }
+}
+
+/// Adds what a line shows in which the refused field doesn't stand whole.
+fn add_broken_at(text: &mut String, refused: Option<Field>, line: &[u8]) -> Result<(), AllocError>
+    ensures { OnOk result (string_bytes text.new ≡ string_bytes text.old
+        ++ broken_at (option_map field_view refused) line.now) }
+{
+    if !is_cut(refused, line) {
+        Ok(())
+    } else if ends_soft(line) {
+        add_soft(text)
+    } else if is_mail_wide(line) {
+        add_broken_here_line(text, line.len())
+    } else {
+        Ok(())
+    }
+}
+
+/// The same, where its line feed was read.
+pub(crate) fn add_broken_here(
+    text: &mut String,
+    ended: bool,
+    refused: Option<Field>,
+    line: &[u8],
+) -> Result<(), AllocError>
+    ensures { OnOk result (string_bytes text.new ≡ string_bytes text.old
+        ++ (if ended then broken_at (option_map field_view refused) line.now else [])) }
+{
+    if ended {
+        add_broken_at(text, refused, line)
+    } else {
+        Ok(())
+    }
+}
