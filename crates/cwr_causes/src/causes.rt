@@ -5,6 +5,7 @@ ghost use Rattle.cwr_fields.specs.Steps.Views.{field_view};
 ghost use Rattle.cwr_causes.specs.Format.Refusals.{byte_of_file_words, content_words, end_byte_words, end_of_fields, excess_at, field_name, field_words};
 ghost use Rattle.cwr_causes.specs.Format.Refusals.{found_words, head_words, named_field, number_points_words, place_words, range_beyond_words, refused_field};
 ghost use Rattle.cwr_causes.specs.Format.Refusals.{range_words, range_of_file_words, refused_level_words, shown, where_words, without_return};
+ghost use Rattle.cwr_causes.specs.Format.Handling.{handling_of, handling_words};
 ghost use Rattle.cwr_causes.specs.Format.Openings.{note_line, note_words, opening_words};
 ghost use Rattle.cwr_causes.specs.Format.Signs.{end_signs, first_signs, return_line, return_words, shift_signs, signs_words, whole_line_signs};
 ghost use Rattle.cwr_causes.specs.Format.Misplacements.{belongs, numbers_before, numbers_in};
@@ -17,12 +18,13 @@ ghost use Rattle.cwr_causes.specs.Steps.Refused.{ExplainsLine, expected_words, r
 use crate::ahead::Ahead;
 use crate::coming_words::add_coming;
 use crate::expected::{add_cell_type, letters_of};
+use crate::handling::{has_hard_space, is_separated, is_societies_group};
 use crate::lines_at_end::{LineAtEnd, line_again};
 use crate::long_lines::add_long_id;
 use crate::misplaced_words::{add_misplacement, add_mistyped};
 use crate::misplacements::{Misplacement, belongs, misplacement_of, numbers_before, numbers_of};
 use crate::next_symbols::closes_at;
-use crate::openings::opening_of;
+use crate::openings::{opening_of, societies_words};
 use crate::sequences::{number_in, numbers_in};
 use crate::shifts::add_shift;
 use crate::texts::{add_beginning, add_cell, add_label};
@@ -446,10 +448,43 @@ impl Refused<'_> {
     /// Adds what the line looks like that names no record.
     fn add_opening(&self, text: &mut String) -> Result<(), AllocError>
         ensures { OnOk result (string_bytes text.new ≡ string_bytes text.old
-            ++ opening_words self.now.refusal.now.reason self.now.line.bytes.now) }
+            ++ opening_words self.now.refusal.now.reason self.now.line.bytes.now self.now.refusal.now.rec) }
     {
         match self.refusal.reason {
-            Reason::UnknownKind => add_note_if(text, opening_of(self.line.bytes).words()),
+            Reason::UnknownKind => {
+                let opening = opening_of(self.line.bytes).at(self.refusal.rec);
+                add_note_if(text, opening.words())
+            }
+            _ => Ok(()),
+        }
+    }
+
+    /// What was done to the line, as far as it shows. The refused field holds that cell.
+    fn handling(&self, cell: Option<&[u8]>) -> Option<&'static str>
+        ensures { option_map (λ w. w.now) result ≡ handling_of (refused_line self.now) (option_map (λ c. c.now) cell.entry) }
+    {
+        if is_societies_group(self.kind, cell) {
+            Some(societies_words())
+        } else if is_separated(self.line.bytes) {
+            Some(
+                "a tab, comma or semicolon stands after the record type, as in a table of a spreadsheet: in a line each cell has its place; take the file as it was before that",
+            )
+        } else if has_hard_space(cell) {
+            Some(
+                "the cell has a byte A0, a space that may not be broken, as web pages and word processors have them: put spaces (20) in their place",
+            )
+        } else {
+            None
+        }
+    }
+
+    /// Adds that, where a cell is refused and it is the line's first fault.
+    fn add_handling(&self, text: &mut String, cell: Option<&[u8]>) -> Result<(), AllocError>
+        ensures { OnOk result (string_bytes text.new ≡ string_bytes text.old
+            ++ handling_words (refused_line self.now) (option_map (λ c. c.now) cell.entry)) }
+    {
+        match self.refusal.reason {
+            Reason::Cell(_) if self.is_first => add_note_if(text, self.handling(cell)),
             _ => Ok(()),
         }
     }
@@ -580,6 +615,7 @@ impl Refused<'_> {
         self.add_head(text, cell)?;
         self.add_wanted(alloc, text, limits, stage, cell)?;
         self.add_level(text)?;
+        self.add_handling(text, cell)?;
         self.add_signs(text)
     }
 }

@@ -4,7 +4,7 @@ ghost use Rattle.std.specs.Prelude.{◌≡◌, option_map};
 ghost use Rattle.std.specs.Char.{is_ascii_lowercase};
 ghost use Rattle.std.specs.List.{list_all, list_any};
 ghost use Rattle.cwr_causes.specs.Format.Openings.{begins_blank, is_base64, is_base64_byte, is_blank, is_empty_line, is_indented, is_lower_case, is_mail_head};
-ghost use Rattle.cwr_causes.specs.Format.Openings.{is_of_societies, is_utf16, opening_of, opening_said, text_opening, without_blanks};
+ghost use Rattle.cwr_causes.specs.Format.Openings.{is_of_societies, is_utf16, opening_at, opening_of, opening_said, societies_said, text_opening, without_blanks};
 
 use crate::truncated_words::kind_of;
 use cwr_fields::Kind;
@@ -42,6 +42,8 @@ pub(crate) enum Opening {
     OfSocieties,
     /// It has bytes of base64 alone.
     Base64,
+    /// It is the first line, and nothing of these.
+    BeforeHeader,
     /// Nothing of these.
     Other,
 }
@@ -201,6 +203,13 @@ fn text_opening(bytes: &[u8]) -> Opening
     }
 }
 
+/// What is said of transactions that societies send.
+pub(crate) fn societies_words() -> &'static str
+    ensures { result.now ≡ societies_said }
+{
+    "ISW and EXC are transactions that societies send: this program takes none of them"
+}
+
 /// What the line looks like.
 pub(crate) fn opening_of(bytes: &[u8]) -> Opening
     ensures { result ≡ opening_of bytes.now }
@@ -225,6 +234,16 @@ pub(crate) fn opening_of(bytes: &[u8]) -> Opening
 }
 
 impl Opening {
+    /// The same of the line of that number, from 1: before the header may stand what looks like nothing else.
+    pub(crate) fn at(self, number: u32) -> Opening
+        ensures { result ≡ opening_at number self }
+    {
+        match self {
+            Opening::Other if number == 1 => Opening::BeforeHeader,
+            opening => opening,
+        }
+    }
+
     /// What to say of it.
     pub(crate) fn words(self) -> Option<&'static str>
         ensures { option_map (λ words. words.now) result ≡ opening_said self }
@@ -255,11 +274,12 @@ impl Opening {
                 "blanks stand before the record type: remove them from each line",
             ),
             Opening::MailHead => Some("this looks like the head of a mail: save the attachment"),
-            Opening::OfSocieties => Some(
-                "ISW and EXC are transactions that societies send: this program takes none of them",
-            ),
+            Opening::OfSocieties => Some(societies_words()),
             Opening::Base64 => Some(
                 "this looks like base64, in which mails carry files: unpack it",
+            ),
+            Opening::BeforeHeader => Some(
+                "a file begins with HDR: what stands before that line, if it comes, is no part of the transmission, so remove it",
             ),
             Opening::Other => None,
         }

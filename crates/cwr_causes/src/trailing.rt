@@ -1,7 +1,8 @@
 //! What stands after a transmission.
 
-ghost use Rattle.std.specs.Prelude.{◌≡◌, ◌+◌, ◌-◌, ◌^◌, ◌<◌, ◌∷◌, [], false, min, length, IfOk, OnErr};
-ghost use Rattle.cwr_causes.specs.Format.Trailing.{CountsRead, IsTrailing, TakesMore};
+ghost use Rattle.std.specs.Prelude.{◌≡◌, ◌+◌, ◌-◌, ◌^◌, ◌<◌, ◌∷◌, ◌&&◌, [], true, false, min, length, IfOk, OnErr};
+ghost use Rattle.std.specs.List.{list_all};
+ghost use Rattle.cwr_causes.specs.Format.Trailing.{CountsRead, IsTrailing, TakesMore, is_filler};
 ghost use Rattle.cwr_causes.specs.Steps.Trailing.{TakesPiece, begins_with, byte_with};
 
 use cwr_devices::{DeviceFault, Source};
@@ -18,6 +19,22 @@ pub struct Trailing {
     pub is_all: bool,
     /// The first three of them; where there are fewer, zeros follow.
     pub begins: [u8; 3],
+    /// Whether each of them fills up a file: a space, a tab, a line's end, a zero or DOS's end mark.
+    pub is_filler: bool,
+}
+
+/// Whether the byte only fills up a file.
+fn is_filler(byte: u8) -> bool
+    ensures { result ≡ is_filler byte }
+{
+    matches!(byte, 0 | b'\t' | b'\n' | b'\r' | 0x1a | b' ')
+}
+
+/// Whether each byte does.
+fn are_filler(bytes: &[u8]) -> bool
+    ensures { result ≡ list_all is_filler bytes.now }
+{
+    bytes.iter().all(|byte| is_filler(*byte))
 }
 
 impl Trailing {
@@ -26,11 +43,13 @@ impl Trailing {
         ensures bytes { result.bytes ≡ 0 }
         ensures begins { result.begins ≡ 0 ∷ 0 ∷ 0 ∷ [] }
         ensures goes_on { result.is_all ≡ false }
+        ensures filler { result.is_filler ≡ true }
     {
         Trailing {
             bytes: 0,
             is_all: false,
             begins: [0; 3],
+            is_filler: true,
         }
     }
 
@@ -63,8 +82,10 @@ impl Trailing {
         ensures bytes { self.new.bytes ≡ min (self.old.bytes + length piece.now) (2 ^ 64 - 1) }
         ensures begins { self.new.begins ≡ begins_with self.old.bytes self.old.begins piece.now }
         ensures is_all { self.new.is_all ≡ self.old.is_all }
+        ensures filler { self.new.is_filler ≡ (self.old.is_filler && list_all is_filler piece.now) }
     {
         self.begins = self.begins_with(piece);
+        self.is_filler = self.is_filler && are_filler(piece);
         self.bytes = self.bytes.saturating_add(piece.len() as u64);
     }
 }

@@ -1,7 +1,7 @@
 //! What is said of the bytes after a transmission.
 
 ghost use Rattle.std.specs.Prelude.{◌≡◌, ◌++◌, option_map, string_bytes, OnOk};
-ghost use Rattle.cwr_causes.specs.Format.TrailingTexts.{after_words, count_words, least_words, remainder_of, remainder_said, second_line, second_of_many, second_words, trailing_words};
+ghost use Rattle.cwr_causes.specs.Format.TrailingTexts.{after_words, count_words, is_signature, least_words, remainder_of, remainder_said, second_line, second_of_many, second_words, trailing_words};
 
 use crate::causes::add_note_if;
 use crate::texts::add_label;
@@ -58,28 +58,31 @@ fn add_second_of_many(text: &mut String) -> Result<(), AllocError>
 /// What the bytes after a transmission look like where no second one begins there.
 #[derive(Clone, Copy, Debug, PartialEq, Eq)]
 pub(crate) enum Remainder {
-    /// A blank line.
-    BlankLine,
-    /// The end mark of a text of DOS.
-    EndMark,
+    /// Blank lines, the end mark of a text of DOS, and the like.
+    Filler,
     /// The signature of a mail.
     Signature,
     /// Nothing of these.
     Unknown,
 }
 
-/// What they look like.
-fn remainder_of(begins: &[u8]) -> Remainder
-    ensures { result ≡ remainder_of begins.now }
+/// Whether they begin as the signature of a mail does.
+fn is_signature(begins: &[u8]) -> bool
+    ensures { result ≡ is_signature begins.now }
 {
-    let [a, b, c, ..] = begins else {
-        return Remainder::Unknown;
-    };
-    if *a == b'\n' || (*a == b'\r' && *b == b'\n') {
-        Remainder::BlankLine
-    } else if *a == 26 {
-        Remainder::EndMark
-    } else if *a == b'-' && *b == b'-' && (*c == b' ' || *c == b'\r' || *c == b'\n') {
+    match begins {
+        [a, b, c, ..] => { *a == b'-' && *b == b'-' && (*c == b' ' || *c == b'\r' || *c == b'\n') }
+        _ => false,
+    }
+}
+
+/// What they look like.
+fn remainder_of(found: &Trailing) -> Remainder
+    ensures { result ≡ remainder_of found.now }
+{
+    if found.is_filler && found.is_all {
+        Remainder::Filler
+    } else if is_signature(&found.begins[..]) {
         Remainder::Signature
     } else {
         Remainder::Unknown
@@ -92,13 +95,10 @@ impl Remainder {
         ensures { option_map (λ words. words.now) result ≡ remainder_said self }
     {
         match self {
-            Remainder::BlankLine => Some(
-                "it begins with a blank line: remove what stands after TRL",
+            Remainder::Filler => Some(
+                "only blanks, line ends, zeros or end marks of DOS (byte 26) stand there: nothing is lost without them",
             ),
-            Remainder::EndMark => Some(
-                "it begins with byte 26, with which texts of DOS end: remove it",
-            ),
-            Remainder::Signature => Some("it begins as the signature of a mail does: remove it"),
+            Remainder::Signature => Some("it begins as the signature of a mail does"),
             Remainder::Unknown => None,
         }
     }
@@ -109,7 +109,7 @@ fn add_second(text: &mut String, found: &Trailing) -> Result<(), AllocError>
     ensures { OnOk result (string_bytes text.new ≡ string_bytes text.old ++ second_words found.now) }
 {
     if &found.begins[..] != b"HDR".as_slice() {
-        add_note_if(text, remainder_of(&found.begins[..]).words())
+        add_note_if(text, remainder_of(found).words())
     } else if found.is_all {
         add_second_line(text, found.bytes)
     } else {

@@ -8,6 +8,7 @@ use Rattle.cwr_causes.specs.Format.ComingTexts.{coming_words}
 use Rattle.cwr_causes.specs.Format.TruncatedTexts.{end_words, last_cut_off_words}
 use Rattle.cwr_causes.specs.Steps.Coming.{coming_at}
 use Rattle.cwr_causes.specs.Steps.LinesAtEnd.{IsLineAtEnd}
+use Rattle.cwr_causes.specs.Format.Handling.{handling_words}
 use Rattle.cwr_causes.specs.Format.Signs.{signs_words}
 use Rattle.cwr_causes.specs.Steps.Refused.{ExplainsEnd, refusal_words, truncation_words, wanted_words}
 use Rattle.cwr_shape.specs.declared.limits.Limits.{Limits}
@@ -30,12 +31,13 @@ said_last : (old new p : List ℕ) → new ≡ old ++ p → new ≡ old ++ (p ++
 said_last old new p h = h ∙ ap (λ xs. old ++ xs) (sym (append-nil p))
 
 -- what is said of a refusal, part by part
-pub refusal_said : (limits : Limits) (stage : Option Stage) (r : RefusedLine) (cell : Option (List ℕ)) (old a b c d : List ℕ)
+pub refusal_said : (limits : Limits) (stage : Option Stage) (r : RefusedLine) (cell : Option (List ℕ)) (old a b c d e : List ℕ)
     → a ≡ old ++ head_words r cell → b ≡ a ++ wanted_words limits stage r cell → c ≡ b ++ refused_level_words r
-    → d ≡ c ++ signs_words r → d ≡ old ++ refusal_words limits stage r cell
+    → d ≡ c ++ handling_words r cell → e ≡ d ++ signs_words r → e ≡ old ++ refusal_words limits stage r cell
 unfolding refusal_words
-refusal_said limits stage r cell old a b c d head wanted level signs =
-    said_more old a d _ _ head (said_more a b d _ _ wanted (said_more b c d _ _ level (said_last c d _ signs)))
+refusal_said limits stage r cell old a b c d e head wanted level handling signs =
+    said_more old a e _ _ head
+    (said_more a b e _ _ wanted (said_more b c e _ _ level (said_more c d e _ _ handling (said_last d e _ signs))))
 
 -- what is said of an end that comes too early, part by part
 pub truncated_said : (name : List ℕ) (records : ℕ) (last : LastRead) (line : LineAtEnd) (old a b c : List ℕ)

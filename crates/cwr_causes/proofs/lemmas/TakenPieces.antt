@@ -1,15 +1,17 @@
 -- What is read and counted in two steps.
 use Rattle.std.proofs.Common.{◌≡◌, ℕ, zero, suc, ◌+◌, ◌-◌, ◌<◌, ◌≤◌, Bool, true, false, true≢false, List, [], ◌∷◌, ◌++◌, length}
 use Rattle.std.proofs.Common.{take, drop, Option, Some, None, refl, sym, ap, ap₂, subst, ◌∙◌, arith}
-use Rattle.std.specs.Prelude.{◌^◌, min, nat_eq, nat_lt, slice_index, if◌then◌else◌, IfSome}
+use Rattle.std.specs.Prelude.{◌^◌, ◌&&◌, min, nat_eq, nat_lt, slice_index, if◌then◌else◌, IfSome}
 use Rattle.std.specs.Io.{StartsWith}
+use Rattle.std.specs.List.{list_all}
 use Rattle.std.specs.Io.KnownBytes.{Consumes, IsAtEnd, Keeps}
 use Rattle.std.proofs.lemmas.Bool.{eqb-true, ltb-false, ltb-true}
 use Rattle.cwr_decode.proofs.lemmas.FromReader.{consumes_taken}
 use Rattle.std.proofs.KnownBytes.{Consumes-kept, Consumes-nil, Consumes-trans}
+use Rattle.std.proofs.lemmas.List.Folds.{list_all-append}
 use Rattle.std.proofs.lemmas.List.{get_or-append_right, get_or_append_left, length-append}
 use Rattle.cwr_causes.specs.declared.trailing.Trailing.{Trailing}
-use Rattle.cwr_causes.specs.Format.Trailing.{IsTrailing, TakesMore, first_bytes}
+use Rattle.cwr_causes.specs.Format.Trailing.{IsTrailing, TakesMore, first_bytes, is_filler}
 use Rattle.cwr_causes.specs.Steps.Trailing.{HasTaken, TakesPiece, begins_with, byte_with}
 
 -- nothing is taken
@@ -49,12 +51,13 @@ begins_joined more piece begins count c e =
 
 -- none was read yet
 pub taken_none : (left : Option (List ℕ)) (found : Trailing) → found.bytes ≡ 0 → found.begins ≡ 0 ∷ 0 ∷ 0 ∷ []
-    → found.is_all ≡ false → HasTaken left left 0 found
-taken_none left found none begins goes_on = record {
+    → found.is_all ≡ false → found.is_filler ≡ true → HasTaken left left 0 found
+taken_none left found none begins goes_on filler = record {
   more = [];
   consumed = Consumes-nil left;
   counted = none;
   begins = begins;
+  filler = filler;
   each = omega arith;
   goes_on = goes_on;
 }
@@ -65,6 +68,12 @@ ends_with None mid after more c h = tt
 ends_with (Some xs) None after more c h = absurd c
 ends_with (Some xs) (Some ys) after more c h = h
 
+-- whether each byte fills up, of both
+filler_joined : (more piece : List ℕ) (old new : Bool) → old ≡ list_all is_filler more → new ≡ (old && list_all is_filler piece)
+    → new ≡ list_all is_filler (more ++ piece)
+filler_joined more piece old new e f =
+    f ∙ ap (λ (b : Bool). b && list_all is_filler piece) e ∙ sym (list_all-append is_filler more piece)
+
 -- a piece more was read
 pub taken_more : (left mid after : Option (List ℕ)) (pieces : ℕ) (old new : Trailing) (ended : Bool) → ended ≡ false
     → HasTaken left mid pieces old → TakesPiece mid after old new ended → HasTaken left after (pieces + 1) new
@@ -73,6 +82,7 @@ taken_more left mid after pieces old new ended e h p = record {
   consumed = Consumes-trans left mid after h.more p.piece h.consumed p.consumed;
   counted = omega (arith, h.counted, p.counted, length-append h.more p.piece);
   begins = p.begins ∙ begins_joined h.more p.piece old.begins old.bytes h.counted h.begins;
+  filler = filler_joined h.more p.piece old.is_filler new.is_filler h.filler p.filler;
   each = omega (arith, h.each, p.some e, length-append h.more p.piece);
   goes_on = p.kept ∙ h.goes_on;
 }
@@ -85,6 +95,7 @@ taken_all left mid after pieces old new ended e h p = record {
   consumed = Consumes-trans left mid after h.more p.piece h.consumed p.consumed;
   counted = omega (arith, h.counted, p.counted, length-append h.more p.piece);
   begins = p.begins ∙ begins_joined h.more p.piece old.begins old.bytes h.counted h.begins;
+  filler = filler_joined h.more p.piece old.is_filler new.is_filler h.filler p.filler;
   all = λ _. ends_with left mid after h.more h.consumed (p.at_end e);
   some = λ f. absurd (true≢false f);
 }
@@ -112,13 +123,14 @@ pub takes_piece : (left mid after : Option (List ℕ)) (piece : List ℕ) (old n
     → IfSome left (λ xs. StartsWith xs piece) → IfSome left (λ xs. length piece ≡ 0 → xs ≡ [])
     → IfSome mid (λ xs. after ≡ Some (drop (length piece) xs)) → new.bytes ≡ min (old.bytes + length piece) (2 ^ 64 - 1)
     → new.begins ≡ begins_with old.bytes old.begins piece → new.is_all ≡ old.is_all
-    → TakesPiece left after old new (nat_eq (length piece) 0)
+    → new.is_filler ≡ (old.is_filler && list_all is_filler piece) → TakesPiece left after old new (nat_eq (length piece) 0)
 unfolding takes_shown
-takes_piece left mid after piece old new kept front end lost counted begins same = record {
+takes_piece left mid after piece old new kept front end lost counted begins same filler = record {
   piece = piece;
   consumed = (takes_shown left mid after piece kept front lost).1;
   counted = counted;
   begins = begins;
+  filler = filler;
   kept = same;
   at_end = λ e. ended left mid kept end lost (eqb-true (length piece) 0 e);
   some = λ e. not_none (length piece) e;

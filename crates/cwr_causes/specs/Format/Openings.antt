@@ -11,7 +11,7 @@ use Rattle.cwr_shape.specs.declared.reasons.Reason.{Reason}
 use Rattle.cwr_shape.specs.declared.reasons.Reason.TheVariants as reasons
 use Rattle.cwr_causes.specs.declared.openings.Opening.{Opening}
 use Rattle.cwr_causes.specs.declared.openings.Opening.TheVariants.{Empty, ByteOrderMark, Utf16, Gzip, Zip, LowerCase, Pdf, Rtf, Markup}
-use Rattle.cwr_causes.specs.declared.openings.Opening.TheVariants.{Quoted, InQuotes, Indented, MailHead, OfSocieties, Base64, Other}
+use Rattle.cwr_causes.specs.declared.openings.Opening.TheVariants.{Quoted, InQuotes, Indented, MailHead, OfSocieties, Base64, BeforeHeader, Other}
 use Rattle.cwr_causes.specs.Format.Refusals.{first_kind}
 use Rattle.cwr_causes.specs.Format.Texts.{label_words}
 
@@ -93,6 +93,15 @@ opening_of line =
     else (if is_utf16 line then Utf16
     else (if is_mail_head line then MailHead else (if is_lower_case line then LowerCase else text_opening line))))))
 
+-- a file's first line that looks like nothing else stands before the header, if that comes
+abbrev pub opening_at : ℕ → Opening → Opening
+opening_at number Other = if number == 1 then BeforeHeader else Other
+opening_at number opening = opening
+
+-- what is said of transactions that societies send
+abbrev pub societies_said : List ℕ
+societies_said = codes "ISW and EXC are transactions that societies send: this program takes none of them"
+
 -- what is said of it
 abbrev pub opening_said : Opening → Option (List ℕ)
 opening_said Empty = Some (codes "the line is empty: remove it")
@@ -110,8 +119,10 @@ opening_said InQuotes =
     Some (codes "the line begins with a double quote, as a spreadsheet writes cells: take the file as it was before that")
 opening_said Indented = Some (codes "blanks stand before the record type: remove them from each line")
 opening_said MailHead = Some (codes "this looks like the head of a mail: save the attachment")
-opening_said OfSocieties = Some (codes "ISW and EXC are transactions that societies send: this program takes none of them")
+opening_said OfSocieties = Some societies_said
 opening_said Base64 = Some (codes "this looks like base64, in which mails carry files: unpack it")
+opening_said BeforeHeader =
+    Some (codes "a file begins with HDR: what stands before that line, if it comes, is no part of the transmission, so remove it")
 opening_said Other = None
 
 -- a note
@@ -123,9 +134,9 @@ note_words None = []
 note_words (Some said) = note_line said
 
 -- the note on a line that names no record
-abbrev pub opening_words : Reason → List ℕ → List ℕ
-opening_words reasons.UnknownKind line = note_words (opening_said (opening_of line))
-opening_words reason line = []
+abbrev pub opening_words : Reason → List ℕ → ℕ → List ℕ
+opening_words reasons.UnknownKind line number = note_words (opening_said (opening_at number (opening_of line)))
+opening_words reason line number = []
 
 -- ---- another version of CWR
 

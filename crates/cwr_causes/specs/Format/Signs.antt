@@ -27,7 +27,7 @@ return_words line = return_at (position (λ b. b == 13) (take (length line - 1) 
 -- what stands first: what its beginning looks like, which version it names, and that a sender id is too long
 unfoldable pub first_signs : RefusedLine → List ℕ
 first_signs r =
-    opening_words r.refusal.reason r.bytes ++ version_words r.kind r.bytes ++ long_id_words r.kind r.bytes
+    opening_words r.refusal.reason r.bytes r.refusal.rec ++ version_words r.kind r.bytes ++ long_id_words r.kind r.bytes
 
 -- that its cells may stand elsewhere, or a mail program broke it, which is said with the first fault of a line
 unfoldable pub whole_line_signs : RefusedLine → List ℕ

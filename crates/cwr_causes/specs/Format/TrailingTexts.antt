@@ -4,7 +4,7 @@ use Rattle.std.specs.List.{concat}
 use Rattle.std.specs.Str.{bytes_eq}
 use Rattle.cwr_causes.specs.declared.trailing.Trailing.{Trailing}
 use Rattle.cwr_causes.specs.declared.trailing_words.Remainder.{Remainder}
-use Rattle.cwr_causes.specs.declared.trailing_words.Remainder.TheVariants.{BlankLine, EndMark, Signature, Unknown}
+use Rattle.cwr_causes.specs.declared.trailing_words.Remainder.TheVariants.{Filler, Signature, Unknown}
 use Rattle.cwr_causes.specs.Format.Openings.{note_words}
 use Rattle.cwr_causes.specs.Format.Texts.{label_words}
 
@@ -30,25 +30,27 @@ second_of_many =
     label_words (codes "note")
     ++ codes "it begins with HDR, as a second transmission does: check that one in a file of its own\n"
 
--- what they look like that begin otherwise: blank lines, an end mark of DOS, or the signature of a mail
-abbrev pub remainder_of : List ℕ → Remainder
-remainder_of (a ∷ b ∷ c ∷ rest) =
-    if (a == 10) || ((a == 13) && (b == 10)) then BlankLine
-    else (if a == 26 then EndMark
-    else (if (a == 45) && ((b == 45) && ((c == 32) || ((c == 13) || (c == 10)))) then Signature else Unknown))
-remainder_of begins = Unknown
+-- they begin as the signature of a mail does
+abbrev pub is_signature : List ℕ → Bool
+is_signature (a ∷ b ∷ c ∷ rest) = (a == 45) && ((b == 45) && ((c == 32) || ((c == 13) || (c == 10))))
+is_signature begins = false
+
+-- What they look like that begin otherwise: all of them fill up a file, as blank lines and the end mark of DOS do, or they are the
+-- signature of a mail.
+abbrev pub remainder_of : Trailing → Remainder
+remainder_of found =
+    if found.is_filler && found.is_all then Filler else (if is_signature found.begins then Signature else Unknown)
 
 abbrev pub remainder_said : Remainder → Option (List ℕ)
-remainder_said BlankLine = Some (codes "it begins with a blank line: remove what stands after TRL")
-remainder_said EndMark = Some (codes "it begins with byte 26, with which texts of DOS end: remove it")
-remainder_said Signature = Some (codes "it begins as the signature of a mail does: remove it")
+remainder_said Filler = Some (codes "only blanks, line ends, zeros or end marks of DOS (byte 26) stand there: nothing is lost without them")
+remainder_said Signature = Some (codes "it begins as the signature of a mail does")
 remainder_said Unknown = None
 
 -- the same, if they do, and else what they look like
 abbrev pub second_words : Trailing → List ℕ
 second_words found =
     if bytes_eq found.begins (codes "HDR") then (if found.is_all then second_line found.bytes else second_of_many)
-    else note_words (remainder_said (remainder_of found.begins))
+    else note_words (remainder_said (remainder_of found))
 
 -- how many bytes stand after a transmission, and that nobody judges them
 unfoldable pub after_words : List ℕ → Trailing → List ℕ

@@ -24,6 +24,7 @@ use Rattle.cwr_causes.specs.Steps.LinesAtEnd.{EndsInLine, EndsWithLine, IsLineAt
 use Rattle.cwr_decode.specs.Steps.LastReads.{HoldsLast}
 use Rattle.cwr_causes.specs.declared.causes.Refused.{Refused}
 use Rattle.cwr_causes.specs.Format.Refusals.{RefusedLine, first_kind, head_words, refused_field, refused_level_words}
+use Rattle.cwr_causes.specs.Format.Handling.{handling_words}
 use Rattle.cwr_causes.specs.Format.Signs.{signs_words}
 use Rattle.cwr_causes.specs.Format.Wanted.{cell_expected_words, end_expected_words, limit_words, number_expected_words}
 use Rattle.cwr_causes.specs.Steps.Misplaced.{order_words}
@@ -68,10 +69,10 @@ unfoldable pub wanted_words : Limits → Option Stage → RefusedLine → Option
 wanted_words limits stage r cell = order_words stage r r.refusal.reason r.kind ++ expected_words limits stage r cell
 
 -- What is said of the refusal of the line, whose refused field holds that cell, where the records before have come to that stage:
--- where it is and what stands there, what it points to, what may stand there, the level, and what else the line shows.
+-- where it is and what stands there, what it points to, what may stand there, the level, what was done to the line, and what else it shows.
 unfoldable pub refusal_words : Limits → Option Stage → RefusedLine → Option (List ℕ) → List ℕ
 refusal_words limits stage r cell =
-    concat (head_words r cell ∷ wanted_words limits stage r cell ∷ refused_level_words r ∷ signs_words r ∷ [])
+    concat (head_words r cell ∷ wanted_words limits stage r cell ∷ refused_level_words r ∷ handling_words r cell ∷ signs_words r ∷ [])
 
 -- the text goes on with that, for the cell that the line has there
 abbrev pub ExplainsLine : Limits → Option Stage → RefusedLine → List ℕ → List ℕ → Type 0

@@ -1,11 +1,12 @@
 -- What is taken and counted after a transmission, piece by piece.
-use Rattle.std.specs.Prelude.{◌≡◌, ℕ, ◌+◌, ◌-◌, ◌^◌, ◌<◌, ◌≤◌, min, nat_lt, Bool, true, false, List, [], ◌∷◌, length, slice_index}
+use Rattle.std.specs.Prelude.{◌≡◌, ℕ, ◌+◌, ◌-◌, ◌^◌, ◌<◌, ◌≤◌, ◌&&◌, min, nat_lt, Bool, true, false, List, [], ◌∷◌, length, slice_index}
 use Rattle.std.specs.Prelude.{Option, None, Some, IfSome, if◌then◌else◌}
 use Rattle.std.specs.Io.KnownBytes.{Consumes, IsAtEnd}
+use Rattle.std.specs.List.{list_all}
 use Rattle.cwr_causes.specs.declared.beyond.Beyond.{Beyond}
 use Rattle.cwr_causes.specs.declared.beyond.Beyond.TheVariants as beyonds
 use Rattle.cwr_causes.specs.declared.trailing.Trailing.{Trailing}
-use Rattle.cwr_causes.specs.Format.Trailing.{first_bytes}
+use Rattle.cwr_causes.specs.Format.Trailing.{first_bytes, is_filler}
 
 -- the byte at a place of what was read: of that so many bytes, which begin so, came before the piece
 abbrev pub byte_with : ℕ → List ℕ → List ℕ → ℕ → ℕ
@@ -22,6 +23,7 @@ pub record TakesPiece (left after : Option (List ℕ)) (old new : Trailing) (end
   pub consumed : Consumes left after piece
   pub counted : new.bytes ≡ min (old.bytes + length piece) (2 ^ 64 - 1)
   pub begins : new.begins ≡ begins_with old.bytes old.begins piece
+  pub filler : new.is_filler ≡ (old.is_filler && list_all is_filler piece)
   pub kept : new.is_all ≡ old.is_all
   pub at_end : ended ≡ true → IfSome left (λ bytes. IsAtEnd after)
   pub some : ended ≡ false → 0 < length piece
@@ -32,6 +34,7 @@ pub record HasTaken (left after : Option (List ℕ)) (pieces : ℕ) (found : Tra
   pub consumed : Consumes left after more
   pub counted : found.bytes ≡ min (length more) (2 ^ 64 - 1)
   pub begins : found.begins ≡ first_bytes more
+  pub filler : found.is_filler ≡ list_all is_filler more
   pub each : pieces ≤ length more
   pub goes_on : found.is_all ≡ false
 

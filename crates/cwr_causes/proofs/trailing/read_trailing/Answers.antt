@@ -3,8 +3,11 @@ use Rattle.cwr_causes.proofs.lemmas.TakenPieces.{taken_all, taken_by, taken_more
 use Rattle.cwr_causes.proofs.trailing.read_trailing.Goals as goal
 
 pub loop-pieces-init : goal.loop-pieces-init
-loop-pieces-init g c =
-    (taken_none _ c.new-found.result c.new-found.ensures.bytes c.new-found.ensures.begins c.new-found.ensures.goes_on, refl)
+loop-pieces-init g c = (
+  taken_none _ c.new-found.result c.new-found.ensures.bytes c.new-found.ensures.begins c.new-found.ensures.goes_on
+      c.new-found.ensures.filler,
+  refl,
+)
 
 pub loop-pieces-preserved : goal.loop-pieces-preserved
 loop-pieces-preserved g c = (

@@ -14,7 +14,7 @@ returns c =
     (λ signs. (
       _,
       has,
-      refusal_said c.args.limits.now c.args.stage (refused_line c.args.self.now) _ _ _ _ _ _ c.in_ok-add_head.ensures c.in_ok-add_wanted.ensures
-          c.in_ok-add_level.ensures signs,
+      refusal_said c.args.limits.now c.args.stage (refused_line c.args.self.now) _ _ _ _ _ _ _ c.in_ok-add_head.ensures
+          c.in_ok-add_wanted.ensures c.in_ok-add_level.ensures c.in_ok-add_handling.ensures signs,
     ))
     c.add_signs.ensures
