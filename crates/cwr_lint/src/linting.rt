@@ -32,6 +32,7 @@ use crate::puts::{Asked, Shown, put_end, report_number};
 use crate::raw_lines::RawLine;
 use cwr_advice::Said;
 use cwr_advise::advise_up_to_fault;
+use cwr_causes::before_last;
 use cwr_decode::{LastRead, Refusal};
 use cwr_devices::{Sink, Source, Target};
 use cwr_lines::{CutLine, LineBuf};
@@ -74,7 +75,7 @@ impl LintRun {
     }
 
     /// The line, with what is held beside it.
-    fn shown<'b>(&self, raw: &'b RawLine, before: Option<&'b RawLine>) -> Shown<'b> {
+    fn shown<'b>(&self, raw: &'b RawLine, before: Option<&'b [u8]>) -> Shown<'b> {
         Shown {
             raw,
             before,
@@ -237,7 +238,7 @@ impl LintRun {
             (held_cut (held_raw raw.now)) 1) W.contents result sink.old sink.new }
     {
         raw.cut_into(cut);
-        let shown = self.shown(raw, Some(before));
+        let shown = self.shown(raw, Some(before.as_slice()));
         match self.take(asked, &cut.cut(), 1, &shown, raw.is_blank(), sink) {
             Ok(()) => Ok(true),
             Err(fault) => Err(fault),
@@ -300,11 +301,13 @@ impl LintRun {
         Ok(())
     }
 
-    /// Tells the first fault, which a check has met at this line, and the others of the line.
+    /// Tells the first fault, which a check has met at this line, and the others of the line. The line before it stands beside it, where
+    /// that is held.
     fn take_first<W: Target>(
         &mut self,
         asked: &Asked<'_>,
         refusal: &Refusal,
+        before: Option<&[u8]>,
         raw: &RawLine,
         cut: &mut LineBuf,
         sink: &mut Sink<W>,
@@ -318,7 +321,7 @@ impl LintRun {
             (held_cut (held_raw raw.now))) W.contents result sink.old sink.new }
     {
         raw.cut_into(cut);
-        let shown = self.shown(raw, None);
+        let shown = self.shown(raw, before);
         match asked.put_fault(refusal, &shown, true, sink) {
             Ok(()) => {
                 let from = refusal.field.saturating_add(1);
@@ -333,6 +336,7 @@ impl LintRun {
         &mut self,
         asked: &Asked<'_>,
         refusal: &Refusal,
+        before: Option<&[u8]>,
         reader: &mut R,
         raw: RawLine,
         sink: &mut Sink<W>,
@@ -346,7 +350,7 @@ impl LintRun {
             (R.remaining reader.old)) W.contents result sink.old sink.new }
     {
         let mut cut = LineBuf::new();
-        match self.take_first(asked, refusal, &raw, &mut cut, sink) {
+        match self.take_first(asked, refusal, before, &raw, &mut cut, sink) {
             Ok(()) => self.take_rest(asked, reader, raw, &mut cut, sink),
             Err(fault) => Err(fault),
         }
@@ -357,6 +361,7 @@ impl LintRun {
         &mut self,
         asked: &Asked<'_>,
         refusal: &Refusal,
+        before: Option<&[u8]>,
         reader: &mut R,
         raw: RawLine,
         sink: &mut Sink<W>,
@@ -370,7 +375,7 @@ impl LintRun {
         ensures leaves { Leaves (TellsUpTo (asking_of asked.now) (walk_of self.old) refusal.now raw
             (R.remaining reader.old)) W.contents result sink.old sink.new }
     {
-        match self.tell_from(asked, refusal, reader, raw, sink) {
+        match self.tell_from(asked, refusal, before, reader, raw, sink) {
             Ok(()) => put_end(
                 self.state.over,
                 self.faults,
@@ -402,7 +407,10 @@ impl LintRun {
             sink.new }
     {
         match RawLine::of_last(&last.bytes, reader) {
-            Ok(raw) => self.tell_to_end(asked, refusal, reader, raw, sink),
+            Ok(raw) => {
+                let before = before_last(&last.bytes);
+                self.tell_to_end(asked, refusal, before, reader, raw, sink)
+            }
             Err(_) => Err(ToolFault::Reader),
         }
     }

@@ -38,7 +38,7 @@ pub(crate) struct Shown<'a> {
     /// The line as it was read.
     pub raw: &'a RawLine,
     /// The line before it, where that is held.
-    pub before: Option<&'a RawLine>,
+    pub before: Option<&'a [u8]>,
     /// How far the order had come before it, where that is known.
     pub stage: Option<Stage>,
 }
@@ -131,14 +131,6 @@ pub(crate) fn put_end<W: Target>(
     }
 }
 
-/// The bytes of a line, where it is held.
-fn bytes_of(line: Option<&RawLine>) -> Option<&[u8]> {
-    match line {
-        Some(line) => Some(line.as_slice()),
-        None => None,
-    }
-}
-
 impl Asked<'_> {
     /// Puts the lines that explain a fault of a line, where they are asked for. What is to be said of the whole line is said with its
     /// first one.
@@ -164,7 +156,7 @@ impl Asked<'_> {
             name,
             fault,
             line.raw.shown(),
-            bytes_of(line.before),
+            line.before,
             line.raw.is_too_long(),
             is_first,
             line.stage,
