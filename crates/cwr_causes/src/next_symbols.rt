@@ -1,13 +1,13 @@
 //! Which records may come next.
 
-ghost use Rattle.std.specs.Prelude.{◌≡◌, ◌↔◌, List, [], ◌∷◌, ◌++◌, IsTrue, IfOk, OnErr, OnOk};
+ghost use Rattle.std.specs.Prelude.{◌≡◌, ◌↔◌, List, [], ◌∷◌, ◌++◌, map, IsTrue, IfOk, OnErr, OnOk};
 ghost use Rattle.std.specs.List.{filter, list_any};
 ghost use Rattle.cwr_shape.specs.declared.symbols.Symbol.{Symbol};
 ghost use Rattle.cwr_shape.specs.Format.Outlines.{Continues};
 ghost use Rattle.cwr_shape.specs.Format.AnyTransmission.{Any};
 ghost use Rattle.cwr_shape.specs.Steps.Left.{StandsAt};
 ghost use Rattle.cwr_causes.specs.Steps.Coming.{AreComing, ComesAt, closes_at, comes, coming_at, inner_symbols, kind_comes, lets, lets_one, letting};
-ghost use Rattle.cwr_causes.specs.Steps.Coming.{letting_at, ordered_symbols, preceding_at, stages_in};
+ghost use Rattle.cwr_causes.specs.Steps.Coming.{letting_at, ordered_symbols, preceding_at, stages_in, work_steps};
 
 use cwr_fields::{Kind, Role, TransactionType, all_kinds};
 use cwr_shape::{Stage, Symbol, TransactionStep};
@@ -203,10 +203,41 @@ fn letting(alloc: Global, stages: &[Stage], kind: Kind) -> Result<Vec<Symbol>, A
     Ok(found)
 }
 
-/// Each stage in a group of the type.
-fn stages_in(ty: TransactionType) -> [Stage; 13]
-    ensures { result ≡ stages_in ty }
+/// Each stage in a group of agreements.
+fn stages_of_agreements() -> [Stage; 6]
+    ensures { result ≡ stages_in TransactionType.Agreement }
 {
+    let ty = TransactionType::Agreement;
+    [
+        Stage::Within(ty, TransactionStep::InGroup),
+        Stage::Within(ty, TransactionStep::Agreed),
+        Stage::Within(ty, TransactionStep::Territories),
+        Stage::Within(ty, TransactionStep::OneSide(Role::Assignor)),
+        Stage::Within(ty, TransactionStep::OneSide(Role::Acquirer)),
+        Stage::Within(ty, TransactionStep::Both),
+    ]
+}
+
+/// Each stage in a group of works of the type, new or revised.
+fn stages_of_works(ty: TransactionType) -> [Stage; 7]
+    ensures { result ≡ map (Stage.Within ty) (TransactionStep.InGroup ∷ work_steps) }
+{
+    [
+        Stage::Within(ty, TransactionStep::InGroup),
+        Stage::Within(ty, TransactionStep::Work),
+        Stage::Within(ty, TransactionStep::Controlled),
+        Stage::Within(ty, TransactionStep::Other),
+        Stage::Within(ty, TransactionStep::Writer),
+        Stage::Within(ty, TransactionStep::OtherWriter),
+        Stage::Within(ty, TransactionStep::Tail),
+    ]
+}
+
+/// Each stage in a group of acknowledgements, whose copies may be agreements and works.
+fn stages_of_acknowledgements() -> [Stage; 13]
+    ensures { result ≡ stages_in TransactionType.Acknowledgement }
+{
+    let ty = TransactionType::Acknowledgement;
     [
         Stage::Within(ty, TransactionStep::InGroup),
         Stage::Within(ty, TransactionStep::Acked),
@@ -222,6 +253,19 @@ fn stages_in(ty: TransactionType) -> [Stage; 13]
         Stage::Within(ty, TransactionStep::OtherWriter),
         Stage::Within(ty, TransactionStep::Tail),
     ]
+}
+
+/// The symbols that may come at a stage of a group of the type, and a record of the kind right after them.
+fn letting_in(alloc: Global, ty: TransactionType, kind: Kind) -> Result<Vec<Symbol>, AllocError>
+    ensures { IfOk result (λ found. found.items ≡ letting (stages_in ty) kind) }
+{
+    match ty {
+        TransactionType::Agreement => letting(alloc, &stages_of_agreements(), kind),
+        TransactionType::NewWork | TransactionType::RevisedWork => {
+            letting(alloc, &stages_of_works(ty), kind)
+        }
+        TransactionType::Acknowledgement => letting(alloc, &stages_of_acknowledgements(), kind),
+    }
 }
 
 /// The symbols that may come at the stage, if that is known, and a record of the kind right after them.
@@ -247,7 +291,7 @@ pub(crate) fn preceding_at(
     ensures { IfOk result (λ found. found.items ≡ preceding_at stage kind) }
 {
     match stage {
-        Some(Stage::Within(ty, _)) => letting(alloc, &stages_in(ty), kind),
+        Some(Stage::Within(ty, _)) => letting_in(alloc, ty, kind),
         _ => Ok(Vec::new(alloc)),
     }
 }

@@ -86,15 +86,25 @@ lets_one stages this_kind symbol = list_any (lets this_kind symbol) stages
 unfoldable pub letting : List Stage → Kind → List Symbol
 letting stages this_kind = filter (lets_one stages this_kind) ordered_symbols
 
--- each step of a group's transactions
-abbrev pub all_steps : List TransactionStep
-all_steps =
-    steps.InGroup ∷ steps.Acked ∷ steps.Agreed ∷ steps.Territories ∷ steps.OneSide roles.Assignor ∷ steps.OneSide roles.Acquirer
-    ∷ steps.Both ∷ steps.Work ∷ steps.Controlled ∷ steps.Other ∷ steps.Writer ∷ steps.OtherWriter ∷ steps.Tail ∷ []
+-- each step of an agreement, after its header
+abbrev pub agreement_steps : List TransactionStep
+agreement_steps =
+    steps.Agreed ∷ steps.Territories ∷ steps.OneSide roles.Assignor ∷ steps.OneSide roles.Acquirer ∷ steps.Both ∷ []
+
+-- each step of a work, after its header
+abbrev pub work_steps : List TransactionStep
+work_steps = steps.Work ∷ steps.Controlled ∷ steps.Other ∷ steps.Writer ∷ steps.OtherWriter ∷ steps.Tail ∷ []
+
+-- each step to which the transactions of a group of the type come; an acknowledgement's copy may be an agreement or a work
+abbrev pub steps_in : TransactionType → List TransactionStep
+steps_in types.Agreement = steps.InGroup ∷ agreement_steps
+steps_in types.NewWork = steps.InGroup ∷ work_steps
+steps_in types.RevisedWork = steps.InGroup ∷ work_steps
+steps_in types.Acknowledgement = steps.InGroup ∷ steps.Acked ∷ (agreement_steps ++ work_steps)
 
 -- each stage in a group of the type
 abbrev pub stages_in : TransactionType → List Stage
-stages_in ty = map (Within ty) all_steps
+stages_in ty = map (Within ty) (steps_in ty)
 
 -- the symbols after which a line of the kind may stand at the stage, if that is known
 abbrev pub letting_at : Option Stage → Kind → List Symbol
