@@ -23,6 +23,8 @@ DESCRIPTION
        the file is, but for `cwr acks --sent`.
 
        A word that begins with a hyphen is an option. After `--` it is a file.
+       In lines and messages a control character in a name, as a line feed, is
+       shown as `?`. In JSON and in tables a name stands as it is.
 
 COMMANDS
    cwr check [OPTIONS] [FILE]...
@@ -95,9 +97,21 @@ COMMANDS
        same: numbers whose check digits are wrong, chains of publishers
        without an original one, writers without territories, and more. Of each
        transaction it prints the findings as `cwr explain` does, and then the
-       advice, each with what to do. The verdict is last. Advice changes
-       neither it nor the status. Several files are told as `cwr check` tells
-       them. The rules are in docs/ADVICE.md of the repository.
+       advice, each with what to do. The verdict is last. Advice doesn't
+       change it, nor the status without `--fail-on`. Several files are told
+       as `cwr check` tells them. The rules are in docs/ADVICE.md of the
+       repository.
+
+       --quiet
+              Leaves out the verdict on what is good. Findings and advice are
+              printed all the same, so a file without any leaves no line. The
+              sums come, too, and with `--fail-on` or `--whole` the verdict
+              where the status is 1.
+
+       --fail-on LEVEL
+              Status 1 where a finding or advice has that level or a worse
+              one: F, R, T, G or E. With `--repeated` work numbers that stand
+              twice count, too.
 
        --repeated NUMBER
               Tells work numbers that stand in two works of a transmission,
@@ -112,9 +126,10 @@ COMMANDS
 
        -o OUT
               The file that is written. It is written as `OUT.part`, and gets
-              its name when the transmission is whole. Without it standard
-              output is written, and where the transmission isn't whole, a
-              line on standard error says at which record the data ends.
+              its name when the transmission is whole. Without it, or with
+              `-`, standard output is written, and where the transmission
+              isn't whole, a line on standard error says at which record the
+              data ends.
 
        --numbers
               Adds the notes `_group`, `_transaction` and `_line` to each
@@ -148,9 +163,10 @@ COMMANDS
 
        -o OUT
               The file that is written. It is written as `OUT.part`, and gets
-              its name when the transmission is whole. Without it standard
-              output is written, and where the transmission isn't whole, a
-              line on standard error says at which record the table ends.
+              its name when the transmission is whole. Without it, or with
+              `-`, standard output is written, and where the transmission
+              isn't whole, a line on standard error says at which record the
+              table ends.
 
    cwr acks [OPTIONS] [FILE]...
        Tells what became of each transaction that the acknowledgements in
@@ -226,8 +242,8 @@ COMMANDS
        -o OUT
               The file that is written. It is written as `OUT.part`, and gets
               its name when it is whole. Where it is the input, under whatever
-              name, nothing is written, and the status is 2. Without it
-              standard output is written.
+              name, nothing is written, and the status is 2. Without it, or
+              with `-`, standard output is written.
 
        --line NUMBER
               The most bytes of a line, 1 to 1000000000. Without it 64000000.
@@ -268,8 +284,9 @@ COMMANDS
        Joins the transmissions in the files FILE, of which there is one at
        least, to one in the file OUT, in their order, with their groups
        numbered anew. Where OUT is one of the inputs, under whatever name,
-       nothing is written, and the status is 2. It is written as `OUT.part`,
-       and gets its name when it is whole.
+       nothing is written, and the status is 2. So it is where OUT is `-`: a
+       join isn't written to standard output. It is written as `OUT.part`, and
+       gets its name when it is whole.
 
        The result has the header of the first transmission. Where another one
        has a sender of another type or ID, standard error says whose works now
@@ -302,10 +319,10 @@ COMMANDS
        with `cwr explain`. All else is refused as `cwr check` refuses it, and
        of findings standard error says what `cwr check` says there. The result
        is written in full width to the file OUT, as `OUT.part` until it is
-       whole, or to standard output, where a refusal leaves its first lines. A
-       file that is called OUT is replaced: the second name is never read.
-       Where OUT is the input, under whatever name, nothing is written, and
-       the status is 2.
+       whole, or without it or with `-` to standard output, where a refusal
+       leaves its first lines. A file that is called OUT is replaced: the
+       second name is never read. Where OUT is the input, under whatever name,
+       nothing is written, and the status is 2.
 
        A record that is missing stays missing, one that stands twice stays
        twice, and where a header is missing its records go to the work before.
@@ -566,7 +583,8 @@ EXIT STATUS
        3      A file, a device or memory failed. Standard error says which in
               a line that begins with `cwr: `, and on a second one why, with
               the bytes read or written before. A closed pipe is passed over
-              without a word.
+              without a word. A run that is started without standard input or
+              output fails where it needs that.
 
 FILES
        Where a file is replaced, by whatever command, a line on standard error

@@ -1,11 +1,11 @@
 //! The program between its words and its devices.
 
-ghost use Rattle.std.specs.Prelude.{◌≡◌, ◌≢◌, ◌≤◌, ◌||◌, [], map, option_map, true, false, None, IfOk, if◌then◌else◌};
+ghost use Rattle.std.specs.Prelude.{◌≡◌, ◌≢◌, ◌≤◌, [], map, option_map, true, false, None, IfOk, if◌then◌else◌};
 ghost use Rattle.std.specs.IoError.{error_kind};
 ghost use Rattle.std.specs.declared.io.ErrorKind.TheVariants.{OutOfMemory as lacks_memory};
 ghost use Rattle.clap.specs.Values.{kind_of};
-ghost use Rattle.cwr.specs.Format.Endings.{IsOfInput, StatusOnInput, fault_status, wanted_in};
-ghost use Rattle.cwr_reports.specs.Format.Endings.{EndsOnInput};
+ghost use Rattle.cwr.specs.Format.Endings.{IsOfInput, StatusOnInput, advice_of, fault_status, wanted_in};
+ghost use Rattle.cwr_reports.specs.Format.Endings.{EndsOnInput, advice_asked, advice_in};
 ghost use Rattle.cwr_files.specs.Format.Inputs.{are_standard, is_standard};
 ghost use Rattle.cwr.specs.Format.Tables.{table_of};
 ghost use Rattle.cwr_reports.specs.Steps.Looks.{tells_findings};
@@ -16,7 +16,10 @@ use cwr_acks::Form;
 use cwr_answers::{Answering, match_answers};
 use cwr_csv::Table;
 use cwr_endings::{Status, Wanted, refuse_out};
-use cwr_files::{DASH, Fault, Name, Pace, Progress, is_standard, open_input, print, tell_fault};
+use cwr_files::{
+    DASH, Fault, Name, Pace, Progress, ShellWord, is_standard, open_input, print, shown_name,
+    tell_fault,
+};
 use cwr_json::Encoding;
 use cwr_reports::{Asked, Telling, export, report_input, report_several, telling_of};
 use cwr_shape::Limits;
@@ -96,7 +99,7 @@ fn answer_words<E: Write + Drop>(mut error: E, answer: &clap::Error, file: Optio
     // What standard error doesn't take is lost.
     let _ = write!(error, "{answer}");
     if let Some(name) = file {
-        let _ = writeln!(error, "\nTo check that file: cwr check {name}");
+        let _ = writeln!(error, "\nTo check that file: cwr check {}", ShellWord(name));
     }
     Status::CommandLine
 }
@@ -179,7 +182,7 @@ fn report_file<'a, R: Files, I: Read + Drop, P: Pace, O: Write + Drop, E: Write>
 ) -> Result<Status, Fault<'a>>
     requires { tells_findings telling ≡ false → asked.now.wanted.fail_on ≡ None }
     ensures { is_standard (option_map (λ n. n.now) name.entry) ≡ true
-        → EndsOnInput asked.now.limits asked.now.wanted (I.remaining standard) result }
+        → EndsOnInput (advice_in telling.entry) asked.now.limits asked.now.wanted (I.remaining standard) result }
 {
     let input = open_input(rt, name, &mut Some(standard), pace)?;
     report_input(asked, telling, input, output, error)
@@ -199,7 +202,7 @@ fn write_data<'a, R: Files + AllocGlobal, I: Read + Drop, P: Pace, O: Write + Dr
 ) -> Result<Status, Fault<'a>>
     requires { tells_findings telling ≡ false → asked.now.wanted.fail_on ≡ None }
     ensures { is_standard (option_map (λ n. n.now) name.entry) ≡ true → out.entry ≡ None
-        → EndsOnInput asked.now.limits asked.now.wanted (I.remaining standard) result }
+        → EndsOnInput (advice_in telling.entry) asked.now.limits asked.now.wanted (I.remaining standard) result }
 {
     match out {
         Some(out) => export(rt, asked, telling, name, out, standard, pace, error),
@@ -236,16 +239,19 @@ fn judge<'a, R: Files + AllocGlobal, I: Read + Drop, P: Pace, O: Write + Drop, E
     output: O,
     error: &mut E,
 ) -> Result<Status, Fault<'a>>
-    requires { (asked.now.faults || asked.now.advised) ≡ true → asked.now.wanted.fail_on ≡ None }
+    requires { asked.now.faults ≡ true → asked.now.wanted.fail_on ≡ None }
     ensures { are_standard (map (λ name. name.now) names.now) ≡ true
-        → EndsOnInput asked.now.limits asked.now.wanted (I.remaining standard) result }
+        → EndsOnInput (advice_asked asked.now) asked.now.limits asked.now.wanted (I.remaining standard) result }
 {
     if names.len() > 1 {
         refuse_twice(names)?;
         return report_several(rt, asked, explained, names, standard, pace, output, error);
     }
     let name = names.first().copied();
-    let telling = telling_of(asked, explained, name.unwrap_or(DASH));
+    let Ok(shown) = shown_name(asked.alloc, name.unwrap_or(DASH)) else {
+        return Err(Fault::Memory);
+    };
+    let telling = telling_of(asked, explained, shown.as_str());
     report_file(rt, asked, telling, name, standard, pace, output, error)
 }
 
@@ -262,7 +268,7 @@ fn tell_acks<'a, R: Files + AllocGlobal, I: Read + Drop, P: Pace, O: Write + Dro
     requires { asked.now.wanted.fail_on ≡ None }
     ensures { are_standard (map (λ name. name.now) answering.now.files.now) ≡ true
         → answering.now.sent.now ≡ []
-        → EndsOnInput asked.now.limits asked.now.wanted (I.remaining standard) result }
+        → EndsOnInput None asked.now.limits asked.now.wanted (I.remaining standard) result }
 {
     if answering.sent.is_empty() && answering.files.len() < 2 {
         let telling = Telling::Answers(answering.form);
@@ -301,7 +307,7 @@ fn carry_out<'a, R: Files + AllocGlobal, I: Read + Drop, P: Pace, O: Write + Dro
     output: O,
     error: &mut E,
 ) -> Status
-    ensures { IsOfInput task.now.work → StatusOnInput task.now.limits
+    ensures { IsOfInput task.now.work → StatusOnInput (advice_of task.now.work) task.now.limits
         (wanted_in task.now.whole task.now.work) (I.remaining standard) result }
 {
     match perform(rt, task, standard, pace, output, error) {
@@ -319,7 +325,7 @@ fn perform<'a, R: Files + AllocGlobal, I: Read + Drop, P: Pace, O: Write + Drop,
     output: O,
     error: &mut E,
 ) -> Result<Status, Fault<'a>>
-    ensures { IsOfInput task.now.work → EndsOnInput task.now.limits
+    ensures { IsOfInput task.now.work → EndsOnInput (advice_of task.now.work) task.now.limits
         (wanted_in task.now.whole task.now.work) (I.remaining standard) result }
 {
     let mut asked = Asked {
@@ -354,10 +360,12 @@ fn perform<'a, R: Files + AllocGlobal, I: Read + Drop, P: Pace, O: Write + Drop,
             let names = files.as_slice();
             return judge(rt, &asked, *explained, names, standard, pace, output, error);
         }
-        Work::Advise { files, repeated } => {
+        Work::Advise { judging, repeated } => {
+            asked.wanted.fail_on = judging.fail_on;
+            asked.quiet = judging.quiet;
             asked.advised = true;
             asked.repeated = *repeated;
-            let names = files.as_slice();
+            let names = judging.files.as_slice();
             return judge(rt, &asked, false, names, standard, pace, output, error);
         }
         Work::Json {

@@ -14,3 +14,5 @@ pub mod SaidBefore
 pub mod WorksKept
 -- A report of advice before its first item, and what it knows after its last.
 pub mod Begun
+-- Whether something that is told has a level, among items as among each.
+pub mod LevelsTold

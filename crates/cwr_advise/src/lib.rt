@@ -7,6 +7,7 @@ mod item_advice;
 mod kept_works;
 mod repeats;
 mod running;
+mod worst;
 
 pub use item_advice::put_advised;
 pub use running::{advise, advise_up_to_fault};

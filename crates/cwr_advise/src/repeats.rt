@@ -7,7 +7,7 @@ ghost use Rattle.cwr_values.specs.declared.items.Item.{Item};
 ghost use Rattle.cwr_tools.specs.Steps.Counts.{IsCount};
 ghost use Rattle.cwr_advise.specs.declared.repeats.Place.{Place};
 ghost use Rattle.cwr_advise.specs.Format.RepeatedWorks.{keeps_number, place_of, repeated_in, work_header, works_in};
-ghost use Rattle.cwr_advise.specs.Steps.KeptWorks.{AreKeptOf, TellsRepeated, place_at, repeated_at};
+ghost use Rattle.cwr_advise.specs.Steps.KeptWorks.{AreKeptOf, FindsRepeated, TellsRepeated, place_at, repeated_at};
 ghost use Rattle.cwr_advice.specs.Format.Rules.{is_header};
 
 use cwr_fields::Kind;
@@ -192,6 +192,7 @@ impl Repeats {
         requires { counts.now.records ≤ 99999999 }
         ensures limit { self.new.limit ≡ self.old.limit }
         ensures told { IfOk result (TellsRepeated self.old counts.now item.now) }
+        ensures first { IfOk result (FindsRepeated self.old item.now) }
         ensures kept { (given : List Item) → IsCount counts.now given
             → AreKeptOf self.old (works_in given)
             → OnOk result (AreKeptOf self.new (works_in (given ++ item.now ∷ []))) }

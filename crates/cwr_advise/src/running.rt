@@ -1,11 +1,12 @@
 //! Whole runs over a text: the findings and the advice in each transaction, and the verdict.
 
-ghost use Rattle.std.specs.Prelude.{◌≡◌, [], true, IfOk, OnOk, IsSomeAnd};
+ghost use Rattle.std.specs.Prelude.{◌≡◌, [], true, IfOk, OnOk, IsSomeAnd, None};
 ghost use Rattle.std.specs.Io.KnownBytes.{GrowsBy};
 ghost use Rattle.cwr_tools.specs.Format.Reports.{CountsReaderFault, CountsWriterFault, ReportsText};
 ghost use Rattle.cwr_tools.specs.Format.Watching.{findings_with};
 ghost use Rattle.cwr_tools.specs.Steps.Reports.{Reports, StandsAfter};
 ghost use Rattle.cwr_tools.specs.Steps.Verdicts.{IsReadLast};
+ghost use Rattle.cwr_advise.specs.Format.AdviceLevels.{SeesTold};
 ghost use Rattle.cwr_advise.specs.Format.AdviceLines.{lines_advised, lines_of_advice, said_in};
 ghost use Rattle.cwr_advise.specs.Steps.AdvisedItems.{IsBefore};
 ghost use Rattle.cwr_advise.specs.Steps.KeptWorks.{AreKeptOf};
@@ -15,9 +16,10 @@ use crate::before::Before;
 use crate::item_advice::put_item;
 use crate::kept_works::AdvisedSums;
 use crate::repeats::Repeats;
+use crate::worst::Worst;
 use cwr_advice::Said;
 use cwr_devices::{Sink, SinkFault, Source, Target};
-use cwr_shape::Limits;
+use cwr_shape::{Level, Limits};
 use cwr_tools::{
     CheckedFront, Report, ToolFault, Totals, Verdict, put_unrefused_line, put_verdict_line,
     write_report,
@@ -38,6 +40,8 @@ struct AdviceLines {
     repeats: Repeats,
     /// The findings that were told. It stays at `u64::MAX`.
     findings: u64,
+    /// The worst level of all that was told.
+    worst: Worst,
     /// In which lines of advice are made.
     text: AdviceText,
 }
@@ -51,6 +55,7 @@ impl AdviceLines {
         ensures before { IsBefore result.before [] }
         ensures works { AreKeptOf result.repeats [] }
         ensures none { result.findings ≡ 0 }
+        ensures untold { result.worst.level ≡ None }
     {
         AdviceLines {
             explained,
@@ -58,22 +63,25 @@ impl AdviceLines {
             before: Before::nothing(),
             repeats: Repeats::new(alloc, repeated),
             findings: 0,
+            worst: Worst::nothing(),
             text: AdviceText::new(),
         }
     }
 }
 
 impl Report for AdviceLines {
-    ghost use Rattle.std.specs.Prelude.{◌≡◌};
+    ghost use Rattle.std.specs.Prelude.{◌≡◌, Option};
+    ghost use Rattle.cwr_shape.specs.declared.reasons.Level.{Level};
+    ghost use Rattle.cwr_advise.specs.Format.AdviceLevels.{any_reaches};
     ghost use Rattle.cwr_advise.specs.Format.AdviceLines.{lines_advised};
     ghost use Rattle.cwr_advise.specs.Format.RepeatedWorks.{works_in};
     ghost use Rattle.cwr_advise.specs.Steps.AdvisedItems.{IsBefore};
     ghost use Rattle.cwr_advise.specs.Steps.KeptWorks.{AreKeptOf};
-    ghost use Rattle.cwr_tools.specs.Format.Watching.{findings_with};
+    ghost use Rattle.cwr_tools.specs.Format.Watching.{findings_with, is_reached};
 
     type Works = AdvisedSums;
 
-    ghost stands = { λ report of given. (of ≡ lines_advised report.explained report.up_to_fault report.repeats.limit) × IsBefore report.before given × AreKeptOf report.repeats (works_in given) × (report.findings ≡ findings_with 0 given) };
+    ghost stands = { λ report of given. (of ≡ lines_advised report.explained report.up_to_fault report.repeats.limit) × IsBefore report.before given × AreKeptOf report.repeats (works_in given) × (report.findings ≡ findings_with 0 given) × ((asked : Option Level) → is_reached asked report.worst.level ≡ any_reaches report.repeats.limit asked given) };
 
     fn works(&self) -> AdvisedSums {
         AdvisedSums::new()
@@ -108,6 +116,7 @@ impl Report for AdviceLines {
             item,
             &repeated,
             &mut self.findings,
+            &mut self.worst,
             &mut self.text,
             sink,
         )?;
@@ -131,7 +140,8 @@ impl Report for AdviceLines {
 /// out, with what explains them, and after them the advice on it, and at the end the line of the verdict. The writer comes back.
 ///
 /// The numbers of the first `repeated` works are kept, and each work with such a number is told. The first work beyond is told too: from
-/// there on works are compared with those that are kept alone.
+/// there on works are compared with those that are kept alone. Beside its answer comes the worst level of all that is told: of findings,
+/// of advice, and of such works.
 ///
 /// The verdict and the faults are those of a check: advice changes nothing. It answers `ToolFault::Memory` where memory for a
 /// transaction, for its findings, for the advice on it or for its number was refused. It holds one transaction, the advice on it, and
@@ -142,13 +152,16 @@ pub fn advise<R: Source, W: Target + Drop>(
     repeated: u32,
     reader: &mut R,
     writer: W,
-) -> (W, Result<Verdict, ToolFault>)
+) -> (W, Result<Verdict, ToolFault>, Option<Level>)
     // Of any reader, by what was read of it.
     ensures reported { Reports (lines_of_advice repeated) limits (R.remaining reader.old)
         (R.remaining reader.new) W.contents writer result.0 result.1 }
     // Of bytes that are known, in the words of the text alone.
     ensures told { ReportsText (lines_of_advice repeated) limits (R.remaining reader.old)
         (R.remaining reader.new) W.contents writer result.0 result.1 }
+    // Where the text is accepted, the worst level is that of what is told of its transmission.
+    ensures seen { OnOk result.1 (SeesTold (lines_of_advice repeated) limits
+        (R.remaining reader.old) result.2) }
     // No failure is passed over: a device failed only where that is the answer.
     ensures reader_failures { CountsReaderFault result.1 (R.failures reader.old)
         (R.failures reader.new) }
@@ -158,7 +171,7 @@ pub fn advise<R: Source, W: Target + Drop>(
 {
     let mut lines = AdviceLines::new(alloc, true, false, repeated);
     let (writer, outcome, _) = write_report(&mut lines, false, alloc, limits, reader, writer);
-    (writer, outcome)
+    (writer, outcome, lines.worst.level)
 }
 
 /// Advises on a transmission as `advise` does, with what explains its findings or without, and writes what that writes, but no line of a

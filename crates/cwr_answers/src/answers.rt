@@ -10,8 +10,8 @@ use cwr_endings::{
     Judgement, Status, Sums, Wanted, judgement_of, look_after, tell_following, tell_verdict,
 };
 use cwr_files::{
-    Fault, FileLines, Input, Name, Pace, Told, gathered, is_standard, open_input, shown_name,
-    tell_fault, told_of,
+    Fault, FileLines, Input, Name, Pace, Passing, Told, gathered, input_name, is_standard,
+    open_input, shown_name, tell_fault, told_of,
 };
 use cwr_sent::{Sent, read_sent};
 use cwr_shape::Limits;
@@ -101,16 +101,21 @@ fn delivery_of<'a, R: Files + AllocGlobal, I: Read + Drop, P: Pace, E: Write>(
     Ok(Ok(Some(delivery)))
 }
 
+/// The name of an input as it is told in that form: as a line shows it, or as it is in JSON.
+fn told_name(alloc: Global, form: Form, word: &str) -> Result<Vec<u8>, Fault<'static>> {
+    let told = match form {
+        Form::Words => shown_name(alloc, word).map(|shown| shown.into_bytes()),
+        Form::Json => cwr_acks::shown_name(alloc, form, input_name(word)),
+    };
+    told.map_err(|_| Fault::Memory)
+}
+
 /// The names of what was sent as they are told, where there are several; else none.
 fn names_told(answering: &Answering<'_, '_>) -> Result<Vec<Vec<u8>>, Fault<'static>> {
     let mut names = Vec::new(answering.alloc);
     if answering.sent.len() > 1 {
         for name in answering.sent {
-            let told = cwr_acks::shown_name(
-                answering.alloc,
-                answering.form,
-                shown_name(name),
-            ).map_err(|_| Fault::Memory)?;
+            let told = told_name(answering.alloc, answering.form, name)?;
             names.push(told).map_err(|_| Fault::Memory)?;
         }
     }
@@ -157,7 +162,7 @@ fn read_input<'a, F: Read + Drop, I: Read + Drop, P: Pace + Drop, W: Target + Dr
         answers,
     } = reading;
     let mut reader = ReadAhead::new(input);
-    let lines = FileLines::new(lines, before_each, false);
+    let lines = FileLines::new(lines, before_each, Passing::All);
     let (lines, delivery, more, outcome) = acks(
         answering.alloc,
         answering.limits,
@@ -240,13 +245,15 @@ fn read_several<'a, R: Files, I: Read + Drop, P: Pace, W: Target + Drop, E: Writ
                 continue;
             }
         };
-        let shown = shown_name(name);
-        let Ok(file) = cwr_acks::shown_name(answering.alloc, answering.form, shown) else {
+        let (Ok(shown), Ok(file)) = (
+            shown_name(answering.alloc, name),
+            told_name(answering.alloc, answering.form, name),
+        ) else {
             return (reading, Err(Stop::Fault(Fault::Memory)));
         };
         let manner = manner_among(answering.form, file.as_slice(), names);
         let before_each = match answering.form {
-            Form::Words => Some(shown),
+            Form::Words => Some(shown.as_str()),
             Form::Json => None,
         };
         let (after, judged, told) = read_input(answering, manner, before_each, input, reading);
@@ -389,7 +396,7 @@ fn names_of_rows(
 ) -> Result<Vec<Vec<u8>>, Fault<'static>> {
     let mut names = Vec::new(alloc);
     for name in sent {
-        let told = cwr_state_rows::shown_name(alloc, form, shown_name(name)).map_err(
+        let told = cwr_state_rows::shown_name(alloc, form, input_name(name)).map_err(
             |_| Fault::Memory,
         )?;
         names.push(told).map_err(|_| Fault::Memory)?;

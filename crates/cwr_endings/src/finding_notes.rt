@@ -1,7 +1,8 @@
 //! What findings beside a good verdict mean, told on standard error. What that doesn't take is lost.
 
 use crate::endings::Status;
-use cwr_files::Name;
+use crate::joins::name_of;
+use cwr_files::{Name, ShellWord};
 use cwr_shape::Level;
 use cwr_tools::{FindingCount, Verdict};
 use std::io;
@@ -60,6 +61,15 @@ fn put_count<E: Write>(
     write!(error, ": such a {} is usually rejected", rejected_by(worst))
 }
 
+/// Begins to write how to learn more of a transmission's findings.
+fn put_explain<E: Write>(error: &mut E, name: Name<'_>) -> io::Result<()> {
+    write!(error, " (cwr explain")?;
+    if let Name::File(file) = name {
+        write!(error, " {}", ShellWord(file))?;
+    }
+    Ok(())
+}
+
 /// Writes the same, and how to learn more; where the status is that of a good transmission, how it becomes another one.
 fn put_findings<E: Write>(
     error: &mut E,
@@ -69,10 +79,7 @@ fn put_findings<E: Write>(
     status: Status,
 ) -> io::Result<()> {
     put_count(error, name, findings, worst)?;
-    write!(error, " (cwr explain")?;
-    if let Name::File(file) = name {
-        write!(error, " {file}")?;
-    }
+    put_explain(error, name)?;
     if status == Status::Good {
         write!(error, "; --fail-on {worst} makes it the status")?;
     }
@@ -96,5 +103,34 @@ pub fn tell_unwritten<E: Write>(error: &mut E, name: Name<'_>, count: &FindingCo
     if let Some(worst) = count.worst {
         let _ = put_count(error, name, count.findings, worst);
         let _ = writeln!(error, ", so it is not written");
+    }
+}
+
+/// Writes that the file of that name wasn't written since a finding is unwanted, and which input to explain.
+fn put_unjoined<E: Write>(
+    error: &mut E,
+    name: Name<'_>,
+    findings: u64,
+    worst: Level,
+    input: Option<&str>,
+) -> io::Result<()> {
+    put_count(error, name, findings, worst)?;
+    write!(error, ", so it is not written")?;
+    if let Some(word) = input {
+        put_explain(error, name_of(word))?;
+        write!(error, ")")?;
+    }
+    writeln!(error)
+}
+
+/// Tells the same of a join, whose first finding of the worst level is in the input that the word names.
+pub fn tell_unjoined<E: Write>(
+    error: &mut E,
+    name: Name<'_>,
+    count: &FindingCount,
+    input: Option<&str>,
+) {
+    if let Some(worst) = count.worst {
+        let _ = put_unjoined(error, name, count.findings, worst, input);
     }
 }

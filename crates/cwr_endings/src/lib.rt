@@ -11,7 +11,9 @@ mod written;
 pub use endings::{
     Look, Status, Wanted, ended_by, follows, good_status, settle, status_by, status_of,
 };
-pub use finding_notes::{tell_findings, tell_profile, tell_unwritten, worse_level, worst_level};
+pub use finding_notes::{
+    tell_findings, tell_profile, tell_unjoined, tell_unwritten, worse_level, worst_level,
+};
 pub use judgements::{Judgement, judgement_of, look_after, tell_verdict};
 pub use looks::{look_beyond, tell_following};
 pub use sums::Sums;

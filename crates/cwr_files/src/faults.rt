@@ -2,6 +2,7 @@
 
 ghost use Rattle.std.specs.Prelude.{◌≡◌};
 
+use crate::shown_names::Shown;
 use std::fmt::{Display, Formatter};
 use std::{fmt, io};
 use thiserror::Error;
@@ -22,13 +23,15 @@ pub enum Name<'a> {
     Part(&'a str, u32),
 }
 
+// A control character in a name is shown as `?`, and an empty name as quotes.
 impl Display for Name<'_> {
     fn fmt<W: fmt::Write>(&self, f: &mut Formatter<W>) -> fmt::Result {
         match self {
-            Name::File(name) => write!(f, "{name}"),
+            Name::File("") => f.write_str("''"),
+            Name::File(name) => Shown(name).fmt(f),
             Name::StandardInput => f.write_str(STANDARD_INPUT),
             Name::StandardOutput => f.write_str("standard output"),
-            Name::Part(prefix, number) => write!(f, "{prefix}{number:08}"),
+            Name::Part(prefix, number) => write!(f, "{}{number:08}", Shown(prefix)),
         }
     }
 }

@@ -20,13 +20,23 @@ enum LinePart {
     LeftOut,
 }
 
-/// Lines on a file, each with its name before it if there is one. Where they are quiet, those before the verdict or the first fault are
-/// left out, and so is the verdict on what is good.
+/// Which lines on a file are passed on.
+#[derive(Clone, Copy, Debug, PartialEq, Eq)]
+pub enum Passing {
+    /// All.
+    All,
+    /// Those from the verdict or the first fault on, where the file isn't good.
+    Bad,
+    /// Those that aren't the verdict on what is good.
+    Told,
+}
+
+/// Lines on a file, each with its name before it if there is one.
 #[derive(Drop)]
 pub struct FileLines<'a, W> {
     lines: W,
     name: Option<&'a str>,
-    quiet: bool,
+    passing: Passing,
     part: LinePart,
     handed_on: bool,
     failures: u64,
@@ -47,6 +57,30 @@ fn begins_badly(text: &[u8]) -> bool {
     matches!(text, [b'R' | b'T', ..] | [b'F', b'A', ..])
 }
 
+/// Whether a text begins with the verdict on what is good. No other line begins with its letter.
+fn begins_well(text: &[u8]) -> bool {
+    matches!(text, [b'G', ..])
+}
+
+impl Passing {
+    /// Whether the line at the front of a text is passed on.
+    fn passes(self, text: &[u8]) -> bool {
+        match self {
+            Passing::All => true,
+            Passing::Bad => begins_badly(text),
+            Passing::Told => !begins_well(text),
+        }
+    }
+
+    /// Which lines are passed on after one that was.
+    fn after(self) -> Passing {
+        match self {
+            Passing::All | Passing::Bad => Passing::All,
+            Passing::Told => Passing::Told,
+        }
+    }
+}
+
 /// How many bytes the first line of a text has, with its line feed: all of them where it has none.
 fn first_line(text: &[u8]) -> usize
     ensures most { result ≤ length text.now }
@@ -60,11 +94,11 @@ fn first_line(text: &[u8]) -> usize
 
 impl<'a, W> FileLines<'a, W> {
     /// Lines that stand at the start of one.
-    pub fn new(lines: W, name: Option<&'a str>, quiet: bool) -> FileLines<'a, W> {
+    pub fn new(lines: W, name: Option<&'a str>, passing: Passing) -> FileLines<'a, W> {
         FileLines {
             lines,
             name,
-            quiet,
+            passing,
             part: LinePart::Start,
             handed_on: true,
             failures: 0,
@@ -78,16 +112,16 @@ impl<'a, W> FileLines<'a, W> {
 }
 
 impl<W: Target> FileLines<'_, W> {
-    /// Begins the line at the front of a text: its name is written, or it is left out. From a line on what isn't good on, all are passed on.
+    /// Begins the line at the front of a text: its name is written, or it is left out.
     fn begin(&mut self, text: &[u8]) -> Result<(), DeviceFault>
         ensures failures { self.new.failures ≡ self.old.failures }
         ensures handed_on { self.new.handed_on ≡ self.old.handed_on }
     {
-        if self.quiet && !begins_badly(text) {
+        if !self.passing.passes(text) {
             self.part = LinePart::LeftOut;
             return Ok(());
         }
-        self.quiet = false;
+        self.passing = self.passing.after();
         if let Some(name) = self.name {
             write_whole(&mut self.lines, name.as_bytes())?;
             write_whole(&mut self.lines, b": ")?;

@@ -5,7 +5,7 @@ ghost use Rattle.cwr_files.specs.Format.Faults.{IfErr, IsUnopened};
 ghost use Rattle.cwr_files.specs.Format.Inputs.{is_standard};
 ghost use Rattle.cwr_files.specs.Steps.Inputs.{HasLeft, remaining_of};
 
-use crate::faults::{Fault, Name, Reason, STANDARD_INPUT, Told};
+use crate::faults::{Fault, Name, Reason, Told};
 use crate::progress::Pace;
 use crate::same_files::size_of;
 use std::fs::File;
@@ -75,11 +75,6 @@ pub fn is_standard(name: Option<&str>) -> bool
         None => true,
         Some(name) => name == DASH,
     }
-}
-
-/// What an input is called in lines.
-pub fn shown_name(word: &str) -> &str {
-    if word == DASH { STANDARD_INPUT } else { word }
 }
 
 /// The input of that name: a file, or standard input, which is there once.

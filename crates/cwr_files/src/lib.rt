@@ -9,15 +9,17 @@ mod new_files;
 mod outputs;
 mod progress;
 mod same_files;
+mod shown_names;
 mod stamps;
 
 pub use faults::{Fault, Name, Reason, Told, tell_fault};
-pub use file_lines::FileLines;
-pub use inputs::{DASH, Input, is_standard, open_input, shown_name};
+pub use file_lines::{FileLines, Passing};
+pub use inputs::{DASH, Input, is_standard, open_input};
 pub use new_files::{NewFile, NumberedFiles, create_output};
 pub use outputs::{Gathered, Output, gathered, print, told_of};
 pub use progress::{Pace, Paced, Progress, Unwatched};
 pub use same_files::{
     Identity, identity_of, identity_of_input, is_there, part_number, part_that_is,
 };
+pub use shown_names::{ShellWord, Shown, input_name, shown_name};
 pub use stamps::Stamped;

@@ -75,12 +75,17 @@ impl NewFile {
         Ok((NewFile { name, part }, file))
     }
 
-    /// Gives the file its name, now that it is whole. A file that had the name before is replaced.
+    /// Gives the file its name, now that it is whole. A file that had the name before is replaced. Where it can't have the name it is
+    /// removed.
     pub fn keep<R: Files>(self, rt: &R) -> io::Result<()> {
-        match &self.part {
-            None => Ok(()),
-            Some(part) => rt.rename(part.as_str(), self.name.as_str()),
+        let Some(part) = &self.part else {
+            return Ok(());
+        };
+        let kept = rt.rename(part.as_str(), self.name.as_str());
+        if kept.is_err() {
+            let _ = rt.remove_file(part.as_str());
         }
+        kept
     }
 
     /// Gives the file its name as `keep` does, and answers whether a file was replaced. Where it fails, what it is called is told.
@@ -124,7 +129,7 @@ impl NewFile {
     }
 }
 
-/// Makes the file that a transmission is written to.
+/// Makes the file that a transmission is written to. None has an empty name.
 pub fn create_output<'a, R: Files>(
     rt: &R,
     alloc: Global,
@@ -132,6 +137,10 @@ pub fn create_output<'a, R: Files>(
 ) -> Result<(NewFile, R::File), Fault<'a>>
     ensures { IfErr result (IsUnmade (Name.File out.entry)) }
 {
+    if out.is_empty() {
+        let reason = Reason::kind(io::ErrorKind::NotFound);
+        return Err(Fault::Open(Name::File(out), Some(reason)));
+    }
     let Ok(name) = out.to_string(alloc) else {
         return Err(Fault::Memory);
     };

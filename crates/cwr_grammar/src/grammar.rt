@@ -298,7 +298,7 @@ const TEXTS: Word = Word {
 const WRITTEN: Word = Word {
     id: OUT,
     form: Form::Letter('o'),
-    help: "The file that is written; without it standard output is",
+    help: "The file that is written; without it standard output is, as it is for -",
 };
 
 /// The flag that wants no file replaced.
@@ -366,7 +366,20 @@ const LINTED: [Word; 4] = [
 ];
 
 /// The words of advice.
-const ADVISED: [Word; 2] = [REPEATS, MANY];
+const ADVISED: [Word; 4] = [
+    Word {
+        id: FAIL_ON,
+        form: Form::Level,
+        help: "Status 1 where a finding or advice has that level or a worse one; F is the least, E the worst",
+    },
+    Word {
+        id: QUIET,
+        form: Form::Flag,
+        help: "Prints findings and advice, and no verdict on what is good",
+    },
+    REPEATS,
+    MANY,
+];
 
 /// The words of the export.
 const EXPORTED: [Word; 4] = [
@@ -484,7 +497,11 @@ const PARTED: [Word; 7] = [
 
 /// The words of a join.
 const JOINED: [Word; 7] = [
-    FAILS,
+    Word {
+        id: FAIL_ON,
+        form: Form::Level,
+        help: "Nothing is written, and status 1, where a finding has that level or a worse one; F is the least, E the worst",
+    },
     KEEPS,
     Word {
         id: SAME_SENDER,
@@ -524,7 +541,7 @@ const RENUMBERED: [Word; 5] = [
     Word {
         id: OUT,
         form: Form::File,
-        help: "The file that the result is written to; without it that is standard output",
+        help: "The file that the result is written to; without it that is standard output, as for -",
     },
     Word {
         id: INTO,

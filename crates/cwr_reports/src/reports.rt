@@ -5,11 +5,11 @@ ghost use Rattle.cwr_acks.specs.Format.AckLines.{lines_of_acks};
 ghost use Rattle.cwr_tools.specs.Format.Reports.{CountsReaderFault, CountsWriterFault, ReportsText};
 ghost use Rattle.cwr_tools.specs.Steps.Reports.{Reports};
 ghost use Rattle.cwr_tools.specs.Format.Verdicts.{JudgesText};
-ghost use Rattle.cwr_tools.specs.Format.Watching.{SeesAccepted};
-ghost use Rattle.cwr_reports.specs.Format.Endings.{EndsOnInput};
+ghost use Rattle.cwr_tools.specs.Format.Watching.{is_reached};
+ghost use Rattle.cwr_reports.specs.Format.Endings.{EndsOnInput, advice_asked, advice_in};
 ghost use Rattle.cwr_files.specs.Steps.Inputs.{remaining_of};
 ghost use Rattle.cwr_reports.specs.Steps.Tellings.{CountsFindings, CountsInput, CountsReading, CountsWriting, TellsText, telling_alone};
-ghost use Rattle.cwr_reports.specs.Steps.Looks.{JudgesOn, LooksAfter, look_of, tells_findings};
+ghost use Rattle.cwr_reports.specs.Steps.Looks.{JudgesOn, LooksAfter, SeesCounted, look_of, tells_findings};
 
 use crate::exports::tell_cut;
 use cwr_acks::{Form, Manner, acks};
@@ -22,9 +22,7 @@ use cwr_endings::{
     tell_profile, tell_verdict, worst_level,
 };
 use cwr_explain::explain;
-use cwr_files::{
-    Fault, FileLines, Gathered, Input, Name, Pace, Told, gathered, shown_name, told_of,
-};
+use cwr_files::{Fault, FileLines, Gathered, Input, Name, Pace, Passing, Told, gathered, told_of};
 use cwr_json::Encoding;
 use cwr_lint::lint;
 use cwr_shape::{Level, Limits, Reason};
@@ -63,11 +61,11 @@ pub enum Telling<'a> {
     Advice(u32),
 }
 
-/// What is told of an input that is judged, where it is explained too.
-pub fn telling_of<'a>(asked: &Asked, explained: bool, word: &'a str) -> Telling<'a>
-    ensures { tells_findings result ≡ not (asked.now.faults || asked.now.advised) }
+/// What is told of an input that is judged and is called so in lines, where it is explained too.
+pub fn telling_of<'a>(asked: &Asked, explained: bool, name: &'a str) -> Telling<'a>
+    ensures findings { tells_findings result ≡ not asked.now.faults }
+    ensures advice { advice_in result ≡ advice_asked asked.now }
 {
-    let name = shown_name(word);
     match (asked.faults, asked.advised, explained) {
         (true, advised, _) => Telling::Faults {
             name: explained.then_some(name),
@@ -85,7 +83,7 @@ pub struct Asked {
     pub alloc: Global,
     pub limits: Limits,
     pub wanted: Wanted,
-    /// Nothing is written of what is good.
+    /// Nothing is written of what is good; but where advice is asked for, only the verdict isn't.
     pub quiet: bool,
     /// Every fault is told.
     pub faults: bool,
@@ -93,6 +91,17 @@ pub struct Asked {
     pub advised: bool,
     /// For that the numbers of so many works are kept.
     pub repeated: u32,
+}
+
+impl Asked {
+    /// Which of the lines that are told are written. Who asks for advice wants what stands before a good verdict.
+    pub(crate) fn passing(&self) -> Passing {
+        match (self.quiet, self.advised && !self.faults) {
+            (false, _) => Passing::All,
+            (true, true) => Passing::Told,
+            (true, false) => Passing::Bad,
+        }
+    }
 }
 
 /// What was found after a transmission, if that was looked for.
@@ -131,6 +140,15 @@ fn acks_alone<R: Source, W: Target + Drop>(
     (writer, outcome)
 }
 
+/// Notes whether the worst level of all that was told is the one that is watched for, or a worse one.
+fn note_worst(watch: &mut Watch, worst: Option<Level>)
+    ensures { watch.new
+        ≡ record watch.old { found = watch.old.found || is_reached watch.old.from worst } }
+{
+    let told = FindingCount { findings: 0, worst };
+    watch.found = watch.found || told.reaches(watch.from);
+}
+
 /// Reads a transmission, writes what is told of it, and looks what stands after it. The writer comes back, and how many
 /// findings were told, where these are all that is.
 fn tell<R: Source, W: Target + Drop>(
@@ -143,7 +161,8 @@ fn tell<R: Source, W: Target + Drop>(
 ) -> (W, Result<Verdict, ToolFault>, Look, FindingCount)
     requires { tells_findings telling ≡ false → watch.old.from ≡ None }
     ensures judged { JudgesText limits (R.remaining reader.old) result.1 }
-    ensures seen { OnOk result.1 (SeesAccepted limits (R.remaining reader.old) watch.old watch.new) }
+    ensures seen { OnOk result.1
+        (SeesCounted (advice_in telling.entry) limits (R.remaining reader.old) watch.old watch.new) }
     ensures looks { OnOk result.1 (LooksAfter limits (R.remaining reader.old) result.2) }
     ensures counted { OnOk result.1
         (CountsFindings telling.entry limits (R.remaining reader.old) result.3) }
@@ -194,7 +213,8 @@ fn tell<R: Source, W: Target + Drop>(
             (writer, outcome, look, FindingCount::new())
         }
         Telling::Advice(repeated) => {
-            let (writer, outcome) = advise(alloc, limits, repeated, reader, writer);
+            let (writer, outcome, worst) = advise(alloc, limits, repeated, reader, writer);
+            note_worst(watch, worst);
             let look = look_after(reader, &outcome);
             (writer, outcome, look, FindingCount::new())
         }
@@ -209,7 +229,8 @@ fn judge_source<R: Source, W: Target + Drop>(
     writer: W,
 ) -> (W, Result<Judgement, ToolFault>, FindingCount)
     requires { tells_findings telling ≡ false → asked.now.wanted.fail_on ≡ None }
-    ensures judges { JudgesOn asked.now.limits asked.now.wanted (R.remaining reader.old) result.1 }
+    ensures judges { JudgesOn (advice_in telling.entry) asked.now.limits asked.now.wanted
+        (R.remaining reader.old) result.1 }
     ensures counted { OnOk result.1
         (CountsFindings telling.entry asked.now.limits (R.remaining reader.old) result.2) }
     ensures told { IfOk result.1 (λ judgement. TellsText telling.entry asked.now.limits
@@ -241,7 +262,7 @@ pub(crate) fn judge_input<'a, F: Read + Drop, I: Read + Drop, P: Pace + Drop, W:
     writer: W,
 ) -> (W, Result<Judgement, ToolFault>, Told<'a>, FindingCount)
     requires { tells_findings telling ≡ false → asked.now.wanted.fail_on ≡ None }
-    ensures judges { JudgesOn asked.now.limits asked.now.wanted
+    ensures judges { JudgesOn (advice_in telling.entry) asked.now.limits asked.now.wanted
         (remaining_of F.remaining I.remaining input.entry) result.1 }
     ensures counted { OnOk result.1 (CountsFindings telling.entry asked.now.limits
         (remaining_of F.remaining I.remaining input.entry) result.3) }
@@ -325,11 +346,11 @@ fn lines_on<'a, F: Read + Drop, I: Read + Drop, P: Pace + Drop, O: Write + Drop>
     FindingCount,
 )
     requires { tells_findings telling ≡ false → asked.now.wanted.fail_on ≡ None }
-    ensures { JudgesOn asked.now.limits asked.now.wanted
+    ensures { JudgesOn (advice_in telling.entry) asked.now.limits asked.now.wanted
         (remaining_of F.remaining I.remaining input.entry) result.1 }
 {
     if asked.quiet {
-        let lines = FileLines::new(lines, None, true);
+        let lines = FileLines::new(lines, None, asked.passing());
         let (lines, judged, told, count) = judge_input(asked, telling, input, lines);
         (lines.into_inner(), judged, told, count)
     } else {
@@ -346,7 +367,7 @@ pub fn report_input<'a, F: Read + Drop, I: Read + Drop, P: Pace + Drop, O: Write
     error: &mut E,
 ) -> Result<Status, Fault<'a>>
     requires { tells_findings telling ≡ false → asked.now.wanted.fail_on ≡ None }
-    ensures { EndsOnInput asked.now.limits asked.now.wanted
+    ensures { EndsOnInput (advice_in telling.entry) asked.now.limits asked.now.wanted
         (remaining_of F.remaining I.remaining input.entry) result }
 {
     let lines = match gathered(asked.alloc, output, Name::StandardOutput) {

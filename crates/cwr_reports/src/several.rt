@@ -1,12 +1,13 @@
 //! Several files that are judged one after another.
 
-ghost use Rattle.std.specs.Prelude.{◌≡◌, ◌||◌, true, None};
+ghost use Rattle.std.specs.Prelude.{◌≡◌, true, None};
 
 use crate::reports::{Asked, judge_input, put_unwanted, rejected_level, tell_aside, telling_of};
 use cwr_devices::{Sink, Target};
 use cwr_endings::{Status, Sums, tell_profile, worse_level};
 use cwr_files::{
-    Fault, FileLines, Gathered, Name, Pace, gathered, open_input, shown_name, tell_fault, told_of,
+    Fault, FileLines, Gathered, Name, Pace, Passing, gathered, open_input, shown_name, tell_fault,
+    told_of,
 };
 use cwr_tools::ToolFault;
 use std::alloc::Global;
@@ -25,7 +26,7 @@ pub fn report_several<'a, R: Files, I: Read + Drop, P: Pace, O: Write + Drop, E:
     output: O,
     error: &mut E,
 ) -> Result<Status, Fault<'a>>
-    requires { (asked.now.faults || asked.now.advised) ≡ true → asked.now.wanted.fail_on ≡ None }
+    requires { asked.now.faults ≡ true → asked.now.wanted.fail_on ≡ None }
 {
     let mut lines = match gathered(asked.alloc, output, Name::StandardOutput) {
         Ok(lines) => lines,
@@ -43,15 +44,19 @@ pub fn report_several<'a, R: Files, I: Read + Drop, P: Pace, O: Write + Drop, E:
                 continue;
             }
         };
-        let telling = telling_of(asked, explained, name);
-        let marked = FileLines::new(lines, Some(shown_name(name)), asked.quiet);
+        let Ok(shown) = shown_name(asked.alloc, name) else {
+            return Err(Fault::Memory);
+        };
+        let shown = shown.as_str();
+        let telling = telling_of(asked, explained, shown);
+        let marked = FileLines::new(lines, Some(shown), asked.passing());
         let (marked, judged, told, count) = judge_input(asked, telling, input, marked);
         match judged {
             Ok(judgement) => {
                 sums.count(&judgement);
-                let unquiet = FileLines::new(marked.into_inner(), Some(shown_name(name)), false);
-                let (unquiet, put) = put_unwanted(asked.quiet, &judgement, unquiet);
-                lines = unquiet.into_inner();
+                let whole = FileLines::new(marked.into_inner(), Some(shown), Passing::All);
+                let (whole, put) = put_unwanted(asked.quiet, &judgement, whole);
+                lines = whole.into_inner();
                 if put.is_err() || lines.flush().is_err() {
                     return Err(Fault::Write(told_of(lines)));
                 }

@@ -49,28 +49,39 @@ fn put_sender<E: Write>(error: &mut E, opening: &RecordRef<'_>) -> io::Result<()
     error.write_all(trimmed(cell(opening, SENDER_NAME)))
 }
 
-/// Writes under whose name the works of a transmission now go out.
+/// Writes under whose name the works of a transmission now go out, or where they aren't joined, who sent the first one.
 fn put_other<E: Write>(
     error: &mut E,
     word: &str,
     opening: &RecordRef<'_>,
     first: &RecordRef<'_>,
+    is_kept: bool,
 ) -> io::Result<()> {
     write!(error, "cwr: {}: sent by ", name_of(word))?;
     put_sender(error, opening)?;
-    error.write_all(b", and joined under ")?;
+    let joined = if is_kept {
+        ", and joined under "
+    } else {
+        ", and the first transmission by "
+    };
+    error.write_all(joined.as_bytes())?;
     put_sender(error, first)?;
     writeln!(error)
 }
 
-/// Tells which transmissions have another sender than the first, under whose name their works now go out.
-pub(crate) fn tell_senders<E: Write>(error: &mut E, names: &[&str], openings: &[ControlRecord]) {
+/// Tells which transmissions have another sender than the first, under whose name their works now go out where the join is kept.
+pub(crate) fn tell_senders<E: Write>(
+    error: &mut E,
+    names: &[&str],
+    openings: &[ControlRecord],
+    is_kept: bool,
+) {
     let Some(first) = openings.first() else {
         return;
     };
     for (word, opening) in names.iter().zip(openings) {
         if !have_same_sender(&opening.view(), &first.view()) {
-            let _ = put_other(error, word, &opening.view(), &first.view());
+            let _ = put_other(error, word, &opening.view(), &first.view(), is_kept);
         }
     }
 }

@@ -14,6 +14,8 @@ use std::alloc::Global;
 #[derive(Drop)]
 pub(crate) struct JoinView {
     pub(crate) findings: FindingView,
+    /// The number of the first transmission, from 1, that has a finding of the worst level.
+    pub(crate) worst_input: usize,
     /// The HDR of each transmission so far, where memory was never refused.
     pub(crate) openings: Vec<ControlRecord>,
     /// Memory for one of these was refused.
@@ -29,6 +31,7 @@ impl JoinView {
     {
         JoinView {
             findings: FindingView::new(alloc),
+            worst_input: 0,
             openings: Vec::new(alloc),
             lacks_openings: false,
             works: RepeatedWorks::new(alloc, repeated),
@@ -63,7 +66,11 @@ impl Viewer for JoinView {
     ghost has_seen = { λ view items. (view.findings.lacks_memory ≡ false → AreFindingsIn view.findings.count items) × (view.lacks_openings ≡ false → view.openings.items ≡ openings_in items) };
 
     fn see(&mut self, item: &Item) {
+        let worst = self.findings.count.worst;
         self.findings.see(item);
+        if self.findings.count.worst != worst {
+            self.worst_input = self.openings.len();
+        }
         match item {
             Item::Opened(opening) => self.keep_opening(opening),
             Item::Transaction(transaction) => self.works.take(self.openings.len(), transaction),

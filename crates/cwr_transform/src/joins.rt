@@ -10,7 +10,7 @@ use crate::join_views::JoinView;
 use cwr_devices::{ReadAhead, Sink, Source};
 use cwr_endings::{
     Look, Status, Wanted, ended_by, follows, hand_on, look_beyond, refuse_out, settle,
-    tell_findings, tell_following, tell_unwritten,
+    tell_findings, tell_following, tell_unjoined,
 };
 use cwr_files::{
     Fault, Gathered, Input, Name, Pace, Paced, Told, Unwatched, create_output, gathered,
@@ -169,13 +169,13 @@ fn tell_view<E: Write>(
     is_kept: bool,
     found: bool,
 ) {
-    tell_senders(&mut *error, names, view.openings.as_slice());
+    tell_senders(&mut *error, names, view.openings.as_slice(), is_kept);
     tell_repeated(&mut *error, names, view);
     let count = &view.findings.count;
     if is_kept {
         tell_findings(error, out, count, Status::Good);
     } else if found {
-        tell_unwritten(error, out, count);
+        tell_unjoined(error, out, count, word_of(names, view.worst_input));
     }
 }
 
@@ -220,7 +220,7 @@ fn join_to_file<'a, R: Files + AllocGlobal, S: Source, P: Pace, E: Write>(
     if outcome.is_ok() {
         if let Some(fault) = fault_seen(union, names, &view) {
             made.discard(rt);
-            tell_senders(error, names, view.openings.as_slice());
+            tell_senders(error, names, view.openings.as_slice(), false);
             return Err(fault);
         }
     }

@@ -4,7 +4,7 @@ ghost use Rattle.std.specs.Prelude.{◌≡◌, map, None, Some, IfOk, IfSome, Is
 ghost use Rattle.std.specs.Str.{bytes_eq};
 ghost use Rattle.clap.specs.Words.{first_value, found_of, has_subcommand};
 ghost use Rattle.cwr_shape.specs.Format.Ranges.{limit_values};
-ghost use Rattle.cwr_words.specs.Format.Words.{AreLimitsOf, AreNamesOf, AreValuesOf, IsAskedBy, IsCreatedBy, IsJoinOfNames, IsJudgingOf, IsOwnWork, IsPlainCheck, IsWorkOf, level_given, level_named, rows_named, states_given, written_in};
+ghost use Rattle.cwr_words.specs.Format.Words.{AreLimitsOf, AreNamesOf, AreValuesOf, IsAskedBy, IsCreatedBy, IsJoinOfNames, IsJudgingOf, IsOwnWork, IsPlainCheck, IsWorkOf, level_given, level_named, named_out, rows_named, states_given, written_in};
 
 use clap::error::ErrorKind;
 use clap::{ArgMatches, Error};
@@ -69,8 +69,8 @@ pub enum Work<'a> {
     },
     /// They are checked, and there is advice on them.
     Advise {
-        /// The names of the transmissions' files; without one standard input is read.
-        files: Vec<&'a str>,
+        /// Which transmissions. Advice ends the run as a finding of its level does, and quiet lines leave none out.
+        judging: Judging<'a>,
         /// The numbers of so many works are kept, and those that stand twice are told.
         repeated: u32,
     },
@@ -250,6 +250,20 @@ fn written_in<'a>(given: &ArgMatches<'a>, id: &str) -> Option<&'a str>
     given.get_str(INTO).or(given.get_str(id))
 }
 
+/// What stands for standard output in the place of a file.
+const DASH: &str = "-";
+
+/// The file that is written, where the word names one: `-` is standard output.
+fn named_out<'a>(word: Option<&'a str>) -> Option<&'a str>
+    ensures { option_map (λ name. name.now) result
+        ≡ named_out (option_map (λ name. name.now) word.entry) }
+{
+    match word {
+        Some(name) if name != DASH => Some(name),
+        _ => None,
+    }
+}
+
 /// Which transmissions are judged, and how.
 fn judging_in<'a>(alloc: Global, given: &ArgMatches<'a>) -> Result<Judging<'a>, AllocError>
     ensures { IfOk result (IsJudgingOf (found_of given.now)) }
@@ -291,7 +305,7 @@ fn advice_in<'a>(alloc: Global, given: &ArgMatches<'a>) -> Result<Option<Work<'a
         return Ok(None);
     };
     Ok(Some(Work::Advise {
-        files: names_in(alloc, given)?,
+        judging: judging_in(alloc, given)?,
         repeated,
     }))
 }
@@ -302,7 +316,7 @@ fn export_in<'a>(given: &ArgMatches<'a>) -> Work<'a>
 {
     Work::Json {
         file: given.get_str(FILE),
-        out: given.get_str(OUT),
+        out: named_out(given.get_str(OUT)),
         numbers: given.get_flag(NUMBERS),
         utf8: given.get_flag(UTF8),
     }
@@ -325,7 +339,7 @@ fn table_in<'a>(given: &ArgMatches<'a>) -> Option<Work<'a>>
     Some(Work::Csv {
         rows: rows_of(given.get_str(KIND)?)?,
         file: given.get_str(FILE),
-        out: given.get_str(OUT),
+        out: named_out(given.get_str(OUT)),
     })
 }
 
@@ -362,7 +376,7 @@ fn import_in<'a>(given: &ArgMatches<'a>) -> Option<Work<'a>>
 {
     Some(Work::Write {
         file: given.get_str(FILE),
-        out: given.get_str(OUT),
+        out: named_out(given.get_str(OUT)),
         line: given.get_one::<u32>(LINE)?,
         utf8: given.get_flag(UTF8),
     })
@@ -394,7 +408,7 @@ fn split_in<'a>(given: &ArgMatches<'a>) -> Option<Work<'a>>
 }
 
 /// What a join writes and reads: with the option `-o` all words are read, and else those after the first. `None` where there is nothing
-/// to read.
+/// to read, or it would be written to standard output.
 fn joined_in<'a>(
     alloc: Global,
     given: &ArgMatches<'a>,
@@ -402,6 +416,9 @@ fn joined_in<'a>(
     ensures { IfOk result (λ found. IfSome found
         (λ names. IsJoinOfNames (found_of given.now) names.0.now (map (λ name. name.now) names.1.items))) }
 {
+    if written_in(given, OUT) == Some(DASH) {
+        return Ok(None);
+    }
     let mut others = names_in(alloc, given)?;
     let Some(first) = given.get_str(OUT) else {
         return Ok(None);
@@ -439,7 +456,7 @@ fn renumber_in<'a>(given: &ArgMatches<'a>) -> Work<'a>
 {
     Work::Renumber {
         file: given.get_str(FILE),
-        out: written_in(given, OUT),
+        out: named_out(written_in(given, OUT)),
         only_new: given.get_flag(NEW),
         fail_on: fail_on_in(given),
     }
@@ -537,12 +554,21 @@ fn split_refusal(given: &ArgMatches<'_>) -> &'static str {
     }
 }
 
+/// What is told where a join has no file to write to, or to read.
+fn join_refusal(given: &ArgMatches<'_>) -> &'static str {
+    if written_in(given, OUT) == Some(DASH) {
+        "a join is written to a file, and not to standard output: ./- is a file of that name"
+    } else {
+        "the following required arguments were not provided:\n  <FILE>..."
+    }
+}
+
 /// What is told where a word is missing or out of its range, and `clap` took it.
 fn refusal_of(matches: &ArgMatches<'_>) -> &'static str {
     match matches.subcommand() {
         Some((ACKS, _)) => NO_STATE,
         Some((SPLIT, given)) => split_refusal(given),
-        Some((JOIN, _)) => "the following required arguments were not provided:\n  <FILE>...",
+        Some((JOIN, given)) => join_refusal(given),
         // `clap` has judged the numbers already, but its clauses don't say so of a subcommand's.
         _ => "a word is missing, or a number is out of its range",
     }

@@ -12,35 +12,35 @@ use Rattle.cwr_reports.specs.Format.Endings.{EndsOnInput}
 use Rattle.cwr.specs.Format.Endings.{StatusOnInput, fault_status}
 
 -- the status of a run that ended well, or as refused
-pub status_ends : (limits : Limits) (wanted : Wanted) (before : Option (List ℕ)) (status : Status)
-    → EndsOnInput limits wanted before (Ok status) → StatusOnInput limits wanted before status
-status_ends limits wanted before statuses.Good h = h
-status_ends limits wanted before statuses.Refused h = h
-status_ends limits wanted before statuses.CommandLine h = h
-status_ends limits wanted before statuses.Fault h = tt
+pub status_ends : (advice : Option ℕ) (limits : Limits) (wanted : Wanted) (before : Option (List ℕ)) (status : Status)
+    → EndsOnInput advice limits wanted before (Ok status) → StatusOnInput advice limits wanted before status
+status_ends advice limits wanted before statuses.Good h = h
+status_ends advice limits wanted before statuses.Refused h = h
+status_ends advice limits wanted before statuses.CommandLine h = h
+status_ends advice limits wanted before statuses.Fault h = tt
 
-status_failed : (limits : Limits) (wanted : Wanted) (before : Option (List ℕ)) (fault : Fault)
-    → EndsOnInput limits wanted before (Err fault) → StatusOnInput limits wanted before (fault_status fault)
-status_failed limits wanted None (faults.IsInput name) h = tt
-status_failed limits wanted None (faults.IsThere name) h = tt
-status_failed limits wanted None (faults.IsTwice name) h = tt
-status_failed limits wanted None (faults.IsOther name) h = tt
-status_failed limits wanted None (faults.IsLate name) h = tt
-status_failed limits wanted (Some text) (faults.IsInput name) h = absurd h
-status_failed limits wanted (Some text) (faults.IsThere name) h = absurd h
-status_failed limits wanted (Some text) (faults.IsTwice name) h = absurd h
-status_failed limits wanted (Some text) (faults.IsOther name) h = absurd h
-status_failed limits wanted (Some text) (faults.IsLate name) h = absurd h
-status_failed limits wanted before (faults.Open name reason) h = tt
-status_failed limits wanted before (faults.Read told) h = tt
-status_failed limits wanted before (faults.Write told) h = tt
-status_failed limits wanted before (faults.Output name reason) h = tt
-status_failed limits wanted before faults.Memory h = tt
+status_failed : (advice : Option ℕ) (limits : Limits) (wanted : Wanted) (before : Option (List ℕ)) (fault : Fault)
+    → EndsOnInput advice limits wanted before (Err fault) → StatusOnInput advice limits wanted before (fault_status fault)
+status_failed advice limits wanted None (faults.IsInput name) h = tt
+status_failed advice limits wanted None (faults.IsThere name) h = tt
+status_failed advice limits wanted None (faults.IsTwice name) h = tt
+status_failed advice limits wanted None (faults.IsOther name) h = tt
+status_failed advice limits wanted None (faults.IsLate name) h = tt
+status_failed advice limits wanted (Some text) (faults.IsInput name) h = absurd h
+status_failed advice limits wanted (Some text) (faults.IsThere name) h = absurd h
+status_failed advice limits wanted (Some text) (faults.IsTwice name) h = absurd h
+status_failed advice limits wanted (Some text) (faults.IsOther name) h = absurd h
+status_failed advice limits wanted (Some text) (faults.IsLate name) h = absurd h
+status_failed advice limits wanted before (faults.Open name reason) h = tt
+status_failed advice limits wanted before (faults.Read told) h = tt
+status_failed advice limits wanted before (faults.Write told) h = tt
+status_failed advice limits wanted before (faults.Output name reason) h = tt
+status_failed advice limits wanted before faults.Memory h = tt
 
-pub fault_ends : (limits : Limits) (wanted : Wanted) (before : Option (List ℕ)) (fault : Fault) (status : Status)
-    → EndsOnInput limits wanted before (Err fault) → status ≡ fault_status fault → StatusOnInput limits wanted before status
-fault_ends limits wanted before fault status h e =
-    subst (StatusOnInput limits wanted before) (sym e) (status_failed limits wanted before fault h)
+pub fault_ends : (advice : Option ℕ) (limits : Limits) (wanted : Wanted) (before : Option (List ℕ)) (fault : Fault) (status : Status)
+    → EndsOnInput advice limits wanted before (Err fault) → status ≡ fault_status fault → StatusOnInput advice limits wanted before status
+fault_ends advice limits wanted before fault status h e =
+    subst (StatusOnInput advice limits wanted before) (sym e) (status_failed advice limits wanted before fault h)
 
 -- the words that name standard input
 one_standard : (names : List (List ℕ)) → are_standard names ≡ true → 1 < length names → ⊥

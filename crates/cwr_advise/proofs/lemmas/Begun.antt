@@ -1,19 +1,22 @@
 -- A report of advice before its first item, and what it knows after its last.
-use Rattle.std.proofs.Common.{◌≡◌, ℕ, Bool, List, [], ◌∷◌, ◌++◌, Option, refl, sym, subst, ap, ap₂, ◌∙◌, arith}
+use Rattle.std.proofs.Common.{◌≡◌, ℕ, Bool, List, [], ◌∷◌, ◌++◌, Option, None, refl, sym, subst, ap, ap₂, ◌∙◌, arith}
 use Rattle.std.proofs.lemmas.List.Sums.{sum_by-append, sum_by-cons}
 use Rattle.std.specs.Prelude.{Result, Ok, Err, IfOk}
 use Rattle.cwr_shape.specs.declared.limits.Limits.{Limits}
+use Rattle.cwr_shape.specs.declared.reasons.Level.{Level}
 use Rattle.cwr_values.specs.declared.items.Item.{Item}
 use Rattle.cwr_values.specs.declared.items.Item.TheVariants.{Opened, GroupOpened, Transaction, GroupClosed, Ended}
-use Rattle.cwr_tools.specs.Format.Watching.{findings_with, item_findings}
+use Rattle.cwr_tools.specs.Format.Watching.{findings_with, is_reached, item_findings}
 use Rattle.cwr_tools.specs.declared.verdicts.ToolFault.{ToolFault}
 use Rattle.cwr_tools.specs.declared.verdicts.Verdict.{Verdict}
 use Rattle.cwr_tools.specs.Steps.Reports.{StandsAfter, StandsAtEnd}
 use Rattle.cwr_advise.specs.declared.running.AdviceLines.{AdviceLines}
+use Rattle.cwr_advise.specs.Format.AdviceLevels.{any_reaches}
 use Rattle.cwr_advise.specs.Format.AdviceLines.{lines_advised}
 use Rattle.cwr_advise.specs.Format.RepeatedWorks.{works_in}
 use Rattle.cwr_advise.specs.Steps.AdvisedItems.{IsBefore, told_with}
 use Rattle.cwr_advise.specs.Steps.KeptWorks.{AreKeptOf}
+use Rattle.cwr_advise.proofs.lemmas.LevelsTold.{worst_none}
 use Rattle.cwr_advise.proofs.lemmas.WorksKept.{works_none}
 
 -- an item without findings adds none
@@ -25,13 +28,15 @@ none_told count given item none before =
 -- it stands for these lines before the first item
 pub begun_lines : (lines : AdviceLines) (explained up_to_fault : Bool) (limit : ℕ) → lines.explained ≡ explained
     → lines.up_to_fault ≡ up_to_fault → lines.repeats.limit ≡ limit → IsBefore lines.before [] → AreKeptOf lines.repeats []
-    → lines.findings ≡ 0 → (lines_advised explained up_to_fault limit ≡ lines_advised lines.explained lines.up_to_fault lines.repeats.limit)
+    → lines.findings ≡ 0 → lines.worst.level ≡ None → (lines_advised explained up_to_fault limit ≡ lines_advised lines.explained lines.up_to_fault lines.repeats.limit)
     × IsBefore lines.before [] × AreKeptOf lines.repeats (works_in []) × (lines.findings ≡ findings_with 0 [])
-begun_lines lines explained up_to_fault limit e f l before works none = (
+    × ((asked : Option Level) → is_reached asked lines.worst.level ≡ any_reaches lines.repeats.limit asked [])
+begun_lines lines explained up_to_fault limit e f l before works none untold = (
   sym (ap₂ (λ (a b : Bool). lines_advised a b lines.repeats.limit) e f ∙ ap (lines_advised explained up_to_fault) l),
   before,
   subst (AreKeptOf lines.repeats) (sym works_none) works,
   none,
+  worst_none lines.worst.level lines.repeats.limit untold,
 )
 
 -- so many findings were told with those of an item more

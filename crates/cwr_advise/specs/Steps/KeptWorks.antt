@@ -1,15 +1,19 @@
 -- What is kept of the works of a transmission, and what is told of an item by that.
-use Rattle.std.specs.Prelude.{◌≡◌, ℕ, ◌+◌, ◌≤◌, min, List, flat_map, length, take}
+use Rattle.std.specs.Prelude.{◌≡◌, ℕ, ◌+◌, ◌≤◌, min, Bool, ◌||◌, ◌&&◌, List, flat_map, length, take, Option}
 use Rattle.std.specs.BTreeMap.{get}
 use Rattle.std.specs.Cmp.Lexicographic.{slice_cmp}
+use Rattle.std.specs.Option.{is_some}
 use Rattle.std.specs.Ordering.{nat_cmp}
+use Rattle.cwr_shape.specs.declared.reasons.Level.{Level}
 use Rattle.cwr_values.specs.declared.items.Item.{Item}
 use Rattle.cwr_tools.specs.declared.totals.Totals.{Totals}
 use Rattle.cwr_tools.specs.Steps.Counts.{IsCount}
+use Rattle.cwr_advice.specs.declared.said.Said.{Said}
 use Rattle.cwr_advise.specs.declared.repeats.Place.{Place}
 use Rattle.cwr_advise.specs.declared.repeats.Repeated.{Repeated}
 use Rattle.cwr_advise.specs.declared.repeats.Repeats.{Repeats}
-use Rattle.cwr_advise.specs.Format.RepeatedWorks.{place_of, repeated_in, repeated_text, work_header, works_in}
+use Rattle.cwr_advise.specs.Format.AdviceLevels.{advice_reaches, is_repeated, own_reaches}
+use Rattle.cwr_advise.specs.Format.RepeatedWorks.{place_of, repeated_advice, repeated_in, repeated_text, work_header, works_in}
 
 -- the places of the first of these works are kept by their numbers, and where some are to be kept all are counted, up to one more
 pub record AreKeptOf (s : Repeats) (works : List (List ℕ × Place)) : Type 0 where
@@ -30,3 +34,12 @@ abbrev pub TellsRepeated : Repeats → Totals → Item → Repeated → Type 0
 TellsRepeated s counts item told =
     (given : List Item) → IsCount counts given → AreKeptOf s (works_in given)
     → repeated_at s.limit counts item told ≡ repeated_in s.limit given item
+
+-- its number stands in a work before, where that is to be told
+abbrev pub FindsRepeated : Repeats → Item → Repeated → Type 0
+FindsRepeated s item told = (given : List Item) → AreKeptOf s (works_in given) → is_some told.first ≡ is_repeated s.limit given item
+
+-- something that is told of the item has the level or a worse one, where so much is said of the transmission, and this is to be told
+abbrev pub reaches_at : Option Level → Said → Item → Repeated → Bool
+reaches_at asked said item told =
+    own_reaches asked said item || (is_some told.first && advice_reaches asked repeated_advice)

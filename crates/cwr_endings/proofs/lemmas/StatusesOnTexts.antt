@@ -6,6 +6,7 @@ use Rattle.std.specs.Io.KnownBytes.{prepend_known}
 use Rattle.std.proofs.KnownBytes.{prepend_known-nil}
 use Rattle.std.proofs.lemmas.Bool.{lt-ltb, ltb-true}
 use Rattle.cwr_shape.specs.declared.limits.Limits.{Limits}
+use Rattle.cwr_shape.specs.declared.reasons.Level.{Level}
 use Rattle.cwr_values.specs.declared.items.Item.{Item}
 use Rattle.cwr_values.specs.declared.items.Item.TheVariants as items
 use Rattle.cwr_values.specs.Format.Values.{TransmissionValue}
@@ -19,7 +20,7 @@ use Rattle.cwr_endings.specs.declared.endings.Look.TheVariants as looks
 use Rattle.cwr_endings.specs.declared.endings.Status.{Status}
 use Rattle.cwr_endings.specs.declared.endings.Status.TheVariants as statuses
 use Rattle.cwr_endings.specs.declared.endings.Wanted.{Wanted}
-use Rattle.cwr_endings.specs.Format.Endings.{IsStatusOn}
+use Rattle.cwr_endings.specs.Format.Endings.{IsStatusBy}
 use Rattle.cwr_endings.specs.Steps.Looks.{IsLook, follows, good_status, status_after}
 
 -- ---- what stands after a transmission
@@ -61,40 +62,40 @@ follows_some text (Some rest) t h f =
 
 -- ---- the status of a verdict
 
--- with the status that a transmission has which has no unwanted finding
-status_whole : (limits : Limits) (wanted : Wanted) (text : List ℕ) (v : TransmissionValue) (n : ℕ) (look : Look) (status : Status)
-    → IsAccepted limits text v n → any_from wanted.fail_on (value_items v) ≡ false
+-- with the status that a transmission has which has nothing unwanted
+status_whole : (counts : Option Level → List Item → Bool → Type 0) (limits : Limits) (wanted : Wanted) (text : List ℕ) (v : TransmissionValue) (n : ℕ) (look : Look) (status : Status)
+    → IsAccepted limits text v n → counts wanted.fail_on (value_items v) false
     → wanted.whole ≡ true → (after : Option (List ℕ)) → IsLook (Some (drop n text)) after look → status_after look ≡ Some status
-    → IsStatusOn limits wanted text status
-status_whole limits wanted text v n (looks.Found t) status accepted calm whole after h e = by (follows t) refl e where
+    → IsStatusBy counts limits wanted text status
+status_whole counts limits wanted text v n (looks.Found t) status accepted calm whole after h e = by (follows t) refl e where
   by : (b : Bool) → follows t ≡ b → (if b then Some statuses.Refused else Some statuses.Good) ≡ Some status
-      → IsStatusOn limits wanted text status
+      → IsStatusBy counts limits wanted text status
   by true f e = let is : statuses.Refused ≡ status = cc e in
-      subst (IsStatusOn limits wanted text) is (inr (inr (v, n, accepted, inl (whole, follows_some (drop n text) after t h f))))
+      subst (IsStatusBy counts limits wanted text) is (inr (inr (v, n, accepted, inl (whole, follows_some (drop n text) after t h f))))
   by false f e = let is : statuses.Good ≡ status = cc e in
-      subst (IsStatusOn limits wanted text) is
+      subst (IsStatusBy counts limits wanted text) is
       (v, n, accepted, record { whole = λ _. follows_not (drop n text) after t h f; calm = calm })
-status_whole limits wanted text v n looks.Failed status accepted calm whole after h e = absurd (cc e)
-status_whole limits wanted text v n looks.Unasked status accepted calm whole after h e = absurd h
+status_whole counts limits wanted text v n looks.Failed status accepted calm whole after h e = absurd (cc e)
+status_whole counts limits wanted text v n looks.Unasked status accepted calm whole after h e = absurd h
 
-status_calm : (limits : Limits) (wanted : Wanted) (text : List ℕ) (v : TransmissionValue) (n : ℕ) (look : Look) (status : Status)
-    (whole : Bool) → wanted.whole ≡ whole → IsAccepted limits text v n → any_from wanted.fail_on (value_items v) ≡ false
+status_calm : (counts : Option Level → List Item → Bool → Type 0) (limits : Limits) (wanted : Wanted) (text : List ℕ) (v : TransmissionValue) (n : ℕ) (look : Look) (status : Status)
+    (whole : Bool) → wanted.whole ≡ whole → IsAccepted limits text v n → counts wanted.fail_on (value_items v) false
     → (after : Option (List ℕ)) → IsLook (Some (drop n text)) after look
-    → (if whole then status_after look else Some statuses.Good) ≡ Some status → IsStatusOn limits wanted text status
-status_calm limits wanted text v n look status true is accepted calm after h e =
-    status_whole limits wanted text v n look status accepted calm is after h e
-status_calm limits wanted text v n look status false is accepted calm after h e = let good : statuses.Good ≡ status = cc e in
-    subst (IsStatusOn limits wanted text) good
+    → (if whole then status_after look else Some statuses.Good) ≡ Some status → IsStatusBy counts limits wanted text status
+status_calm counts limits wanted text v n look status true is accepted calm after h e =
+    status_whole counts limits wanted text v n look status accepted calm is after h e
+status_calm counts limits wanted text v n look status false is accepted calm after h e = let good : statuses.Good ≡ status = cc e in
+    subst (IsStatusBy counts limits wanted text) good
     (v, n, accepted, record { whole = λ w. absurd (true≢false (sym w ∙ is)); calm = calm })
 
-pub status_good : (limits : Limits) (wanted : Wanted) (text : List ℕ) (v : TransmissionValue) (n : ℕ) (look : Look) (found : Bool)
-    (status : Status) → IsAccepted limits text v n → any_from wanted.fail_on (value_items v) ≡ found
+pub status_good : (counts : Option Level → List Item → Bool → Type 0) (limits : Limits) (wanted : Wanted) (text : List ℕ) (v : TransmissionValue) (n : ℕ) (look : Look) (found : Bool)
+    (status : Status) → IsAccepted limits text v n → counts wanted.fail_on (value_items v) found
     → (after : Option (List ℕ)) → IsLook (Some (drop n text)) after look → good_status wanted look found ≡ Some status
-    → IsStatusOn limits wanted text status
-status_good limits wanted text v n look true status accepted saw after h e = let refused : statuses.Refused ≡ status = cc e in
-    subst (IsStatusOn limits wanted text) refused (inr (inr (v, n, accepted, inr saw)))
-status_good limits wanted text v n look false status accepted saw after h e =
-    status_calm limits wanted text v n look status wanted.whole refl accepted saw after h e
+    → IsStatusBy counts limits wanted text status
+status_good counts limits wanted text v n look true status accepted saw after h e = let refused : statuses.Refused ≡ status = cc e in
+    subst (IsStatusBy counts limits wanted text) refused (inr (inr (v, n, accepted, inr saw)))
+status_good counts limits wanted text v n look false status accepted saw after h e =
+    status_calm counts limits wanted text v n look status wanted.whole refl accepted saw after h e
 
 -- where it is read by a source that has read nothing of it so far
 pub from_source : {R : Type 0} (P : Option (List ℕ) → Type 0) (remaining : R → Option (List ℕ)) (input inner : R) (ahead : List ℕ)

@@ -1,6 +1,8 @@
 -- What the end of a run over texts means for the program.
 use Rattle.std.specs.Prelude.{◌≡◌, ◌≢◌, ◌⊎◌, ℕ, Bool, true, List, [], drop, false, Option, None, Some, IfSome, Result, Ok, Err}
 use Rattle.cwr_shape.specs.declared.limits.Limits.{Limits}
+use Rattle.cwr_shape.specs.declared.reasons.Level.{Level}
+use Rattle.cwr_values.specs.declared.items.Item.{Item}
 use Rattle.cwr_values.specs.Format.Values.{TransmissionValue}
 use Rattle.cwr_judge.specs.declared.refusals.Refusal.{Refusal}
 use Rattle.cwr_judge.specs.Format.Ends.{IsAccepted, IsRefused, IsTruncated}
@@ -28,26 +30,36 @@ EndsAfterFault input output made (Some (tool_faults.Truncated records)) ending =
 EndsAfterFault input output made (Some tool_faults.Output) ending = ending ≡ Err made
 EndsAfterFault input output made (Some (tool_faults.Limit limit)) ending = ending ≡ Ok statuses.Refused
 
--- What is wanted of a transmission that takes the text's first n bytes is there: nothing follows, if that is wanted, and no finding has
--- the unwanted level or a worse one.
-pub record Meets (wanted : Wanted) (text : List ℕ) (v : TransmissionValue) (n : ℕ) : Type 0 where
+-- a finding in these items has the level or a worse one, or none has
+abbrev pub FindsFrom : Option Level → List Item → Bool → Type 0
+FindsFrom asked items found = any_from asked items ≡ found
+
+-- What is wanted of a transmission that takes the text's first n bytes is there: nothing follows, if that is wanted, and nothing that
+-- counts has the unwanted level or a worse one.
+pub record Meets (counts : Option Level → List Item → Bool → Type 0) (wanted : Wanted) (text : List ℕ) (v : TransmissionValue) (n : ℕ)
+    : Type 0 where
   pub whole : wanted.whole ≡ true → drop n text ≡ []
-  pub calm : any_from wanted.fail_on (value_items v) ≡ false
+  pub calm : counts wanted.fail_on (value_items v) false
 
 -- it isn't there
-abbrev pub FallsShort : Wanted → List ℕ → TransmissionValue → ℕ → Type 0
-FallsShort wanted text v n = ((wanted.whole ≡ true) × (drop n text ≢ [])) ⊎ (any_from wanted.fail_on (value_items v) ≡ true)
+abbrev pub FallsShort : (Option Level → List Item → Bool → Type 0) → Wanted → List ℕ → TransmissionValue → ℕ → Type 0
+FallsShort counts wanted text v n =
+    ((wanted.whole ≡ true) × (drop n text ≢ [])) ⊎ counts wanted.fail_on (value_items v) true
 
 -- A run over the text ends well where that begins with a transmission within the limits that has all that is wanted, and as refused
 -- where it hasn't, or where the text is refused or truncated.
-abbrev pub IsStatusOn : Limits → Wanted → List ℕ → Status → Type 0
-IsStatusOn limits wanted text statuses.Good =
-    (v : TransmissionValue) × (n : ℕ) × IsAccepted limits text v n × Meets wanted text v n
-IsStatusOn limits wanted text statuses.Refused =
+abbrev pub IsStatusBy : (Option Level → List Item → Bool → Type 0) → Limits → Wanted → List ℕ → Status → Type 0
+IsStatusBy counts limits wanted text statuses.Good =
+    (v : TransmissionValue) × (n : ℕ) × IsAccepted limits text v n × Meets counts wanted text v n
+IsStatusBy counts limits wanted text statuses.Refused =
     ((refusal : Refusal) × IsRefused limits text refusal) ⊎ (((records : ℕ) × IsTruncated limits text records)
-    ⊎ ((v : TransmissionValue) × (n : ℕ) × IsAccepted limits text v n × FallsShort wanted text v n))
-IsStatusOn limits wanted text statuses.CommandLine = ⊥
-IsStatusOn limits wanted text statuses.Fault = ⊥
+    ⊎ ((v : TransmissionValue) × (n : ℕ) × IsAccepted limits text v n × FallsShort counts wanted text v n))
+IsStatusBy counts limits wanted text statuses.CommandLine = ⊥
+IsStatusBy counts limits wanted text statuses.Fault = ⊥
+
+-- so it ends where findings count
+abbrev pub IsStatusOn : Limits → Wanted → List ℕ → Status → Type 0
+IsStatusOn limits wanted text status = IsStatusBy FindsFrom limits wanted text status
 
 -- ---- what a run writes
 

@@ -13,7 +13,7 @@ use Rattle.cwr_tools.specs.declared.verdicts.ToolFault.TheVariants as tool_fault
 use Rattle.cwr_tools.specs.declared.watch.Watch.{Watch}
 use Rattle.cwr_tools.specs.Format.Reports.{CountsReaderFault, CountsWriterFault, ItemLines, JudgesAccepted, ReportsText}
 use Rattle.cwr_tools.specs.Format.Verdicts.{IsVerdictOn, JudgesText}
-use Rattle.cwr_tools.specs.Format.Watching.{SeesAccepted, any_from, watched}
+use Rattle.cwr_tools.specs.Format.Watching.{SeesAccepted, any_from, is_reached, watched}
 use Rattle.cwr_tools.specs.declared.watch.FindingCount.{FindingCount}
 use Rattle.cwr_tools.proofs.lemmas.RightReports.{accepted_text}
 use Rattle.cwr_causes.specs.declared.trailing.Trailing.{Trailing}
@@ -27,42 +27,48 @@ use Rattle.cwr_endings.specs.declared.endings.Look.TheVariants as looks
 use Rattle.cwr_endings.specs.declared.endings.Status.{Status}
 use Rattle.cwr_endings.specs.declared.endings.Status.TheVariants as statuses
 use Rattle.cwr_endings.specs.declared.endings.Wanted.{Wanted}
-use Rattle.cwr_endings.specs.Format.Endings.{IsStatusOn}
+use Rattle.cwr_advise.specs.Format.AdviceLevels.{SeesTold}
+use Rattle.cwr_advise.specs.Format.AdviceLines.{lines_of_advice}
+use Rattle.cwr_endings.specs.Format.Endings.{IsStatusBy}
 use Rattle.cwr_endings.specs.Steps.Looks.{CountsLook, IsLook, LooksOnce, follows, good_status, judged_with, judgement_in, status_after, status_in}
 use Rattle.cwr_endings.proofs.lemmas.StatusesOnTexts.{none_from, status_good}
 use Rattle.cwr_endings.specs.declared.judgements.Judgement.{Judgement}
 use Rattle.cwr_reports.specs.declared.reports.Telling.{Telling}
-use Rattle.cwr_reports.specs.Format.Endings.{EndsOnInput}
+use Rattle.cwr_reports.specs.Format.Endings.{Counts, EndsOnInput}
 use Rattle.cwr_reports.specs.Steps.Tellings.{CountsFindings, CountsInput, CountsReading, CountsWriting, TellsText, TellsUpTo}
-use Rattle.cwr_reports.specs.Steps.Looks.{JudgesOn, LooksAfter, look_of}
+use Rattle.cwr_reports.specs.Steps.Looks.{JudgesOn, LooksAfter, SeesCounted, look_of}
 
 -- ---- the status of a verdict
 
-status_on : (limits : Limits) (wanted : Wanted) (text : List ℕ) (verdict : Verdict) (look : Look) (old new : Watch)
+status_on : (advice : Option ℕ) (limits : Limits) (wanted : Wanted) (text : List ℕ) (verdict : Verdict) (look : Look) (old new : Watch)
     (status : Status) → old ≡ record { from = wanted.fail_on; found = false } → IsVerdictOn limits text verdict
-    → SeesAccepted limits (Some text) old new → LooksAfter limits (Some text) look
-    → status_in wanted verdict look new.found ≡ Some status → IsStatusOn limits wanted text status
-status_on limits wanted text (verdicts.Good groups transactions records) look old new status fresh judged seen looked e =
+    → SeesCounted advice limits (Some text) old new → LooksAfter limits (Some text) look
+    → status_in wanted verdict look new.found ≡ Some status → IsStatusBy (Counts advice) limits wanted text status
+status_on advice limits wanted text (verdicts.Good groups transactions records) look old new status fresh judged seen looked e =
     let v = judged.0 in
     let n = judged.1 in
-    let saw : any_from wanted.fail_on (value_items v) ≡ new.found =
-    sym (ap (λ (w : Watch). w.found) (seen v n judged.2 ∙ ap (λ (w : Watch). watched w (value_items v)) fresh)) in
-    status_good limits wanted text v n look new.found status judged.2 saw (looked v n judged.2).0 (looked v n judged.2).1 e
-status_on limits wanted text (verdicts.Refused refusal) look old new status fresh judged seen looked e =
+    let saw = seen v n judged.2 in
+    let same : saw.0 ≡ new.found =
+    sym (ap (λ (w : Watch). w.found) (saw.2 ∙ ap (λ (w : Watch). record w { found = w.found || saw.0 }) fresh)) in
+    let counts : Counts advice wanted.fail_on (value_items v) new.found =
+    subst (λ (found : Bool). Counts advice wanted.fail_on (value_items v) found) same
+    (subst (λ (from : Option Level). Counts advice from (value_items v) saw.0) (ap (λ (w : Watch). w.from) fresh) saw.1) in
+    status_good (Counts advice) limits wanted text v n look new.found status judged.2 counts (looked v n judged.2).0 (looked v n judged.2).1 e
+status_on advice limits wanted text (verdicts.Refused refusal) look old new status fresh judged seen looked e =
     let refused : statuses.Refused ≡ status = cc e in
-    subst (IsStatusOn limits wanted text) refused (inl (refusal, judged))
-status_on limits wanted text (verdicts.Truncated records) look old new status fresh judged seen looked e =
+    subst (IsStatusBy (Counts advice) limits wanted text) refused (inl (refusal, judged))
+status_on advice limits wanted text (verdicts.Truncated records) look old new status fresh judged seen looked e =
     let refused : statuses.Refused ≡ status = cc e in
-    subst (IsStatusOn limits wanted text) refused (inr (inl (records, judged)))
+    subst (IsStatusBy (Counts advice) limits wanted text) refused (inr (inl (records, judged)))
 
 -- where its bytes are known
-pub status_on_input : (limits : Limits) (wanted : Wanted) (before : Option (List ℕ)) (verdict : Verdict) (look : Look)
+pub status_on_input : (advice : Option ℕ) (limits : Limits) (wanted : Wanted) (before : Option (List ℕ)) (verdict : Verdict) (look : Look)
     (old new : Watch) (status : Status) → old ≡ record { from = wanted.fail_on; found = false }
-    → JudgesText limits before (Ok verdict) → SeesAccepted limits before old new → LooksAfter limits before look
-    → status_in wanted verdict look new.found ≡ Some status → IfSome before (λ text. IsStatusOn limits wanted text status)
-status_on_input limits wanted None verdict look old new status fresh judged seen looked e = tt
-status_on_input limits wanted (Some text) verdict look old new status fresh judged seen looked e =
-    status_on limits wanted text verdict look old new status fresh judged seen looked e
+    → JudgesText limits before (Ok verdict) → SeesCounted advice limits before old new → LooksAfter limits before look
+    → status_in wanted verdict look new.found ≡ Some status → IfSome before (λ text. IsStatusBy (Counts advice) limits wanted text status)
+status_on_input advice limits wanted None verdict look old new status fresh judged seen looked e = tt
+status_on_input advice limits wanted (Some text) verdict look old new status fresh judged seen looked e =
+    status_on advice limits wanted text verdict look old new status fresh judged seen looked e
 
 -- ---- what is seen and looked for
 
@@ -85,6 +91,27 @@ pub sees_nothing : (limits : Limits) (before : Option (List ℕ)) (watch : Watch
 sees_nothing limits before watch (Err fault) none = tt
 sees_nothing limits None watch (Ok verdict) none = tt
 sees_nothing limits (Some text) watch (Ok verdict) none = λ v n a. watched_same watch watch.from (value_items v) refl none
+
+-- where no advice is told, it saw the findings
+pub sees_found : (advice : Option ℕ) (limits : Limits) (before : Option (List ℕ)) (old new : Watch) (outcome : Result Verdict ToolFault)
+    → advice ≡ None → OnOk outcome (SeesAccepted limits before old new) → OnOk outcome (SeesCounted advice limits before old new)
+sees_found advice limits before old new (Err fault) none seen = tt
+sees_found advice limits None old new (Ok verdict) none seen = tt
+sees_found advice limits (Some text) old new (Ok verdict) none seen =
+    subst (λ (a : Option ℕ). SeesCounted a limits (Some text) old new) (sym none)
+    (λ v n accepted. (any_from old.from (value_items v), refl, seen v n accepted))
+
+-- where advice is told, it saw the worst level of all that is told
+pub sees_advice : (advice : Option ℕ) (limit : ℕ) (limits : Limits) (before : Option (List ℕ)) (old new : Watch) (worst : Option Level)
+    (outcome : Result Verdict ToolFault) → advice ≡ Some limit
+    → new ≡ record old { found = old.found || is_reached old.from worst }
+    → OnOk outcome (SeesTold (lines_of_advice limit) limits before worst) → OnOk outcome (SeesCounted advice limits before old new)
+sees_advice advice limit limits before old new worst (Err fault) some is seen = tt
+sees_advice advice limit limits None old new worst (Ok verdict) some is seen = tt
+sees_advice advice limit limits (Some text) old new worst (Ok verdict) some is seen =
+    subst (λ (a : Option ℕ). SeesCounted a limits (Some text) old new) (sym some)
+    (λ v n accepted. let told = seen v n accepted in
+    (is_reached old.from worst, (told.0, told.1, told.2, told.3, told.4 old.from), is))
 
 -- after a report that left what stands after the transmission
 pub looks_after : {W : Type 0} (of : ItemLines) (limits : Limits) (before mid after : Option (List ℕ))
@@ -121,24 +148,24 @@ looks_found limits (Some text) after (Ok verdict) found h = λ v n a. (after, by
   by left (Some t) s = s
 
 -- what is made of an input is right of its bytes
-pub judges_on : (limits : Limits) (wanted : Wanted) (before : Option (List ℕ)) (outcome : Result Verdict ToolFault) (look : Look)
+pub judges_on : (advice : Option ℕ) (limits : Limits) (wanted : Wanted) (before : Option (List ℕ)) (outcome : Result Verdict ToolFault) (look : Look)
     (old new : Watch) → old ≡ record { from = wanted.fail_on; found = false }
-    → JudgesText limits before outcome → OnOk outcome (SeesAccepted limits before old new)
+    → JudgesText limits before outcome → OnOk outcome (SeesCounted advice limits before old new)
     → OnOk outcome (LooksAfter limits before look)
-    → JudgesOn limits wanted before (judgement_in wanted outcome look new.found)
-judges_on limits wanted before (Ok verdict) look old new fresh judged seen looked =
+    → JudgesOn advice limits wanted before (judgement_in wanted outcome look new.found)
+judges_on advice limits wanted before (Ok verdict) look old new fresh judged seen looked =
     by (status_in wanted verdict look new.found) refl where
       by : (o : Option Status) → status_in wanted verdict look new.found ≡ o
-          → JudgesOn limits wanted before (judged_with verdict look o)
+          → JudgesOn advice limits wanted before (judged_with verdict look o)
       by None e = tt
-      by (Some status) e = status_on_input limits wanted before verdict look old new status fresh judged seen looked e
-judges_on limits wanted before (Err tool_faults.Reader) look old new fresh judged seen looked = tt
-judges_on limits wanted before (Err (tool_faults.Writer written)) look old new fresh judged seen looked = tt
-judges_on limits wanted before (Err tool_faults.Memory) look old new fresh judged seen looked = tt
-judges_on limits wanted before (Err (tool_faults.Refused refusal)) look old new fresh judged seen looked = absurd judged
-judges_on limits wanted before (Err (tool_faults.Truncated records)) look old new fresh judged seen looked = absurd judged
-judges_on limits wanted before (Err (tool_faults.Limit limit)) look old new fresh judged seen looked = absurd judged
-judges_on limits wanted before (Err tool_faults.Output) look old new fresh judged seen looked = absurd judged
+      by (Some status) e = status_on_input advice limits wanted before verdict look old new status fresh judged seen looked e
+judges_on advice limits wanted before (Err tool_faults.Reader) look old new fresh judged seen looked = tt
+judges_on advice limits wanted before (Err (tool_faults.Writer written)) look old new fresh judged seen looked = tt
+judges_on advice limits wanted before (Err tool_faults.Memory) look old new fresh judged seen looked = tt
+judges_on advice limits wanted before (Err (tool_faults.Refused refusal)) look old new fresh judged seen looked = absurd judged
+judges_on advice limits wanted before (Err (tool_faults.Truncated records)) look old new fresh judged seen looked = absurd judged
+judges_on advice limits wanted before (Err (tool_faults.Limit limit)) look old new fresh judged seen looked = absurd judged
+judges_on advice limits wanted before (Err tool_faults.Output) look old new fresh judged seen looked = absurd judged
 
 -- ---- what is told, and counted
 
@@ -246,25 +273,25 @@ judged_counts wanted (Err tool_faults.Output) look found old new e = e
 
 -- ---- how a run ends
 
-pub ends_ok : (limits : Limits) (wanted : Wanted) (before : Option (List ℕ)) (judged : Result Judgement ToolFault)
-    (judgement : Judgement) → judged ≡ Ok judgement → JudgesOn limits wanted before judged → EndsOnInput limits wanted before
+pub ends_ok : (advice : Option ℕ) (limits : Limits) (wanted : Wanted) (before : Option (List ℕ)) (judged : Result Judgement ToolFault)
+    (judgement : Judgement) → judged ≡ Ok judgement → JudgesOn advice limits wanted before judged → EndsOnInput advice limits wanted before
     (Ok judgement.status)
-ends_ok limits wanted before judged judgement e h = subst (JudgesOn limits wanted before) e h
+ends_ok advice limits wanted before judged judgement e h = subst (JudgesOn advice limits wanted before) e h
 
-pub ends_read : (limits : Limits) (wanted : Wanted) (before : Option (List ℕ)) (told : Told)
-    → EndsOnInput limits wanted before (Err (faults.Read told))
-ends_read limits wanted None told = tt
-ends_read limits wanted (Some text) told = tt
+pub ends_read : (advice : Option ℕ) (limits : Limits) (wanted : Wanted) (before : Option (List ℕ)) (told : Told)
+    → EndsOnInput advice limits wanted before (Err (faults.Read told))
+ends_read advice limits wanted None told = tt
+ends_read advice limits wanted (Some text) told = tt
 
-pub ends_write : (limits : Limits) (wanted : Wanted) (before : Option (List ℕ)) (told : Told)
-    → EndsOnInput limits wanted before (Err (faults.Write told))
-ends_write limits wanted None told = tt
-ends_write limits wanted (Some text) told = tt
+pub ends_write : (advice : Option ℕ) (limits : Limits) (wanted : Wanted) (before : Option (List ℕ)) (told : Told)
+    → EndsOnInput advice limits wanted before (Err (faults.Write told))
+ends_write advice limits wanted None told = tt
+ends_write advice limits wanted (Some text) told = tt
 
-pub ends_memory : (limits : Limits) (wanted : Wanted) (before : Option (List ℕ))
-    → EndsOnInput limits wanted before (Err faults.Memory)
-ends_memory limits wanted None = tt
-ends_memory limits wanted (Some text) = tt
+pub ends_memory : (advice : Option ℕ) (limits : Limits) (wanted : Wanted) (before : Option (List ℕ))
+    → EndsOnInput advice limits wanted before (Err faults.Memory)
+ends_memory advice limits wanted None = tt
+ends_memory advice limits wanted (Some text) = tt
 
 -- ---- how many findings were told
 

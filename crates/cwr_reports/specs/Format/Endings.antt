@@ -1,20 +1,42 @@
 -- What the end of a run over an input means for the program.
-use Rattle.std.specs.Prelude.{List, ℕ, Option, IfSome, Result, Ok, Err}
+use Rattle.std.specs.Prelude.{List, ℕ, Bool, if◌then◌else◌, Option, Some, None, IfSome, Result, Ok, Err}
 use Rattle.cwr_shape.specs.declared.limits.Limits.{Limits}
+use Rattle.cwr_shape.specs.declared.reasons.Level.{Level}
+use Rattle.cwr_values.specs.declared.items.Item.{Item}
+use Rattle.cwr_advise.specs.Format.AdviceLevels.{TellsFrom}
+use Rattle.cwr_advise.specs.Format.AdviceLines.{lines_of_advice}
 use Rattle.cwr_files.specs.declared.faults.Fault.{Fault}
 use Rattle.cwr_files.specs.declared.faults.Fault.TheVariants as faults
 use Rattle.cwr_endings.specs.declared.endings.Status.{Status}
 use Rattle.cwr_endings.specs.declared.endings.Wanted.{Wanted}
-use Rattle.cwr_endings.specs.Format.Endings.{IsStatusOn}
+use Rattle.cwr_endings.specs.Format.Endings.{FindsFrom, IsStatusBy}
+use Rattle.cwr_reports.specs.declared.reports.Asked.{Asked}
+use Rattle.cwr_reports.specs.declared.reports.Telling.{Telling}
+use Rattle.cwr_reports.specs.declared.reports.Telling.TheVariants as tellings
+
+-- What counts for the status: where advice is told, and the numbers of so many works are kept, all that is told, and else the findings.
+-- Something of it has the level or a worse one, or nothing has.
+abbrev pub Counts : Option ℕ → Option Level → List Item → Bool → Type 0
+Counts None asked items found = FindsFrom asked items found
+Counts (Some limit) asked items found = TellsFrom (lines_of_advice limit) asked items found
+
+-- of how many works advice keeps the numbers, where it is told
+abbrev pub advice_in : Telling → Option ℕ
+advice_in (tellings.Advice repeated) = Some repeated
+advice_in telling = None
+
+-- the same, by what is asked for
+abbrev pub advice_asked : Asked → Option ℕ
+advice_asked asked = if asked.faults then None else if asked.advised then Some asked.repeated else None
 
 -- the run has the status on the text, or an input, standard output or memory failed
-abbrev pub EndsOn : Limits → Wanted → List ℕ → Result Status Fault → Type 0
-EndsOn limits wanted text (Ok status) = IsStatusOn limits wanted text status
-EndsOn limits wanted text (Err (faults.Read told)) = Unit {0}
-EndsOn limits wanted text (Err (faults.Write told)) = Unit {0}
-EndsOn limits wanted text (Err faults.Memory) = Unit {0}
-EndsOn limits wanted text (Err fault) = ⊥
+abbrev pub EndsOn : Option ℕ → Limits → Wanted → List ℕ → Result Status Fault → Type 0
+EndsOn advice limits wanted text (Ok status) = IsStatusBy (Counts advice) limits wanted text status
+EndsOn advice limits wanted text (Err (faults.Read told)) = Unit {0}
+EndsOn advice limits wanted text (Err (faults.Write told)) = Unit {0}
+EndsOn advice limits wanted text (Err faults.Memory) = Unit {0}
+EndsOn advice limits wanted text (Err fault) = ⊥
 
 -- so it is where the bytes of the input are known
-abbrev pub EndsOnInput : Limits → Wanted → Option (List ℕ) → Result Status Fault → Type 0
-EndsOnInput limits wanted input ending = IfSome input (λ text. EndsOn limits wanted text ending)
+abbrev pub EndsOnInput : Option ℕ → Limits → Wanted → Option (List ℕ) → Result Status Fault → Type 0
+EndsOnInput advice limits wanted input ending = IfSome input (λ text. EndsOn advice limits wanted text ending)

@@ -1,17 +1,20 @@
 -- What was seen of a transmission, and after it.
-use Rattle.std.specs.Prelude.{ℕ, Bool, true, false, List, drop, Option, Some, None, IfSome, Result, Ok, Err}
+use Rattle.std.specs.Prelude.{◌≡◌, ℕ, Bool, true, false, ◌||◌, List, drop, Option, Some, None, IfSome, Result, Ok, Err}
 use Rattle.cwr_shape.specs.declared.limits.Limits.{Limits}
 use Rattle.cwr_values.specs.Format.Values.{TransmissionValue}
 use Rattle.cwr_judge.specs.Format.Ends.{IsAccepted}
+use Rattle.cwr_judge.specs.Format.Items.{value_items}
 use Rattle.cwr_tools.specs.declared.verdicts.ToolFault.{ToolFault}
 use Rattle.cwr_tools.specs.declared.verdicts.ToolFault.TheVariants as tool_faults
+use Rattle.cwr_tools.specs.declared.watch.Watch.{Watch}
 use Rattle.cwr_causes.specs.declared.trailing.Trailing.{Trailing}
 use Rattle.cwr_endings.specs.declared.endings.Look.{Look}
 use Rattle.cwr_endings.specs.declared.endings.Look.TheVariants as looks
 use Rattle.cwr_endings.specs.declared.endings.Wanted.{Wanted}
-use Rattle.cwr_endings.specs.Format.Endings.{IsStatusOn}
+use Rattle.cwr_endings.specs.Format.Endings.{IsStatusBy}
 use Rattle.cwr_endings.specs.Steps.Looks.{IsLook}
 use Rattle.cwr_endings.specs.declared.judgements.Judgement.{Judgement}
+use Rattle.cwr_reports.specs.Format.Endings.{Counts}
 use Rattle.cwr_reports.specs.declared.reports.Telling.{Telling}
 use Rattle.cwr_reports.specs.declared.reports.Telling.TheVariants as tellings
 
@@ -26,7 +29,7 @@ abbrev pub look_of : Option Trailing → Look
 look_of None = looks.Unasked
 look_of (Some trailing) = looks.Found trailing
 
--- the findings of a transmission are told or counted
+-- the levels of the findings of a transmission are seen, and with advice those of all that is told
 abbrev pub tells_findings : Telling → Bool
 tells_findings tellings.Findings = true
 tells_findings (tellings.Explained name) = true
@@ -35,12 +38,19 @@ tells_findings tellings.Records = true
 tells_findings (tellings.Data encoding numbers) = false
 tells_findings (tellings.Rows table) = false
 tells_findings (tellings.Answers form) = false
-tells_findings (tellings.Advice repeated) = false
+tells_findings (tellings.Advice repeated) = true
+
+-- where a text is accepted, the watch saw what counts of its transmission
+abbrev pub SeesCounted : Option ℕ → Limits → Option (List ℕ) → Watch → Watch → Type 0
+SeesCounted advice limits before old new =
+    IfSome before (λ text. (v : TransmissionValue) (n : ℕ) → IsAccepted limits text v n
+    → (found : Bool) × Counts advice old.from (value_items v) found × (new ≡ record old { found = old.found || found }))
 
 -- an input whose bytes are known has the status on them, or a device or memory failed
-abbrev pub JudgesOn : Limits → Wanted → Option (List ℕ) → Result Judgement ToolFault → Type 0
-JudgesOn limits wanted before (Ok judgement) = IfSome before (λ text. IsStatusOn limits wanted text judgement.status)
-JudgesOn limits wanted before (Err tool_faults.Reader) = Unit {0}
-JudgesOn limits wanted before (Err (tool_faults.Writer written)) = Unit {0}
-JudgesOn limits wanted before (Err tool_faults.Memory) = Unit {0}
-JudgesOn limits wanted before (Err fault) = ⊥
+abbrev pub JudgesOn : Option ℕ → Limits → Wanted → Option (List ℕ) → Result Judgement ToolFault → Type 0
+JudgesOn advice limits wanted before (Ok judgement) =
+    IfSome before (λ text. IsStatusBy (Counts advice) limits wanted text judgement.status)
+JudgesOn advice limits wanted before (Err tool_faults.Reader) = Unit {0}
+JudgesOn advice limits wanted before (Err (tool_faults.Writer written)) = Unit {0}
+JudgesOn advice limits wanted before (Err tool_faults.Memory) = Unit {0}
+JudgesOn advice limits wanted before (Err fault) = ⊥

@@ -17,6 +17,7 @@ use Rattle.cwr_endings.specs.declared.endings.Status.TheVariants as statuses
 use Rattle.cwr_endings.specs.declared.endings.Wanted.{Wanted}
 use Rattle.cwr_files.specs.declared.faults.Told.{Told}
 use Rattle.cwr_files.specs.declared.faults.Fault.{Fault}
+use Rattle.cwr_endings.specs.Format.Endings.{FindsFrom}
 use Rattle.cwr_transform.specs.Format.Splits.{EndsAsSplit}
 use Rattle.cwr_endings.specs.Steps.Looks.{IsLook, good_status}
 use Rattle.cwr_transform.specs.Steps.Splits.{JudgesCut, SplitEndsAs}
@@ -58,7 +59,7 @@ ends_good : (limits : Limits) (wanted : Wanted) (before : Option (List ℕ)) (re
     → EndsAsSplit limits wanted before (Ok status)
 ends_good limits wanted None report look count found status judged counted is e = tt
 ends_good limits wanted (Some text) report look count found status judged counted is e =
-    status_good limits wanted text judged.0 judged.1 look found status judged.2
+    status_good FindsFrom limits wanted text judged.0 judged.1 look found status judged.2
     (sym (is ∙ (counted judged.0 judged.1 judged.2).worst wanted.fail_on)) judged.3 judged.4 e
 
 ends_refused : (limits : Limits) (wanted : Wanted) (before : Option (List ℕ)) (r : Refusal)

@@ -60,6 +60,11 @@ level_given (Some letter) = level_named letter
 abbrev pub written_in : Found → List ℕ → Option (List ℕ)
 written_in found id = option_or (first_value found (codes "o")) (first_value found id)
 
+-- the file that is written, where the word names one: `-` is standard output
+abbrev pub named_out : Option (List ℕ) → Option (List ℕ)
+named_out None = None
+named_out (Some name) = if bytes_eq name (codes "-") then None else Some name
+
 -- the transmissions of the files FILE, with what the options of a judgement say
 pub record IsJudgingOf (found : Found) (judging : Judging) : Type 0 where
   pub files : AreNamesOf found (map (λ name. name.now) judging.files.items)
@@ -77,7 +82,7 @@ IsSplitOf found (Check judging) = ⊥
 IsSplitOf found (Show file fail_on) = ⊥
 IsSplitOf found (Explain judging) = ⊥
 IsSplitOf found (Lint files quiet explained advised) = ⊥
-IsSplitOf found (Advise files repeated) = ⊥
+IsSplitOf found (Advise judging repeated) = ⊥
 IsSplitOf found (Json file out numbers utf8) = ⊥
 IsSplitOf found (Csv rows file out) = ⊥
 IsSplitOf found (Acks files sent as_json by_place state fail_on) = ⊥
@@ -99,10 +104,11 @@ IsLintOf found (Lint files quiet explained advised) =
     × IsFlagOf found (codes "explain") explained × IsFlagOf found (codes "advice") advised
 IsLintOf found work = ⊥
 
--- advice on the transmissions of the files FILE, where the numbers of so many works are kept as that option says
+-- advice on the transmissions of the files FILE, with what the options of a judgement say, where the numbers of so many works are kept as
+-- that option says
 abbrev pub IsAdviceOf : Found → Work → Type 0
-IsAdviceOf found (Advise files repeated) =
-    AreNamesOf found (map (λ name. name.now) files.items) × ((text : List ℕ) → one_text found (codes "repeated") ≡ Some text
+IsAdviceOf found (Advise judging repeated) =
+    IsJudgingOf found judging × ((text : List ℕ) → one_text found (codes "repeated") ≡ Some text
     → repeated ≡ digits_value 10 (without_leading_plus text))
 IsAdviceOf found work = ⊥
 
@@ -110,7 +116,7 @@ IsAdviceOf found work = ⊥
 abbrev pub IsExportOf : Found → Work → Type 0
 IsExportOf found (Json file out numbers utf8) =
     (option_map (λ f. f.now) file ≡ first_value found (codes "FILE"))
-    × (option_map (λ f. f.now) out ≡ first_value found (codes "OUT")) × IsFlagOf found (codes "numbers") numbers
+    × (option_map (λ f. f.now) out ≡ named_out (first_value found (codes "OUT"))) × IsFlagOf found (codes "numbers") numbers
     × IsFlagOf found (codes "utf8") utf8
 IsExportOf found work = ⊥
 
@@ -123,7 +129,7 @@ abbrev pub IsTableOf : Found → Work → Type 0
 IsTableOf found (Csv rows file out) =
     (option_and_then rows_named (first_value found (codes "KIND")) ≡ Some rows)
     × (option_map (λ f. f.now) file ≡ first_value found (codes "FILE"))
-    × (option_map (λ f. f.now) out ≡ first_value found (codes "OUT"))
+    × (option_map (λ f. f.now) out ≡ named_out (first_value found (codes "OUT")))
 IsTableOf found work = ⊥
 
 -- the states whose names the option's text has, with commas between them, or no states without the option
@@ -145,7 +151,7 @@ IsAcksOf found work = ⊥
 abbrev pub IsImportOf : Found → Work → Type 0
 IsImportOf found (Write file out line utf8) =
     (option_map (λ f. f.now) file ≡ first_value found (codes "FILE"))
-    × (option_map (λ f. f.now) out ≡ first_value found (codes "OUT"))
+    × (option_map (λ f. f.now) out ≡ named_out (first_value found (codes "OUT")))
     × ((text : List ℕ) → one_text found (codes "line") ≡ Some text → line ≡ digits_value 10 (without_leading_plus text))
     × IsFlagOf found (codes "utf8") utf8
 IsImportOf found work = ⊥
@@ -169,7 +175,7 @@ IsJoinOf found work = ⊥
 abbrev pub IsRenumberingOf : Found → Work → Type 0
 IsRenumberingOf found (Renumber file out only_new fail_on) =
     (option_map (λ f. f.now) file ≡ first_value found (codes "FILE"))
-    × (option_map (λ f. f.now) out ≡ written_in found (codes "OUT")) × IsFlagOf found (codes "new") only_new
+    × (option_map (λ f. f.now) out ≡ named_out (written_in found (codes "OUT"))) × IsFlagOf found (codes "new") only_new
     × (fail_on ≡ level_given (first_value found (codes "fail-on")))
 IsRenumberingOf found work = ⊥
 
@@ -185,8 +191,8 @@ IsWorkOf name found (Show file fail_on) =
 IsWorkOf name found (Explain judging) = (bytes_eq name (codes "explain") ≡ true) × IsJudgingOf found judging
 IsWorkOf name found (Lint files quiet explained advised) =
     (bytes_eq name (codes "lint") ≡ true) × IsLintOf found (Lint files quiet explained advised)
-IsWorkOf name found (Advise files repeated) =
-    (bytes_eq name (codes "advise") ≡ true) × IsAdviceOf found (Advise files repeated)
+IsWorkOf name found (Advise judging repeated) =
+    (bytes_eq name (codes "advise") ≡ true) × IsAdviceOf found (Advise judging repeated)
 IsWorkOf name found (Json file out numbers utf8) =
     (bytes_eq name (codes "json") ≡ true) × IsExportOf found (Json file out numbers utf8)
 IsWorkOf name found (Csv rows file out) = (bytes_eq name (codes "csv") ≡ true) × IsTableOf found (Csv rows file out)

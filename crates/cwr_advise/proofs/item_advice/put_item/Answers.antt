@@ -7,6 +7,7 @@ use Rattle.cwr_advise.specs.Format.AdviceLines.{has_advised}
 use Rattle.cwr_advise.specs.Steps.AdvisedItems.{advised_at}
 use Rattle.cwr_advise.specs.Steps.KeptWorks.{repeated_at}
 use Rattle.cwr_advise.proofs.lemmas.AdvicePut.{first_fault, then_put}
+use Rattle.cwr_advise.proofs.lemmas.LevelsTold.{seen_all}
 use Rattle.cwr_advise.proofs.item_advice.put_item.Goals as goal
 
 pub returns-in_err-put_own-clause-puts : goal.returns-in_err-put_own-clause-puts
@@ -26,3 +27,8 @@ returns-clause-puts g c =
     then_put g.W.Target.contents g.W.Target.failures (has_advised c.args.item.now) (has_advised c.args.item.now) one two
     c.args.sink.now c.put_own.new.sink c.put_repeated.new.sink tt c.put_repeated.result c.in_ok-put_own.ensures.puts
     c.put_repeated.ensures
+
+pub returns-clause-seen : goal.returns-clause-seen
+returns-clause-seen g c =
+    seen_all c.args.worst.now.level c.put_own.new.worst.level c.see_repeated.new.self.level c.args.said c.args.item.now
+    c.args.repeated.now c.put_repeated.result c.in_ok-put_own.ensures.seen c.see_repeated.ensures

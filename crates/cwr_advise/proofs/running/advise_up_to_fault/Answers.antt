@@ -8,14 +8,14 @@ pub write_report-writer-requires : goal.write_report-writer-requires
 write_report-writer-requires g c = (
   lines_advised c.args.explained true 0,
   begun_lines c.new-lines.result c.args.explained true 0 c.new-lines.ensures.explained
-      c.new-lines.ensures.up_to_fault c.new-lines.ensures.repeated c.new-lines.ensures.before c.new-lines.ensures.works c.new-lines.ensures.none,
+      c.new-lines.ensures.up_to_fault c.new-lines.ensures.repeated c.new-lines.ensures.before c.new-lines.ensures.works c.new-lines.ensures.none c.new-lines.ensures.untold,
 )
 
 pub returns-clause-reported : goal.returns-clause-reported
 returns-clause-reported g c =
     c.write_report-writer.ensures.reported (lines_advised c.args.explained true 0) (begun_lines c.new-lines.result
     c.args.explained true 0 c.new-lines.ensures.explained c.new-lines.ensures.up_to_fault c.new-lines.ensures.repeated
-    c.new-lines.ensures.before c.new-lines.ensures.works c.new-lines.ensures.none)
+    c.new-lines.ensures.before c.new-lines.ensures.works c.new-lines.ensures.none c.new-lines.ensures.untold)
 
 pub returns-clause-told : goal.returns-clause-told
 returns-clause-told g c =
@@ -28,4 +28,4 @@ returns-clause-said g c =
     (λ given stands. (c.said-said.ensures given stands.1, stands.3))
     (c.write_report-writer.ensures.stands (lines_advised c.args.explained true 0) (begun_lines c.new-lines.result c.args.explained
     true 0 c.new-lines.ensures.explained c.new-lines.ensures.up_to_fault c.new-lines.ensures.repeated
-    c.new-lines.ensures.before c.new-lines.ensures.works c.new-lines.ensures.none))
+    c.new-lines.ensures.before c.new-lines.ensures.works c.new-lines.ensures.none c.new-lines.ensures.untold))

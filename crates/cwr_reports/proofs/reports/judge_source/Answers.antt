@@ -3,15 +3,16 @@ use Rattle.std.specs.Prelude.{IfOk, Ok, OnOk, Result}
 use Rattle.cwr_tools.specs.declared.verdicts.ToolFault.{ToolFault}
 use Rattle.cwr_endings.specs.declared.judgements.Judgement.{Judgement}
 use Rattle.cwr_reports.specs.Steps.Looks.{JudgesOn}
+use Rattle.cwr_reports.specs.Format.Endings.{advice_in}
 use Rattle.cwr_reports.specs.Steps.Tellings.{CountsFindings, CountsInput, CountsWriting, TellsText}
 use Rattle.cwr_reports.proofs.lemmas.EndsOnTexts.{counts_input, judged_counts, judged_on, judges_on, told_verdict}
 use Rattle.cwr_reports.proofs.reports.judge_source.Goals as goal
 
 pub returns-clause-judges : goal.returns-clause-judges
 returns-clause-judges g c =
-    subst (λ (r : Result Judgement ToolFault). JudgesOn c.args.asked.now.limits c.args.asked.now.wanted
+    subst (λ (r : Result Judgement ToolFault). JudgesOn (advice_in c.args.telling) c.args.asked.now.limits c.args.asked.now.wanted
     (g.R.Source.remaining c.args.reader.now) r) (sym c.judgement_of-judged.ensures)
-    (judges_on c.args.asked.now.limits c.args.asked.now.wanted _ c.tell-writer.result.1 c.tell-writer.result.2 c.new-watch.result
+    (judges_on (advice_in c.args.telling) c.args.asked.now.limits c.args.asked.now.wanted _ c.tell-writer.result.1 c.tell-writer.result.2 c.new-watch.result
     c.tell-writer.new.watch c.new-watch.ensures c.tell-writer.ensures.judged c.tell-writer.ensures.seen
     c.tell-writer.ensures.looks)
 

@@ -8,8 +8,9 @@ use Rattle.cwr_advise.specs.Format.AdviceLines.{lines_of_advice}
 use Rattle.cwr_csv.specs.Format.TableLines.{lines_of_table}
 use Rattle.cwr_endings.specs.declared.endings.Look.{Look}
 use Rattle.cwr_reports.specs.Steps.Looks.{LooksAfter, tells_findings}
+use Rattle.cwr_reports.specs.Format.Endings.{advice_in}
 use Rattle.cwr_reports.specs.Steps.Tellings.{CountsReading, telling_alone}
-use Rattle.cwr_reports.proofs.lemmas.EndsOnTexts.{counts_explained, counts_reading, looks_after, looks_found, looks_told, sees_nothing}
+use Rattle.cwr_reports.proofs.lemmas.EndsOnTexts.{counts_explained, counts_reading, looks_after, looks_found, looks_told, sees_advice, sees_found, sees_nothing}
 use Rattle.cwr_reports.proofs.lemmas.EndsOnTexts.{counted_told, told_as, uncounted}
 use Rattle.cwr_tools.proofs.lemmas.RightReports.{judged_text}
 use Rattle.cwr_reports.proofs.reports.tell.Goals as goal
@@ -39,8 +40,10 @@ returns-in-Records-clause-looks g c =
 
 pub returns-in-Data-clause-seen : goal.returns-in-Data-clause-seen
 returns-in-Data-clause-seen g c =
-    sees_nothing c.args.limits (g.R.Source.remaining c.args.reader.now) c.args.watch.now c.json-writer.result.1
-    (c.requires (ap tells_findings c.in-Data.is))
+    sees_found (advice_in c.args.telling) c.args.limits (g.R.Source.remaining c.args.reader.now) c.args.watch.now c.args.watch.now
+    c.json-writer.result.1 (ap advice_in c.in-Data.is)
+    (sees_nothing c.args.limits (g.R.Source.remaining c.args.reader.now) c.args.watch.now c.json-writer.result.1
+    (c.requires (ap tells_findings c.in-Data.is)))
 
 pub returns-in-Data-clause-looks : goal.returns-in-Data-clause-looks
 returns-in-Data-clause-looks g c =
@@ -52,8 +55,10 @@ returns-in-Data-clause-looks g c =
 
 pub returns-in-Rows-clause-seen : goal.returns-in-Rows-clause-seen
 returns-in-Rows-clause-seen g c =
-    sees_nothing c.args.limits (g.R.Source.remaining c.args.reader.now) c.args.watch.now c.csv-writer.result.1
-    (c.requires (ap tells_findings c.in-Rows.is))
+    sees_found (advice_in c.args.telling) c.args.limits (g.R.Source.remaining c.args.reader.now) c.args.watch.now c.args.watch.now
+    c.csv-writer.result.1 (ap advice_in c.in-Rows.is)
+    (sees_nothing c.args.limits (g.R.Source.remaining c.args.reader.now) c.args.watch.now c.csv-writer.result.1
+    (c.requires (ap tells_findings c.in-Rows.is)))
 
 pub returns-in-Rows-clause-looks : goal.returns-in-Rows-clause-looks
 returns-in-Rows-clause-looks g c =
@@ -65,8 +70,10 @@ returns-in-Rows-clause-looks g c =
 
 pub returns-in-Faults-clause-seen : goal.returns-in-Faults-clause-seen
 returns-in-Faults-clause-seen g c =
-    sees_nothing c.args.limits (g.R.Source.remaining c.args.reader.now) c.args.watch.now c.lint-writer.result.1
-    (c.requires (ap tells_findings c.in-Faults.is))
+    sees_found (advice_in c.args.telling) c.args.limits (g.R.Source.remaining c.args.reader.now) c.args.watch.now c.args.watch.now
+    c.lint-writer.result.1 (ap advice_in c.in-Faults.is)
+    (sees_nothing c.args.limits (g.R.Source.remaining c.args.reader.now) c.args.watch.now c.lint-writer.result.1
+    (c.requires (ap tells_findings c.in-Faults.is)))
 
 pub returns-in-Faults-clause-looks : goal.returns-in-Faults-clause-looks
 returns-in-Faults-clause-looks g c =
@@ -152,8 +159,10 @@ returns-in-Faults-clause-reader_failures g c =
 
 pub returns-in-Answers-clause-seen : goal.returns-in-Answers-clause-seen
 returns-in-Answers-clause-seen g c =
-    sees_nothing c.args.limits (g.R.Source.remaining c.args.reader.now) c.args.watch.now c.acks_alone-writer.result.1
-    (c.requires (ap tells_findings c.in-Answers.is))
+    sees_found (advice_in c.args.telling) c.args.limits (g.R.Source.remaining c.args.reader.now) c.args.watch.now c.args.watch.now
+    c.acks_alone-writer.result.1 (ap advice_in c.in-Answers.is)
+    (sees_nothing c.args.limits (g.R.Source.remaining c.args.reader.now) c.args.watch.now c.acks_alone-writer.result.1
+    (c.requires (ap tells_findings c.in-Answers.is)))
 
 pub returns-in-Answers-clause-looks : goal.returns-in-Answers-clause-looks
 returns-in-Answers-clause-looks g c =
@@ -178,8 +187,9 @@ returns-in-Answers-clause-reader_failures g c =
 
 pub returns-in-Advice-clause-seen : goal.returns-in-Advice-clause-seen
 returns-in-Advice-clause-seen g c =
-    sees_nothing c.args.limits (g.R.Source.remaining c.args.reader.now) c.args.watch.now c.advise-writer.result.1
-    (c.requires (ap tells_findings c.in-Advice.is))
+    sees_advice (advice_in c.args.telling) c.in-Advice.repeated c.args.limits (g.R.Source.remaining c.args.reader.now)
+    c.args.watch.now c.note_worst.new.watch c.advise-writer.result.2 c.advise-writer.result.1 (ap advice_in c.in-Advice.is)
+    c.note_worst.ensures c.advise-writer.ensures.seen
 
 pub returns-in-Advice-clause-looks : goal.returns-in-Advice-clause-looks
 returns-in-Advice-clause-looks g c =
@@ -263,3 +273,18 @@ returns-in-Answers-clause-counted g c = uncounted c.args.telling _ c.args.limits
 
 pub returns-in-Advice-clause-counted : goal.returns-in-Advice-clause-counted
 returns-in-Advice-clause-counted g c = uncounted c.args.telling _ c.args.limits _ c.advise-writer.result.1 _ c.in-Advice.is tt
+
+pub returns-in-Findings-clause-seen : goal.returns-in-Findings-clause-seen
+returns-in-Findings-clause-seen g c =
+    sees_found (advice_in c.args.telling) c.args.limits (g.R.Source.remaining c.args.reader.now) c.args.watch.now
+    c.check_watched-writer.new.watch c.check_watched-writer.result.1 (ap advice_in c.in-Findings.is) c.check_watched-writer.ensures.seen
+
+pub returns-in-Explained-clause-seen : goal.returns-in-Explained-clause-seen
+returns-in-Explained-clause-seen g c =
+    sees_found (advice_in c.args.telling) c.args.limits (g.R.Source.remaining c.args.reader.now) c.args.watch.now
+    c.explain-writer.new.watch c.explain-writer.result.1 (ap advice_in c.in-Explained.is) c.explain-writer.ensures.seen
+
+pub returns-in-Records-clause-seen : goal.returns-in-Records-clause-seen
+returns-in-Records-clause-seen g c =
+    sees_found (advice_in c.args.telling) c.args.limits (g.R.Source.remaining c.args.reader.now) c.args.watch.now
+    c.show_watched-writer.new.watch c.show_watched-writer.result.1 (ap advice_in c.in-Records.is) c.show_watched-writer.ensures.seen

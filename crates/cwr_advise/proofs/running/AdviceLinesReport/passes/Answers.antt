@@ -5,6 +5,7 @@ use Rattle.cwr_tools.specs.Format.Reports.{ItemLines}
 use Rattle.cwr_advise.specs.Format.AdviceLines.{advised_lines, said_in}
 use Rattle.cwr_advise.specs.Format.RepeatedWorks.{works_in}
 use Rattle.cwr_advise.proofs.lemmas.Begun.{none_told}
+use Rattle.cwr_advise.proofs.lemmas.LevelsTold.{worst_passed}
 use Rattle.cwr_advise.proofs.lemmas.LinesOfAdvice.{advised_passed}
 use Rattle.cwr_advise.proofs.lemmas.SaidBefore.{said_still}
 use Rattle.cwr_advise.proofs.lemmas.WorksKept.{kept_nothing}
@@ -24,5 +25,6 @@ returns c = λ told of given t clean here.
         here.1 ∙ said_still given (Transaction t) refl,
         kept_nothing self.repeats (works_in given) (works_in (given ++ Transaction t ∷ [])) zero here.2,
         none_told self.findings given (Transaction t) (ap length clean.0) here.3,
+        worst_passed self.worst.level self.repeats.limit given t zero clean.0 (clean.1 (said_in given)) here.4,
       ),
     )

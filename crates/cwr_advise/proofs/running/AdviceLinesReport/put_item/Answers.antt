@@ -1,17 +1,21 @@
-use Rattle.std.proofs.Common.{ℕ, ◌++◌, refl, rules, subst, sym}
+use Rattle.std.proofs.Common.{◌≡◌, ℕ, ◌++◌, ◌∷◌, [], Option, refl, rules, subst, sym}
 use Rattle.std.specs.Prelude.{Result, Err, Ok}
 use Rattle.std.proofs.lemmas.Bool.{or_left, or_right}
+use Rattle.cwr_shape.specs.declared.reasons.Level.{Level}
 use Rattle.cwr_tools.specs.declared.verdicts.ToolFault.{ToolFault}
 use Rattle.cwr_tools.specs.declared.verdicts.ToolFault.TheVariants.{Memory}
 use Rattle.cwr_tools.specs.Steps.Reports.{PutsLines, PutsNext}
+use Rattle.cwr_tools.specs.Format.Watching.{is_reached}
 use Rattle.cwr_tools.proofs.lemmas.ReportsOn.{same_fault}
 use Rattle.cwr_tools.proofs.lemmas.ReportSteps.{next_lines}
+use Rattle.cwr_advise.specs.Format.AdviceLevels.{any_reaches}
 use Rattle.cwr_advise.specs.Format.AdviceLines.{advised_item, has_advised, lines_advised, takes_memory}
 use Rattle.cwr_advise.specs.Format.RepeatedWorks.{keeps_number}
 use Rattle.cwr_advise.specs.Steps.AdvisedItems.{advised_at}
 use Rattle.cwr_advise.specs.Steps.KeptWorks.{repeated_at}
 use Rattle.cwr_advise.proofs.lemmas.AdvicePut.{more_memory}
 use Rattle.cwr_advise.proofs.lemmas.Begun.{told_more}
+use Rattle.cwr_advise.proofs.lemmas.LevelsTold.{worst_told}
 use Rattle.cwr_advise.proofs.lemmas.LinesOfAdvice.{advised_more, advised_next}
 use Rattle.cwr_advise.proofs.running.AdviceLinesReport.put_item.Goals as goal
 
@@ -68,4 +72,10 @@ returns-clause-stands g c = λ of given counted here. (
   search rules,
   search rules,
   told_more c.args.self.now.findings c.put_item.new.count given c.args.item.now here.3 c.in_ok-put_item.ensures.counted,
+  subst (λ (limit : ℕ). (asked : Option Level) → is_reached asked c.put_item.new.worst.level
+      ≡ any_reaches limit asked (given ++ c.args.item.now ∷ []))
+      (sym c.in-Ok.ensures.limit)
+      (worst_told c.args.self.now.worst.level c.put_item.new.worst.level c.args.self.now.repeats.limit given c.args.item.now
+      c.said.result c.in-Ok.repeated here.4 (c.said.ensures given here.1) (c.in-Ok.ensures.first given here.2)
+      c.in_ok-put_item.ensures.seen),
 )
