@@ -1,13 +1,16 @@
 //! Looking at the items of transmissions that are read to be written anew.
 
 ghost use Rattle.std.specs.Prelude.{◌≡◌, ◌++◌, ◌∷◌, [], List, false, IsTrue};
+ghost use Rattle.cwr_lines.specs.Format.Records.{RecordValue};
 ghost use Rattle.cwr_values.specs.declared.items.Item.{Item};
 ghost use Rattle.cwr_levels.specs.Format.Findings.{findings};
 ghost use Rattle.cwr_levels.specs.Steps.Sums.{StandFor};
 ghost use Rattle.cwr_tools.specs.Format.Watching.{AreFindingsIn};
 
 use crate::watch::FindingCount;
+use cwr_fields::Kind;
 use cwr_levels::{Sums, findings};
+use cwr_lines::RecordRef;
 use cwr_values::{Item, Transaction};
 use std::alloc::Global;
 
@@ -35,6 +38,51 @@ impl Viewer for Blind {
     fn see(&mut self, _: &Item) {}
 }
 
+/// A type for each kind of record of which much is kept, and one for all others: a function has an instance for each.
+struct OfSpu;
+
+struct OfOpu;
+
+struct OfSpt;
+
+struct OfSwr;
+
+struct OfOwr;
+
+struct OfSwt;
+
+struct OfPwr;
+
+struct OfAlt;
+
+struct OfPer;
+
+struct OfRec;
+
+struct OfAny;
+
+/// Adds the transaction's next record to the sums, and says whether it does: a no says nothing. In each arm the compiler knows the kind,
+/// so that just what is asked of that one is left.
+#[inline(always)]
+fn add_next(sums: &mut Sums, next: &RecordRef<'_>) -> bool
+    ensures { (records : List RecordValue) → StandFor sums.old records → IsTrue result
+        → StandFor sums.new (records ++ next.now ∷ []) }
+{
+    match next.kind() {
+        Kind::Spu => sums.add::<OfSpu>(next),
+        Kind::Opu => sums.add::<OfOpu>(next),
+        Kind::Spt => sums.add::<OfSpt>(next),
+        Kind::Swr => sums.add::<OfSwr>(next),
+        Kind::Owr => sums.add::<OfOwr>(next),
+        Kind::Swt => sums.add::<OfSwt>(next),
+        Kind::Pwr => sums.add::<OfPwr>(next),
+        Kind::Alt => sums.add::<OfAlt>(next),
+        Kind::Per => sums.add::<OfPer>(next),
+        Kind::Rec => sums.add::<OfRec>(next),
+        _ => sums.add::<OfAny>(next),
+    }
+}
+
 /// Whether a transaction surely has no finding, by sums over its records: a no says nothing. It takes no memory.
 fn is_clean(sums: &mut Sums, transaction: &Transaction) -> bool
     ensures { IsTrue result → findings transaction.now ≡ [] }
@@ -51,7 +99,7 @@ fn is_clean(sums: &mut Sums, transaction: &Transaction) -> bool
         let Some(next) = transaction.record(i) else {
             return false;
         };
-        if !sums.add::<()>(&next) {
+        if !add_next(sums, &next) {
             return false;
         }
         i += 1;

@@ -23,9 +23,9 @@ records-preserved c =
     record {
       within = omega (arith, more);
       stand =
-          subst (StandFor c.add.new.self)
+          subst (StandFor c.add_next.new.sums)
           (sym (take_more c.args.transaction.now c.records.i c.in-Some-record.next (sym c.in-Some-record.ensures.value)))
-          (c.add.ensures (take c.records.i c.args.transaction.now) c.records.invariant.stand c.if-not-add.false);
+          (c.add_next.ensures (take c.records.i c.args.transaction.now) c.records.invariant.stand c.if-not-add_next.false);
     }
 
 pub returns : goal.returns
