@@ -1,7 +1,6 @@
 //! What findings beside a good verdict mean, told on standard error. What that doesn't take is lost.
 
 use crate::endings::Status;
-use crate::joins::name_of;
 use cwr_files::{Name, ShellWord};
 use cwr_shape::Level;
 use cwr_tools::{FindingCount, Verdict};
@@ -112,23 +111,23 @@ fn put_unjoined<E: Write>(
     name: Name<'_>,
     findings: u64,
     worst: Level,
-    input: Option<&str>,
+    input: Option<Name<'_>>,
 ) -> io::Result<()> {
     put_count(error, name, findings, worst)?;
     write!(error, ", so it is not written")?;
-    if let Some(word) = input {
-        put_explain(error, name_of(word))?;
+    if let Some(input) = input {
+        put_explain(error, input)?;
         write!(error, ")")?;
     }
     writeln!(error)
 }
 
-/// Tells the same of a join, whose first finding of the worst level is in the input that the word names.
+/// Tells the same of a join, whose first finding of the worst level is in the input of that name.
 pub fn tell_unjoined<E: Write>(
     error: &mut E,
     name: Name<'_>,
     count: &FindingCount,
-    input: Option<&str>,
+    input: Option<Name<'_>>,
 ) {
     if let Some(worst) = count.worst {
         let _ = put_unjoined(error, name, count.findings, worst, input);

@@ -175,7 +175,8 @@ fn tell_view<E: Write>(
     if is_kept {
         tell_findings(error, out, count, Status::Good);
     } else if found {
-        tell_unjoined(error, out, count, word_of(names, view.worst_input));
+        let input = word_of(names, view.worst_input).map(name_of);
+        tell_unjoined(error, out, count, input);
     }
 }
 
