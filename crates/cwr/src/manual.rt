@@ -324,20 +324,29 @@ COMMANDS
        second name is never read. Where OUT is the input, under whatever name,
        nothing is written, and the status is 2.
 
-       A record that is missing stays missing, one that stands twice stays
-       twice, and where a header is missing its records go to the work before.
-       Some of that standard error tells, with the line: where in FILE a
-       record sequence comes again or goes back in mid-transaction, or a
-       transaction sequence isn't one more than that before (0 after 0 is
-       passed over). Of more than ten such lines the number follows. What it
-       doesn't tell may be lost all the same: `cwr lint` tells every number
-       that is wrong.
+       A record that is missing stays missing, and one that stands twice stays
+       twice. Some of that standard error tells, with the line: where in FILE
+       a record sequence comes again or goes back in mid-transaction, a record
+       has another transaction sequence than the one before it, or a
+       transaction sequence isn't one more than that before. As long as all
+       are 0 nothing was counted, and nothing is told. Of more than ten such
+       lines the number follows. What it doesn't tell may be lost all the
+       same: `cwr lint` tells every number that is wrong.
+
+       Where a header is missing its records would go to the work before. So
+       where a record sequence goes back in mid-transaction, or the
+       transaction sequence changes there, no file is written, and the status
+       is 1. To standard output all was written by then.
 
        -o OUT
               OUT, in the place of the second word.
 
        --new  Replaces no file: where OUT is there, nothing is written, and
               the status is 2.
+
+       --anyway
+              Goes on where records may have come into the transaction before
+              theirs.
 
        --fail-on LEVEL
               Status 1 where a finding has that level or a worse one: F, R, T,

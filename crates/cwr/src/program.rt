@@ -471,6 +471,7 @@ fn perform<'a, R: Files + AllocGlobal, I: Read + Drop, P: Pace, O: Write + Drop,
             out,
             only_new,
             fail_on,
+            anyway,
         } => {
             let repair = Repair {
                 limits: task.limits,
@@ -481,6 +482,7 @@ fn perform<'a, R: Files + AllocGlobal, I: Read + Drop, P: Pace, O: Write + Drop,
                 file: *file,
                 out: *out,
                 only_new: *only_new,
+                anyway: *anyway,
             };
             return repair_numbers(rt, &repair, standard, pace, output, error);
         }

@@ -93,6 +93,9 @@ pub const NO_PROGRESS: &str = "no-progress";
 /// The id of the flag that wants no file replaced.
 pub const NEW: &str = "new";
 
+/// The id of the flag that puts numbers right whatever they show.
+pub const ANYWAY: &str = "anyway";
+
 /// The levels by their letters.
 const LEVELS: [&str; 5] = ["F", "R", "T", "G", "E"];
 
@@ -530,9 +533,14 @@ const JOINED: [Word; 7] = [
 ];
 
 /// The words of a renumbering.
-const RENUMBERED: [Word; 5] = [
+const RENUMBERED: [Word; 6] = [
     FAILS,
     KEEPS,
+    Word {
+        id: ANYWAY,
+        form: Form::Flag,
+        help: "Goes on where records may have come into the transaction before theirs",
+    },
     Word {
         id: FILE,
         form: Form::File,

@@ -28,6 +28,8 @@ pub struct Repair<'a> {
     pub out: Option<&'a str>,
     /// That file may replace none.
     pub only_new: bool,
+    /// Numbers are put right also where records may have come into the transaction before theirs.
+    pub anyway: bool,
 }
 
 /// What came of a run.
@@ -40,6 +42,8 @@ struct Repaired<'a> {
     count: FindingCount,
     /// Whether one is unwanted.
     found: bool,
+    /// Whether records may have come into the transaction before theirs, and that is unwanted.
+    mixed: bool,
     /// What is known of the input.
     read: Told<'a>,
     /// What is known of the output.
@@ -47,15 +51,15 @@ struct Repaired<'a> {
 }
 
 impl Repaired<'_> {
-    /// Whether what was written is what is wanted: a transmission without an unwanted finding, and where nothing may follow it in the input
-    /// nothing does.
+    /// Whether what was written is what is wanted: a transmission without an unwanted finding, in which records didn't come into the
+    /// transaction before theirs, and where nothing may follow it in the input nothing does.
     fn is_wanted(&self, whole: bool) -> bool {
         let alone = match &self.look {
             Look::Found(trailing) => !follows(trailing),
             Look::Failed => false,
             Look::Unasked => true,
         };
-        self.outcome.is_ok() && (alone || !whole) && !self.found
+        self.outcome.is_ok() && (alone || !whole) && !self.found && !self.mixed
     }
 }
 
@@ -63,9 +67,24 @@ impl Repaired<'_> {
 fn put_jump<E: Write>(error: &mut E, name: Name<'_>, jump: &Jump) -> io::Result<()> {
     write!(error, "cwr: {name}: line {}: ", jump.line)?;
     match jump.step {
-        Step::Record { before, here } => writeln!(
+        Step::Again { own } => writeln!(
             error,
-            "in mid-transaction the record sequence goes from {before} to {here}: the header of a transaction may be missing before it"
+            "in mid-transaction the record sequence {own} comes again: the record may stand twice"
+        ),
+        Step::Back { before, here } => writeln!(
+            error,
+            "in mid-transaction the record sequence goes from {before} back to {here}: the header of a transaction may be missing before it, or records stand elsewhere"
+        ),
+        Step::OfAnother { before, here } => writeln!(
+            error,
+            "in mid-transaction the transaction sequence goes from {before} to {here}: the header of transaction {here} may be missing before it"
+        ),
+        Step::Transaction {
+            before: Some(before),
+            here,
+        } if before == here => writeln!(
+            error,
+            "the transaction sequence {here} comes again: the transaction may stand twice"
         ),
         Step::Transaction {
             before: Some(before),
@@ -91,6 +110,14 @@ fn tell_jumps<E: Write>(error: &mut E, name: Name<'_>, jumps: &Jumps) {
         let more = jumps.count - told;
         let _ = writeln!(error, "cwr: {name}: {more} more such lines");
     }
+}
+
+/// Tells on standard error why the numbers of an input aren't put right. What standard error doesn't take is lost.
+fn tell_mixed<E: Write>(error: &mut E, name: Name<'_>) {
+    let _ = writeln!(
+        error,
+        "cwr: {name}: the numbers aren't put right: by these lines records may have come into the transaction before theirs; look with cwr explain, or put them right all the same with --anyway"
+    );
 }
 
 /// Writes the transmission of an input with its numbers put right, and looks what follows it there.
@@ -120,11 +147,16 @@ fn run<'a, F: Read + Drop, I: Read + Drop, P: Pace + Drop, O: Write + Drop, E: W
     };
     let read = reader.into_inner().told();
     tell_jumps(error, read.name, &jumps);
+    let mixed = outcome.is_ok() && jumps.are_mixed && !repair.anyway;
+    if mixed {
+        tell_mixed(error, read.name);
+    }
     tell_following(error, read.name, &look);
     Repaired {
         outcome,
         look,
         found: outcome.is_ok() && view.count.reaches(repair.wanted.fail_on),
+        mixed,
         count: view.count,
         read,
         written: told_of(writer),

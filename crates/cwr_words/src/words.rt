@@ -10,10 +10,10 @@ use clap::error::ErrorKind;
 use clap::{ArgMatches, Error};
 use cwr_fields::Kind;
 use cwr_grammar::{
-    ACKS, ADVICE, ADVISE, AS_JSON, BY_PLACE, CREATED, CSV, EXPLAIN, EXPLAINED, FAIL_ON, FILE,
-    GROUPS, INTO, JOIN, JSON, KIND, LINE, LINT, MANUAL, NEW, NO_PROGRESS, NUMBER, NUMBERS, OUT,
-    PREFIX, PROGRESS, QUIET, RECORDS, RENUMBER, REPEATED, SAME_SENDER, SENT, SHOW, SPLIT, STATE,
-    TRANSACTION, UTF8, WHOLE, WORKS, WRITE, command,
+    ACKS, ADVICE, ADVISE, ANYWAY, AS_JSON, BY_PLACE, CREATED, CSV, EXPLAIN, EXPLAINED, FAIL_ON,
+    FILE, GROUPS, INTO, JOIN, JSON, KIND, LINE, LINT, MANUAL, NEW, NO_PROGRESS, NUMBER, NUMBERS,
+    OUT, PREFIX, PROGRESS, QUIET, RECORDS, RENUMBER, REPEATED, SAME_SENDER, SENT, SHOW, SPLIT,
+    STATE, TRANSACTION, UTF8, WHOLE, WORKS, WRITE, command,
 };
 use cwr_moments::Moment;
 use cwr_shape::{Level, Limits};
@@ -160,6 +160,8 @@ pub enum Work<'a> {
         only_new: bool,
         /// A finding of this level, or of a worse one, ends the run as a refusal does.
         fail_on: Option<Level>,
+        /// The numbers are put right also where records may have come into the transaction before theirs.
+        anyway: bool,
     },
     /// The manual is printed.
     Manual,
@@ -459,6 +461,7 @@ fn renumber_in<'a>(given: &ArgMatches<'a>) -> Work<'a>
         out: named_out(written_in(given, OUT)),
         only_new: given.get_flag(NEW),
         fail_on: fail_on_in(given),
+        anyway: given.get_flag(ANYWAY),
     }
 }
 

@@ -54,9 +54,9 @@ static ASKED: [(&[&str], &str, Numbers); 37] = [
     (&["cwr", "split", "--fail-on=R", "-n", "1", "a.cwr", "-o", "part-", "--created", "20240131T235959"], "Split { transactions: 1, file: \"a.cwr\", prefix: \"part-\", created: Some(Moment { date: CivilDate { year: 2024, month: 1, day: 31 }, time: TimeOfDay { hour: 23, minute: 59, second: 59 } }), only_new: false, fail_on: Some(R) }", LARGEST),
     (&["cwr", "join", "-o", "out.cwr", "a.cwr"], "Join { out: \"out.cwr\", files: [\"a.cwr\"], only_new: false, fail_on: None, same_sender: false, repeated: 0 }", LARGEST),
     (&["cwr", "join", "a.cwr", "b.cwr", "-o", "out.cwr", "--new", "--same-sender", "--repeated", "9", "--fail-on", "T"], "Join { out: \"out.cwr\", files: [\"a.cwr\", \"b.cwr\"], only_new: true, fail_on: Some(T), same_sender: true, repeated: 9 }", LARGEST),
-    (&["cwr", "renumber"], "Renumber { file: None, out: None, only_new: false, fail_on: None }", LARGEST),
-    (&["cwr", "renumber", "a.cwr", "b.cwr", "--new"], "Renumber { file: Some(\"a.cwr\"), out: Some(\"b.cwr\"), only_new: true, fail_on: None }", LARGEST),
-    (&["cwr", "renumber", "-o", "b.cwr", "--fail-on", "F"], "Renumber { file: None, out: Some(\"b.cwr\"), only_new: false, fail_on: Some(F) }", LARGEST),
+    (&["cwr", "renumber"], "Renumber { file: None, out: None, only_new: false, fail_on: None, anyway: false }", LARGEST),
+    (&["cwr", "renumber", "a.cwr", "b.cwr", "--new"], "Renumber { file: Some(\"a.cwr\"), out: Some(\"b.cwr\"), only_new: true, fail_on: None, anyway: false }", LARGEST),
+    (&["cwr", "renumber", "-o", "b.cwr", "--fail-on", "F", "--anyway"], "Renumber { file: None, out: Some(\"b.cwr\"), only_new: false, fail_on: Some(F), anyway: true }", LARGEST),
     (&["cwr", "join", "out.cwr", "a.cwr", "b.cwr", "a.cwr"], "Join { out: \"out.cwr\", files: [\"a.cwr\", \"b.cwr\", \"a.cwr\"], only_new: false, fail_on: None, same_sender: false, repeated: 0 }", LARGEST),
 ];
 

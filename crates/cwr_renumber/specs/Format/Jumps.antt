@@ -1,19 +1,81 @@
 -- How sequences don't go on as they began.
-use Rattle.std.specs.Prelude.{ℕ, ◌+◌, Bool, ◌&&◌, ◌||◌, ◌==◌, nat_le, nat_lt, Option, Some, None, if◌then◌else◌}
+use Rattle.std.specs.Prelude.{ℕ, ◌-◌, Bool, true, false, not, ◌&&◌, ◌||◌, ◌==◌, nat_le, nat_lt, Option, Some, None, if◌then◌else◌}
+use Rattle.cwr_renumber.specs.declared.jumps.Counting.{Counting}
 use Rattle.cwr_renumber.specs.declared.jumps.Step.{Step}
-use Rattle.cwr_renumber.specs.declared.jumps.Step.TheVariants.{Record, Transaction}
+use Rattle.cwr_renumber.specs.declared.jumps.Step.TheVariants.{Again, Back, OfAnother, Transaction}
 
--- in mid-transaction a record sequence is higher than the one before; where that is 0 nothing was counted
-abbrev pub record_jump : Option ℕ → Option ℕ → Option Step
-record_jump (Some before) (Some here) = if nat_lt 0 before && nat_le here before then Some (Record before here) else None
-record_jump None here = None
-record_jump (Some before) None = None
+-- ---- a record in mid-transaction
 
--- a transaction sequence is one more than the one before, and 0 in the first transaction of a group; where both are 0 nothing was counted
-abbrev pub goes_on : Option ℕ → ℕ → Bool
-goes_on None here = here == 0
-goes_on (Some before) here = (here == before + 1) || ((before == 0) && (here == 0))
+-- its record sequence is higher than the one before; where that is 0 nothing was counted
+abbrev pub own_jump : Option ℕ → Option ℕ → Option Step
+own_jump (Some before) (Some here) =
+    if nat_lt before here || (before == 0) then None else (if here == before then Some (Again here) else Some (Back before here))
+own_jump None here = None
+own_jump (Some before) None = None
 
-abbrev pub transaction_jump : Option ℕ → Option ℕ → Option Step
-transaction_jump before None = None
-transaction_jump before (Some here) = if goes_on before here then None else Some (Transaction before here)
+-- both its sequences are 0: nothing was counted
+abbrev pub is_uncounted : Option ℕ → Option ℕ → Bool
+is_uncounted (Some transaction) (Some own) = (transaction == 0) && (own == 0)
+is_uncounted transaction own = false
+
+-- it has another transaction sequence than the line before
+abbrev pub other_jump : Option ℕ → Option ℕ → Option Step
+other_jump (Some before) (Some here) = if before == here then None else Some (OfAnother before here)
+other_jump None here = None
+other_jump (Some before) None = None
+
+abbrev pub jump_or : Option Step → Option Step → Option Step
+jump_or None other = other
+jump_or (Some step) other = Some step
+
+-- its transaction sequence is that of the line before, and its own goes on
+abbrev pub record_jump : Counting → Option ℕ → Option ℕ → Option Step
+record_jump before transaction own =
+    if is_uncounted transaction own then own_jump before.own own
+    else jump_or (other_jump before.transaction transaction) (own_jump before.own own)
+
+-- ---- a header
+
+-- a transaction sequence is one more than the one before, and 0 in the first transaction of a group; as long as nothing was counted 0 comes
+-- after 0
+abbrev pub goes_on : Bool → Option ℕ → ℕ → Bool
+goes_on counted None here = here == 0
+goes_on counted (Some before) here = (here - before == 1) || ((not counted) && ((before == 0) && (here == 0)))
+
+abbrev pub header_jump : Counting → Option ℕ → Option Step
+header_jump before None = None
+header_jump before (Some here) =
+    if goes_on before.counted before.transaction here then None else Some (Transaction before.transaction here)
+
+-- how the sequences of a line don't go on: a header, or another record
+abbrev pub jump_of : Counting → Bool → Option ℕ → Option ℕ → Option Step
+jump_of before header transaction own =
+    if header then header_jump before transaction else record_jump before transaction own
+
+-- ---- what stands before the next line
+
+-- the number, or where there is none the one before
+abbrev pub latest : Option ℕ → Option ℕ → Option ℕ
+latest (Some here) before = Some here
+latest None before = before
+
+-- the number isn't 0
+abbrev pub is_counted : Option ℕ → Bool
+is_counted None = false
+is_counted (Some number) = not (number == 0)
+
+abbrev pub counting_after : Counting → Bool → Option ℕ → Option ℕ → Counting
+counting_after before header transaction own =
+    record {
+      counted = before.counted || (is_counted transaction || is_counted own);
+      transaction = if not header && is_uncounted transaction own then before.transaction else latest transaction before.transaction;
+      own = latest own before.own;
+    }
+
+-- ---- what a jump means
+
+-- by it records may have come into the transaction before theirs
+abbrev pub is_mixed : Step → Bool
+is_mixed (Back before here) = true
+is_mixed (OfAnother before here) = true
+is_mixed step = false

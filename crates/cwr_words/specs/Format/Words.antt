@@ -94,7 +94,7 @@ IsSplitOf found (Split transactions file prefix created only_new fail_on) =
     × IsCreatedBy (first_value found (codes "created")) created × IsFlagOf found (codes "new") only_new
     × (fail_on ≡ level_given (first_value found (codes "fail-on")))
 IsSplitOf found (Join out files only_new fail_on same_sender repeated) = ⊥
-IsSplitOf found (Renumber file out only_new fail_on) = ⊥
+IsSplitOf found (Renumber file out only_new fail_on anyway) = ⊥
 IsSplitOf found Manual = ⊥
 
 -- every fault of the files FILE, explained where that flag is given, and with advice where that one is
@@ -171,12 +171,12 @@ IsJoinOf found (Join out files only_new fail_on same_sender repeated) =
     × ((text : List ℕ) → one_text found (codes "repeated") ≡ Some text → repeated ≡ digits_value 10 (without_leading_plus text))
 IsJoinOf found work = ⊥
 
--- the file FILE with its numbers put right, to the file OUT
+-- the file FILE with its numbers put right, to the file OUT, whatever they show or not
 abbrev pub IsRenumberingOf : Found → Work → Type 0
-IsRenumberingOf found (Renumber file out only_new fail_on) =
+IsRenumberingOf found (Renumber file out only_new fail_on anyway) =
     (option_map (λ f. f.now) file ≡ first_value found (codes "FILE"))
     × (option_map (λ f. f.now) out ≡ named_out (written_in found (codes "OUT"))) × IsFlagOf found (codes "new") only_new
-    × (fail_on ≡ level_given (first_value found (codes "fail-on")))
+    × (fail_on ≡ level_given (first_value found (codes "fail-on"))) × IsFlagOf found (codes "anyway") anyway
 IsRenumberingOf found work = ⊥
 
 -- Work of the subcommand of that name: transmissions are checked, explained, linted or advised on; one is shown, or written as JSON or as a table, that of the
@@ -204,8 +204,8 @@ IsWorkOf name found (Split transactions file prefix created only_new fail_on) =
     (bytes_eq name (codes "split") ≡ true) × IsSplitOf found (Split transactions file prefix created only_new fail_on)
 IsWorkOf name found (Join out files only_new fail_on same_sender repeated) =
     (bytes_eq name (codes "join") ≡ true) × IsJoinOf found (Join out files only_new fail_on same_sender repeated)
-IsWorkOf name found (Renumber file out only_new fail_on) =
-    (bytes_eq name (codes "renumber") ≡ true) × IsRenumberingOf found (Renumber file out only_new fail_on)
+IsWorkOf name found (Renumber file out only_new fail_on anyway) =
+    (bytes_eq name (codes "renumber") ≡ true) × IsRenumberingOf found (Renumber file out only_new fail_on anyway)
 IsWorkOf name found Manual = bytes_eq name (codes "manual") ≡ true
 
 -- so it is of the subcommand of that name
