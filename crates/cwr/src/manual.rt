@@ -18,9 +18,11 @@ DESCRIPTION
        what a file has, and writes files whose numbers are right.
 
        Where FILE may be left out, standard input is read. So it is where `-`
-       stands in the place of a file that is read. Without any word `cwr` is
-       `cwr check`. Memory holds one line and one transaction, however large
-       the file is, but for `cwr acks --sent`.
+       stands in the place of a file that is read. Where it is a terminal,
+       standard error says that it is waited for, and Ctrl-D at the start of a
+       line ends it. Without any word `cwr` is `cwr check`. Memory holds one
+       line and one transaction, however large the file is, but for `cwr acks
+       --sent`.
 
        A word that begins with a hyphen is an option. After `--` it is a file.
        In lines and messages a control character in a name, as a line feed, is
@@ -170,7 +172,8 @@ COMMANDS
 
    cwr acks [OPTIONS] [FILE]...
        Tells what became of each transaction that the acknowledgements in
-       transmissions answer. The verdict goes to standard error.
+       transmissions answer. The verdict goes to standard error, and where a
+       good transmission has no acknowledgement, a line says that, too.
 
        Each acknowledgement has a line. It begins with the status, so that
        `grep` and `sort` find what is rejected, and goes on with the group and

@@ -11,6 +11,7 @@ ghost use Rattle.cwr.specs.Format.Tables.{table_of};
 ghost use Rattle.cwr_reports.specs.Steps.Looks.{tells_findings};
 
 use crate::manual::MANUAL;
+use crate::terminal::{Cleared, Shown, Terminals};
 use clap::error::ErrorKind;
 use cwr_acks::Form;
 use cwr_answers::{Answering, match_answers};
@@ -27,6 +28,7 @@ use cwr_transform::{
     Cut, Import, Repair, Union, import_file, import_input, join_files, repair_numbers, split_file,
 };
 use cwr_words::{Rows, Task, Work, task_of};
+use std::cell::Cell;
 use std::convert::AsStr;
 use std::io;
 use std::io::{Read, Write};
@@ -42,12 +44,16 @@ pub fn run<
     O: Write + Drop,
     E: Write + Drop,
     T: Write + Drop,
->(rt: &R, words: &[S], input: I, output: O, mut error: E, terminal: T, is_terminal: bool) -> u8
+>(rt: &R, words: &[S], input: I, output: O, mut error: E, terminal: T, terminals: Terminals) -> u8
     ensures { result ≤ 3 }
 {
     let status = match task_of(rt.alloc(), words) {
         Ok(task) => {
-            let mut progress = Progress::new(rt, terminal, task.progress.unwrap_or(is_terminal));
+            let is_shown = Cell::new(false);
+            let terminal = Shown::new(terminal, &is_shown);
+            let output = Cleared::new(output, terminals.output, &is_shown);
+            let wanted = task.progress.unwrap_or(terminals.error);
+            let mut progress = Progress::new(rt, terminal, wanted, terminals.input);
             carry_out(rt, &task, input, &mut progress, output, &mut error)
         }
         Err(answer) => answer_words(error, &answer, file_in_place(rt, words, &answer)),

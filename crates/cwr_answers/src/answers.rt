@@ -7,7 +7,8 @@ use cwr_acks::{Answers, Form, Manner, acks, put_rest};
 use cwr_delivery::Delivery;
 use cwr_devices::{Counted, ReadAhead, Sink, Target};
 use cwr_endings::{
-    Judgement, Status, Sums, Wanted, judgement_of, look_after, tell_following, tell_verdict,
+    Judgement, Status, Sums, Wanted, judgement_of, look_after, tell_following, tell_unanswering,
+    tell_verdict,
 };
 use cwr_files::{
     Fault, FileLines, Input, Name, Pace, Passing, Told, gathered, input_name, is_standard,
@@ -42,6 +43,13 @@ pub struct Answering<'t, 'a> {
     pub state: bool,
     /// A row of that table with one of these states ends the run as a refusal does.
     pub fail_on: States,
+}
+
+impl Answering<'_, '_> {
+    /// Whether they are matched with what was sent.
+    fn is_matched(&self) -> bool {
+        !self.sent.is_empty()
+    }
 }
 
 /// Tells on standard error with what verdict a transmission was read, with its name before it. What standard error doesn't take is lost.
@@ -148,14 +156,15 @@ fn stop_of<'a>(fault: ToolFault, told: Told<'a>) -> Stop<'a> {
     }
 }
 
-/// Reads a transmission of acknowledgements after others, and writes its lines, with that before each.
+/// Reads a transmission of acknowledgements after others, and writes its lines, with that before each. The last answer is how many there
+/// are in it.
 fn read_input<'a, F: Read + Drop, I: Read + Drop, P: Pace + Drop, W: Target + Drop>(
     answering: &Answering<'_, 'a>,
     manner: Manner<'_>,
     before_each: Option<&str>,
     input: Input<'a, F, I, P>,
     reading: Reading<W>,
-) -> (Reading<W>, Result<Judgement, ToolFault>, Told<'a>) {
+) -> (Reading<W>, Result<Judgement, ToolFault>, Told<'a>, u64) {
     let Reading {
         lines,
         delivery,
@@ -182,7 +191,7 @@ fn read_input<'a, F: Read + Drop, I: Read + Drop, P: Pace + Drop, W: Target + Dr
         delivery,
         answers: answers.add(&more),
     };
-    (reading, judged, reader.into_inner().told())
+    (reading, judged, reader.into_inner().told(), more.all)
 }
 
 /// Reads the transmission of the one file, or of standard input.
@@ -205,10 +214,11 @@ fn read_alone<'a, R: Files, I: Read + Drop, P: Pace, W: Target + Drop, E: Write>
         file: None,
         names,
     };
-    let (reading, judged, told) = read_input(answering, manner, None, input, reading);
+    let (reading, judged, told, count) = read_input(answering, manner, None, input, reading);
     match judged {
         Ok(judgement) => {
-            tell_verdict(error, told.name, &judgement);
+            tell_verdict(&mut *error, told.name, &judgement);
+            tell_unanswering(error, told.name, &judgement, count, answering.is_matched());
             (reading, Ok(judgement.status))
         }
         Err(fault) => (reading, Err(stop_of(fault, told))),
@@ -256,12 +266,19 @@ fn read_several<'a, R: Files, I: Read + Drop, P: Pace, W: Target + Drop, E: Writ
             Form::Words => Some(shown.as_str()),
             Form::Json => None,
         };
-        let (after, judged, told) = read_input(answering, manner, before_each, input, reading);
+        let (after, judged, told, count) = read_input(
+            answering,
+            manner,
+            before_each,
+            input,
+            reading,
+        );
         reading = after;
         match judged {
             Ok(judgement) => {
                 tell_named(error, told.name, &judgement.verdict);
                 tell_following(error, told.name, &judgement.look);
+                tell_unanswering(error, told.name, &judgement, count, answering.is_matched());
                 sums.count(&judgement);
             }
             Err(ToolFault::Reader) => {

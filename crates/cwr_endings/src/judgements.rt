@@ -53,6 +53,25 @@ pub fn judgement_of(
     }
 }
 
+/// Tells on standard error where a transmission has no acknowledgement, `is_matched` with what was sent. What standard error doesn't take is
+/// lost.
+pub fn tell_unanswering<E: Write>(
+    error: &mut E,
+    name: Name<'_>,
+    judgement: &Judgement,
+    answers: u64,
+    is_matched: bool,
+) {
+    if let (0, Verdict::Good { .. }) = (answers, judgement.verdict) {
+        let swapped = if is_matched {
+            ": are FILE and SENT swapped?"
+        } else {
+            ""
+        };
+        let _ = writeln!(error, "cwr: {name}: it has no acknowledgement{swapped}");
+    }
+}
+
 /// Tells on standard error the verdict on a transmission, and what follows that. What standard error doesn't take is lost.
 pub fn tell_verdict<E: Write>(error: &mut E, name: Name<'_>, judgement: &Judgement) {
     let _ = put_verdict_line(

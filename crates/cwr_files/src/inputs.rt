@@ -21,6 +21,8 @@ pub const DASH: &str = "-";
 enum Device<F, I> {
     File(F),
     Standard(I),
+    /// Standard input that was read to its end. On a terminal another read would wait for more.
+    Ended,
 }
 
 /// An input, with what is told of it where it fails.
@@ -48,13 +50,14 @@ impl<'a, F: Drop, I: Drop, P: Pace + Drop> Input<'a, F, I, P> {
     }
 }
 
-impl<F: Read, I: Read, P: Pace> Read for Input<'_, F, I, P> {
+impl<F: Read + Drop, I: Read + Drop, P: Pace> Read for Input<'_, F, I, P> {
     ghost remaining = { remaining_of F.remaining I.remaining };
 
     fn read(&mut self, buf: &mut [u8]) -> io::Result<usize> {
         let answer = match &mut self.device {
             Device::File(file) => file.read(buf),
             Device::Standard(input) => input.read(buf),
+            Device::Ended => Ok(0),
         };
         match &answer {
             Ok(count) => {
@@ -62,6 +65,11 @@ impl<F: Read, I: Read, P: Pace> Read for Input<'_, F, I, P> {
                 self.pace.advance(self.name, &buf[..*count], self.bytes);
             }
             Err(fault) => self.reason = Some(Reason::of(fault)),
+        }
+        if matches!(answer, Ok(0)) && !buf.is_empty() {
+            if let Device::Standard(_) = &self.device {
+                self.device = Device::Ended;
+            }
         }
         answer
     }
@@ -105,6 +113,7 @@ pub fn open_input<'a, R: Files, I: Read, P: Pace + Drop>(
         },
         _ => match standard.take() {
             Some(input) => {
+                pace.wait();
                 pace.begin(None);
                 Ok(Input {
                     device: Device::Standard(input),

@@ -19,6 +19,8 @@ pub struct Progress<'p, R, T> {
     terminal: T,
     /// Whether it is shown at all.
     wanted: bool,
+    /// Whether standard input is a terminal.
+    is_typed: bool,
     /// The bytes of the input, where that is a file.
     size: Option<u64>,
     /// The lines that were read.
@@ -31,6 +33,9 @@ pub struct Progress<'p, R, T> {
 
 /// What follows the reading of an input.
 pub trait Pace {
+    /// Standard input is to be read.
+    fn wait(&mut self);
+
     /// An input begins, which has so many bytes where that is known.
     fn begin(&mut self, size: Option<u64>);
 
@@ -42,12 +47,13 @@ pub trait Pace {
 }
 
 impl<'p, R: Clock, T: Write> Progress<'p, R, T> {
-    /// Nothing was read so far.
-    pub fn new(clock: &'p R, terminal: T, wanted: bool) -> Progress<'p, R, T> {
+    /// Nothing was read so far. `is_typed` says whether standard input is a terminal.
+    pub fn new(clock: &'p R, terminal: T, wanted: bool, is_typed: bool) -> Progress<'p, R, T> {
         Progress {
             clock,
             terminal,
             wanted,
+            is_typed,
             size: None,
             lines: 0,
             next: None,
@@ -80,6 +86,16 @@ impl<'p, R: Clock, T: Write> Progress<'p, R, T> {
 }
 
 impl<R: Clock, T: Write> Pace for Progress<'_, R, T> {
+    fn wait(&mut self) {
+        if self.is_typed {
+            // What standard error doesn't take is lost.
+            let _ = writeln!(
+                self.terminal,
+                "cwr: waiting for standard input, which Ctrl-D ends at the start of a line"
+            );
+        }
+    }
+
     fn begin(&mut self, size: Option<u64>) {
         if self.wanted {
             self.size = size;
@@ -112,6 +128,10 @@ impl<R: Clock, T: Write> Pace for Progress<'_, R, T> {
 }
 
 impl<P: Pace> Pace for &mut P {
+    fn wait(&mut self) {
+        (**self).wait();
+    }
+
     fn begin(&mut self, size: Option<u64>) {
         (**self).begin(size);
     }
@@ -130,6 +150,8 @@ impl<P: Pace> Pace for &mut P {
 pub struct Unwatched;
 
 impl Pace for Unwatched {
+    fn wait(&mut self) {}
+
     fn begin(&mut self, _size: Option<u64>) {}
 
     fn advance(&mut self, _name: Name<'_>, _read: &[u8], _bytes: u64) {}

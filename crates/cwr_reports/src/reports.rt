@@ -19,7 +19,7 @@ use cwr_csv::{Table, csv};
 use cwr_devices::{ReadAhead, Sink, SinkFault, Source, Target};
 use cwr_endings::{
     Judgement, Look, Status, Wanted, judgement_of, look_after, tell_findings, tell_following,
-    tell_profile, tell_verdict, worst_level,
+    tell_profile, tell_unanswering, tell_verdict, worst_level,
 };
 use cwr_explain::explain;
 use cwr_files::{Fault, FileLines, Gathered, Input, Name, Pace, Passing, Told, gathered, told_of};
@@ -104,6 +104,33 @@ impl Asked {
     }
 }
 
+/// What was counted of a transmission while it was told.
+#[derive(Clone, Copy, Debug)]
+pub(crate) struct Count {
+    /// The findings, where these are told or counted.
+    pub(crate) findings: FindingCount,
+    /// The acknowledgements, where what they say is told.
+    pub(crate) answers: Option<u64>,
+}
+
+impl Count {
+    /// Nothing was.
+    fn nothing() -> Count {
+        Count {
+            findings: FindingCount::new(),
+            answers: None,
+        }
+    }
+
+    /// So many acknowledgements were.
+    fn of_answers(answers: u64) -> Count {
+        Count {
+            findings: FindingCount::new(),
+            answers: Some(answers),
+        }
+    }
+}
+
 /// What was found after a transmission, if that was looked for.
 fn look_of(found: Option<Trailing>) -> Look
     ensures { result ≡ look_of found }
@@ -114,14 +141,14 @@ fn look_of(found: Option<Trailing>) -> Look
     }
 }
 
-/// Writes what the acknowledgements of one transmission say, matched with nothing. The writer comes back.
+/// Writes what the acknowledgements of one transmission say, matched with nothing. The writer comes back, and how many there are.
 fn acks_alone<R: Source, W: Target + Drop>(
     alloc: Global,
     limits: Limits,
     form: Form,
     reader: &mut R,
     writer: W,
-) -> (W, Result<Verdict, ToolFault>)
+) -> (W, Result<Verdict, ToolFault>, u64)
     ensures reported { Reports (lines_of_acks (telling_alone form) None) limits
         (R.remaining reader.old) (R.remaining reader.new) W.contents writer result.0 result.1 }
     ensures told { ReportsText (lines_of_acks (telling_alone form) None) limits
@@ -136,8 +163,8 @@ fn acks_alone<R: Source, W: Target + Drop>(
         file: None,
         names: &[],
     };
-    let (writer, _, _, outcome) = acks(alloc, limits, manner, None, reader, writer);
-    (writer, outcome)
+    let (writer, _, answers, outcome) = acks(alloc, limits, manner, None, reader, writer);
+    (writer, outcome, answers.all)
 }
 
 /// Notes whether the worst level of all that was told is the one that is watched for, or a worse one.
@@ -158,14 +185,14 @@ fn tell<R: Source, W: Target + Drop>(
     watch: &mut Watch,
     reader: &mut R,
     writer: W,
-) -> (W, Result<Verdict, ToolFault>, Look, FindingCount)
+) -> (W, Result<Verdict, ToolFault>, Look, Count)
     requires { tells_findings telling ≡ false → watch.old.from ≡ None }
     ensures judged { JudgesText limits (R.remaining reader.old) result.1 }
     ensures seen { OnOk result.1
         (SeesCounted (advice_in telling.entry) limits (R.remaining reader.old) watch.old watch.new) }
     ensures looks { OnOk result.1 (LooksAfter limits (R.remaining reader.old) result.2) }
     ensures counted { OnOk result.1
-        (CountsFindings telling.entry limits (R.remaining reader.old) result.3) }
+        (CountsFindings telling.entry limits (R.remaining reader.old) result.3.findings) }
     // What is asked for was written, and handed on.
     ensures told { TellsText telling.entry limits (R.remaining reader.old) W.contents writer
         result.0 result.1 }
@@ -177,46 +204,58 @@ fn tell<R: Source, W: Target + Drop>(
 {
     match telling {
         Telling::Findings => {
-            let (writer, outcome, count) = check_watched(alloc, limits, watch, reader, writer);
+            let (writer, outcome, findings) = check_watched(alloc, limits, watch, reader, writer);
             let look = look_after(reader, &outcome);
+            let count = Count {
+                findings,
+                answers: None,
+            };
             (writer, outcome, look, count)
         }
         Telling::Explained(name) => {
-            let (writer, outcome, found, count) = explain(
+            let (writer, outcome, found, findings) = explain(
                 alloc, limits, name, watch, reader, writer,
             );
+            let count = Count {
+                findings,
+                answers: None,
+            };
             (writer, outcome, look_of(found), count)
         }
         Telling::Faults { name, advised } => {
             let (writer, outcome) = lint(alloc, limits, name, advised, reader, writer);
             let look = look_after(reader, &outcome);
-            (writer, outcome, look, FindingCount::new())
+            (writer, outcome, look, Count::nothing())
         }
         Telling::Records => {
-            let (writer, outcome, count) = show_watched(alloc, limits, watch, reader, writer);
+            let (writer, outcome, findings) = show_watched(alloc, limits, watch, reader, writer);
             let look = look_after(reader, &outcome);
+            let count = Count {
+                findings,
+                answers: None,
+            };
             (writer, outcome, look, count)
         }
         Telling::Data { encoding, numbers } => {
             let (writer, outcome) = json(alloc, limits, encoding, numbers, reader, writer);
             let look = look_after(reader, &outcome);
-            (writer, outcome, look, FindingCount::new())
+            (writer, outcome, look, Count::nothing())
         }
         Telling::Rows(table) => {
             let (writer, outcome) = csv(alloc, limits, table, reader, writer);
             let look = look_after(reader, &outcome);
-            (writer, outcome, look, FindingCount::new())
+            (writer, outcome, look, Count::nothing())
         }
         Telling::Answers(form) => {
-            let (writer, outcome) = acks_alone(alloc, limits, form, reader, writer);
+            let (writer, outcome, answers) = acks_alone(alloc, limits, form, reader, writer);
             let look = look_after(reader, &outcome);
-            (writer, outcome, look, FindingCount::new())
+            (writer, outcome, look, Count::of_answers(answers))
         }
         Telling::Advice(repeated) => {
             let (writer, outcome, worst) = advise(alloc, limits, repeated, reader, writer);
             note_worst(watch, worst);
             let look = look_after(reader, &outcome);
-            (writer, outcome, look, FindingCount::new())
+            (writer, outcome, look, Count::nothing())
         }
     }
 }
@@ -227,12 +266,12 @@ fn judge_source<R: Source, W: Target + Drop>(
     telling: Telling<'_>,
     reader: &mut R,
     writer: W,
-) -> (W, Result<Judgement, ToolFault>, FindingCount)
+) -> (W, Result<Judgement, ToolFault>, Count)
     requires { tells_findings telling ≡ false → asked.now.wanted.fail_on ≡ None }
     ensures judges { JudgesOn (advice_in telling.entry) asked.now.limits asked.now.wanted
         (R.remaining reader.old) result.1 }
     ensures counted { OnOk result.1
-        (CountsFindings telling.entry asked.now.limits (R.remaining reader.old) result.2) }
+        (CountsFindings telling.entry asked.now.limits (R.remaining reader.old) result.2.findings) }
     ensures told { IfOk result.1 (λ judgement. TellsText telling.entry asked.now.limits
         (R.remaining reader.old) W.contents writer result.0 (Ok judgement.verdict)) }
     ensures handed_on { OnOk result.1 (W.handed_on result.0 ≡ true) }
@@ -260,12 +299,12 @@ pub(crate) fn judge_input<'a, F: Read + Drop, I: Read + Drop, P: Pace + Drop, W:
     telling: Telling<'_>,
     input: Input<'a, F, I, P>,
     writer: W,
-) -> (W, Result<Judgement, ToolFault>, Told<'a>, FindingCount)
+) -> (W, Result<Judgement, ToolFault>, Told<'a>, Count)
     requires { tells_findings telling ≡ false → asked.now.wanted.fail_on ≡ None }
     ensures judges { JudgesOn (advice_in telling.entry) asked.now.limits asked.now.wanted
         (remaining_of F.remaining I.remaining input.entry) result.1 }
     ensures counted { OnOk result.1 (CountsFindings telling.entry asked.now.limits
-        (remaining_of F.remaining I.remaining input.entry) result.3) }
+        (remaining_of F.remaining I.remaining input.entry) result.3.findings) }
     ensures told { IfOk result.1 (λ judgement. TellsText telling.entry asked.now.limits
         (remaining_of F.remaining I.remaining input.entry) W.contents writer result.0
         (Ok judgement.verdict)) }
@@ -279,10 +318,12 @@ pub(crate) fn judge_input<'a, F: Read + Drop, I: Read + Drop, P: Pace + Drop, W:
 }
 
 /// The level at which an input is rejected by this profile, if it is. A limit is the caller's own.
-pub(crate) fn rejected_level(verdict: &Verdict, count: &FindingCount) -> Option<Level> {
+pub(crate) fn rejected_level(verdict: &Verdict, count: &Count) -> Option<Level> {
     match verdict {
-        Verdict::Refused(refusal) if matches!(refusal.reason, Reason::Limit(_)) => count.worst,
-        _ => worst_level(verdict, count),
+        Verdict::Refused(refusal) if matches!(refusal.reason, Reason::Limit(_)) => {
+            count.findings.worst
+        }
+        _ => worst_level(verdict, &count.findings),
     }
 }
 
@@ -293,27 +334,31 @@ pub(crate) fn tell_aside<E: Write>(
     telling: Telling<'_>,
     name: Name<'_>,
     judgement: &Judgement,
-    count: &FindingCount,
+    count: &Count,
     quiet: bool,
 ) {
     match telling {
         // What follows stands in the explanation, and so do findings.
         Telling::Explained(_) => {
             if let (true, Verdict::Good { .. }) = (quiet, judgement.verdict) {
-                tell_findings(error, name, count, judgement.status);
+                tell_findings(error, name, &count.findings, judgement.status);
             }
         }
         Telling::Findings | Telling::Records => {
             tell_following(error, name, &judgement.look);
             if let Verdict::Good { .. } = judgement.verdict {
-                tell_findings(error, name, count, judgement.status);
+                tell_findings(error, name, &count.findings, judgement.status);
             }
         }
         Telling::Faults { .. } | Telling::Advice(_) => {
             tell_following(error, name, &judgement.look);
         }
-        Telling::Data { .. } | Telling::Rows(_) | Telling::Answers(_) => {
-            tell_verdict(error, name, judgement);
+        Telling::Data { .. } | Telling::Rows(_) => tell_verdict(error, name, judgement),
+        Telling::Answers(_) => {
+            tell_verdict(&mut *error, name, judgement);
+            if let Some(answers) = count.answers {
+                tell_unanswering(error, name, judgement, answers, false);
+            }
         }
     }
 }
@@ -343,7 +388,7 @@ fn lines_on<'a, F: Read + Drop, I: Read + Drop, P: Pace + Drop, O: Write + Drop>
     Gathered<'a, O>,
     Result<Judgement, ToolFault>,
     Told<'a>,
-    FindingCount,
+    Count,
 )
     requires { tells_findings telling ≡ false → asked.now.wanted.fail_on ≡ None }
     ensures { JudgesOn (advice_in telling.entry) asked.now.limits asked.now.wanted

@@ -24,6 +24,6 @@ returns-clause-told g c =
 pub returns-clause-counted : goal.returns-clause-counted
 returns-clause-counted g c =
     from_source (λ (known : Option (List ℕ)). OnOk c.judge_source-writer.result.1 (CountsFindings c.args.telling
-    c.args.asked.now.limits known c.judge_source-writer.result.2)) (remaining_of g.F.Read.remaining g.I.Read.remaining)
+    c.args.asked.now.limits known c.judge_source-writer.result.2.findings)) (remaining_of g.F.Read.remaining g.I.Read.remaining)
     c.args.input c.new-reader.result.inner _ c.new-reader.ensures.inner c.new-reader.ensures.ahead
     c.judge_source-writer.ensures.counted

@@ -50,7 +50,7 @@ returns-clause-handed_on g c =
 pub returns-clause-counted : goal.returns-clause-counted
 returns-clause-counted g c =
     subst (λ (r : Result Judgement ToolFault). OnOk r (CountsFindings c.args.telling c.args.asked.now.limits
-    (g.R.Source.remaining c.args.reader.now) c.tell-writer.result.3)) (sym c.judgement_of-judged.ensures)
+    (g.R.Source.remaining c.args.reader.now) c.tell-writer.result.3.findings)) (sym c.judgement_of-judged.ensures)
     (judged_on (CountsFindings c.args.telling c.args.asked.now.limits (g.R.Source.remaining c.args.reader.now)
-    c.tell-writer.result.3) c.args.asked.now.wanted c.tell-writer.result.1 c.tell-writer.result.2
+    c.tell-writer.result.3.findings) c.args.asked.now.wanted c.tell-writer.result.1 c.tell-writer.result.2
     c.tell-writer.new.watch.found c.tell-writer.ensures.counted)
