@@ -20,7 +20,7 @@ fn asked(rt: &(impl Abort + AllocGlobal), words: &[&str]) -> Option<(String, Lim
 
 /// Words, what they ask for, and its limits.
 #[rattlefmt::skip]
-static ASKED: [(&[&str], &str, Numbers); 37] = [
+static ASKED: [(&[&str], &str, Numbers); 41] = [
     (&["cwr"], "Check(Judging { files: [], quiet: false, fail_on: None })", LARGEST),
     (&["cwr", "check"], "Check(Judging { files: [], quiet: false, fail_on: None })", LARGEST),
     (&["cwr", "show"], "Show { file: None, fail_on: None }", LARGEST),
@@ -50,7 +50,11 @@ static ASKED: [(&[&str], &str, Numbers); 37] = [
     (&["cwr", "join", "out.cwr", "a.cwr"], "Join { out: \"out.cwr\", files: [\"a.cwr\"], only_new: false, fail_on: None, same_sender: false, repeated: 0 }", LARGEST),
     (&["cwr", "join", "out.cwr", "a.cwr", "b.cwr"], "Join { out: \"out.cwr\", files: [\"a.cwr\", \"b.cwr\"], only_new: false, fail_on: None, same_sender: false, repeated: 0 }", LARGEST),
     (&["cwr", "show", "--fail-on", "T", "a.cwr"], "Show { file: Some(\"a.cwr\"), fail_on: Some(T) }", LARGEST),
-    (&["cwr", "advise", "--repeated", "7", "a.cwr"], "Advise { files: [\"a.cwr\"], repeated: 7 }", LARGEST),
+    (&["cwr", "advise", "--repeated", "7", "a.cwr"], "Advise { judging: Judging { files: [\"a.cwr\"], quiet: false, fail_on: None }, repeated: 7 }", LARGEST),
+    (&["cwr", "advise", "--quiet", "a.cwr", "-", "--fail-on", "R"], "Advise { judging: Judging { files: [\"a.cwr\", \"-\"], quiet: true, fail_on: Some(R) }, repeated: 0 }", LARGEST),
+    (&["cwr", "json", "a.cwr", "-o", "-"], "Json { file: Some(\"a.cwr\"), out: None, numbers: false, utf8: false }", LARGEST),
+    (&["cwr", "renumber", "a.cwr", "-"], "Renumber { file: Some(\"a.cwr\"), out: None, only_new: false, fail_on: None }", LARGEST),
+    (&["cwr", "renumber", "-", "-o", "./-"], "Renumber { file: Some(\"-\"), out: Some(\"./-\"), only_new: false, fail_on: None }", LARGEST),
     (&["cwr", "split", "--fail-on=R", "-n", "1", "a.cwr", "-o", "part-", "--created", "20240131T235959"], "Split { transactions: 1, file: \"a.cwr\", prefix: \"part-\", created: Some(Moment { date: CivilDate { year: 2024, month: 1, day: 31 }, time: TimeOfDay { hour: 23, minute: 59, second: 59 } }), only_new: false, fail_on: Some(R) }", LARGEST),
     (&["cwr", "join", "-o", "out.cwr", "a.cwr"], "Join { out: \"out.cwr\", files: [\"a.cwr\"], only_new: false, fail_on: None, same_sender: false, repeated: 0 }", LARGEST),
     (&["cwr", "join", "a.cwr", "b.cwr", "-o", "out.cwr", "--new", "--same-sender", "--repeated", "9", "--fail-on", "T"], "Join { out: \"out.cwr\", files: [\"a.cwr\", \"b.cwr\"], only_new: true, fail_on: Some(T), same_sender: true, repeated: 9 }", LARGEST),
@@ -72,7 +76,7 @@ fn work_that_is_asked_for(rt: HostRuntime) {
 
 /// Words that are missing or out of range.
 #[rattlefmt::skip]
-static WRONG: [&[&str]; 26] = [
+static WRONG: [&[&str]; 29] = [
     &["cwr", "csv"],
     &["cwr", "csv", "swr"],
     &["cwr", "check", "--fail-on", "X"],
@@ -98,6 +102,9 @@ static WRONG: [&[&str]; 26] = [
     &["cwr", "join"],
     &["cwr", "join", "out.cwr"],
     &["cwr", "join", "-o", "out.cwr"],
+    &["cwr", "join", "-o", "-", "a.cwr"],
+    &["cwr", "join", "-", "a.cwr"],
+    &["cwr", "advise", "--fail-on", "A4a"],
     &["cwr", "renumber", "a.cwr", "b.cwr", "-o", "c.cwr"],
 ];
 
@@ -117,12 +124,13 @@ fn told(rt: &(impl Abort + AllocGlobal), words: &[&str]) -> Option<String> {
 
 /// Words that are wrong, and what is told of them.
 #[rattlefmt::skip]
-static TOLD: [(&[&str], &str); 7] = [
+static TOLD: [(&[&str], &str); 8] = [
     (&["cwr", "acks", "a.cwr", "--state"], "--sent <SENT>"),
     (&["cwr", "acks", "a.cwr", "--by-place"], "--sent <SENT>"),
     (&["cwr", "split", "-n", "1", "a.cwr"], "-o <PREFIX>"),
     (&["cwr", "split", "-n", "1", "a.cwr", "part-", "--created", "today"], "YYYYMMDDTHHMMSS"),
     (&["cwr", "join", "out.cwr"], "<FILE>..."),
+    (&["cwr", "join", "-", "a.cwr"], "./- is a file of that name"),
     (&["cwr", "acks", "a.cwr", "--fail-on", "rejected"], "--sent <SENT>"),
     (&["cwr", "acks", "a.cwr", "--sent", "b.cwr", "--fail-on", "refused"], "accepted, pending, rejected, conflict, duplicate, claim-rejected, no-participation, unanswered"),
 ];
