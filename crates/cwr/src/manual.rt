@@ -334,7 +334,10 @@ COMMANDS
        transaction sequence isn't one more than that before. As long as all
        are 0 nothing was counted, and nothing is told. Of more than ten such
        lines the number follows. What it doesn't tell may be lost all the
-       same: `cwr lint` tells every number that is wrong.
+       same. It compares no count and no group ID: where a GRT and the GRH
+       after it are missing, and the sequences on both sides go on, records
+       come into another work without a word. So run `cwr lint` first, which
+       tells every number that is wrong.
 
        Where a header is missing its records would go to the work before. So
        where a record sequence goes back in mid-transaction, or the
