@@ -732,6 +732,33 @@ EXAMPLES
            $ cwr join --new -o whole.cwr part-00000001 part-00000002 part-00000003
            JOINED inputs 3 groups 3 transactions 3 records 14
 
+       Parts that were created one after another, so that answers to them can
+       be told apart:
+
+           $ cwr split --new -n 2 --created 20260301T090000 works.cwr -o march-
+           SPLIT outputs 2 transactions 3
+           $ cwr show march-00000002 | grep creation
+             6 creation date: 20260301
+             7 creation time: 090001
+
+       Is that the work of another house?
+
+           $ cwr join --new --same-sender -o all.cwr works.cwr sent_january.cwr; echo $?
+           cwr: sent_january.cwr: sent by 09 900000147 ALDERVALE MUSIC, and the first transmission by PB 123456789 MUSIC HOUSE
+           cwr: sent_january.cwr has another sender than the first transmission
+           2
+
+       Data of a file that isn't good get no name:
+
+           $ cwr json wrong_code.cwr -o wrong.jsonl; echo $?; ls wrong.jsonl 2> /dev/null
+           REFUSED record 5 field 10 level T cell not a code
+           1
+
+       Does advice stand against sending it?
+
+           $ cwr advise --quiet --fail-on F advised_work.cwr > advice; echo $?
+           1
+
        The data out, and the same transmission again:
 
            $ cwr json works.cwr > works.jsonl

@@ -1,6 +1,9 @@
 //! Data and tables of a transmission that are written to a file.
 
-ghost use Rattle.std.specs.Prelude.{◌≡◌, false, None};
+ghost use Rattle.std.specs.Prelude.{◌≡◌, true, false, None, option_map};
+ghost use Rattle.cwr_files.specs.Format.Inputs.{is_standard};
+ghost use Rattle.cwr_files.specs.Steps.Inputs.{remaining_of};
+ghost use Rattle.cwr_reports.specs.Format.Endings.{EndsAsExport, advice_in};
 ghost use Rattle.cwr_reports.specs.Steps.Looks.{tells_findings};
 
 use crate::reports::{Asked, Telling, judge_input, tell_aside};
@@ -43,6 +46,8 @@ fn report_to_file<'a, R: Files + AllocGlobal, I: Read + Drop, P: Pace + Drop, E:
     error: &mut E,
 ) -> Result<Status, Fault<'a>>
     requires { tells_findings telling ≡ false → asked.now.wanted.fail_on ≡ None }
+    ensures { EndsAsExport (advice_in telling.entry) asked.now.limits asked.now.wanted
+        (remaining_of R.File.remaining I.remaining input.entry) result }
 {
     let (made, file) = create_output(rt, asked.alloc, out)?;
     let Ok(lines) = gathered(asked.alloc, file, Name::File(out)) else {
@@ -82,6 +87,9 @@ pub fn export<'a, R: Files + AllocGlobal, I: Read + Drop, P: Pace + Drop, E: Wri
     error: &mut E,
 ) -> Result<Status, Fault<'a>>
     requires { tells_findings telling ≡ false → asked.now.wanted.fail_on ≡ None }
+    // On standard input the status is that on its bytes, as without OUT.
+    ensures { is_standard (option_map (λ n. n.now) name.entry) ≡ true
+        → EndsAsExport (advice_in telling.entry) asked.now.limits asked.now.wanted (I.remaining standard) result }
 {
     refuse_out(rt, out, false, &[name.unwrap_or(DASH)])?;
     let input = open_input(rt, name, &mut Some(standard), pace)?;

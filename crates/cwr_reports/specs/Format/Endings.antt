@@ -40,3 +40,8 @@ EndsOn advice limits wanted text (Err fault) = ⊥
 -- so it is where the bytes of the input are known
 abbrev pub EndsOnInput : Option ℕ → Limits → Wanted → Option (List ℕ) → Result Status Fault → Type 0
 EndsOnInput advice limits wanted input ending = IfSome input (λ text. EndsOn advice limits wanted text ending)
+
+-- What is written to a file ends so too, but that files may fail besides: where there is a status, it is that on the text.
+abbrev pub EndsAsExport : Option ℕ → Limits → Wanted → Option (List ℕ) → Result Status Fault → Type 0
+EndsAsExport advice limits wanted input (Ok status) = IfSome input (λ text. IsStatusBy (Counts advice) limits wanted text status)
+EndsAsExport advice limits wanted input (Err fault) = Unit {0}
