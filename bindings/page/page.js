@@ -93,10 +93,13 @@ function refusedWords(answer) {
 }
 
 function verdictWords(answer) {
-  const { verdict, told } = answer;
+  const { verdict, told, behind } = answer;
   const findings = told.filter((it) => !it.fault).length;
   const more = findings > 0 ? WORDS.withFindings(findings) : "";
-  if (verdict.ending === 0) return [WORDS.good(verdict) + more, findings > 0 ? "finding" : "good"];
+  if (verdict.ending === 0) {
+    const words = [WORDS.good(verdict) + more, ...(behind.length > 0 ? [WORDS.behindIt(behind)] : [])].join(" ");
+    return [words, findings > 0 || behind.length > 0 ? "finding" : "good"];
+  }
   if (verdict.ending === 2) return [WORDS.truncated + more, "bad"];
   if (verdict.ending === 1) return [refusedWords(answer) + more, "bad"];
   return [WORDS.noMemory, "bad"];
@@ -548,7 +551,11 @@ function press(event, keys) {
 }
 
 by("scroll").onkeydown = (event) => press(event, KEYS);
-by("scroll").onscroll = () => state.lines > 0 && draw();
+by("scroll").onscroll = () => {
+  // beside the kind stands a gap only where cells are hidden behind it
+  by("scroll").classList.toggle("aside", by("scroll").scrollLeft > 0);
+  if (state.lines > 0) draw();
+};
 by("scroll").onclick = (event) => {
   const line = event.target.closest(".line");
   if (line) go(Number(line.dataset.line), Number(event.target.closest(".cell")?.dataset.field ?? 1));

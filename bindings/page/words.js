@@ -38,6 +38,7 @@ const WORDS = {
     ? `The numbers can't be made: line ${line} isn't a record that may stand there. Mend its cells first.`
     : "The numbers can't be made: the file ends too early."),
   good: (told) => `Good: ${counted(told.groups, "group", "groups")}, ${counted(told.transactions, "transaction", "transactions")}, ${counted(told.records, "record", "records")}.`,
+  behindIt: (said) => `But ${said.join("; ")}.`,
   refused: (count) => `Not good: ${counted(count, "fault", "faults")}.`,
   early: " It ends too early.",
   truncated: "Not good: the file ends too early.",

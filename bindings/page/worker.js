@@ -156,12 +156,20 @@ function isCutOff(told) {
   return bytes.length - starts[last] < whole;
 }
 
+/** What an explanation says behind the verdict of what stands after a transmission. */
+function saidBehind(report) {
+  const rows = report.split("\n");
+  return rows.slice(rows.findIndex((row) => row.startsWith("GOOD ")) + 1).filter((row) => row.startsWith("  ")).map((row) => row.replace(/^ +[a-z]+ +/, ""));
+}
+
 function judged(name) {
   const text = library.put(bytes);
   try {
     const { told: verdict, made } = library.report(REPORTS.explainedLint, text, name);
     const report = read(new TextDecoder().decode(made));
-    return { verdict, ...report, isCutOff: isCutOff(report.told) };
+    const isFollowed = verdict.ending === 0 && starts.length - 1 > verdict.records;
+    const behind = isFollowed ? saidBehind(new TextDecoder().decode(library.report(REPORTS.explain, text, name).made)) : [];
+    return { verdict, ...report, isCutOff: isCutOff(report.told), behind };
   } finally {
     library.free(text[0]);
   }
