@@ -45,6 +45,10 @@ class Document(Sequence[Transaction]):
         self.size: int = raw.used
         """How many bytes the transmission takes, where the text begins with one."""
 
+    def __reduce__(self) -> Tuple[Callable[[bytes, str, Limits], "Document"], Tuple[bytes, str, Limits]]:
+        """How it comes to another process: its text, which is read again there."""
+        return _document_of, (bytes(self._text.bytes[:]), self._text.name, self._limits)
+
     def _entry(self, i: int) -> Tuple[int, int, int, int]:
         offset, length, group, transaction = struct.unpack_from(_library.LINE, self._index, struct.calcsize(_library.LINE) * i)
         return offset, length, group, transaction
@@ -170,6 +174,13 @@ class Document(Sequence[Transaction]):
 
 
 _OUTSIDE = frozenset((b"HDR", b"GRH", b"GRT", b"TRL"))
+
+
+def _document_of(text: bytes, name: str, limits: Limits) -> Document:
+    """The document of a text that has come from another process, under the name that it had there."""
+    found = Document(text, limits)
+    found._text.name = name
+    return found
 
 
 def _lines(text: Union[bytes, mmap.mmap]) -> int:

@@ -54,6 +54,25 @@ def _sort(field: Field) -> str:
     return {Type.SHARE: "share", Type.OPTIONAL_DURATION: "duration", Type.FLAG: "flag"}.get(field.type, "text")
 
 
+def _value(kind: str, field: Field, cell: str) -> Optional[Value]:
+    """The value of a cell of a record of that kind. Raises `ValueError` where it isn't one of its type."""
+    try:
+        return _read(field, cell)
+    except ValueError:
+        raise ValueError(f"{kind} {field.name}: {cell!r} isn't {_WANTED[_sort(field)].split(':')[0]}") from None
+
+
+def _bytes(kind: str, field: Field, cell: str) -> bytes:
+    """The bytes of a cell of a record of that kind. Raises `ValueError` where a character isn't one of a byte."""
+    try:
+        return cell.encode("latin-1")
+    except UnicodeEncodeError as fault:
+        character = cell[fault.start]
+        raise ValueError(
+            f"{kind} {field.name}: {character!r} isn't in ISO 8859-1, of which each character is a byte; of a text in UTF-8 hand in text.encode().decode('latin-1')"
+        ) from None
+
+
 def _write(field: Field, value: Optional[Value]) -> str:
     """The cell of a value. Any field takes a text."""
     sort = _sort(field)
@@ -68,6 +87,8 @@ def _write(field: Field, value: Optional[Value]) -> str:
         hundredths = Decimal(value).scaleb(2)
         if not hundredths.is_finite() or hundredths != int(hundredths) or hundredths < 0:
             raise ValueError(f"{field.name}: {value} is no number of hundredths of a percent")
+        if hundredths > 10000:
+            raise ValueError(f"{field.name}: {value} is more than 100 percent")
         return f"{int(hundredths):05}"
     elif isinstance(value, int) and sort == "number":
         if value < 0:
@@ -125,13 +146,13 @@ class Record(Mapping[str, str]):
         `timedelta`, digits an `int`, a flag `True` or `False` (`U`, not known, is `None`), all else text. Raises `ValueError`
         where the cell isn't one of its type, which doesn't come in a record that was accepted.
         """
-        return _read(by_name(self.kind)[name], self[name])
+        return _value(self.kind, by_name(self.kind)[name], self[name])
 
     def _typed(self, name: str, sort: str) -> Optional[Value]:
         field = by_name(self.kind)[name]
         if _sort(field) != sort:
             raise TypeError(f"{self.kind} {name} isn't {_WANTED[sort]}, but {_WANTED[_sort(field)]}")
-        return _read(field, self[name])
+        return _value(self.kind, field, self[name])
 
     def share(self, name: str) -> Optional[Decimal]:
         """The share in percent; `None` where it is blank. Raises `TypeError` where the field holds none, else as `value`."""
@@ -148,11 +169,11 @@ class Record(Mapping[str, str]):
     def __setitem__(self, name: str, value: Optional[Value]) -> None:
         """Sets a cell to a text, or to a value of its field's type; `None` makes it blank.
 
-        Raises `TypeError` where the value is of another type, and `ValueError` where it is wider than its field. A text is taken
-        as it is.
+        Raises `TypeError` where the value is of another type, and `ValueError` where it is wider than its field, a share is over 100
+        percent, or a character isn't one of a byte. A text is taken as it is.
         """
         field = by_name(self.kind)[name]
-        cell = _write(field, value).encode("latin-1")
+        cell = _bytes(self.kind, field, _write(field, value))
         if len(cell) > field.width:
             raise ValueError(f"{self.kind} {name}: {value!r} is wider than {field.width}")
         line = self.line.ljust(len(blank(self.kind)))

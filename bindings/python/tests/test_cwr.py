@@ -173,6 +173,12 @@ class Errors(unittest.TestCase):
             self.assertEqual(caught.exception.notes, ("this is a gzip file: unpack it",))
             self.assertEqual(pool.submit(cwr.check, WORKS).result(60), cwr.check(WORKS))
 
+    def test_a_document_comes_from_another_process_as_it_was(self):
+        for mapped in (False, True):
+            document = cwr.Document(os.path.join(TOP, "samples", "good", "every_kind.cwr"), mapped=mapped)
+            again = pickle.loads(pickle.dumps(document))
+            self.assertEqual((again.verdict, repr(again), list(again)), (document.verdict, repr(document), list(document)))
+
     def test_what_is_no_source(self):
         with open(WORKS, encoding="ascii") as it:
             text = it.read()
@@ -294,6 +300,18 @@ class Records(unittest.TestCase):
         for kind, name, value in (("SWR", "pr share", -1), ("SWR", "pr share", Decimal("NaN")), ("GRH", "group id", -1), ("NWR", "duration", -datetime.timedelta(1))):
             with self.assertRaises(ValueError):
                 cwr.Record(kind, {name: value})
+
+    def test_what_is_no_cell_of_its_type(self):
+        record = cwr.Record("SWR", {"last name": "DOE", "pr share": "33.33"})
+        with self.assertRaisesRegex(ValueError, "^SWR pr share: '33.33' isn't a share$"):
+            record.share("pr share")
+        with self.assertRaisesRegex(ValueError, "^SWR pr share: '33.33' isn't a share$"):
+            record.value("pr share")
+        with self.assertRaisesRegex(ValueError, "^pr share: 101 is more than 100 percent$"):
+            record["pr share"] = 101
+        with self.assertRaisesRegex(ValueError, "^SWR last name: '日' isn't in ISO 8859-1"):
+            record["last name"] = "A 日本"
+        self.assertEqual(record["last name"], "DOE")
 
     def test_every_cell_of_the_samples_has_a_value(self):
         for name in SAMPLES:
