@@ -330,19 +330,21 @@ COMMANDS
        A record that is missing stays missing, and one that stands twice stays
        twice. Some of that standard error tells, with the line: where in FILE
        a record sequence comes again or goes back in mid-transaction, a record
-       has another transaction sequence than the one before it, or a
-       transaction sequence isn't one more than that before. As long as all
-       are 0 nothing was counted, and nothing is told. Of more than ten such
-       lines the number follows. What it doesn't tell may be lost all the
-       same. It compares no count and no group ID: where a GRT and the GRH
-       after it are missing, and the sequences on both sides go on, records
-       come into another work without a word. So run `cwr lint` first, which
-       tells every number that is wrong.
+       has another transaction sequence than the one before it, a transaction
+       sequence or a group's ID isn't one more than that before, GRT has
+       another group's ID than GRH, or a count of GRT or TRL isn't what came.
+       A count or an ID that is 0 or blank wasn't filled in, and as long as
+       all sequences are 0 nothing was counted: of these nothing is told. Of
+       more than ten such lines the number follows. What it doesn't tell may
+       be lost all the same, as in a file without counts. So run `cwr lint`
+       first, which tells every number that is wrong.
 
-       Where a header is missing its records would go to the work before. So
-       where a record sequence goes back in mid-transaction, or the
-       transaction sequence changes there, no file is written, and the status
-       is 1. To standard output all was written by then.
+       Where a header is missing its records would go to the work before, and
+       where a GRT and the GRH after it are missing a group's works would go
+       to the group before. So where a record sequence goes back in
+       mid-transaction, or the transaction sequence changes there, or GRT has
+       another ID than GRH, no file is written, and the status is 1. To
+       standard output all was written by then.
 
        -o OUT
               OUT, in the place of the second word.
@@ -351,8 +353,8 @@ COMMANDS
               the status is 2.
 
        --anyway
-              Goes on where records may have come into the transaction before
-              theirs.
+              Goes on where records may have come into the transaction or
+              group before theirs.
 
        --fail-on LEVEL
               Status 1 where a finding has that level or a worse one: F, R, T,
@@ -723,6 +725,8 @@ EXAMPLES
 
            $ cwr renumber --new work_missing.cwr -o mended.cwr
            cwr: work_missing.cwr: line 7: the transaction sequence of the group's first transaction is 1: transactions may be missing before it
+           cwr: work_missing.cwr: line 9: the transaction count is 2, and 1 came; the record count is 6, and 4 came; lines may be missing before it, or stand twice
+           cwr: work_missing.cwr: line 10: the transaction count is 3, and 2 came; the record count is 12, and 10 came; lines may be missing before it, or stand twice
            GOOD groups 2 transactions 2 records 10
 
        Parts of one work each, and the whole again:

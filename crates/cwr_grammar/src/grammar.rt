@@ -539,7 +539,7 @@ const RENUMBERED: [Word; 6] = [
     Word {
         id: ANYWAY,
         form: Form::Flag,
-        help: "Goes on where records may have come into the transaction before theirs",
+        help: "Goes on where records may have come into the transaction or group before theirs",
     },
     Word {
         id: FILE,

@@ -9,6 +9,6 @@ mod renumbering;
 mod sources;
 mod takings;
 
-pub use jumps::{Jump, Jumps, Step};
+pub use jumps::{Count, Jump, Jumps, Step};
 pub use outcomes::put_renumber_outcome;
 pub use renumbering::{renumber, renumber_viewed};

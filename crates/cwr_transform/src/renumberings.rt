@@ -8,7 +8,7 @@ use cwr_endings::{
 use cwr_files::{
     DASH, Fault, Gathered, Input, Name, Pace, Told, create_output, gathered, open_input, told_of,
 };
-use cwr_renumber::{Jump, Jumps, Step, put_renumber_outcome, renumber_viewed};
+use cwr_renumber::{Count, Jump, Jumps, Step, put_renumber_outcome, renumber_viewed};
 use cwr_shape::Limits;
 use cwr_tools::{FindingCount, FindingView, JoinReport, ToolFault};
 use std::alloc::Global;
@@ -28,7 +28,7 @@ pub struct Repair<'a> {
     pub out: Option<&'a str>,
     /// That file may replace none.
     pub only_new: bool,
-    /// Numbers are put right also where records may have come into the transaction before theirs.
+    /// Numbers are put right also where records may have come into the transaction or the group before theirs.
     pub anyway: bool,
 }
 
@@ -42,7 +42,7 @@ struct Repaired<'a> {
     count: FindingCount,
     /// Whether one is unwanted.
     found: bool,
-    /// Whether records may have come into the transaction before theirs, and that is unwanted.
+    /// Whether records may have come into the transaction or the group before theirs, and that is unwanted.
     mixed: bool,
     /// What is known of the input.
     read: Told<'a>,
@@ -52,7 +52,7 @@ struct Repaired<'a> {
 
 impl Repaired<'_> {
     /// Whether what was written is what is wanted: a transmission without an unwanted finding, in which records didn't come into the
-    /// transaction before theirs, and where nothing may follow it in the input nothing does.
+    /// transaction or the group before theirs, and where nothing may follow it in the input nothing does.
     fn is_wanted(&self, whole: bool) -> bool {
         let alone = match &self.look {
             Look::Found(trailing) => !follows(trailing),
@@ -63,7 +63,17 @@ impl Repaired<'_> {
     }
 }
 
-/// Writes how a sequence doesn't go on at a line, and what that may mean.
+/// Writes the counts of a trailer that aren't what came.
+fn put_counts<E: Write>(error: &mut E, counts: &[(&str, Option<Count>); 3]) -> io::Result<()> {
+    for (name, count) in counts {
+        if let Some(Count { told, came }) = count {
+            write!(error, "the {name} count is {told}, and {came} came; ")?;
+        }
+    }
+    writeln!(error, "lines may be missing before it, or stand twice")
+}
+
+/// Writes how a number doesn't go on at a line, or isn't what came, and what that may mean.
 fn put_jump<E: Write>(error: &mut E, name: Name<'_>, jump: &Jump) -> io::Result<()> {
     write!(error, "cwr: {name}: line {}: ", jump.line)?;
     match jump.step {
@@ -97,10 +107,44 @@ fn put_jump<E: Write>(error: &mut E, name: Name<'_>, jump: &Jump) -> io::Result<
             error,
             "the transaction sequence of the group's first transaction is {here}: transactions may be missing before it"
         ),
+        Step::Group {
+            before: Some(before),
+            here,
+        } if before == here => writeln!(
+            error,
+            "the group ID {here} comes again: the group may stand twice"
+        ),
+        Step::Group {
+            before: Some(before),
+            here,
+        } => writeln!(
+            error,
+            "the group ID goes from {before} to {here}: groups may be missing before it"
+        ),
+        Step::Group { before: None, here } => writeln!(
+            error,
+            "the ID of the first group is {here}: groups may be missing before it"
+        ),
+        Step::OfAnotherGroup { opened, closed } => writeln!(
+            error,
+            "the group ID is {opened} in GRH and {closed} in GRT: the end of group {opened} and the beginning of group {closed} may be missing between them"
+        ),
+        Step::Counts {
+            groups,
+            transactions,
+            records,
+        } => put_counts(
+            error,
+            &[
+                ("group", groups),
+                ("transaction", transactions),
+                ("record", records),
+            ],
+        ),
     }
 }
 
-/// Tells on standard error where the sequences of an input don't go on. What standard error doesn't take is lost.
+/// Tells on standard error where the numbers of an input don't go on, or aren't what came. What standard error doesn't take is lost.
 fn tell_jumps<E: Write>(error: &mut E, name: Name<'_>, jumps: &Jumps) {
     for jump in jumps.first.as_slice() {
         let _ = put_jump(error, name, jump);
@@ -116,7 +160,7 @@ fn tell_jumps<E: Write>(error: &mut E, name: Name<'_>, jumps: &Jumps) {
 fn tell_mixed<E: Write>(error: &mut E, name: Name<'_>) {
     let _ = writeln!(
         error,
-        "cwr: {name}: the numbers aren't put right: by these lines records may have come into the transaction before theirs; look with cwr explain, or put them right all the same with --anyway"
+        "cwr: {name}: the numbers aren't put right: by these lines records may have come into the transaction or the group before theirs; look with cwr explain, or put them right all the same with --anyway"
     );
 }
 

@@ -160,7 +160,7 @@ pub enum Work<'a> {
         only_new: bool,
         /// A finding of this level, or of a worse one, ends the run as a refusal does.
         fail_on: Option<Level>,
-        /// The numbers are put right also where records may have come into the transaction before theirs.
+        /// The numbers are put right also where records may have come into the transaction or the group before theirs.
         anyway: bool,
     },
     /// The manual is printed.

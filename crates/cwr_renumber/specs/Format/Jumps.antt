@@ -1,8 +1,20 @@
--- How sequences don't go on as they began.
-use Rattle.std.specs.Prelude.{ℕ, ◌-◌, Bool, true, false, not, ◌&&◌, ◌||◌, ◌==◌, nat_le, nat_lt, Option, Some, None, if◌then◌else◌}
+-- How numbers don't go on as they began, or aren't what came.
+use Rattle.std.specs.Prelude.{ℕ, ◌-◌, ◌^◌, min, List, Bool, true, false, not, ◌&&◌, ◌||◌, ◌==◌, nat_lt, Option, Some, None, unwrap_or, if◌then◌else◌}
+use Rattle.cwr_fields.specs.Format.Bytes.{are_digits, number_of}
+use Rattle.cwr_renumber.specs.declared.jumps.Count.{Count}
 use Rattle.cwr_renumber.specs.declared.jumps.Counting.{Counting}
 use Rattle.cwr_renumber.specs.declared.jumps.Step.{Step}
-use Rattle.cwr_renumber.specs.declared.jumps.Step.TheVariants.{Again, Back, OfAnother, Transaction}
+use Rattle.cwr_renumber.specs.declared.jumps.Step.TheVariants.{Again, Back, Counts, Group, OfAnother, OfAnotherGroup, Transaction}
+
+-- ---- a number in a cell
+
+-- the number that digits write, or the largest one of 32 bits where that is larger
+abbrev pub capped_number : List ℕ → ℕ
+capped_number digits = min (number_of digits) (2 ^ 32 - 1)
+
+-- the number of a cell, where its bytes are all digits
+abbrev pub number_in : List ℕ → Option ℕ
+number_in cell = if are_digits cell then Some (capped_number cell) else None
 
 -- ---- a record in mid-transaction
 
@@ -52,6 +64,30 @@ abbrev pub jump_of : Counting → Bool → Option ℕ → Option ℕ → Option 
 jump_of before header transaction own =
     if header then header_jump before transaction else record_jump before transaction own
 
+-- ---- the records of a group
+
+-- the ID in GRH is one more than that of the group before, and 1 in the first one; where it is 0 nothing was counted
+abbrev pub opened_jump : Option ℕ → Option ℕ → Option Step
+opened_jump before None = None
+opened_jump before (Some here) = if (here == 0) || (here - unwrap_or before 0 == 1) then None else Some (Group before here)
+
+-- the ID in GRT is that in GRH, where both were counted
+abbrev pub closed_jump : Option ℕ → Option ℕ → Option Step
+closed_jump None closed = None
+closed_jump (Some opened) None = None
+closed_jump (Some opened) (Some closed) =
+    if (opened == 0) || ((closed == 0) || (opened == closed)) then None else Some (OfAnotherGroup opened closed)
+
+-- a count that is filled in, and not with so many
+abbrev pub miscount : Option ℕ → ℕ → Option Count
+miscount None came = None
+miscount (Some told) came = if (told == 0) || (told == came) then None else Some (record { told = told; came = came })
+
+-- the counts of GRT or TRL that aren't what came
+abbrev pub counts_jump : Option Count → Option Count → Option Count → Option Step
+counts_jump None None None = None
+counts_jump groups transactions records = Some (Counts groups transactions records)
+
 -- ---- what stands before the next line
 
 -- the number, or where there is none the one before
@@ -74,8 +110,14 @@ counting_after before header transaction own =
 
 -- ---- what a jump means
 
--- by it records may have come into the transaction before theirs
+-- by it records may have come into the transaction or the group before theirs
 abbrev pub is_mixed : Step → Bool
 is_mixed (Back before here) = true
 is_mixed (OfAnother before here) = true
+is_mixed (OfAnotherGroup opened closed) = true
 is_mixed step = false
+
+-- the same of what was found at a line
+abbrev pub is_mixed_by : Option Step → Bool
+is_mixed_by None = false
+is_mixed_by (Some step) = is_mixed step
