@@ -1,6 +1,7 @@
 -- What is promised, in the words of the format.
 pub mod ComingTexts
 pub mod Expected
+pub mod GluedLines
 pub mod Handling
 pub mod LongLines
 pub mod Lookings

@@ -7,7 +7,9 @@ ghost use Rattle.cwr_causes.specs.Format.Refusals.{found_words, head_words, name
 ghost use Rattle.cwr_causes.specs.Format.Refusals.{range_words, range_of_file_words, refused_level_words, shown, where_words, without_return};
 ghost use Rattle.cwr_causes.specs.Format.Handling.{handling_of, handling_words};
 ghost use Rattle.cwr_causes.specs.Format.Openings.{note_line, note_words, opening_words};
-ghost use Rattle.cwr_causes.specs.Format.Signs.{end_signs, first_signs, return_line, return_words, shift_signs, signs_words, whole_line_signs};
+ghost use Rattle.cwr_causes.specs.Format.GluedLines.{glued_text, glued_words, has_return};
+ghost use Rattle.cwr_causes.specs.Format.Signs.{cells_signs, end_signs, first_signs, is_packed_by, return_line, return_words, returns_in, shift_signs};
+ghost use Rattle.cwr_causes.specs.Format.Signs.{signs_words, whole_line_signs};
 ghost use Rattle.cwr_causes.specs.Format.Misplacements.{belongs, numbers_before, numbers_in};
 ghost use Rattle.cwr_causes.specs.Format.Wanted.{cell_expected_words, end_expected_words, number_expected_words, number_of_field, stands_twice};
 ghost use Rattle.cwr_causes.specs.Format.WrappedLines.{broken_words};
@@ -18,23 +20,24 @@ ghost use Rattle.cwr_causes.specs.Steps.Refused.{ExplainsLine, expected_words, r
 use crate::ahead::Ahead;
 use crate::coming_words::add_coming;
 use crate::expected::{add_cell_type, letters_of};
+use crate::glued_lines::{add_glued, first_record, head_in};
 use crate::handling::{has_hard_space, is_separated, is_societies_group};
 use crate::lines_at_end::{LineAtEnd, line_again};
 use crate::long_lines::add_long_id;
 use crate::misplaced_words::{add_misplacement, add_mistyped};
 use crate::misplacements::{Misplacement, belongs, misplacement_of, numbers_before, numbers_of};
 use crate::next_symbols::closes_at;
-use crate::openings::{opening_of, societies_words};
+use crate::openings::{is_of_societies, opening_of, societies_words};
 use crate::sequences::{number_in, numbers_in};
 use crate::shifts::add_shift;
 use crate::texts::{add_beginning, add_cell, add_label};
-use crate::truncated_words::add_cut_off;
-use crate::versions::add_version;
+use crate::truncated_words::{add_cut_off, kind_of};
+use crate::versions::{add_version, from_byte};
 use crate::wanted::{
     add_another_type, add_counted, add_end_of_line, add_fault, add_limit, add_rule_of, add_twice,
     is_other_header,
 };
-use crate::wrapped_lines::{add_broken_before, add_broken_here, without_cr};
+use crate::wrapped_lines::{add_broken_before, add_broken_here, may_go_on, without_cr};
 use crate::wrong_numbers::WrongNumber;
 use cwr_decode::Refusal;
 use cwr_fields::{CellFault, Field, Kind, field, width};
@@ -408,7 +411,10 @@ impl Refused<'_> {
     {
         match (self.refusal.reason, self.kind) {
             (Reason::Misplaced, Some(kind)) => self.add_misplaced(alloc, text, stage, kind),
-            (Reason::UnknownKind, _) => add_mistyped(text, self.belongs_here(stage)),
+            (Reason::UnknownKind, _) => add_mistyped(
+                text,
+                self.belongs_here(stage) && !is_of_societies(self.line.bytes),
+            ),
             _ => Ok(()),
         }
     }
@@ -534,7 +540,9 @@ impl Refused<'_> {
             ++ broken_words (refused_line self.now)) }
     {
         match self.refusal.reason {
-            Reason::UnknownKind => add_broken_before(text, self.before),
+            Reason::UnknownKind => {
+                add_broken_before(text, self.before, may_go_on(self.line.bytes))
+            }
             _ => add_broken_here(
                 text,
                 self.line.ended,
@@ -544,14 +552,47 @@ impl Refused<'_> {
         }
     }
 
+    /// What the line has from there on where another one begins in it.
+    fn glued(&self) -> Option<&[u8]>
+        ensures { option_map (λ found. found.now) result ≡ glued_text (refused_line self.now) }
+    {
+        if self.kind.is_none() || has_return(self.line.bytes) {
+            return None;
+        }
+        match first_record(from_byte(self.line.bytes, 3)) {
+            Some(found) => Some(found),
+            None => head_in(from_byte(self.line.bytes, self.excess())),
+        }
+    }
+
+    /// Adds which line begins in it, with that text.
+    fn add_glued_at(&self, text: &mut String, found: &[u8]) -> Result<(), AllocError>
+        ensures { OnOk result (string_bytes text.new ≡ string_bytes text.old
+            ++ glued_words (refused_line self.now) found.now) }
+    {
+        let at = self.line.bytes.len().saturating_sub(found.len());
+        add_glued(text, kind_of(found), at as u64, self.line.offset)
+    }
+
     /// Adds why the cells may stand elsewhere, and that the line may have been broken.
+    fn add_cells(&self, text: &mut String) -> Result<(), AllocError>
+        ensures { OnOk result (string_bytes text.new ≡ string_bytes text.old
+            ++ cells_signs (refused_line self.now)) }
+    {
+        add_shift(text, self.kind, self.refusal.field, self.without_return())?;
+        self.add_broken(text)
+    }
+
+    /// Adds that, or which other line begins in it.
     #[tactic(auto, unfolding(crate::specs::Format::Signs::whole_line_signs))]
     fn add_whole_line(&self, text: &mut String) -> Result<(), AllocError>
         ensures { OnOk result (string_bytes text.new ≡ string_bytes text.old
             ++ whole_line_signs (refused_line self.now)) }
     {
-        add_shift(text, self.kind, self.refusal.field, self.without_return())?;
-        self.add_broken(text)
+        match self.glued() {
+            Some(found) => self.add_glued_at(text, found),
+            None => self.add_cells(text),
+        }
     }
 
     /// Adds both, where they are said with this fault.
@@ -594,8 +635,30 @@ impl Refused<'_> {
         ensures { OnOk result (string_bytes text.new ≡ string_bytes text.old
             ++ end_signs (refused_line self.now)) }
     {
-        add_returns(text, self.line.bytes)?;
+        self.add_returns_in(text)?;
         add_cut_off(text, &self.line, self.kind)
+    }
+
+    /// Whether it names no record and begins a file that is no text of one byte a character.
+    fn is_packed(&self) -> bool
+        ensures { result ≡ is_packed_by self.now.refusal.now.reason self.now.line.bytes.now }
+    {
+        match self.refusal.reason {
+            Reason::UnknownKind => opening_of(self.line.bytes).is_packed(),
+            _ => false,
+        }
+    }
+
+    /// Adds a word on its carriage returns, where it is text.
+    fn add_returns_in(&self, text: &mut String) -> Result<(), AllocError>
+        ensures { OnOk result (string_bytes text.new ≡ string_bytes text.old
+            ++ returns_in (refused_line self.now)) }
+    {
+        if self.is_packed() {
+            Ok(())
+        } else {
+            add_returns(text, self.line.bytes)
+        }
     }
 
     /// Adds all that is said of the refusal, where the records before have come to that stage.
@@ -668,6 +731,13 @@ fn first_return(bytes: &[u8]) -> Option<usize>
     ensures within { IfSome result (λ at. at < length bytes.now) }
 {
     bytes.iter().position(|byte| *byte == b'\r')
+}
+
+/// Whether some byte but the last one is a carriage return.
+fn has_return(bytes: &[u8]) -> bool
+    ensures { result ≡ has_return bytes.now }
+{
+    first_return(&bytes[..bytes.len().saturating_sub(1)]).is_some()
 }
 
 /// Adds a word on a carriage return that isn't part of the line's end.

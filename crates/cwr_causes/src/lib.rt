@@ -7,6 +7,7 @@ mod beyond;
 mod causes;
 mod coming_words;
 mod expected;
+mod glued_lines;
 mod handling;
 pub mod laws;
 mod lines_at_end;

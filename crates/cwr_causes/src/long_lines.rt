@@ -6,7 +6,8 @@ ghost use Rattle.cwr_fields.specs.Format.Bytes.{are_digits};
 ghost use Rattle.cwr_fields.specs.Steps.Views.{field_view};
 ghost use Rattle.cwr_causes.specs.Format.LongLines.{cell_in, digits_or_spaces, has_long_id, has_no_space, is_flag, long_id_line, long_id_of, long_id_words, long_line, long_line_if, one_too_many, part, some_too_many};
 ghost use Rattle.cwr_causes.specs.Format.LongLines.{long_line_words, looks_like, looks_right, right_from, run_with, shows_shift, tells};
-ghost use Rattle.cwr_causes.specs.Format.LongLines.{is_told, is_typed, told_with};
+ghost use Rattle.cwr_causes.specs.Format.LongLines.{begins_well, filled_with, first_wrong, is_filled, is_told, is_typed, is_wrong, last_filled};
+ghost use Rattle.cwr_causes.specs.Format.LongLines.{stands_well, told_with, too_long_in, too_long_of, wrong_with};
 
 use crate::texts::add_label;
 use cwr_fields::{CellType, Field, Kind, field, fields, is_spaces, width};
@@ -14,7 +15,7 @@ use std::alloc::AllocError;
 use std::fmt::Write;
 
 /// Whether each byte is a digit.
-fn are_digits(cell: &[u8]) -> bool
+pub(crate) fn are_digits(cell: &[u8]) -> bool
     ensures { result ≡ are_digits cell.now }
 {
     cell.iter().all(|byte| byte.is_ascii_digit())
@@ -68,7 +69,7 @@ fn looks_like(ty: CellType, cell: &[u8]) -> bool
 }
 
 /// So many bytes of a text from a place on, as far as it goes.
-fn part(text: &[u8], start: usize, width: usize) -> &[u8]
+pub(crate) fn part(text: &[u8], start: usize, width: usize) -> &[u8]
     ensures { result.now ≡ part text.now start width }
 {
     let rest = &text[start.min(text.len())..];
@@ -162,6 +163,116 @@ fn shows_shift(kind: Kind, text: &[u8], first: &Field, refused: Option<Field>) -
     }
 }
 
+/// Whether a text begins with no blank, or is all blank.
+fn begins_well(cell: &[u8]) -> bool
+    ensures { result ≡ begins_well cell.now }
+{
+    match cell {
+        [] => true,
+        [first, rest @ ..] => *first != b' ' || is_spaces(rest),
+    }
+}
+
+/// Whether a cell of the type may stand so.
+fn stands_well(ty: CellType, cell: &[u8]) -> bool
+    ensures { result ≡ stands_well ty cell.now }
+{
+    match ty {
+        CellType::Text | CellType::Required => begins_well(cell),
+        ty => looks_like(ty, cell),
+    }
+}
+
+/// Whether the field is the one that starts there, or its cell looks wrong.
+fn is_wrong(line: &[u8], refused: usize, place: &Field) -> bool
+    ensures { result ≡ is_wrong line.now refused (field_view place.now) }
+{
+    !place.derived && (place.start == refused || !stands_well(place.ty, cell_in(line, place)))
+}
+
+/// The first such field, with one field more.
+fn wrong_with(
+    line: &[u8],
+    refused: usize,
+    first: Option<Field>,
+    next: Option<Field>,
+) -> Option<Field>
+    ensures { option_map field_view result
+        ≡ wrong_with line.now refused (option_map field_view first) (option_map field_view next) }
+{
+    match next {
+        Some(place) if is_wrong(line, refused, &place) => first.or(Some(place)),
+        _ => first,
+    }
+}
+
+/// The first such field of the kind.
+fn first_wrong(kind: Kind, line: &[u8], refused: usize) -> Option<Field>
+    ensures { option_map field_view result ≡ first_wrong kind line.now refused }
+{
+    let mut first = None;
+    for before in 0..fields(kind) {
+        first = wrong_with(line, refused, first, field(kind, before + 1));
+    }
+    first
+}
+
+/// Whether the cell stands before that place, and isn't blank.
+fn is_filled(line: &[u8], end: usize, place: &Field) -> bool
+    ensures { result ≡ is_filled line.now end (field_view place.now) }
+{
+    !place.derived && place.start < end && !is_spaces(cell_in(line, place))
+}
+
+/// The last such field, with one field more.
+fn filled_with(line: &[u8], end: usize, last: Option<Field>, next: Option<Field>) -> Option<Field>
+    ensures { option_map field_view result
+        ≡ filled_with line.now end (option_map field_view last) (option_map field_view next) }
+{
+    match next {
+        Some(place) if is_filled(line, end, &place) => Some(place),
+        _ => last,
+    }
+}
+
+/// The last such field of the kind.
+fn last_filled(kind: Kind, line: &[u8], end: usize) -> Option<Field>
+    ensures { option_map field_view result ≡ last_filled kind line.now end }
+{
+    let mut last = None;
+    for before in 0..fields(kind) {
+        last = filled_with(line, end, last, field(kind, before + 1));
+    }
+    last
+}
+
+/// The cell that is too long, where those from the first field on look right further right, and that one is the first that looks wrong in
+/// its place.
+fn too_long_of(kind: Kind, line: &[u8], first: Field, wrong: Option<Field>) -> Field
+    ensures { field_view result
+        ≡ too_long_of kind line.now (field_view first) (option_map field_view wrong) }
+{
+    let Some(wrong) = wrong else {
+        return first;
+    };
+    if first.start <= wrong.start {
+        last_filled(kind, line, wrong.start).unwrap_or(wrong)
+    } else {
+        wrong
+    }
+}
+
+/// The same of a line that is refused at that field.
+fn too_long_in(kind: Kind, line: &[u8], first: Field, refused: Option<Field>) -> Field
+    ensures { field_view result
+        ≡ too_long_in kind line.now (field_view first) (option_map field_view refused) }
+{
+    match refused {
+        Some(refused) => too_long_of(kind, line, first, first_wrong(kind, line, refused.start)),
+        None => first,
+    }
+}
+
 /// Adds that the line is too long by one byte, from the field of that name on.
 #[tactic(auto, unfolding(crate::specs::Format::LongLines::one_too_many))]
 fn add_one_too_many(text: &mut String, name: &str) -> Result<(), AllocError>
@@ -199,21 +310,23 @@ fn add_long_line(text: &mut String, shift: usize, name: &str) -> Result<(), Allo
 
 /// Adds the same, where the cells of the line without so many bytes at its begin show it.
 fn add_long_line_if(
-    line: &mut String,
+    text: &mut String,
     kind: Kind,
-    text: &[u8],
+    line: &[u8],
+    moved: &[u8],
     shift: usize,
     first: Option<Field>,
     refused: Option<Field>,
 ) -> Result<(), AllocError>
-    ensures { OnOk result (string_bytes line.new ≡ string_bytes line.old
-        ++ long_line_if kind text.now shift (option_map field_view first) (option_map field_view refused)) }
+    ensures { OnOk result (string_bytes text.new ≡ string_bytes text.old
+        ++ long_line_if kind line.now moved.now shift (option_map field_view first)
+        (option_map field_view refused)) }
 {
     let Some(first) = first else {
         return Ok(());
     };
-    if shows_shift(kind, text, &first, refused) {
-        add_long_line(line, shift, first.name)
+    if shows_shift(kind, moved, &first, refused) {
+        add_long_line(text, shift, too_long_in(kind, line, first, refused).name)
     } else {
         Ok(())
     }
@@ -238,6 +351,7 @@ pub(crate) fn add_long(
     add_long_line_if(
         text,
         kind,
+        line,
         moved,
         shift,
         right_from(kind, moved),

@@ -211,7 +211,7 @@ fn add_goes_on(text: &mut String, letters: &str, preceding: &[Symbol]) -> Result
     ensures { OnOk result (string_bytes text.new ≡ string_bytes text.old ++ goes_on_words letters.now preceding.now) }
 {
     text.push_str(
-        "the numbers of this line go on from those of the line before, so nothing is missing between them: it stands in a wrong place, or its kind is mistyped; ",
+        "the numbers of this line go on from those of the line before, so nothing is missing between them: it stands in a wrong place, or its kind or that of the line before is mistyped; ",
     )?;
     add_place_start(text, letters)?;
     add_alternatives(text, preceding)

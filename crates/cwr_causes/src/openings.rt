@@ -3,8 +3,9 @@
 ghost use Rattle.std.specs.Prelude.{◌≡◌, option_map};
 ghost use Rattle.std.specs.Char.{is_ascii_lowercase};
 ghost use Rattle.std.specs.List.{list_all, list_any};
-ghost use Rattle.cwr_causes.specs.Format.Openings.{begins_blank, is_base64, is_base64_byte, is_blank, is_empty_line, is_indented, is_lower_case, is_mail_head};
-ghost use Rattle.cwr_causes.specs.Format.Openings.{is_of_societies, is_utf16, opening_at, opening_of, opening_said, societies_said, text_opening, without_blanks};
+ghost use Rattle.cwr_causes.specs.Format.Openings.{begins_blank, begins_tag, is_base64, is_base64_byte, is_blank, is_conflict, is_empty_line, is_indented};
+ghost use Rattle.cwr_causes.specs.Format.Openings.{is_lower_case, is_mail_head, is_of_societies, is_other, is_packed, is_utf16, opening_at, opening_of, opening_said};
+ghost use Rattle.cwr_causes.specs.Format.Openings.{societies_said, text_opening, without_blanks};
 
 use crate::truncated_words::kind_of;
 use cwr_fields::Kind;
@@ -40,6 +41,8 @@ pub(crate) enum Opening {
     MailHead,
     /// It begins as a transaction that societies send.
     OfSocieties,
+    /// It is a mark between two versions.
+    Conflict,
     /// It has bytes of base64 alone.
     Base64,
     /// It is the first line, and nothing of these.
@@ -172,10 +175,29 @@ fn is_base64(bytes: &[u8]) -> bool
 }
 
 /// Whether it begins as a transaction that societies send.
-fn is_of_societies(bytes: &[u8]) -> bool
+pub(crate) fn is_of_societies(bytes: &[u8]) -> bool
     ensures { result ≡ is_of_societies bytes.now }
 {
     bytes.starts_with(b"ISW") || bytes.starts_with(b"EXC")
+}
+
+/// Whether it begins as a tag of HTML or XML does.
+fn begins_tag(bytes: &[u8]) -> bool
+    ensures { result ≡ begins_tag bytes.now }
+{
+    match bytes {
+        [a, b, ..] => {
+            *a == b'<' && (b.is_ascii_alphabetic() || *b == b'!' || *b == b'/' || *b == b'?')
+        }
+        _ => false,
+    }
+}
+
+/// Whether it is a mark that version control leaves between two versions.
+fn is_conflict(bytes: &[u8]) -> bool
+    ensures { result ≡ is_conflict bytes.now }
+{
+    bytes.starts_with(b"<<<<<<<") || bytes.starts_with(b"=======") || bytes.starts_with(b">>>>>>>")
 }
 
 /// What a line looks like that isn't packed, and no record in small letters.
@@ -186,7 +208,9 @@ fn text_opening(bytes: &[u8]) -> Opening
         Opening::Pdf
     } else if bytes.starts_with(b"{\\rtf") {
         Opening::Rtf
-    } else if bytes.starts_with(b"<") {
+    } else if is_conflict(bytes) {
+        Opening::Conflict
+    } else if begins_tag(bytes) {
         Opening::Markup
     } else if bytes.starts_with(b">") {
         Opening::Quoted
@@ -234,6 +258,23 @@ pub(crate) fn opening_of(bytes: &[u8]) -> Opening
 }
 
 impl Opening {
+    /// Whether a file that begins so is no text of one byte a character.
+    pub(crate) fn is_packed(self) -> bool
+        ensures { result ≡ is_packed self }
+    {
+        matches!(
+            self,
+            Opening::Gzip | Opening::Zip | Opening::Utf16 | Opening::Pdf
+        )
+    }
+
+    /// Whether it looks like nothing of these.
+    pub(crate) fn is_other(self) -> bool
+        ensures { result ≡ is_other self }
+    {
+        matches!(self, Opening::Other)
+    }
+
     /// The same of the line of that number, from 1: before the header may stand what looks like nothing else.
     pub(crate) fn at(self, number: u32) -> Opening
         ensures { result ≡ opening_at number self }
@@ -275,6 +316,9 @@ impl Opening {
             ),
             Opening::MailHead => Some("this looks like the head of a mail: save the attachment"),
             Opening::OfSocieties => Some(societies_words()),
+            Opening::Conflict => Some(
+                "version control marks so where two versions differ (<<<<<<<, =======, >>>>>>>): take one of the two, and remove the marks",
+            ),
             Opening::Base64 => Some(
                 "this looks like base64, in which mails carry files: unpack it",
             ),

@@ -2,7 +2,8 @@
 
 ghost use Rattle.std.specs.Prelude.{◌≡◌, ◌++◌, string_bytes, OnOk};
 ghost use Rattle.cwr_causes.specs.Format.Refusals.{first_kind};
-ghost use Rattle.cwr_causes.specs.Format.TruncatedTexts.{cut_off_line, cut_off_words, end_words, last_cut_off_words, last_words, whole_width};
+ghost use Rattle.cwr_causes.specs.Format.TruncatedTexts.{cut_off_line, cut_off_words, end_words, last_cut_off_words, last_words, rest_line, rest_words};
+ghost use Rattle.cwr_causes.specs.Format.TruncatedTexts.{whole_width};
 ghost use Rattle.cwr_causes.specs.Steps.Refused.{ExplainsEnd};
 
 use crate::coming_words::add_coming;
@@ -118,6 +119,28 @@ fn add_last_cut_off(
     }
 }
 
+/// Adds that what stood after the last line is missing.
+#[tactic(auto, unfolding(crate::specs::Format::TruncatedTexts::rest_line))]
+fn add_rest_line(text: &mut String) -> Result<(), AllocError>
+    ensures { OnOk result (string_bytes text.new ≡ string_bytes text.old ++ rest_line) }
+{
+    add_label(text, "note")?;
+    text.push_str(
+        "what stood after that is missing, and works may have been in it: get the file again, and whole\n",
+    )
+}
+
+/// Adds the same, where there is a line.
+fn add_rest(text: &mut String, records: u32) -> Result<(), AllocError>
+    ensures { OnOk result (string_bytes text.new ≡ string_bytes text.old ++ rest_words records) }
+{
+    if records == 0 {
+        Ok(())
+    } else {
+        add_rest_line(text)
+    }
+}
+
 /// Adds what is said of an input that ends too early.
 pub fn add_truncated(
     alloc: Global,
@@ -133,5 +156,6 @@ pub fn add_truncated(
     let kind = kind_of(line.bytes);
     add_end(text, name, kind, records, last.bytes.read())?;
     add_coming(alloc, text, last.stage)?;
-    add_last_cut_off(text, records, &line, kind)
+    add_last_cut_off(text, records, &line, kind)?;
+    add_rest(text, records)
 }

@@ -19,7 +19,7 @@ const HEADER_VERSION: usize = 101;
 const LATE_IN_HEADER: usize = 59;
 
 /// What a line has from a byte on, from 0.
-fn from_byte(bytes: &[u8], at: usize) -> &[u8]
+pub(crate) fn from_byte(bytes: &[u8], at: usize) -> &[u8]
     ensures { result.now ≡ drop at bytes.now }
 {
     &bytes[at.min(bytes.len())..]

@@ -4,8 +4,10 @@ ghost use Rattle.std.specs.Prelude.{◌≡◌, ◌++◌, option_map, string_byte
 ghost use Rattle.cwr_fields.specs.Steps.Views.{field_view};
 ghost use Rattle.cwr_lines.specs.Format.Lines.{without_cr};
 ghost use Rattle.cwr_causes.specs.Format.WrappedLines.{broken_at, broken_before, broken_before_if, broken_before_line, broken_here_line, ends_soft};
-ghost use Rattle.cwr_causes.specs.Format.WrappedLines.{is_cut, is_mail_wide, is_short, soft_line};
+ghost use Rattle.cwr_causes.specs.Format.WrappedLines.{is_cut, is_mail_wide, is_short, may_go_on, short_before_line, soft_line};
 
+use crate::openings::opening_of;
+use crate::sequences::numbers_in;
 use crate::texts::add_label;
 use crate::truncated_words::kind_of;
 use cwr_fields::{Field, Kind, width};
@@ -82,26 +84,52 @@ fn add_broken_here_line(text: &mut String, count: usize) -> Result<(), AllocErro
     )
 }
 
-/// Adds what the line before shows.
-fn add_broken(text: &mut String, before: &[u8]) -> Result<(), AllocError>
-    ensures { OnOk result (string_bytes text.new ≡ string_bytes text.old ++ broken_before before.now) }
+/// Adds that the line before is short.
+#[tactic(auto, unfolding(crate::specs::Format::WrappedLines::short_before_line))]
+fn add_short_before(text: &mut String) -> Result<(), AllocError>
+    ensures { OnOk result (string_bytes text.new ≡ string_bytes text.old ++ short_before_line) }
+{
+    add_label(text, "note")?;
+    text.push_str(
+        "the line before it is shorter than lines of its kind: if this one goes on with it, put both together\n",
+    )
+}
+
+/// Whether a line that names no record may go on with the one before: it has no sequences and looks like nothing else.
+pub(crate) fn may_go_on(line: &[u8]) -> bool
+    ensures { result ≡ may_go_on line.now }
+{
+    numbers_in(line).is_none() && opening_of(line).is_other()
+}
+
+/// Adds what the line before shows, with which this one may go on or not.
+fn add_broken(text: &mut String, before: &[u8], goes_on: bool) -> Result<(), AllocError>
+    ensures { OnOk result (string_bytes text.new ≡ string_bytes text.old ++ broken_before goes_on before.now) }
 {
     if ends_soft(before) {
         add_soft(text)
-    } else if is_mail_wide(before) && is_short(kind_of(before), before) {
+    } else if !is_short(kind_of(before), before) {
+        Ok(())
+    } else if is_mail_wide(before) {
         add_broken_before_line(text, before.len())
+    } else if goes_on {
+        add_short_before(text)
     } else {
         Ok(())
     }
 }
 
 /// The same, where that is held.
-pub(crate) fn add_broken_before(text: &mut String, before: Option<&[u8]>) -> Result<(), AllocError>
+pub(crate) fn add_broken_before(
+    text: &mut String,
+    before: Option<&[u8]>,
+    goes_on: bool,
+) -> Result<(), AllocError>
     ensures { OnOk result (string_bytes text.new ≡ string_bytes text.old
-        ++ broken_before_if (option_map (λ b. b.now) before.entry)) }
+        ++ broken_before_if goes_on (option_map (λ b. b.now) before.entry)) }
 {
     match before {
-        Some(before) => add_broken(text, without_cr(before)),
+        Some(before) => add_broken(text, without_cr(before), goes_on),
         None => Ok(()),
     }
 }

@@ -1,7 +1,8 @@
 //! What a wrong number points to: records that are missing or stand twice, or a count that wasn't changed.
 
 ghost use Rattle.std.specs.Prelude.{◌≡◌, ◌++◌, ◌==◌, List, [], if◌then◌else◌, option_map, string_bytes, OnOk};
-ghost use Rattle.cwr_causes.specs.Format.WrongNumbers.{ahead_words, amount_words, beside_words, comparison_words, count_words, counts_on, difference_words};
+ghost use Rattle.cwr_causes.specs.Format.WrongNumbers.{ahead_words, amount_words, beside_words, comparison_words, count_words, counts_from_one, counts_on};
+ghost use Rattle.cwr_causes.specs.Format.WrongNumbers.{difference_words};
 ghost use Rattle.cwr_causes.specs.Format.WrongNumbers.{foot_words, going_on_words, in_order_words, is_header, is_same_line, may_be_cut, meaning_words, missing_words};
 ghost use Rattle.cwr_causes.specs.Format.WrongNumbers.{naming, naming_of, neighbours_at, one_missing_words, place_words, points_words, purpose_words, reason_words, record_words, repeated_words, sequence_words};
 ghost use Rattle.cwr_causes.specs.Format.WrongNumbers.{shifted_words, some_missing_words, stands_after, swapped_words, taken_out_words, trailer_words};
@@ -556,11 +557,22 @@ impl WrongNumber<'_> {
     fn add_purpose(&self, text: &mut String) -> Result<(), AllocError>
         ensures { OnOk result (string_bytes text.new ≡ string_bytes text.old ++ purpose_words (wrong_value self.now)) }
     {
-        if self.may_be_cut() {
-            text.push_str("; if you took it out on purpose: cwr renumber --new FILE OUT")
-        } else {
+        if !self.may_be_cut() {
             Ok(())
+        } else if self.counts_from_one() {
+            text.push_str(
+                "; if you took it out on purpose, or the file counts from 1: cwr renumber --new FILE OUT",
+            )
+        } else {
+            text.push_str("; if you took it out on purpose: cwr renumber --new FILE OUT")
         }
+    }
+
+    /// Whether it is the first transaction of a group, and has the number 1.
+    fn counts_from_one(&self) -> bool
+        ensures { result ≡ counts_from_one (wrong_value self.now) }
+    {
+        is_header(self.kind) && self.field == 2 && self.expected == 0 && self.found == 1
     }
 
     /// Adds the line that says what the number points to.

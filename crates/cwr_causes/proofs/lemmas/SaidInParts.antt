@@ -5,7 +5,7 @@ use Rattle.cwr_decode.specs.declared.readings.LastRead.{LastRead}
 use Rattle.cwr_decode.specs.Steps.LastReads.{bytes_read}
 use Rattle.cwr_causes.specs.declared.lines_at_end.LineAtEnd.{LineAtEnd}
 use Rattle.cwr_causes.specs.Format.ComingTexts.{coming_words}
-use Rattle.cwr_causes.specs.Format.TruncatedTexts.{end_words, last_cut_off_words}
+use Rattle.cwr_causes.specs.Format.TruncatedTexts.{end_words, last_cut_off_words, rest_words}
 use Rattle.cwr_causes.specs.Steps.Coming.{coming_at}
 use Rattle.cwr_causes.specs.Steps.LinesAtEnd.{IsLineAtEnd}
 use Rattle.cwr_causes.specs.Format.Handling.{handling_words}
@@ -40,17 +40,17 @@ refusal_said limits stage r cell old a b c d e head wanted level handling signs 
     (said_more a b e _ _ wanted (said_more b c e _ _ level (said_more c d e _ _ handling (said_last d e _ signs))))
 
 -- what is said of an end that comes too early, part by part
-pub truncated_said : (name : List ℕ) (records : ℕ) (last : LastRead) (line : LineAtEnd) (old a b c : List ℕ)
+pub truncated_said : (name : List ℕ) (records : ℕ) (last : LastRead) (line : LineAtEnd) (old a b c d : List ℕ)
     → IsLineAtEnd last.bytes line → a ≡ old ++ end_words name (first_kind line.bytes.now) records (bytes_read last.bytes)
     → b ≡ a ++ coming_words (coming_at last.stage)
     → c ≡ b ++ last_cut_off_words records line.bytes.now line.ended (first_kind line.bytes.now)
-    → ExplainsEnd name records last old c
+    → d ≡ c ++ rest_words records → ExplainsEnd name records last old d
 unfolding truncation_words
-truncated_said name records last line old a b c is end coming cut =
+truncated_said name records last line old a b c d is end coming cut missing =
     record {
       line = line;
       is_last = is;
-      said = said_more old a c _ _ end (said_more a b c _ _ coming (said_last b c _ cut));
+      said = said_more old a d _ _ end (said_more a b d _ _ coming (said_more b c d _ _ cut (said_last c d _ missing)));
     }
 
 -- what follows where a call succeeds

@@ -1,5 +1,5 @@
 -- A line that is too long by some bytes, behind which its cells stand further right.
-use Rattle.std.specs.Prelude.{ℕ, zero, suc, ◌-◌, ◌==◌, ◌&&◌, ◌||◌, not, min, nat_le, Bool, true, false, List, [], ◌∷◌, ◌++◌}
+use Rattle.std.specs.Prelude.{ℕ, zero, suc, ◌-◌, ◌==◌, ◌&&◌, ◌||◌, not, min, nat_le, nat_lt, unwrap_or, Bool, true, false, List, [], ◌∷◌, ◌++◌}
 use Rattle.std.specs.Prelude.{codes, decimal, drop, length, take, Option, None, Some, if◌then◌else◌}
 use Rattle.std.specs.List.{concat, list_all}
 use Rattle.std.specs.Option.{option_or}
@@ -103,6 +103,66 @@ abbrev pub shows_shift : Kind → List ℕ → ℕ × FieldLayout → Option (�
 shows_shift this_kind text first None = false
 shows_shift this_kind text first (Some refused) = nat_le first.0 refused.0 && is_told this_kind text first.0
 
+-- ---- the cell that is too long
+
+-- a text begins with no blank, or it is all blank
+abbrev pub begins_well : List ℕ → Bool
+begins_well [] = true
+begins_well (b ∷ rest) = not (b == 32) || is_spaces rest
+
+-- a cell of the type may stand so
+abbrev pub stands_well : CellType → List ℕ → Bool
+stands_well Text cell = begins_well cell
+stands_well Required cell = begins_well cell
+stands_well ty cell = looks_like ty cell
+
+-- the field is the one that starts there, or its cell in the line looks wrong; numbers of the file's own aren't asked
+abbrev pub is_wrong : List ℕ → ℕ → ℕ × FieldLayout → Bool
+is_wrong line refused f = not f.1.derived && ((f.0 == refused) || not (stands_well f.1.ty (cell_in line f)))
+
+abbrev pub wrong_with : List ℕ → ℕ → Option (ℕ × FieldLayout) → Option (ℕ × FieldLayout) → Option (ℕ × FieldLayout)
+wrong_with line refused first None = first
+wrong_with line refused first (Some f) = if is_wrong line refused f then option_or first (Some f) else first
+
+-- of a kind's first fields, so many, the first such
+unfoldable pub wrong_in : Kind → List ℕ → ℕ → ℕ → Option (ℕ × FieldLayout)
+wrong_in this_kind line refused zero = None
+wrong_in this_kind line refused (suc n) =
+    wrong_with line refused (wrong_in this_kind line refused n) (field_with_start this_kind (suc n))
+
+-- of all its fields
+abbrev pub first_wrong : Kind → List ℕ → ℕ → Option (ℕ × FieldLayout)
+first_wrong this_kind line refused = wrong_in this_kind line refused (length (layout this_kind))
+
+-- a cell before that place that isn't blank
+abbrev pub is_filled : List ℕ → ℕ → ℕ × FieldLayout → Bool
+is_filled line end f =
+    not f.1.derived && (nat_lt f.0 end && not (is_spaces (cell_in line f)))
+
+abbrev pub filled_with : List ℕ → ℕ → Option (ℕ × FieldLayout) → Option (ℕ × FieldLayout) → Option (ℕ × FieldLayout)
+filled_with line end last None = last
+filled_with line end last (Some f) = if is_filled line end f then Some f else last
+
+-- of a kind's first fields, so many, the last such
+unfoldable pub filled_in : Kind → List ℕ → ℕ → ℕ → Option (ℕ × FieldLayout)
+filled_in this_kind line end zero = None
+filled_in this_kind line end (suc n) = filled_with line end (filled_in this_kind line end n) (field_with_start this_kind (suc n))
+
+-- of all its fields
+abbrev pub last_filled : Kind → List ℕ → ℕ → Option (ℕ × FieldLayout)
+last_filled this_kind line end = filled_in this_kind line end (length (layout this_kind))
+
+-- The cell that is too long, where those from the first field on look right further right: the last one that isn't blank before the first
+-- that looks wrong in its place, or that one itself where it doesn't look right further right either.
+abbrev pub too_long_of : Kind → List ℕ → ℕ × FieldLayout → Option (ℕ × FieldLayout) → ℕ × FieldLayout
+too_long_of this_kind line first None = first
+too_long_of this_kind line first (Some wrong) =
+    if nat_le first.0 wrong.0 then unwrap_or (last_filled this_kind line wrong.0) wrong else wrong
+
+abbrev pub too_long_in : Kind → List ℕ → ℕ × FieldLayout → Option (ℕ × FieldLayout) → ℕ × FieldLayout
+too_long_in this_kind line first None = first
+too_long_in this_kind line first (Some refused) = too_long_of this_kind line first (first_wrong this_kind line refused.0)
+
 -- ---- what is said of it
 
 -- that the line is too long by one byte, from the field of that name on
@@ -123,19 +183,20 @@ abbrev pub long_line : ℕ → List ℕ → List ℕ
 long_line shift name = if shift == 1 then one_too_many name else some_too_many shift name
 
 -- the same where the cells of the line without so many bytes at its begin show it
-abbrev pub long_line_if : Kind → List ℕ → ℕ → Option (ℕ × FieldLayout) → Option (ℕ × FieldLayout) → List ℕ
-long_line_if this_kind text shift None refused = []
-long_line_if this_kind text shift (Some first) refused =
-    if shows_shift this_kind text first refused then long_line shift first.1.name else []
+abbrev pub long_line_if : Kind → List ℕ → List ℕ → ℕ → Option (ℕ × FieldLayout) → Option (ℕ × FieldLayout) → List ℕ
+long_line_if this_kind line text shift None refused = []
+long_line_if this_kind line text shift (Some first) refused =
+    if shows_shift this_kind text first refused then long_line shift (too_long_in this_kind line first refused).1.name else []
 
-abbrev pub long_by : Kind → ℕ → List ℕ → ℕ → List ℕ
-long_by this_kind refused text shift = long_line_if this_kind text shift (right_from this_kind text) (field_with_start this_kind refused)
+abbrev pub long_by : Kind → ℕ → List ℕ → List ℕ → ℕ → List ℕ
+long_by this_kind refused line text shift =
+    long_line_if this_kind line text shift (right_from this_kind text) (field_with_start this_kind refused)
 
 -- the same of a line of the kind that is refused at that field, where it has more bytes than its fields
 abbrev pub long_line_words : Kind → ℕ → List ℕ → List ℕ
 long_line_words this_kind refused line =
     if nat_le (length line) (line_width this_kind) then []
-    else long_by this_kind refused (drop (length line - line_width this_kind) line) (length line - line_width this_kind)
+    else long_by this_kind refused line (drop (length line - line_width this_kind) line) (length line - line_width this_kind)
 
 -- ---- a sender id of eleven digits
 

@@ -1,5 +1,5 @@
 -- What a misplaced line points to, in words.
-use Rattle.std.specs.Prelude.{ℕ, ◌==◌, Bool, true, false, List, [], ◌∷◌, ◌++◌, codes, decimal, Option, None, Some, if◌then◌else◌}
+use Rattle.std.specs.Prelude.{ℕ, ◌==◌, Bool, true, false, List, [], ◌∷◌, ◌++◌, codes, decimal, if◌then◌else◌}
 use Rattle.std.specs.List.{concat}
 use Rattle.cwr_shape.specs.declared.symbols.Symbol.{Symbol}
 use Rattle.cwr_causes.specs.declared.misplacements.Gap.{Gap}
@@ -95,7 +95,7 @@ place_start letters = letters ++ codes " may stand after "
 -- nothing is missing; a line of the kind may stand after one of these
 unfoldable pub goes_on_words : List ℕ → List Symbol → List ℕ
 goes_on_words letters preceding =
-    (codes "the numbers of this line go on from those of the line before, so nothing is missing between them: it stands in a wrong place, or its kind is mistyped; "
+    (codes "the numbers of this line go on from those of the line before, so nothing is missing between them: it stands in a wrong place, or its kind or that of the line before is mistyped; "
     ++ place_start letters)
     ++ alternatives preceding
 

@@ -11,7 +11,7 @@ use Rattle.cwr_shape.specs.declared.reasons.Reason.{Reason}
 use Rattle.cwr_shape.specs.declared.reasons.Reason.TheVariants as reasons
 use Rattle.cwr_causes.specs.declared.openings.Opening.{Opening}
 use Rattle.cwr_causes.specs.declared.openings.Opening.TheVariants.{Empty, ByteOrderMark, Utf16, Gzip, Zip, LowerCase, Pdf, Rtf, Markup}
-use Rattle.cwr_causes.specs.declared.openings.Opening.TheVariants.{Quoted, InQuotes, Indented, MailHead, OfSocieties, Base64, BeforeHeader, Other}
+use Rattle.cwr_causes.specs.declared.openings.Opening.TheVariants.{Quoted, InQuotes, Indented, MailHead, OfSocieties, Conflict, Base64, BeforeHeader, Other}
 use Rattle.cwr_causes.specs.Format.Refusals.{first_kind}
 use Rattle.cwr_causes.specs.Format.Texts.{label_words}
 
@@ -72,16 +72,27 @@ is_base64 line = nat_le 60 (length line) && (list_all is_base64_byte line && lis
 abbrev pub is_of_societies : List ℕ → Bool
 is_of_societies line = starts_with nat_eq line (codes "ISW") || starts_with nat_eq line (codes "EXC")
 
+-- it begins as a tag of HTML or XML does
+abbrev pub begins_tag : List ℕ → Bool
+begins_tag (a ∷ b ∷ rest) = (a == 60) && (is_ascii_alphabetic b || ((b == 33) || ((b == 47) || (b == 63))))
+begins_tag line = false
+
+-- it is a mark that version control leaves between two versions
+abbrev pub is_conflict : List ℕ → Bool
+is_conflict line =
+    starts_with nat_eq line (codes "<<<<<<<") || (starts_with nat_eq line (codes "=======") || starts_with nat_eq line (codes ">>>>>>>"))
+
 -- what a text looks like that isn't packed, and no record in small letters
 abbrev pub text_opening : List ℕ → Opening
 text_opening line =
     if starts_with nat_eq line (codes "%PDF") then Pdf
     else (if starts_with nat_eq line (123 ∷ 92 ∷ 114 ∷ 116 ∷ 102 ∷ []) then Rtf
-    else (if starts_with nat_eq line (codes "<") then Markup
+    else (if is_conflict line then Conflict
+    else (if begins_tag line then Markup
     else (if starts_with nat_eq line (codes ">") then Quoted
     else (if starts_with nat_eq line (34 ∷ []) then InQuotes
     else (if is_indented line then Indented
-    else (if is_of_societies line then OfSocieties else (if is_base64 line then Base64 else Other)))))))
+    else (if is_of_societies line then OfSocieties else (if is_base64 line then Base64 else Other))))))))
 
 -- what it looks like
 abbrev pub opening_of : List ℕ → Opening
@@ -92,6 +103,19 @@ opening_of line =
     else (if starts_with nat_eq line (80 ∷ 75 ∷ 3 ∷ 4 ∷ []) then Zip
     else (if is_utf16 line then Utf16
     else (if is_mail_head line then MailHead else (if is_lower_case line then LowerCase else text_opening line))))))
+
+-- a file that begins so is no text of one byte a character
+abbrev pub is_packed : Opening → Bool
+is_packed Gzip = true
+is_packed Zip = true
+is_packed Utf16 = true
+is_packed Pdf = true
+is_packed opening = false
+
+-- it looks like nothing of these
+abbrev pub is_other : Opening → Bool
+is_other Other = true
+is_other opening = false
 
 -- a file's first line that looks like nothing else stands before the header, if that comes
 abbrev pub opening_at : ℕ → Opening → Opening
@@ -120,6 +144,8 @@ opening_said InQuotes =
 opening_said Indented = Some (codes "blanks stand before the record type: remove them from each line")
 opening_said MailHead = Some (codes "this looks like the head of a mail: save the attachment")
 opening_said OfSocieties = Some societies_said
+opening_said Conflict =
+    Some (codes "version control marks so where two versions differ (<<<<<<<, =======, >>>>>>>): take one of the two, and remove the marks")
 opening_said Base64 = Some (codes "this looks like base64, in which mails carry files: unpack it")
 opening_said BeforeHeader =
     Some (codes "a file begins with HDR: what stands before that line, if it comes, is no part of the transmission, so remove it")

@@ -1,9 +1,12 @@
 -- What else a refused line shows, in notes.
-use Rattle.std.specs.Prelude.{ℕ, ◌+◌, ◌-◌, ◌==◌, ◌&&◌, not, if◌then◌else◌, List, [], ◌∷◌, ◌++◌, codes, decimal, length, position, take, Option, None, Some}
+use Rattle.std.specs.Prelude.{ℕ, ◌+◌, ◌-◌, ◌==◌, ◌&&◌, not, Bool, false, if◌then◌else◌, List, [], ◌∷◌, ◌++◌, codes, decimal, length, position, take, Option, None, Some}
 use Rattle.std.specs.List.{concat}
+use Rattle.cwr_shape.specs.declared.reasons.Reason.{Reason}
+use Rattle.cwr_shape.specs.declared.reasons.Reason.TheVariants as reasons
 use Rattle.cwr_causes.specs.Format.Texts.{label_words}
+use Rattle.cwr_causes.specs.Format.GluedLines.{glued_text, glued_words}
 use Rattle.cwr_causes.specs.Format.LongLines.{long_id_words}
-use Rattle.cwr_causes.specs.Format.Openings.{opening_words, version_words}
+use Rattle.cwr_causes.specs.Format.Openings.{is_packed, opening_of, opening_words, version_words}
 use Rattle.cwr_causes.specs.Format.Refusals.{RefusedLine, without_return}
 use Rattle.cwr_causes.specs.Format.Shifts.{shift_words}
 use Rattle.cwr_causes.specs.Format.TruncatedTexts.{cut_off_words}
@@ -30,15 +33,32 @@ first_signs r =
     opening_words r.refusal.reason r.bytes r.refusal.rec ++ version_words r.kind r.bytes ++ long_id_words r.kind r.bytes
 
 -- that its cells may stand elsewhere, or a mail program broke it, which is said with the first fault of a line
+abbrev pub cells_signs : RefusedLine → List ℕ
+cells_signs r = shift_words r.kind r.refusal.field (without_return r) ++ broken_words r
+
+abbrev pub whole_line_of : RefusedLine → Option (List ℕ) → List ℕ
+whole_line_of r None = cells_signs r
+whole_line_of r (Some text) = glued_words r text
+
+-- or, where another line begins in it, that
 unfoldable pub whole_line_signs : RefusedLine → List ℕ
-whole_line_signs r = shift_words r.kind r.refusal.field (without_return r) ++ broken_words r
+whole_line_signs r = whole_line_of r (glued_text r)
 
 abbrev pub shift_signs : RefusedLine → List ℕ
 shift_signs r = if r.is_first && not r.is_too_long then whole_line_signs r else []
 
+-- the line names no record and begins a file that is no text of one byte a character
+abbrev pub is_packed_by : Reason → List ℕ → Bool
+is_packed_by reasons.UnknownKind line = is_packed (opening_of line)
+is_packed_by reason line = false
+
+-- a carriage return within it, where it is text
+abbrev pub returns_in : RefusedLine → List ℕ
+returns_in r = if is_packed_by r.refusal.reason r.bytes then [] else return_words r.bytes
+
 -- what stands last: a carriage return within it, and that it may have been cut off
 unfoldable pub end_signs : RefusedLine → List ℕ
-end_signs r = return_words r.bytes ++ cut_off_words r.bytes r.ended r.kind
+end_signs r = returns_in r ++ cut_off_words r.bytes r.ended r.kind
 
 -- all notes on the line
 unfoldable pub signs_words : RefusedLine → List ℕ

@@ -44,3 +44,12 @@ cut_off_words line ended this_kind =
 -- the same of the last line of so many, if there is one
 abbrev pub last_cut_off_words : ℕ → List ℕ → Bool → Option Kind → List ℕ
 last_cut_off_words records line ended this_kind = if records == 0 then [] else cut_off_words line ended this_kind
+
+-- that what comes after the last line of so many is missing, if there is one
+unfoldable pub rest_line : List ℕ
+rest_line =
+    label_words (codes "note")
+    ++ codes "what stood after that is missing, and works may have been in it: get the file again, and whole\n"
+
+abbrev pub rest_words : ℕ → List ℕ
+rest_words records = if records == 0 then [] else rest_line

@@ -1,5 +1,5 @@
 -- Lines that a mail program broke.
-use Rattle.std.specs.Prelude.{ℕ, ◌+◌, ◌-◌, ◌&&◌, nat_le, nat_lt, Bool, true, false, List, [], ◌∷◌, ◌++◌, codes, decimal, drop, length, Option, None, Some}
+use Rattle.std.specs.Prelude.{ℕ, ◌+◌, ◌-◌, ◌&&◌, not, nat_le, nat_lt, is_none, Bool, false, List, [], ◌∷◌, ◌++◌, codes, decimal, drop, length, Option, None, Some}
 use Rattle.std.specs.Prelude.{if◌then◌else◌}
 use Rattle.std.specs.List.{concat}
 use Rattle.std.specs.Str.{bytes_eq}
@@ -8,6 +8,8 @@ use Rattle.cwr_fields.specs.Format.Layouts.{FieldLayout, line_width}
 use Rattle.cwr_lines.specs.Format.Lines.{without_cr}
 use Rattle.cwr_shape.specs.declared.reasons.Reason.{Reason}
 use Rattle.cwr_shape.specs.declared.reasons.Reason.TheVariants as reasons
+use Rattle.cwr_causes.specs.Format.Misplacements.{numbers_in}
+use Rattle.cwr_causes.specs.Format.Openings.{is_other, opening_of}
 use Rattle.cwr_causes.specs.Format.Refusals.{RefusedLine, first_kind, refused_field, up_to_largest, without_return}
 use Rattle.cwr_causes.specs.Format.Texts.{label_words}
 
@@ -45,15 +47,25 @@ broken_here_line count =
     (label_words (codes "note") ∷ codes "the line has " ∷ decimal count
     ∷ codes " bytes, as lines have that mail programs break: if the next one goes on with it, put both together\n" ∷ [])
 
--- what the line before one shows that names no record
-abbrev pub broken_before : List ℕ → List ℕ
-broken_before line =
-    if ends_soft line then soft_line
-    else (if is_mail_wide line && is_short (first_kind line) line then broken_before_line (length line) else [])
+unfoldable pub short_before_line : List ℕ
+short_before_line =
+    label_words (codes "note")
+    ++ codes "the line before it is shorter than lines of its kind: if this one goes on with it, put both together\n"
 
-abbrev pub broken_before_if : Option (List ℕ) → List ℕ
-broken_before_if None = []
-broken_before_if (Some line) = broken_before (without_cr line)
+-- a line that names no record, has no sequences and looks like nothing else may go on with the one before
+abbrev pub may_go_on : List ℕ → Bool
+may_go_on line = is_none (numbers_in line) && is_other (opening_of line)
+
+-- what the line before one shows that names no record, and may go on with it or not
+abbrev pub broken_before : Bool → List ℕ → List ℕ
+broken_before goes_on line =
+    if ends_soft line then soft_line
+    else (if not (is_short (first_kind line) line) then []
+    else (if is_mail_wide line then broken_before_line (length line) else (if goes_on then short_before_line else [])))
+
+abbrev pub broken_before_if : Bool → Option (List ℕ) → List ℕ
+broken_before_if goes_on None = []
+broken_before_if goes_on (Some line) = broken_before goes_on (without_cr line)
 
 -- the refused field doesn't stand whole in the line
 abbrev pub is_cut : Option (ℕ × FieldLayout) → List ℕ → Bool
@@ -70,7 +82,7 @@ abbrev pub broken_here : RefusedLine → List ℕ
 broken_here r = if r.ended then broken_at (refused_field r) (without_return r) else []
 
 abbrev pub broken_by : RefusedLine → Reason → List ℕ
-broken_by r reasons.UnknownKind = broken_before_if r.before
+broken_by r reasons.UnknownKind = broken_before_if (may_go_on r.bytes) r.before
 broken_by r reason = broken_here r
 
 -- that the line or the one before it may have been broken

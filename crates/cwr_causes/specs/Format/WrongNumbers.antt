@@ -299,9 +299,16 @@ abbrev pub may_be_cut : WrongValue → Bool
 may_be_cut wrong =
     nat_lt wrong.expected wrong.found && (counts_on wrong.kind wrong.field && not (stands_after wrong.ahead wrong.expected))
 
+-- it is the first transaction of a group, and has the number 1
+abbrev pub counts_from_one : WrongValue → Bool
+counts_from_one wrong =
+    is_header wrong.kind && ((wrong.field == 2) && ((wrong.expected == 0) && (wrong.found == 1)))
+
 abbrev pub purpose_words : WrongValue → List ℕ
 purpose_words wrong =
-    if may_be_cut wrong then codes "; if you took it out on purpose: cwr renumber --new FILE OUT" else []
+    if may_be_cut wrong then (if counts_from_one wrong
+    then codes "; if you took it out on purpose, or the file counts from 1: cwr renumber --new FILE OUT"
+    else codes "; if you took it out on purpose: cwr renumber --new FILE OUT") else []
 
 -- the line that says what the number points to
 unfoldable pub points_words : WrongValue → List ℕ

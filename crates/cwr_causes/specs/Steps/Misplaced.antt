@@ -1,5 +1,5 @@
 -- What a misplaced line points to, with the records after which it may stand.
-use Rattle.std.specs.Prelude.{ℕ, List, [], Option, Some, if◌then◌else◌}
+use Rattle.std.specs.Prelude.{ℕ, ◌&&◌, not, List, [], Option, Some, if◌then◌else◌}
 use Rattle.cwr_fields.specs.declared.kinds.Kind.{Kind}
 use Rattle.cwr_fields.specs.Format.Kinds.{letters}
 use Rattle.cwr_shape.specs.declared.reasons.Reason.{Reason}
@@ -8,6 +8,7 @@ use Rattle.cwr_shape.specs.declared.stages.Stage.{Stage}
 use Rattle.cwr_causes.specs.declared.misplacements.Misplacement.{Misplacement}
 use Rattle.cwr_causes.specs.Format.MisplacedTexts.{misplacement_words, mistyped_words}
 use Rattle.cwr_causes.specs.Format.Misplacements.{belongs, misplacement_of, numbers_before, numbers_in, numbers_of}
+use Rattle.cwr_causes.specs.Format.Openings.{is_of_societies}
 use Rattle.cwr_causes.specs.Format.Refusals.{RefusedLine}
 use Rattle.cwr_causes.specs.Format.Wanted.{another_type_words, is_other_header, stands_twice, twice_words}
 use Rattle.cwr_causes.specs.Steps.Coming.{closes_at, letting_at, preceding_at}
@@ -32,5 +33,6 @@ misplaced_words stage r this_kind =
 -- what a line points to that is misplaced or names no record
 abbrev pub order_words : Option Stage → RefusedLine → Reason → Option Kind → List ℕ
 order_words stage r reasons.Misplaced (Some this_kind) = misplaced_words stage r this_kind
-order_words stage r reasons.UnknownKind this_kind = mistyped_words (belongs stage (numbers_before r.before) (numbers_in r.bytes))
+order_words stage r reasons.UnknownKind this_kind =
+    mistyped_words (belongs stage (numbers_before r.before) (numbers_in r.bytes) && not (is_of_societies r.bytes))
 order_words stage r reason this_kind = []

@@ -18,7 +18,7 @@ use Rattle.cwr_shape.specs.declared.reasons.Reason.{Reason}
 use Rattle.cwr_shape.specs.declared.reasons.Reason.TheVariants as reasons
 use Rattle.cwr_shape.specs.declared.stages.Stage.{Stage}
 use Rattle.cwr_causes.specs.Format.ComingTexts.{coming_words}
-use Rattle.cwr_causes.specs.Format.TruncatedTexts.{end_words, last_cut_off_words}
+use Rattle.cwr_causes.specs.Format.TruncatedTexts.{end_words, last_cut_off_words, rest_words}
 use Rattle.cwr_causes.specs.Steps.Coming.{coming_at, words_at}
 use Rattle.cwr_causes.specs.Steps.LinesAtEnd.{EndsInLine, EndsWithLine, IsLineAtEnd, NoLineKnown}
 use Rattle.cwr_decode.specs.Steps.LastReads.{HoldsLast}
@@ -138,13 +138,13 @@ pub record ExplainsRefusal (limits : Limits) (name : List ℕ) (refusal : Refusa
   pub is_before : IsLineBefore last.bytes before
   pub explains : ExplainsLine limits (Some last.stage) (last_refused name refusal line before beyond) old new
 
--- What is said of an input that ends too early, after that line: where it ends, the records that may come, and that the line may have
--- been cut off.
+-- What is said of an input that ends too early, after that line: where it ends, the records that may come, that the line may have
+-- been cut off, and that what stood after it is missing.
 unfoldable pub truncation_words : List ℕ → ℕ → LastRead → LineAtEnd → List ℕ
 truncation_words name records last line =
     concat
     (end_words name (first_kind line.bytes.now) records (bytes_read last.bytes) ∷ coming_words (coming_at last.stage)
-    ∷ last_cut_off_words records line.bytes.now line.ended (first_kind line.bytes.now) ∷ [])
+    ∷ last_cut_off_words records line.bytes.now line.ended (first_kind line.bytes.now) ∷ rest_words records ∷ [])
 
 -- the text goes on with that, after the last line that was read
 pub record ExplainsEnd (name : List ℕ) (records : ℕ) (last : LastRead) (old new : List ℕ) : Type 0 where

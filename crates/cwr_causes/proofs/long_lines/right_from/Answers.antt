@@ -1,4 +1,4 @@
-use Rattle.std.proofs.Common.{◌≡◌, ℕ, suc, ◌+◌, List, refl, sym, ap, ◌∙◌, add-one, arith}
+use Rattle.std.proofs.Common.{ℕ, refl, sym, ap, ◌∙◌, add-one}
 use Rattle.std.specs.Prelude.{Option, option_map}
 use Rattle.cwr_fields.specs.Steps.Views.{field_view}
 use Rattle.cwr_fields.specs.Format.Layouts.{FieldLayout, field_with_start}

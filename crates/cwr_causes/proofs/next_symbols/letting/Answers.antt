@@ -1,4 +1,4 @@
-use Rattle.std.proofs.Common.{ℕ, List, [], ◌++◌, sym, ap, ◌∙◌, arith, take, take-suc, add-one}
+use Rattle.std.proofs.Common.{ℕ, List, [], ap, ◌∙◌, arith, take, take-suc, add-one}
 use Rattle.std.specs.List.{filter}
 use Rattle.std.proofs.lemmas.List.{take_all}
 use Rattle.cwr_shape.specs.declared.symbols.Symbol.{Symbol}
