@@ -6,609 +6,122 @@ ghost use Rattle.cwr_advice.specs.Format.Rules.{asked_of};
 use crate::rules::{AdviceRule, Asked};
 use cwr_fields::Kind;
 
+/// Rules, each with the field at which it is asked.
+macro_rules! asked {
+    ($($rule:ident $field:literal,)*) => {
+        [$(Asked {
+            rule: AdviceRule::$rule,
+            field: $field,
+        }),*]
+    };
+}
+
 /// NWR, REV: what is asked of them, in this order.
-static WORK: [Asked; 14] = [
-    Asked {
-        rule: AdviceRule::A2b,
-        field: 1,
-    },
-    Asked {
-        rule: AdviceRule::A3b,
-        field: 1,
-    },
-    Asked {
-        rule: AdviceRule::A3c,
-        field: 1,
-    },
-    Asked {
-        rule: AdviceRule::A3d,
-        field: 1,
-    },
-    Asked {
-        rule: AdviceRule::A3e,
-        field: 1,
-    },
-    Asked {
-        rule: AdviceRule::A6a,
-        field: 14,
-    },
-    Asked {
-        rule: AdviceRule::A6c,
-        field: 15,
-    },
-    Asked {
-        rule: AdviceRule::A7a,
-        field: 4,
-    },
-    Asked {
-        rule: AdviceRule::A7a,
-        field: 19,
-    },
-    Asked {
-        rule: AdviceRule::A8c,
-        field: 5,
-    },
-    Asked {
-        rule: AdviceRule::A8d,
-        field: 11,
-    },
-    Asked {
-        rule: AdviceRule::A8e,
-        field: 8,
-    },
-    Asked {
-        rule: AdviceRule::A9a,
-        field: 4,
-    },
-    Asked {
-        rule: AdviceRule::A9a,
-        field: 19,
-    },
+#[rattlefmt::skip]
+static WORK: [Asked; 14] = asked![
+    A2b 1, A3b 1, A3c 1, A3d 1, A3e 1, A6a 14, A6c 15, A7a 4, A7a 19, A8c 5, A8d 11, A8e 8,
+    A9a 4, A9a 19,
 ];
 
 /// SPU: what is asked of them, in this order.
-static CONTROLLED_PUBLISHER: [Asked; 13] = [
-    Asked {
-        rule: AdviceRule::A2a,
-        field: 8,
-    },
-    Asked {
-        rule: AdviceRule::A2f,
-        field: 10,
-    },
-    Asked {
-        rule: AdviceRule::A2g,
-        field: 12,
-    },
-    Asked {
-        rule: AdviceRule::A2g,
-        field: 14,
-    },
-    Asked {
-        rule: AdviceRule::A2g,
-        field: 16,
-    },
-    Asked {
-        rule: AdviceRule::A3a,
-        field: 13,
-    },
-    Asked {
-        rule: AdviceRule::A4a,
-        field: 10,
-    },
-    Asked {
-        rule: AdviceRule::A4b,
-        field: 21,
-    },
-    Asked {
-        rule: AdviceRule::A7a,
-        field: 5,
-    },
-    Asked {
-        rule: AdviceRule::A8a,
-        field: 12,
-    },
-    Asked {
-        rule: AdviceRule::A8a,
-        field: 14,
-    },
-    Asked {
-        rule: AdviceRule::A8a,
-        field: 16,
-    },
-    Asked {
-        rule: AdviceRule::A9a,
-        field: 6,
-    },
+#[rattlefmt::skip]
+static CONTROLLED_PUBLISHER: [Asked; 13] = asked![
+    A2a 8, A2f 10, A2g 12, A2g 14, A2g 16, A3a 13, A4a 10, A4b 21, A7a 5, A8a 12, A8a 14,
+    A8a 16, A9a 6,
 ];
 
 /// OPU: what is asked of them, in this order.
-static OTHER_PUBLISHER: [Asked; 9] = [
-    Asked {
-        rule: AdviceRule::A2a,
-        field: 8,
-    },
-    Asked {
-        rule: AdviceRule::A3a,
-        field: 13,
-    },
-    Asked {
-        rule: AdviceRule::A4a,
-        field: 10,
-    },
-    Asked {
-        rule: AdviceRule::A4b,
-        field: 21,
-    },
-    Asked {
-        rule: AdviceRule::A7a,
-        field: 5,
-    },
-    Asked {
-        rule: AdviceRule::A8a,
-        field: 12,
-    },
-    Asked {
-        rule: AdviceRule::A8a,
-        field: 14,
-    },
-    Asked {
-        rule: AdviceRule::A8a,
-        field: 16,
-    },
-    Asked {
-        rule: AdviceRule::A9a,
-        field: 6,
-    },
+#[rattlefmt::skip]
+static OTHER_PUBLISHER: [Asked; 9] = asked![
+    A2a 8, A3a 13, A4a 10, A4b 21, A7a 5, A8a 12, A8a 14, A8a 16, A9a 6,
 ];
 
 /// SWR: what is asked of them, in this order.
-static CONTROLLED_WRITER: [Asked; 16] = [
-    Asked {
-        rule: AdviceRule::A2c,
-        field: 1,
-    },
-    Asked {
-        rule: AdviceRule::A2d,
-        field: 1,
-    },
-    Asked {
-        rule: AdviceRule::A2e,
-        field: 1,
-    },
-    Asked {
-        rule: AdviceRule::A2f,
-        field: 10,
-    },
-    Asked {
-        rule: AdviceRule::A2g,
-        field: 11,
-    },
-    Asked {
-        rule: AdviceRule::A2g,
-        field: 13,
-    },
-    Asked {
-        rule: AdviceRule::A2g,
-        field: 15,
-    },
-    Asked {
-        rule: AdviceRule::A4a,
-        field: 10,
-    },
-    Asked {
-        rule: AdviceRule::A4b,
-        field: 21,
-    },
-    Asked {
-        rule: AdviceRule::A7a,
-        field: 4,
-    },
-    Asked {
-        rule: AdviceRule::A7a,
-        field: 5,
-    },
-    Asked {
-        rule: AdviceRule::A8a,
-        field: 11,
-    },
-    Asked {
-        rule: AdviceRule::A8a,
-        field: 13,
-    },
-    Asked {
-        rule: AdviceRule::A8a,
-        field: 15,
-    },
-    Asked {
-        rule: AdviceRule::A9a,
-        field: 5,
-    },
-    Asked {
-        rule: AdviceRule::A9a,
-        field: 6,
-    },
+#[rattlefmt::skip]
+static CONTROLLED_WRITER: [Asked; 16] = asked![
+    A2c 1, A2d 1, A2e 1, A2f 10, A2g 11, A2g 13, A2g 15, A4a 10, A4b 21, A7a 4, A7a 5, A8a 11,
+    A8a 13, A8a 15, A9a 5, A9a 6,
 ];
 
 /// OWR: what is asked of them, in this order.
-static OTHER_WRITER: [Asked; 9] = [
-    Asked {
-        rule: AdviceRule::A4a,
-        field: 10,
-    },
-    Asked {
-        rule: AdviceRule::A4b,
-        field: 21,
-    },
-    Asked {
-        rule: AdviceRule::A7a,
-        field: 4,
-    },
-    Asked {
-        rule: AdviceRule::A7a,
-        field: 5,
-    },
-    Asked {
-        rule: AdviceRule::A8a,
-        field: 11,
-    },
-    Asked {
-        rule: AdviceRule::A8a,
-        field: 13,
-    },
-    Asked {
-        rule: AdviceRule::A8a,
-        field: 15,
-    },
-    Asked {
-        rule: AdviceRule::A9a,
-        field: 5,
-    },
-    Asked {
-        rule: AdviceRule::A9a,
-        field: 6,
-    },
+#[rattlefmt::skip]
+static OTHER_WRITER: [Asked; 9] = asked![
+    A4a 10, A4b 21, A7a 4, A7a 5, A8a 11, A8a 13, A8a 15, A9a 5, A9a 6,
 ];
 
 /// SPT: what is asked of them, in this order.
-static PUBLISHER_TERRITORY: [Asked; 3] = [
-    Asked {
-        rule: AdviceRule::A1a,
-        field: 10,
-    },
-    Asked {
-        rule: AdviceRule::A1b,
-        field: 10,
-    },
-    Asked {
-        rule: AdviceRule::A8b,
-        field: 10,
-    },
+#[rattlefmt::skip]
+static PUBLISHER_TERRITORY: [Asked; 3] = asked![
+    A1a 10, A1b 10, A8b 10,
 ];
 
 /// SWT: what is asked of them, in this order.
-static WRITER_TERRITORY: [Asked; 3] = [
-    Asked {
-        rule: AdviceRule::A1a,
-        field: 9,
-    },
-    Asked {
-        rule: AdviceRule::A1b,
-        field: 9,
-    },
-    Asked {
-        rule: AdviceRule::A8b,
-        field: 9,
-    },
+#[rattlefmt::skip]
+static WRITER_TERRITORY: [Asked; 3] = asked![
+    A1a 9, A1b 9, A8b 9,
 ];
 
 /// TER: what is asked of them, in this order.
-static TERRITORY: [Asked; 1] = [Asked {
-    rule: AdviceRule::A8b,
-    field: 5,
-}];
+#[rattlefmt::skip]
+static TERRITORY: [Asked; 1] = asked![
+    A8b 5,
+];
 
 /// IPA: what is asked of them, in this order.
-static PARTY: [Asked; 9] = [
-    Asked {
-        rule: AdviceRule::A4a,
-        field: 5,
-    },
-    Asked {
-        rule: AdviceRule::A4b,
-        field: 6,
-    },
-    Asked {
-        rule: AdviceRule::A7a,
-        field: 7,
-    },
-    Asked {
-        rule: AdviceRule::A7a,
-        field: 8,
-    },
-    Asked {
-        rule: AdviceRule::A8a,
-        field: 10,
-    },
-    Asked {
-        rule: AdviceRule::A8a,
-        field: 12,
-    },
-    Asked {
-        rule: AdviceRule::A8a,
-        field: 14,
-    },
-    Asked {
-        rule: AdviceRule::A9a,
-        field: 8,
-    },
-    Asked {
-        rule: AdviceRule::A9a,
-        field: 9,
-    },
+#[rattlefmt::skip]
+static PARTY: [Asked; 9] = asked![
+    A4a 5, A4b 6, A7a 7, A7a 8, A8a 10, A8a 12, A8a 14, A9a 8, A9a 9,
 ];
 
 /// ALT: what is asked of them, in this order.
-static ALTERNATIVE_TITLE: [Asked; 2] = [
-    Asked {
-        rule: AdviceRule::A8c,
-        field: 6,
-    },
-    Asked {
-        rule: AdviceRule::A9a,
-        field: 4,
-    },
+#[rattlefmt::skip]
+static ALTERNATIVE_TITLE: [Asked; 2] = asked![
+    A8c 6, A9a 4,
 ];
 
 /// EWT, VER: what is asked of them, in this order.
-static OTHER_WORK: [Asked; 17] = [
-    Asked {
-        rule: AdviceRule::A4a,
-        field: 10,
-    },
-    Asked {
-        rule: AdviceRule::A4a,
-        field: 14,
-    },
-    Asked {
-        rule: AdviceRule::A4b,
-        field: 11,
-    },
-    Asked {
-        rule: AdviceRule::A4b,
-        field: 15,
-    },
-    Asked {
-        rule: AdviceRule::A7a,
-        field: 4,
-    },
-    Asked {
-        rule: AdviceRule::A7a,
-        field: 7,
-    },
-    Asked {
-        rule: AdviceRule::A7a,
-        field: 8,
-    },
-    Asked {
-        rule: AdviceRule::A7a,
-        field: 9,
-    },
-    Asked {
-        rule: AdviceRule::A7a,
-        field: 12,
-    },
-    Asked {
-        rule: AdviceRule::A7a,
-        field: 13,
-    },
-    Asked {
-        rule: AdviceRule::A8c,
-        field: 6,
-    },
-    Asked {
-        rule: AdviceRule::A9a,
-        field: 4,
-    },
-    Asked {
-        rule: AdviceRule::A9a,
-        field: 7,
-    },
-    Asked {
-        rule: AdviceRule::A9a,
-        field: 8,
-    },
-    Asked {
-        rule: AdviceRule::A9a,
-        field: 9,
-    },
-    Asked {
-        rule: AdviceRule::A9a,
-        field: 12,
-    },
-    Asked {
-        rule: AdviceRule::A9a,
-        field: 13,
-    },
+#[rattlefmt::skip]
+static OTHER_WORK: [Asked; 17] = asked![
+    A4a 10, A4a 14, A4b 11, A4b 15, A7a 4, A7a 7, A7a 8, A7a 9, A7a 12, A7a 13, A8c 6, A9a 4,
+    A9a 7, A9a 8, A9a 9, A9a 12, A9a 13,
 ];
 
 /// PER: what is asked of them, in this order.
-static PERFORMER: [Asked; 6] = [
-    Asked {
-        rule: AdviceRule::A4a,
-        field: 6,
-    },
-    Asked {
-        rule: AdviceRule::A4b,
-        field: 7,
-    },
-    Asked {
-        rule: AdviceRule::A7a,
-        field: 4,
-    },
-    Asked {
-        rule: AdviceRule::A7a,
-        field: 5,
-    },
-    Asked {
-        rule: AdviceRule::A9a,
-        field: 4,
-    },
-    Asked {
-        rule: AdviceRule::A9a,
-        field: 5,
-    },
+#[rattlefmt::skip]
+static PERFORMER: [Asked; 6] = asked![
+    A4a 6, A4b 7, A7a 4, A7a 5, A9a 4, A9a 5,
 ];
 
 /// REC: what is asked of them, in this order.
-static RECORDING: [Asked; 7] = [
-    Asked {
-        rule: AdviceRule::A4c,
-        field: 12,
-    },
-    Asked {
-        rule: AdviceRule::A4d,
-        field: 11,
-    },
-    Asked {
-        rule: AdviceRule::A7a,
-        field: 8,
-    },
-    Asked {
-        rule: AdviceRule::A7a,
-        field: 9,
-    },
-    Asked {
-        rule: AdviceRule::A8d,
-        field: 6,
-    },
-    Asked {
-        rule: AdviceRule::A9a,
-        field: 8,
-    },
-    Asked {
-        rule: AdviceRule::A9a,
-        field: 9,
-    },
+#[rattlefmt::skip]
+static RECORDING: [Asked; 7] = asked![
+    A4c 12, A4d 11, A7a 8, A7a 9, A8d 6, A9a 8, A9a 9,
 ];
 
 /// COM: what is asked of them, in this order.
-static COMPONENT: [Asked; 16] = [
-    Asked {
-        rule: AdviceRule::A4a,
-        field: 10,
-    },
-    Asked {
-        rule: AdviceRule::A4a,
-        field: 13,
-    },
-    Asked {
-        rule: AdviceRule::A4b,
-        field: 14,
-    },
-    Asked {
-        rule: AdviceRule::A4b,
-        field: 15,
-    },
-    Asked {
-        rule: AdviceRule::A6b,
-        field: 1,
-    },
-    Asked {
-        rule: AdviceRule::A7a,
-        field: 4,
-    },
-    Asked {
-        rule: AdviceRule::A7a,
-        field: 8,
-    },
-    Asked {
-        rule: AdviceRule::A7a,
-        field: 9,
-    },
-    Asked {
-        rule: AdviceRule::A7a,
-        field: 11,
-    },
-    Asked {
-        rule: AdviceRule::A7a,
-        field: 12,
-    },
-    Asked {
-        rule: AdviceRule::A8d,
-        field: 7,
-    },
-    Asked {
-        rule: AdviceRule::A9a,
-        field: 4,
-    },
-    Asked {
-        rule: AdviceRule::A9a,
-        field: 8,
-    },
-    Asked {
-        rule: AdviceRule::A9a,
-        field: 9,
-    },
-    Asked {
-        rule: AdviceRule::A9a,
-        field: 11,
-    },
-    Asked {
-        rule: AdviceRule::A9a,
-        field: 12,
-    },
+#[rattlefmt::skip]
+static COMPONENT: [Asked; 16] = asked![
+    A4a 10, A4a 13, A4b 14, A4b 15, A6b 1, A7a 4, A7a 8, A7a 9, A7a 11, A7a 12, A8d 7, A9a 4,
+    A9a 8, A9a 9, A9a 11, A9a 12,
 ];
 
 /// PWR: what is asked of them, in this order.
-static WRITER_PUBLISHER: [Asked; 3] = [
-    Asked {
-        rule: AdviceRule::A7a,
-        field: 4,
-    },
-    Asked {
-        rule: AdviceRule::A7a,
-        field: 5,
-    },
-    Asked {
-        rule: AdviceRule::A9a,
-        field: 5,
-    },
+#[rattlefmt::skip]
+static WRITER_PUBLISHER: [Asked; 3] = asked![
+    A7a 4, A7a 5, A9a 5,
 ];
 
 /// ORN: what is asked of them, in this order.
-static ORIGIN: [Asked; 6] = [
-    Asked {
-        rule: AdviceRule::A7a,
-        field: 5,
-    },
-    Asked {
-        rule: AdviceRule::A7a,
-        field: 8,
-    },
-    Asked {
-        rule: AdviceRule::A7a,
-        field: 12,
-    },
-    Asked {
-        rule: AdviceRule::A9a,
-        field: 5,
-    },
-    Asked {
-        rule: AdviceRule::A9a,
-        field: 8,
-    },
-    Asked {
-        rule: AdviceRule::A9a,
-        field: 12,
-    },
+#[rattlefmt::skip]
+static ORIGIN: [Asked; 6] = asked![
+    A7a 5, A7a 8, A7a 12, A9a 5, A9a 8, A9a 12,
 ];
 
 /// AGR: what is asked of them, in this order.
-static AGREEMENT: [Asked; 1] = [Asked {
-    rule: AdviceRule::A8e,
-    field: 14,
-}];
+#[rattlefmt::skip]
+static AGREEMENT: [Asked; 1] = asked![
+    A8e 14,
+];
 
 /// What is asked of a record of the kind, in this order: rules, each at a field.
 #[inline(always)]
