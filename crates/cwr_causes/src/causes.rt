@@ -579,6 +579,9 @@ impl Refused<'_> {
         ensures { OnOk result (string_bytes text.new ≡ string_bytes text.old
             ++ cells_signs (refused_line self.now)) }
     {
+        if self.is_too_long {
+            return Ok(());
+        }
         add_shift(text, self.kind, self.refusal.field, self.without_return())?;
         self.add_broken(text)
     }
@@ -600,7 +603,7 @@ impl Refused<'_> {
         ensures { OnOk result (string_bytes text.new ≡ string_bytes text.old
             ++ shift_signs (refused_line self.now)) }
     {
-        if self.is_first && !self.is_too_long {
+        if self.is_first {
             self.add_whole_line(text)
         } else {
             Ok(())

@@ -3,7 +3,8 @@
 ghost use Rattle.std.specs.Prelude.{◌≡◌, option_map};
 ghost use Rattle.std.specs.Char.{is_ascii_lowercase};
 ghost use Rattle.std.specs.List.{list_all, list_any};
-ghost use Rattle.cwr_causes.specs.Format.Openings.{begins_blank, begins_tag, is_base64, is_base64_byte, is_blank, is_conflict, is_empty_line, is_indented};
+ghost use Rattle.cwr_causes.specs.Format.Openings.{begins_blank, begins_tag, is_base64, is_base64_byte, is_blank, is_conflict, is_ebcdic, is_empty_line};
+ghost use Rattle.cwr_causes.specs.Format.Openings.{is_indented, is_white, is_white_line};
 ghost use Rattle.cwr_causes.specs.Format.Openings.{is_lower_case, is_mail_head, is_of_societies, is_other, is_packed, is_utf16, opening_at, opening_of, opening_said};
 ghost use Rattle.cwr_causes.specs.Format.Openings.{societies_said, text_opening, without_blanks};
 
@@ -15,10 +16,14 @@ use cwr_fields::Kind;
 pub(crate) enum Opening {
     /// No byte stands before its end.
     Empty,
+    /// It has nothing but blanks and control bytes.
+    White,
     /// It begins with the byte order mark of UTF-8.
     ByteOrderMark,
     /// It begins as a text in UTF-16.
     Utf16,
+    /// It begins with HDR in EBCDIC.
+    Ebcdic,
     /// It begins as a gzip file.
     Gzip,
     /// It begins as a zip file.
@@ -60,6 +65,27 @@ fn is_empty_line(bytes: &[u8]) -> bool
         [byte] => *byte == b'\r',
         _ => false,
     }
+}
+
+/// Whether the byte is a blank or a control byte.
+fn is_white(byte: u8) -> bool
+    ensures { result ≡ is_white byte }
+{
+    byte <= b' ' || byte == 0xa0
+}
+
+/// Whether a line has nothing else.
+fn is_white_line(bytes: &[u8]) -> bool
+    ensures { result ≡ is_white_line bytes.now }
+{
+    bytes.iter().all(|byte| is_white(*byte))
+}
+
+/// Whether the bytes begin with HDR in EBCDIC.
+fn is_ebcdic(bytes: &[u8]) -> bool
+    ensures { result ≡ is_ebcdic bytes.now }
+{
+    bytes.starts_with(&[0xc8, 0xc4, 0xd9])
 }
 
 /// Whether the bytes begin as a text in UTF-16 does: with its byte order mark, or with a letter of two bytes.
@@ -240,6 +266,8 @@ pub(crate) fn opening_of(bytes: &[u8]) -> Opening
 {
     if is_empty_line(bytes) {
         Opening::Empty
+    } else if is_white_line(bytes) {
+        Opening::White
     } else if bytes.starts_with(&[0xef, 0xbb, 0xbf]) {
         Opening::ByteOrderMark
     } else if bytes.starts_with(&[0x1f, 0x8b]) {
@@ -248,6 +276,8 @@ pub(crate) fn opening_of(bytes: &[u8]) -> Opening
         Opening::Zip
     } else if is_utf16(bytes) {
         Opening::Utf16
+    } else if is_ebcdic(bytes) {
+        Opening::Ebcdic
     } else if is_mail_head(bytes) {
         Opening::MailHead
     } else if is_lower_case(bytes) {
@@ -264,7 +294,7 @@ impl Opening {
     {
         matches!(
             self,
-            Opening::Gzip | Opening::Zip | Opening::Utf16 | Opening::Pdf
+            Opening::Gzip | Opening::Zip | Opening::Utf16 | Opening::Ebcdic | Opening::Pdf
         )
     }
 
@@ -291,6 +321,12 @@ impl Opening {
     {
         match self {
             Opening::Empty => Some("the line is empty: remove it"),
+            Opening::White => {
+                Some("the line has nothing but blanks and control bytes: remove it")
+            }
+            Opening::Ebcdic => Some(
+                "this looks like EBCDIC, as mainframes write texts: have the file converted to ASCII",
+            ),
             Opening::ByteOrderMark => Some(
                 "the line begins with a byte order mark (EF BB BF): save the file without it",
             ),

@@ -4,7 +4,7 @@ ghost use Rattle.std.specs.Prelude.{◌≡◌, ◌++◌, option_map, string_byte
 ghost use Rattle.cwr_fields.specs.Steps.Views.{field_view};
 ghost use Rattle.cwr_lines.specs.Format.Lines.{without_cr};
 ghost use Rattle.cwr_causes.specs.Format.WrappedLines.{broken_at, broken_before, broken_before_if, broken_before_line, broken_here_line, ends_soft};
-ghost use Rattle.cwr_causes.specs.Format.WrappedLines.{is_cut, is_mail_wide, is_short, may_go_on, short_before_line, soft_line};
+ghost use Rattle.cwr_causes.specs.Format.WrappedLines.{foreign_line, is_cut, is_mail_wide, is_short, may_go_on, short_before_line, soft_line};
 
 use crate::openings::opening_of;
 use crate::sequences::numbers_in;
@@ -29,7 +29,7 @@ pub(crate) fn without_cr(line: &[u8]) -> &[u8]
 fn is_mail_wide(line: &[u8]) -> bool
     ensures { result ≡ is_mail_wide line.now }
 {
-    line.len() >= 70 && line.len() <= 78
+    line.len() >= 70 && line.len() <= 80
 }
 
 /// Whether it is shorter than one of its kind.
@@ -91,8 +91,27 @@ fn add_short_before(text: &mut String) -> Result<(), AllocError>
 {
     add_label(text, "note")?;
     text.push_str(
-        "the line before it is shorter than lines of its kind: if this one goes on with it, put both together\n",
+        "the line before it is shorter than lines of its kind: if this one goes on with it, put both together; if it was put in, as a heading or a comment, remove it\n",
     )
+}
+
+/// Adds that nothing in a line is of a record.
+#[tactic(auto, unfolding(crate::specs::Format::WrappedLines::foreign_line))]
+fn add_foreign(text: &mut String) -> Result<(), AllocError>
+    ensures { OnOk result (string_bytes text.new ≡ string_bytes text.old ++ foreign_line) }
+{
+    add_label(text, "note")?;
+    text.push_str(
+        "nothing in this line is of a record: if it was put in, as a heading or a comment, remove it\n",
+    )
+}
+
+/// Adds the same where the line may go on with the one before it, or is of nothing.
+fn add_foreign_if(text: &mut String, goes_on: bool) -> Result<(), AllocError>
+    ensures { OnOk result (string_bytes text.new ≡ string_bytes text.old
+        ++ (if goes_on then foreign_line else [])) }
+{
+    if goes_on { add_foreign(text) } else { Ok(()) }
 }
 
 /// Whether a line that names no record may go on with the one before: it has no sequences and looks like nothing else.
@@ -109,7 +128,7 @@ fn add_broken(text: &mut String, before: &[u8], goes_on: bool) -> Result<(), All
     if ends_soft(before) {
         add_soft(text)
     } else if !is_short(kind_of(before), before) {
-        Ok(())
+        add_foreign_if(text, goes_on)
     } else if is_mail_wide(before) {
         add_broken_before_line(text, before.len())
     } else if goes_on {

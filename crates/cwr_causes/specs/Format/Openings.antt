@@ -10,7 +10,7 @@ use Rattle.cwr_fields.specs.Format.Kinds.{kind_of}
 use Rattle.cwr_shape.specs.declared.reasons.Reason.{Reason}
 use Rattle.cwr_shape.specs.declared.reasons.Reason.TheVariants as reasons
 use Rattle.cwr_causes.specs.declared.openings.Opening.{Opening}
-use Rattle.cwr_causes.specs.declared.openings.Opening.TheVariants.{Empty, ByteOrderMark, Utf16, Gzip, Zip, LowerCase, Pdf, Rtf, Markup}
+use Rattle.cwr_causes.specs.declared.openings.Opening.TheVariants.{Empty, White, ByteOrderMark, Utf16, Ebcdic, Gzip, Zip, LowerCase, Pdf, Rtf, Markup}
 use Rattle.cwr_causes.specs.declared.openings.Opening.TheVariants.{Quoted, InQuotes, Indented, MailHead, OfSocieties, Conflict, Base64, BeforeHeader, Other}
 use Rattle.cwr_causes.specs.Format.Refusals.{first_kind}
 use Rattle.cwr_causes.specs.Format.Texts.{label_words}
@@ -22,6 +22,18 @@ abbrev pub is_empty_line : List ℕ → Bool
 is_empty_line [] = true
 is_empty_line (b ∷ []) = b == 13
 is_empty_line (b ∷ c ∷ rest) = false
+
+-- a blank, or a control byte
+abbrev pub is_white : ℕ → Bool
+is_white b = nat_le b 32 || (b == 160)
+
+-- it has nothing else
+abbrev pub is_white_line : List ℕ → Bool
+is_white_line line = list_all is_white line
+
+-- it begins with HDR in EBCDIC
+abbrev pub is_ebcdic : List ℕ → Bool
+is_ebcdic line = starts_with nat_eq line (200 ∷ 196 ∷ 217 ∷ [])
 
 -- it begins as a text in UTF-16 does: with the byte order mark, or with a letter of two bytes
 abbrev pub is_utf16 : List ℕ → Bool
@@ -98,17 +110,20 @@ text_opening line =
 abbrev pub opening_of : List ℕ → Opening
 opening_of line =
     if is_empty_line line then Empty
+    else (if is_white_line line then White
     else (if starts_with nat_eq line (239 ∷ 187 ∷ 191 ∷ []) then ByteOrderMark
     else (if starts_with nat_eq line (31 ∷ 139 ∷ []) then Gzip
     else (if starts_with nat_eq line (80 ∷ 75 ∷ 3 ∷ 4 ∷ []) then Zip
     else (if is_utf16 line then Utf16
-    else (if is_mail_head line then MailHead else (if is_lower_case line then LowerCase else text_opening line))))))
+    else (if is_ebcdic line then Ebcdic
+    else (if is_mail_head line then MailHead else (if is_lower_case line then LowerCase else text_opening line))))))))
 
 -- a file that begins so is no text of one byte a character
 abbrev pub is_packed : Opening → Bool
 is_packed Gzip = true
 is_packed Zip = true
 is_packed Utf16 = true
+is_packed Ebcdic = true
 is_packed Pdf = true
 is_packed opening = false
 
@@ -129,6 +144,8 @@ societies_said = codes "ISW and EXC are transactions that societies send: this p
 -- what is said of it
 abbrev pub opening_said : Opening → Option (List ℕ)
 opening_said Empty = Some (codes "the line is empty: remove it")
+opening_said White = Some (codes "the line has nothing but blanks and control bytes: remove it")
+opening_said Ebcdic = Some (codes "this looks like EBCDIC, as mainframes write texts: have the file converted to ASCII")
 opening_said ByteOrderMark = Some (codes "the line begins with a byte order mark (EF BB BF): save the file without it")
 opening_said Utf16 =
     Some (codes "this looks like UTF-16: save the file in ASCII, or in a character set of one byte a character")

@@ -1,5 +1,5 @@
 -- What else a refused line shows, in notes.
-use Rattle.std.specs.Prelude.{ℕ, ◌+◌, ◌-◌, ◌==◌, ◌&&◌, not, Bool, false, if◌then◌else◌, List, [], ◌∷◌, ◌++◌, codes, decimal, length, position, take, Option, None, Some}
+use Rattle.std.specs.Prelude.{ℕ, ◌+◌, ◌-◌, ◌==◌, Bool, false, if◌then◌else◌, List, [], ◌∷◌, ◌++◌, codes, decimal, length, position, take, Option, None, Some}
 use Rattle.std.specs.List.{concat}
 use Rattle.cwr_shape.specs.declared.reasons.Reason.{Reason}
 use Rattle.cwr_shape.specs.declared.reasons.Reason.TheVariants as reasons
@@ -34,7 +34,7 @@ first_signs r =
 
 -- that its cells may stand elsewhere, or a mail program broke it, which is said with the first fault of a line
 abbrev pub cells_signs : RefusedLine → List ℕ
-cells_signs r = shift_words r.kind r.refusal.field (without_return r) ++ broken_words r
+cells_signs r = if r.is_too_long then [] else shift_words r.kind r.refusal.field (without_return r) ++ broken_words r
 
 abbrev pub whole_line_of : RefusedLine → Option (List ℕ) → List ℕ
 whole_line_of r None = cells_signs r
@@ -45,7 +45,7 @@ unfoldable pub whole_line_signs : RefusedLine → List ℕ
 whole_line_signs r = whole_line_of r (glued_text r)
 
 abbrev pub shift_signs : RefusedLine → List ℕ
-shift_signs r = if r.is_first && not r.is_too_long then whole_line_signs r else []
+shift_signs r = if r.is_first then whole_line_signs r else []
 
 -- the line names no record and begins a file that is no text of one byte a character
 abbrev pub is_packed_by : Reason → List ℕ → Bool

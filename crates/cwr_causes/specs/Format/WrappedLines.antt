@@ -17,7 +17,7 @@ use Rattle.cwr_causes.specs.Format.Texts.{label_words}
 
 -- it has as many bytes as lines that mail programs break
 abbrev pub is_mail_wide : List ℕ → Bool
-is_mail_wide line = nat_le 70 (length line) && nat_le (length line) 78
+is_mail_wide line = nat_le 70 (length line) && nat_le (length line) 80
 
 -- it is shorter than one of its kind
 abbrev pub is_short : Option Kind → List ℕ → Bool
@@ -50,7 +50,11 @@ broken_here_line count =
 unfoldable pub short_before_line : List ℕ
 short_before_line =
     label_words (codes "note")
-    ++ codes "the line before it is shorter than lines of its kind: if this one goes on with it, put both together\n"
+    ++ codes "the line before it is shorter than lines of its kind: if this one goes on with it, put both together; if it was put in, as a heading or a comment, remove it\n"
+
+unfoldable pub foreign_line : List ℕ
+foreign_line =
+    label_words (codes "note") ++ codes "nothing in this line is of a record: if it was put in, as a heading or a comment, remove it\n"
 
 -- a line that names no record, has no sequences and looks like nothing else may go on with the one before
 abbrev pub may_go_on : List ℕ → Bool
@@ -60,7 +64,7 @@ may_go_on line = is_none (numbers_in line) && is_other (opening_of line)
 abbrev pub broken_before : Bool → List ℕ → List ℕ
 broken_before goes_on line =
     if ends_soft line then soft_line
-    else (if not (is_short (first_kind line) line) then []
+    else (if not (is_short (first_kind line) line) then (if goes_on then foreign_line else [])
     else (if is_mail_wide line then broken_before_line (length line) else (if goes_on then short_before_line else [])))
 
 abbrev pub broken_before_if : Bool → Option (List ℕ) → List ℕ
