@@ -12,11 +12,12 @@ use arrayvec::ArrayVec;
 use cwr_advice::{Advice, AdviceRule};
 use cwr_fields::{Field, Kind, field, is_spaces, letters, trimmed};
 use cwr_lines::RecordRef;
+use cwr_notes::WorkLine;
 use itoa::Buffer;
 use std::marker::Model;
 
 /// The most bytes of the lines of advice at a record: none come near.
-const LONGEST: usize = 1600;
+const LONGEST: usize = 1700;
 
 /// The lines, while they are put together.
 type Text = ArrayVec<u8, LONGEST>;
@@ -158,14 +159,15 @@ fn push_first(text: &mut Text, first: &Place)
 
 /// Appends the lines on a work that stands there, and on the first one with its number.
 fn push_repeated(text: &mut Text, place: &Place, header: &RecordRef<'_>, first: &Place)
-    requires { length text.old.items + 1400 ≤ LONGEST }
+    requires { length text.old.items + 1500 ≤ LONGEST }
     ensures value { text.new.items
         ≡ text.old.items ++ repeated_lines place.now header.now first.now }
-    ensures len { length text.new.items ≤ length text.old.items + 1400 }
+    ensures len { length text.new.items ≤ length text.old.items + 1500 }
 {
     let number = u64::from(place.line);
     push_line(text, place.group, place.sequence, &REPEATED);
     push_where(text, number, header.kind());
+    push(text, WorkLine::by(header).as_slice());
     push_cell(text, number, header, WORK_NUMBER);
     push_first(text, first);
     push_words(text, &REPEATED);
@@ -173,10 +175,10 @@ fn push_repeated(text: &mut Text, place: &Place, header: &RecordRef<'_>, first: 
 
 /// Appends the same, where there is a first one.
 fn push_repeated_if(text: &mut Text, place: &Place, header: &RecordRef<'_>, first: &Option<Place>)
-    requires { length text.old.items + 1400 ≤ LONGEST }
+    requires { length text.old.items + 1500 ≤ LONGEST }
     ensures value { text.new.items ≡ text.old.items
         ++ flat_map (repeated_lines place.now header.now) (option_to_list first.now) }
-    ensures len { length text.new.items ≤ length text.old.items + 1400 }
+    ensures len { length text.new.items ≤ length text.old.items + 1500 }
 {
     if let Some(first) = first {
         push_repeated(text, place, header, first);
@@ -229,20 +231,22 @@ impl AdviceText {
     }
 
     /// Sets the lines of advice at a record on that line of the file, in a transaction, whose sequence this is, of the group with this
-    /// ID.
+    /// ID. The line on its work is that.
     pub(crate) fn set(
         &mut self,
         group: u32,
         sequence: u32,
         number: u64,
+        work: &WorkLine,
         advice: &Advice,
         shown: &RecordRef<'_>,
     )
-        ensures { self.new ≡ lines_at_record group sequence number advice.now shown.now }
+        ensures { self.new ≡ lines_at_record group sequence number work.now advice.now shown.now }
     {
         self.text.clear();
         push_line(&mut self.text, group, sequence, advice);
         push_where(&mut self.text, number, shown.kind());
+        push(&mut self.text, work.as_slice());
         push_cell(&mut self.text, number, shown, advice.field);
         push_words(&mut self.text, advice);
     }

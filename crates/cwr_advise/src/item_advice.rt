@@ -6,6 +6,7 @@ ghost use Rattle.cwr_shape.specs.declared.reasons.Level.{Level};
 ghost use Rattle.cwr_devices.specs.Steps.Sinks.{Puts, has_failed, written_of};
 ghost use Rattle.cwr_judge.specs.Format.Items.{item_records};
 ghost use Rattle.cwr_levels.specs.Format.Findings.{findings};
+ghost use Rattle.cwr_notes.specs.Format.WorkNames.{work_of};
 ghost use Rattle.cwr_tools.specs.Format.Reports.{has_findings, transaction_lines};
 ghost use Rattle.cwr_tools.specs.Format.Watching.{has_from, is_reached};
 ghost use Rattle.cwr_tools.specs.Steps.Reports.{PutsLines};
@@ -21,16 +22,18 @@ use crate::worst::Worst;
 use cwr_advice::{Advice, Said, advice};
 use cwr_devices::{Sink, SinkFault, Target};
 use cwr_levels::findings;
+use cwr_notes::WorkLine;
 use cwr_tools::{ToolFault, Totals, put_transaction_findings, writer_fault};
 use cwr_values::{Item, Transaction};
 use std::alloc::Global;
 
 /// Puts the lines of advice in the transaction of that sequence in the group of that ID, whose first record is on that line of the
-/// file. They are made in the buffer.
+/// file. The line on its work is that. They are made in the buffer.
 fn put_noted<W: Target>(
     group: u32,
     sequence: u32,
     first: u64,
+    work: &WorkLine,
     transaction: &Transaction,
     advice: &Advice,
     text: &mut AdviceText,
@@ -38,6 +41,7 @@ fn put_noted<W: Target>(
 ) -> Result<(), SinkFault>
     requires unfailed { has_failed sink.old ≡ false }
     requires few { first + length transaction.now ≤ 100000000 }
+    requires work { work.now ≡ work_of transaction.now }
     ensures puts { Puts W.contents W.failures
         (noted_advice group sequence first transaction.now advice.now) result sink.old sink.new }
     ensures fault { IfErr result (λ f. f.written ≡ written_of sink.new) }
@@ -45,7 +49,14 @@ fn put_noted<W: Target>(
     let Some(shown) = transaction.record(advice.rec) else {
         return Ok(());
     };
-    text.set(group, sequence, first + advice.rec as u64, advice, &shown);
+    text.set(
+        group,
+        sequence,
+        first + advice.rec as u64,
+        work,
+        advice,
+        &shown,
+    );
     sink.put(text.as_slice())
 }
 
@@ -66,9 +77,19 @@ fn put_all<W: Target>(
         sink.new }
     ensures fault { IfErr result (λ f. f.written ≡ written_of sink.new) }
 {
+    let work = WorkLine::of(transaction);
     let mut i = 0;
     while let Some(advice) = found.get(i) {
-        put_noted(group, sequence, first, transaction, advice, text, sink)?;
+        put_noted(
+            group,
+            sequence,
+            first,
+            &work,
+            transaction,
+            advice,
+            text,
+            sink,
+        )?;
         i += 1;
     }
     Ok(())

@@ -40,3 +40,5 @@ pub mod OpenBlocks
 pub mod SummedSides
 -- Sums over the copy of an acknowledgement, or over a bare work or agreement, one record after another.
 pub mod SummedCopies
+-- The cells of a header that say whose a transaction is.
+pub mod HeaderCells

@@ -2,6 +2,7 @@
 #![tactic(auto)]
 
 mod before;
+mod headers;
 mod judging;
 mod named_cells;
 mod publishers;
@@ -13,6 +14,7 @@ mod sums;
 mod totals;
 mod walk;
 
+pub use headers::{work_number, work_title};
 pub use named_cells::{PUBLISHER_SHARES, WRITER_SHARES, cell, is_of, is_owner, number_of};
 pub use report_lines::{
     LONGEST_REPORT_LINE, fault_line, faults_line, finding_line, good_line, input_mark, joined_line,

@@ -4,11 +4,13 @@ ghost use Rattle.std.specs.Prelude.{◌≡◌, ◌+◌, ◌<◌, ◌≤◌, fals
 ghost use Rattle.std.specs.List.{flat_map};
 ghost use Rattle.cwr_devices.specs.Steps.Sinks.{Puts, has_failed, written_of};
 ghost use Rattle.cwr_notes.specs.Format.FindingNotes.{explained_finding, finding_notes, head_lines, noted_at, notes_on, others, tail_lines};
+ghost use Rattle.cwr_notes.specs.Format.WorkNames.{work_of};
 ghost use Rattle.cwr_notes.specs.Steps.OtherRecords.{AreListed, HasPassed};
 
 use crate::note_lines::NoteLines;
 use crate::other_records::{OtherRecords, parties_of, positions_of, total_of};
 use crate::passed::Passed;
+use crate::work_lines::WorkLine;
 use cwr_devices::{Sink, SinkFault, Target};
 use cwr_fields::Kind;
 use cwr_levels::{Finding, Rule, finding_line};
@@ -43,20 +45,21 @@ fn others(
     }
 }
 
-/// Puts the first lines under a finding at a record on that line of the file.
+/// Puts the first lines under a finding at a record on that line of the file, in a transaction on which that is the line.
 fn put_head<W: Target>(
     number: u64,
+    work: &WorkLine,
     finding: &Finding,
     shown: &RecordRef<'_>,
     lines: &mut NoteLines,
     sink: &mut Sink<W>,
 ) -> Result<(), SinkFault>
     requires { has_failed sink.old ≡ false }
-    ensures puts { Puts W.contents W.failures (head_lines number finding.now shown.now) result
-        sink.old sink.new }
+    ensures puts { Puts W.contents W.failures (head_lines number work.now finding.now shown.now)
+        result sink.old sink.new }
     ensures fault { IfErr result (λ f. f.written ≡ written_of sink.new) }
 {
-    lines.set_head(number, finding, shown);
+    lines.set_head(number, work, finding, shown);
     sink.put(lines.as_slice())
 }
 
@@ -136,9 +139,11 @@ fn set_tail(rule: Rule, count: usize, transaction: &Transaction, lines: &mut Not
     }
 }
 
-/// Puts the lines under a finding at a record of a transaction, whose first record is on that line of the file.
+/// Puts the lines under a finding at a record of a transaction, whose first record is on that line of the file. The line on its work is
+/// that.
 fn put_notes_on<W: Target>(
     first: u64,
+    work: &WorkLine,
     transaction: &Transaction,
     finding: &Finding,
     shown: &RecordRef<'_>,
@@ -148,6 +153,7 @@ fn put_notes_on<W: Target>(
 ) -> Result<(), SinkFault>
     requires unfailed { has_failed sink.old ≡ false }
     requires few { first + length transaction.now ≤ 100000000 }
+    requires work { work.now ≡ work_of transaction.now }
     requires there { finding.now.rec < length transaction.now }
     requires found { AreListed (others finding.now.rule transaction.now finding.now.rec shown.now)
         found.now }
@@ -155,7 +161,14 @@ fn put_notes_on<W: Target>(
         result sink.old sink.new }
     ensures fault { IfErr result (λ f. f.written ≡ written_of sink.new) }
 {
-    put_head(first + finding.rec as u64, finding, shown, lines, sink)?;
+    put_head(
+        first + finding.rec as u64,
+        work,
+        finding,
+        shown,
+        lines,
+        sink,
+    )?;
     put_others(
         first,
         transaction,
@@ -167,9 +180,10 @@ fn put_notes_on<W: Target>(
     put_tail(finding.rule, found.count, transaction, lines, sink)
 }
 
-/// Puts the lines under a finding in a transaction, whose first record is on that line of the file.
+/// Puts the lines under a finding in a transaction, whose first record is on that line of the file. The line on its work is that.
 fn put_notes<W: Target>(
     first: u64,
+    work: &WorkLine,
     transaction: &Transaction,
     finding: &Finding,
     passed: &mut Passed,
@@ -178,6 +192,7 @@ fn put_notes<W: Target>(
 ) -> Result<(), SinkFault>
     requires unfailed { has_failed sink.old ≡ false }
     requires few { first + length transaction.now ≤ 100000000 }
+    requires work { work.now ≡ work_of transaction.now }
     requires passed { HasPassed transaction.now passed.old }
     ensures puts { Puts W.contents W.failures (finding_notes first transaction.now finding.now)
         result sink.old sink.new }
@@ -189,14 +204,24 @@ fn put_notes<W: Target>(
     };
     passed.move_to(transaction, finding.rec);
     let found = others(finding, transaction, passed, &shown);
-    put_notes_on(first, transaction, finding, &shown, &found, lines, sink)
+    put_notes_on(
+        first,
+        work,
+        transaction,
+        finding,
+        &shown,
+        &found,
+        lines,
+        sink,
+    )
 }
 
-/// Puts the line of a finding, and the lines under it.
+/// Puts the line of a finding, and the lines under it. The line on the transaction's work is that.
 fn put_explained<W: Target>(
     group: u32,
     sequence: u32,
     first: u64,
+    work: &WorkLine,
     transaction: &Transaction,
     finding: &Finding,
     passed: &mut Passed,
@@ -205,6 +230,7 @@ fn put_explained<W: Target>(
 ) -> Result<(), SinkFault>
     requires unfailed { has_failed sink.old ≡ false }
     requires few { first + length transaction.now ≤ 100000000 }
+    requires work { work.now ≡ work_of transaction.now }
     requires passed { HasPassed transaction.now passed.old }
     ensures puts { Puts W.contents W.failures
         (explained_finding group sequence first transaction.now finding.now) result sink.old
@@ -213,7 +239,7 @@ fn put_explained<W: Target>(
     ensures passed { HasPassed transaction.now passed.new }
 {
     finding_line(group, sequence, finding, sink)?;
-    put_notes(first, transaction, finding, passed, lines, sink)
+    put_notes(first, work, transaction, finding, passed, lines, sink)
 }
 
 /// Puts the lines of findings in a transaction, and the lines under them. The transaction's first record is on that line of the file.
@@ -232,6 +258,7 @@ pub fn put_all_explained<W: Target>(
         sink.old sink.new }
     ensures fault { IfErr result (λ f. f.written ≡ written_of sink.new) }
 {
+    let work = WorkLine::of(transaction);
     let mut passed = Passed::none();
     let mut lines = NoteLines::new();
     let mut i = 0;
@@ -240,6 +267,7 @@ pub fn put_all_explained<W: Target>(
             group,
             sequence,
             first,
+            &work,
             transaction,
             finding,
             &mut passed,

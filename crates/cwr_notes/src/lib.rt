@@ -6,7 +6,9 @@ mod note_lines;
 mod other_records;
 mod passed;
 mod record_lines;
+mod work_lines;
 
 pub use finding_notes::put_all_explained;
 pub use note_lines::level_words;
 pub use record_lines::RecordLines;
+pub use work_lines::WorkLine;

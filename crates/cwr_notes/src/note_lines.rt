@@ -7,6 +7,7 @@ ghost use Rattle.cwr_notes.specs.Format.FindingNotes.{head_lines, level_words, m
 ghost use Rattle.cwr_notes.specs.Format.FindingNotes.{value_words, where_line};
 
 use crate::record_lines::{LONGEST, Text, push, push_number};
+use crate::work_lines::WorkLine;
 use arrayvec::ArrayVec;
 use cwr_fields::{Field, Kind, field, fields, is_spaces, letters, trimmed};
 use cwr_levels::{Finding, Rule};
@@ -221,12 +222,19 @@ impl NoteLines {
         push(&mut self.text, b"\n");
     }
 
-    /// Sets the first lines under a finding at a record on that line of the file: where it stands, the rule, the level, and its
-    /// cells of which the rule speaks.
-    pub(crate) fn set_head(&mut self, number: u64, finding: &Finding, shown: &RecordRef<'_>)
-        ensures { self.new ≡ head_lines number finding.now shown.now }
+    /// Sets the first lines under a finding at a record on that line of the file, in a transaction on which that is the line: where it
+    /// stands, that line, the rule, the level, and its cells of which the rule speaks.
+    pub(crate) fn set_head(
+        &mut self,
+        number: u64,
+        work: &WorkLine,
+        finding: &Finding,
+        shown: &RecordRef<'_>,
+    )
+        ensures { self.new ≡ head_lines number work.now finding.now shown.now }
     {
         self.set_where(number, shown.kind());
+        push(&mut self.text, work.as_slice());
         push(&mut self.text, b"  rule      ");
         push(&mut self.text, rule_words(finding.rule).as_bytes());
         push(&mut self.text, b"\n  level     ");

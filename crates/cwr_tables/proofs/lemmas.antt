@@ -10,8 +10,6 @@ pub mod ColumnsOfFields
 pub mod ShortNames
 -- The rows of a transaction, by its header.
 pub mod RowsUnder
--- The cells of headers, which rows of their transactions show.
-pub mod HeaderCells
 -- The text of a row is that of its numbers, and then that of its other cells.
 pub mod TextsOfRows
 -- The row of a record, by the test of its kind.

@@ -11,10 +11,10 @@ ghost use Rattle.cwr_tables.specs.Format.RecordTables.{heading, inner_row, recor
 ghost use Rattle.cwr_tables.specs.Steps.RowTexts.{column_of, field_cell, header_heading, header_text, named_columns, next_cell, numbers_text, shown_cells};
 
 use crate::cells::{LONGEST, LONGEST_CELL, Text, push, push_cell};
-use crate::headers::{work_number, work_title};
 use crate::places::RowNumbers;
 use arrayvec::ArrayVec;
 use cwr_fields::{Kind, field, fields, is_in_transaction, trimmed};
+use cwr_levels::{work_number, work_title};
 use cwr_lines::RecordRef;
 use itoa::Buffer;
 use std::marker::Model;

@@ -8,6 +8,7 @@ use Rattle.std.proofs.lemmas.Bool.{lt-ltb, ltb-true}
 use Rattle.cwr_lines.specs.Format.Records.{RecordValue}
 use Rattle.cwr_devices.specs.declared.sinks.Sink.{Sink}
 use Rattle.cwr_encode.proofs.lemmas.Numbered.{puts_both, puts_cut}
+use Rattle.cwr_notes.specs.Format.WorkNames.{work_of}
 use Rattle.cwr_tools.specs.declared.verdicts.ToolFault.{ToolFault}
 use Rattle.cwr_tools.specs.declared.verdicts.ToolFault.TheVariants as faults
 use Rattle.cwr_tools.specs.Steps.Reports.{PutsLines}
@@ -19,14 +20,14 @@ pub noted_none : (group sequence n : ℕ) (t : List RecordValue) (a : Advice) �
     → noted_advice group sequence n t a ≡ []
 unfolding noted_advice
 noted_none group sequence n t a e =
-    ap (λ (o : Option RecordValue). flat_map (lines_at_record group sequence (n + a.rec) a) (option_to_list o)) (sym e)
+    ap (λ (o : Option RecordValue). flat_map (lines_at_record group sequence (n + a.rec) (work_of t) a) (option_to_list o)) (sym e)
 
 pub noted_some : (group sequence n : ℕ) (t : List RecordValue) (a : Advice) (r : RecordValue) → Some r ≡ slice_get t a.rec
-    → lines_at_record group sequence (n + a.rec) a r ≡ noted_advice group sequence n t a
+    → lines_at_record group sequence (n + a.rec) (work_of t) a r ≡ noted_advice group sequence n t a
 unfolding noted_advice
 noted_some group sequence n t a r e =
-    sym (append-nil (lines_at_record group sequence (n + a.rec) a r))
-    ∙ ap (λ (o : Option RecordValue). flat_map (lines_at_record group sequence (n + a.rec) a) (option_to_list o)) e
+    sym (append-nil (lines_at_record group sequence (n + a.rec) (work_of t) a r))
+    ∙ ap (λ (o : Option RecordValue). flat_map (lines_at_record group sequence (n + a.rec) (work_of t) a) (option_to_list o)) e
 
 -- something is found where findings are, or advice is
 pub found_first : (m n : ℕ) → nat_lt 0 m ≡ true → nat_lt 0 (m + n) ≡ true

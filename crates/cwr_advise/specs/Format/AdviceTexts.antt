@@ -5,6 +5,7 @@ use Rattle.cwr_lines.specs.Format.Carried.{carried_at, record_cell}
 use Rattle.cwr_lines.specs.Format.Records.{RecordValue}
 use Rattle.cwr_shape.specs.Format.ReasonTexts.{level_text}
 use Rattle.cwr_notes.specs.Format.FindingNotes.{noted_line, where_line}
+use Rattle.cwr_notes.specs.Format.WorkNames.{work_of}
 use Rattle.cwr_advice.specs.declared.rules.Advice.{Advice}
 use Rattle.cwr_advice.specs.Format.Rules.{level_of_rule}
 use Rattle.cwr_advice.specs.Format.Words.{advice_words, rule_text}
@@ -24,11 +25,13 @@ cell_line n r j = noted_line n r.kind (carried_at r.kind j) (record_cell r j)
 abbrev pub words_line : Advice → List ℕ
 words_line a = codes "  advice    " ++ advice_words a.rule ++ 10 ∷ []
 
--- the lines of advice at a record on line n of the file: what it is, where the record stands, its cell, and the advice in words
-abbrev pub lines_at_record : ℕ → ℕ → ℕ → Advice → RecordValue → List ℕ
-lines_at_record group sequence n a r =
-    advice_line group sequence a ++ where_line n r.kind ++ cell_line n r a.field ++ words_line a
+-- the lines of advice at a record on line n of the file, in a transaction on whose work that is the line: what it is, where the record
+-- stands, that line, its cell, and the advice in words
+abbrev pub lines_at_record : ℕ → ℕ → ℕ → List ℕ → Advice → RecordValue → List ℕ
+lines_at_record group sequence n work a r =
+    advice_line group sequence a ++ where_line n r.kind ++ work ++ cell_line n r a.field ++ words_line a
 
 -- the same in the transaction t, whose first record is on line n of the file
 unfoldable pub noted_advice : ℕ → ℕ → ℕ → List RecordValue → Advice → List ℕ
-noted_advice group sequence n t a = flat_map (lines_at_record group sequence (n + a.rec) a) (option_to_list (slice_get t a.rec))
+noted_advice group sequence n t a =
+    flat_map (lines_at_record group sequence (n + a.rec) (work_of t) a) (option_to_list (slice_get t a.rec))

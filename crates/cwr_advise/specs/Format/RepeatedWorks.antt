@@ -9,6 +9,7 @@ use Rattle.cwr_values.specs.declared.items.Item.{Item}
 use Rattle.cwr_values.specs.declared.items.Item.TheVariants.{Transaction}
 use Rattle.cwr_judge.specs.Format.Items.{is_transaction, opens_group, records_in}
 use Rattle.cwr_notes.specs.Format.FindingNotes.{where_line}
+use Rattle.cwr_notes.specs.Format.WorkNames.{work_line}
 use Rattle.cwr_advice.specs.declared.rules.Advice.{Advice}
 use Rattle.cwr_advice.specs.declared.rules.AdviceRule.TheVariants.{A5a}
 use Rattle.cwr_advice.specs.Format.Rules.{cell_at, is_header}
@@ -59,8 +60,8 @@ first_line first =
 -- the lines on a work that stands there and has this header, and on the first one with its number
 abbrev pub repeated_lines : Place → RecordValue → Place → List ℕ
 repeated_lines place h first =
-    advice_line place.group place.sequence repeated_advice ++ where_line place.line h.kind ++ cell_line place.line h 6
-    ++ first_line first ++ words_line repeated_advice
+    advice_line place.group place.sequence repeated_advice ++ where_line place.line h.kind ++ work_line h
+    ++ cell_line place.line h 6 ++ first_line first ++ words_line repeated_advice
 
 -- the line on the first work whose number isn't kept
 abbrev pub limit_line : ℕ → Place → List ℕ

@@ -10,6 +10,7 @@ use Rattle.cwr_devices.specs.declared.sinks.Sink.{Sink}
 use Rattle.cwr_devices.specs.Steps.Sinks.{has_failed, HasWritten, Puts}
 use Rattle.cwr_encode.proofs.lemmas.Numbered.{puts_as, puts_both, puts_cut}
 use Rattle.cwr_notes.specs.Format.FindingNotes.{finding_notes, noted_at, noted_cells, notes_on}
+use Rattle.cwr_notes.specs.Format.WorkNames.{work_line, work_of}
 
 -- nothing is put
 pub puts_nothing : {W E : Type 0} (contents : W → Option (List ℕ)) (failures : W → ℕ) (u : Unit {0}) (text : List ℕ)
@@ -75,3 +76,13 @@ pub notes_some : (n : ℕ) (t : List RecordValue) (f : Finding) (r : RecordValue
 unfolding finding_notes
 notes_some n t f r e =
     sym (append-nil (notes_on n t f r)) ∙ ap (λ (o : Option RecordValue). flat_map (notes_on n t f) (option_to_list o)) e
+
+-- ---- of a transaction's header
+
+pub work_none : (t : List RecordValue) → None ≡ slice_get t 0 → work_of t ≡ []
+unfolding work_of
+work_none t e = ap (λ (o : Option RecordValue). flat_map work_line (option_to_list o)) (sym e)
+
+pub work_some : (t : List RecordValue) (r : RecordValue) → Some r ≡ slice_get t 0 → work_line r ≡ work_of t
+unfolding work_of
+work_some t r e = sym (append-nil (work_line r)) ∙ ap (λ (o : Option RecordValue). flat_map work_line (option_to_list o)) e

@@ -23,6 +23,7 @@ use Rattle.cwr_levels.specs.declared.rules.Finding.{Finding}
 use Rattle.cwr_levels.specs.Format.Fields.{index_of_name}
 use Rattle.cwr_levels.specs.Format.Findings.{findings, is_a, is_owner, is_party, ownership}
 use Rattle.cwr_levels.specs.Format.ReportLines.{finding_line}
+use Rattle.cwr_notes.specs.Format.WorkNames.{work_of}
 
 -- ---- in words
 
@@ -152,11 +153,11 @@ right_of rule = "sr share"
 abbrev pub where_line : ℕ → Kind → List ℕ
 where_line n kind = codes "  where     line " ++ decimal n ++ codes ", " ++ letters kind ++ 10 ∷ []
 
--- where the record stands, the rule, the level, and the record's own cells of which the rule speaks
-abbrev pub head_lines : ℕ → Finding → RecordValue → List ℕ
-head_lines n f r =
-    where_line n r.kind ++ codes "  rule      " ++ rule_words f.rule ++ codes "\n  level     " ++ level_words f.level ++ 10 ∷ []
-    ++ noted_cells n f.rule r
+-- where the record stands, the line on its work, the rule, the level, and the record's own cells of which the rule speaks
+abbrev pub head_lines : ℕ → List ℕ → Finding → RecordValue → List ℕ
+head_lines n work f r =
+    where_line n r.kind ++ work ++ codes "  rule      " ++ rule_words f.rule ++ codes "\n  level     " ++ level_words f.level
+    ++ 10 ∷ [] ++ noted_cells n f.rule r
 
 -- the most other records whose cells are written
 abbrev pub most_others : ℕ
@@ -181,7 +182,7 @@ tail_lines rule count t = more_line (count - most_others) ++ total_line rule cou
 -- the lines under a finding at a record
 abbrev pub notes_on : ℕ → List RecordValue → Finding → RecordValue → List ℕ
 notes_on n t f r =
-    head_lines (n + f.rec) f r ++ flat_map (noted_at n t f.rule) (take most_others (others f.rule t f.rec r))
+    head_lines (n + f.rec) (work_of t) f r ++ flat_map (noted_at n t f.rule) (take most_others (others f.rule t f.rec r))
     ++ tail_lines f.rule (length (others f.rule t f.rec r)) t
 
 -- the lines under a finding in the transaction t, whose first record is on line n of the file
