@@ -344,6 +344,7 @@ fn perform<'a, R: Files + AllocGlobal, I: Read + Drop, P: Pace, O: Write + Drop,
         quiet: false,
         faults: false,
         advised: false,
+        all: false,
         repeated: 0,
     };
     let (judging, explained) = match &task.work {
@@ -359,17 +360,24 @@ fn perform<'a, R: Files + AllocGlobal, I: Read + Drop, P: Pace, O: Write + Drop,
             quiet,
             explained,
             advised,
+            all,
         } => {
             asked.quiet = *quiet;
             asked.faults = true;
             asked.advised = *advised;
+            asked.all = *all;
             let names = files.as_slice();
             return judge(rt, &asked, *explained, names, standard, pace, output, error);
         }
-        Work::Advise { judging, repeated } => {
+        Work::Advise {
+            judging,
+            all,
+            repeated,
+        } => {
             asked.wanted.fail_on = judging.fail_on;
             asked.quiet = judging.quiet;
             asked.advised = true;
+            asked.all = *all;
             asked.repeated = *repeated;
             let names = judging.files.as_slice();
             return judge(rt, &asked, false, names, standard, pace, output, error);

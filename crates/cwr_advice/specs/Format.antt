@@ -2,6 +2,7 @@
 pub mod Characters
 pub mod Days
 pub mod Numbers
+pub mod RuleOrder
 pub mod Rules
 pub mod Said
 pub mod Shifts

@@ -25,6 +25,6 @@ mod writers;
 
 pub use characters::Characters;
 pub use kept::AdviceSums;
-pub use rules::{Advice, AdviceRule, Asked};
+pub use rules::{Advice, AdviceRule, Asked, RULE_COUNT, rule_at};
 pub use said::Said;
 pub use walk::advice;

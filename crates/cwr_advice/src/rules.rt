@@ -1,7 +1,8 @@
 //! The rules of advice.
 
-ghost use Rattle.std.specs.Prelude.{◌≡◌, ◌≤◌, length};
+ghost use Rattle.std.specs.Prelude.{◌≡◌, ◌<◌, ◌≤◌, length, slice_get};
 ghost use Rattle.cwr_advice.specs.Format.Words.{advice_words, rule_text};
+ghost use Rattle.cwr_advice.specs.Format.RuleOrder.{all_rules, place_of_rule};
 ghost use Rattle.cwr_advice.specs.Format.Rules.{level_of_rule};
 
 use cwr_shape::Level;
@@ -69,7 +70,73 @@ pub enum AdviceRule {
     A9a,
 }
 
+/// How many rules there are.
+pub const RULE_COUNT: usize = 29;
+
+/// All rules, in their order.
+const RULES: [AdviceRule; RULE_COUNT] = [
+    AdviceRule::A1a,
+    AdviceRule::A1b,
+    AdviceRule::A2a,
+    AdviceRule::A2b,
+    AdviceRule::A2c,
+    AdviceRule::A2d,
+    AdviceRule::A2e,
+    AdviceRule::A2f,
+    AdviceRule::A2g,
+    AdviceRule::A3a,
+    AdviceRule::A3b,
+    AdviceRule::A3c,
+    AdviceRule::A3d,
+    AdviceRule::A3e,
+    AdviceRule::A4a,
+    AdviceRule::A4b,
+    AdviceRule::A4c,
+    AdviceRule::A4d,
+    AdviceRule::A5a,
+    AdviceRule::A6a,
+    AdviceRule::A6b,
+    AdviceRule::A6c,
+    AdviceRule::A7a,
+    AdviceRule::A8a,
+    AdviceRule::A8b,
+    AdviceRule::A8c,
+    AdviceRule::A8d,
+    AdviceRule::A8e,
+    AdviceRule::A9a,
+];
+
+/// All rules, in their order.
+#[tactic(auto, unfolding(crate::specs::Format::RuleOrder::all_rules))]
+fn all_rules() -> &'static [AdviceRule]
+    ensures { result.now ≡ all_rules }
+{
+    &RULES
+}
+
+/// The rule of that place among these, from 0, if there is one.
+fn rule_in(rules: &[AdviceRule], place: usize) -> Option<AdviceRule>
+    ensures { result ≡ slice_get rules.now place }
+{
+    rules.get(place).copied()
+}
+
+/// The rule of that place among all, from 0, if there is one.
+pub fn rule_at(place: usize) -> Option<AdviceRule>
+    ensures { result ≡ slice_get all_rules place }
+{
+    rule_in(all_rules(), place)
+}
+
 impl AdviceRule {
+    /// Its place among all rules, from 0.
+    pub fn place(self) -> usize
+        ensures value { result ≡ place_of_rule self }
+        ensures within { result < 29 }
+    {
+        self as usize
+    }
+
     /// Its name, as it stands in a report line.
     pub fn name(self) -> &'static str
         ensures name { result.now ≡ rule_text self }

@@ -6,6 +6,10 @@ pub mod TextsPut
 pub mod CellLines
 -- What is put of advice, one text after another.
 pub mod AdvicePut
+-- What is told of advice, and how much isn't, by how many pieces of each rule stand before it.
+pub mod AdviceCounted
+-- Of each rule the first three pieces of advice are told, or all are.
+pub mod FirstTold
 -- What is written of items is what is written of all but the last, and then of the last.
 pub mod LinesOfAdvice
 -- What the items say of the transmission, with one item more.

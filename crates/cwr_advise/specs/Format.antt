@@ -2,4 +2,6 @@
 pub mod AdviceLevels
 pub mod AdviceLines
 pub mod AdviceTexts
+pub mod Laws
 pub mod RepeatedWorks
+pub mod ToldAdvice

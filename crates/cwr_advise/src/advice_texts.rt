@@ -1,11 +1,13 @@
 //! The lines of advice at a record.
 
-ghost use Rattle.std.specs.Prelude.{◌≡◌, ◌+◌, ◌≤◌, [], ◌++◌, ◌∷◌, Some, codes, decimal, flat_map, length};
+ghost use Rattle.std.specs.Prelude.{◌≡◌, ◌+◌, ◌-◌, ◌≤◌, [], ◌++◌, ◌∷◌, Some, codes, decimal, flat_map, length};
 ghost use Rattle.cwr_fields.specs.Steps.Views.{field_view};
-ghost use Rattle.cwr_notes.specs.Format.FindingNotes.{noted_line, value_words, where_line};
+ghost use Rattle.cwr_notes.specs.Format.FindingNotes.{gap, noted_line, value_words, where_line};
 ghost use Rattle.std.specs.Option.{option_to_list};
+ghost use Rattle.cwr_advice.specs.Format.Words.{rule_text};
 ghost use Rattle.cwr_advise.specs.Format.AdviceTexts.{advice_line, cell_line, lines_at_record, words_line};
 ghost use Rattle.cwr_advise.specs.Format.RepeatedWorks.{first_line, limit_line, repeated_advice, repeated_lines, repeated_text};
+ghost use Rattle.cwr_advise.specs.Format.ToldAdvice.{summary_line};
 
 use crate::repeats::{Place, Repeated, WORK_NUMBER};
 use arrayvec::ArrayVec;
@@ -18,6 +20,9 @@ use std::marker::Model;
 
 /// The most bytes of the lines of advice at a record: none come near.
 const LONGEST: usize = 1700;
+
+/// Of each rule so many pieces of advice are told, where not all are.
+pub(crate) const MOST_TOLD: u64 = 3;
 
 /// The lines, while they are put together.
 type Text = ArrayVec<u8, LONGEST>;
@@ -135,6 +140,32 @@ fn push_line(text: &mut Text, group: u32, sequence: u32, advice: &Advice)
     push(text, b"\n");
 }
 
+/// Appends an empty line, where advice stands apart.
+fn push_gap(text: &mut Text, apart: bool)
+    requires { length text.old.items + 1 ≤ LONGEST }
+    ensures { text.new.items ≡ text.old.items ++ gap apart }
+{
+    if apart {
+        push(text, b"\n");
+    }
+}
+
+/// Appends the line on how many pieces of advice come from a rule, of which not all are told.
+fn push_summary(text: &mut Text, rule: AdviceRule, count: u64)
+    requires { length text.old.items + 200 ≤ LONGEST }
+    ensures { text.new.items ≡ text.old.items ++ codes "ADVICE rule " ++ rule_text rule
+        ++ codes " at " ++ decimal count ++ codes " places, " ++ decimal (count - MOST_TOLD)
+        ++ codes " of them not shown (--all tells each)\n" }
+{
+    push(text, b"ADVICE rule ");
+    push(text, rule.name().as_bytes());
+    push(text, b" at ");
+    push_number(text, count);
+    push(text, b" places, ");
+    push_number(text, count.saturating_sub(MOST_TOLD));
+    push(text, b" of them not shown (--all tells each)\n");
+}
+
 /// What is broken by a work whose number stands in a work before it.
 const REPEATED: Advice = Advice {
     rec: 0,
@@ -231,9 +262,10 @@ impl AdviceText {
     }
 
     /// Sets the lines of advice at a record on that line of the file, in a transaction, whose sequence this is, of the group with this
-    /// ID. The line on its work is that.
+    /// ID. The line on its work is that. Where advice stands apart an empty line follows.
     pub(crate) fn set(
         &mut self,
+        apart: bool,
         group: u32,
         sequence: u32,
         number: u64,
@@ -241,7 +273,7 @@ impl AdviceText {
         advice: &Advice,
         shown: &RecordRef<'_>,
     )
-        ensures { self.new ≡ lines_at_record group sequence number work.now advice.now shown.now }
+        ensures { self.new ≡ lines_at_record apart group sequence number work.now advice.now shown.now }
     {
         self.text.clear();
         push_line(&mut self.text, group, sequence, advice);
@@ -249,6 +281,17 @@ impl AdviceText {
         push(&mut self.text, work.as_slice());
         push_cell(&mut self.text, number, shown, advice.field);
         push_words(&mut self.text, advice);
+        push_gap(&mut self.text, apart);
+    }
+
+    /// Sets the line on how many pieces of advice come from a rule, if not all of them are told, and else nothing.
+    pub(crate) fn set_summary(&mut self, all: bool, rule: AdviceRule, count: u64)
+        ensures { self.new ≡ summary_line all rule count }
+    {
+        self.text.clear();
+        if !all && MOST_TOLD < count {
+            push_summary(&mut self.text, rule, count);
+        }
     }
 
     /// Sets the lines on a work that stands there, among those before it. The numbers of so many works are kept.

@@ -10,14 +10,17 @@ ghost use Rattle.cwr_notes.specs.Format.WorkNames.{work_of};
 ghost use Rattle.cwr_tools.specs.Format.Reports.{has_findings, transaction_lines};
 ghost use Rattle.cwr_tools.specs.Format.Watching.{has_from, is_reached};
 ghost use Rattle.cwr_tools.specs.Steps.Reports.{PutsLines};
+ghost use Rattle.cwr_advice.specs.Format.Rules.{advice_of};
 ghost use Rattle.cwr_advise.specs.Format.AdviceLevels.{own_reaches};
-ghost use Rattle.cwr_advise.specs.Format.AdviceLines.{advised_transaction, has_advice, has_advised};
+ghost use Rattle.cwr_advise.specs.Format.AdviceLines.{has_advice, has_advised, own_advice};
 ghost use Rattle.cwr_advise.specs.Format.AdviceTexts.{noted_advice};
-ghost use Rattle.cwr_advise.specs.Steps.AdvisedItems.{advised_at, told_with};
-ghost use Rattle.cwr_advise.specs.Steps.KeptWorks.{reaches_at, repeated_at};
+ghost use Rattle.cwr_advise.specs.Steps.AdviceCounts.{counts_after, counts_with, lines_by, told_by};
+ghost use Rattle.cwr_advise.specs.Steps.AdvisedItems.{advised_after, advised_at, told_with};
+ghost use Rattle.cwr_advise.specs.Steps.KeptWorks.{counts_with_repeated, reaches_at, repeated_at, shown_repeated};
 
 use crate::advice_texts::AdviceText;
 use crate::repeats::{Place, Repeated, work_header};
+use crate::told::AdviceCounts;
 use crate::worst::Worst;
 use cwr_advice::{Advice, Said, advice};
 use cwr_devices::{Sink, SinkFault, Target};
@@ -27,9 +30,21 @@ use cwr_tools::{ToolFault, Totals, put_transaction_findings, writer_fault};
 use cwr_values::{Item, Transaction};
 use std::alloc::Global;
 
+/// How findings and advice are told.
+#[derive(Clone, Copy, Debug)]
+pub struct Manner {
+    /// With what explains each finding.
+    pub explained: bool,
+    /// With an empty line after each piece of advice, and after each finding that is explained.
+    pub apart: bool,
+    /// All advice, where else of each rule no more than the first three pieces are told.
+    pub all: bool,
+}
+
 /// Puts the lines of advice in the transaction of that sequence in the group of that ID, whose first record is on that line of the
-/// file. The line on its work is that. They are made in the buffer.
+/// file. The line on its work is that. Where advice stands apart an empty line follows. They are made in the buffer.
 fn put_noted<W: Target>(
+    apart: bool,
     group: u32,
     sequence: u32,
     first: u64,
@@ -43,13 +58,15 @@ fn put_noted<W: Target>(
     requires few { first + length transaction.now ≤ 100000000 }
     requires work { work.now ≡ work_of transaction.now }
     ensures puts { Puts W.contents W.failures
-        (noted_advice group sequence first transaction.now advice.now) result sink.old sink.new }
+        (noted_advice apart group sequence first transaction.now advice.now) result sink.old
+        sink.new }
     ensures fault { IfErr result (λ f. f.written ≡ written_of sink.new) }
 {
     let Some(shown) = transaction.record(advice.rec) else {
         return Ok(());
     };
     text.set(
+        apart,
         group,
         sequence,
         first + advice.rec as u64,
@@ -60,33 +77,77 @@ fn put_noted<W: Target>(
     sink.put(text.as_slice())
 }
 
-/// Puts the lines of all advice in the transaction.
+/// Counts a piece of advice in the transaction, and puts its lines, if it is told after so many. The line on the transaction's work is
+/// that.
+fn put_counted<W: Target>(
+    manner: Manner,
+    group: u32,
+    sequence: u32,
+    first: u64,
+    work: &WorkLine,
+    transaction: &Transaction,
+    advice: &Advice,
+    told: &mut AdviceCounts,
+    text: &mut AdviceText,
+    sink: &mut Sink<W>,
+) -> Result<(), SinkFault>
+    requires unfailed { has_failed sink.old ≡ false }
+    requires few { first + length transaction.now ≤ 100000000 }
+    requires work { work.now ≡ work_of transaction.now }
+    ensures puts { Puts W.contents W.failures
+        (lines_by (noted_advice manner.apart group sequence first transaction.now) manner.all
+        (told.old, advice.now)) result sink.old sink.new }
+    ensures told { told.new ≡ counts_with told.old advice.now.rule }
+    ensures fault { IfErr result (λ f. f.written ≡ written_of sink.new) }
+{
+    if !told.take(manner.all, advice.rule) {
+        return Ok(());
+    }
+    put_noted(
+        manner.apart,
+        group,
+        sequence,
+        first,
+        work,
+        transaction,
+        advice,
+        text,
+        sink,
+    )
+}
+
+/// Puts the lines of the advice in the transaction that is told after so many pieces of each rule, and counts it.
 fn put_all<W: Target>(
+    manner: Manner,
     group: u32,
     sequence: u32,
     first: u64,
     transaction: &Transaction,
     found: &[Advice],
+    told: &mut AdviceCounts,
     text: &mut AdviceText,
     sink: &mut Sink<W>,
 ) -> Result<(), SinkFault>
     requires unfailed { has_failed sink.old ≡ false }
     requires few { first + length transaction.now ≤ 100000000 }
     ensures puts { Puts W.contents W.failures
-        (flat_map (noted_advice group sequence first transaction.now) found.now) result sink.old
-        sink.new }
+        (flat_map (noted_advice manner.apart group sequence first transaction.now)
+        (told_by manner.all told.old found.now)) result sink.old sink.new }
+    ensures told { OnOk result (told.new ≡ counts_after told.old found.now) }
     ensures fault { IfErr result (λ f. f.written ≡ written_of sink.new) }
 {
     let work = WorkLine::of(transaction);
     let mut i = 0;
     while let Some(advice) = found.get(i) {
-        put_noted(
+        put_counted(
+            manner,
             group,
             sequence,
             first,
             &work,
             transaction,
             advice,
+            told,
             text,
             sink,
         )?;
@@ -95,23 +156,37 @@ fn put_all<W: Target>(
     Ok(())
 }
 
-/// Puts the lines of all advice in the transaction, after those of its findings, which were put.
+/// The same, after the lines of its findings, which were put.
 fn put_advice<W: Target>(
+    manner: Manner,
     group: u32,
     sequence: u32,
     first: u64,
     transaction: &Transaction,
     found: &[Advice],
+    told: &mut AdviceCounts,
     text: &mut AdviceText,
     sink: &mut Sink<W>,
 ) -> Result<(), ToolFault>
     requires unfailed { has_failed sink.old ≡ false }
     requires few { first + length transaction.now ≤ 100000000 }
-    ensures { PutsLines W.contents W.failures false
-        (flat_map (noted_advice group sequence first transaction.now) found.now) result sink.old
-        sink.new }
+    ensures puts { PutsLines W.contents W.failures false
+        (flat_map (noted_advice manner.apart group sequence first transaction.now)
+        (told_by manner.all told.old found.now)) result sink.old sink.new }
+    ensures told { OnOk result (told.new ≡ counts_after told.old found.now) }
 {
-    match put_all(group, sequence, first, transaction, found, text, sink) {
+    let put = put_all(
+        manner,
+        group,
+        sequence,
+        first,
+        transaction,
+        found,
+        told,
+        text,
+        sink,
+    );
+    match put {
         Ok(()) => Ok(()),
         Err(fault) => Err(writer_fault(fault)),
     }
@@ -121,6 +196,7 @@ fn put_advice<W: Target>(
 /// for, counts them, and notes their levels. Its first record is on that line of the file.
 fn put_findings<W: Target>(
     explained: bool,
+    apart: bool,
     alloc: Global,
     group: u32,
     sequence: u32,
@@ -133,7 +209,8 @@ fn put_findings<W: Target>(
     requires unfailed { has_failed sink.old ≡ false }
     requires few { first + length transaction.now ≤ 100000000 }
     ensures puts { PutsLines W.contents W.failures (has_findings (Item.Transaction transaction.now))
-        (transaction_lines explained group sequence first transaction.now) result sink.old sink.new }
+        (transaction_lines explained apart group sequence first transaction.now) result sink.old
+        sink.new }
     ensures counted { OnOk result (count.new ≡ told_with count.old (Item.Transaction transaction.now)) }
     ensures seen { OnOk result ((asked : Option Level) → is_reached asked worst.new.level
         ≡ (is_reached asked worst.old.level || has_from asked (findings transaction.now))) }
@@ -144,6 +221,7 @@ fn put_findings<W: Target>(
     worst.see_findings(found.as_slice());
     put_transaction_findings(
         explained,
+        apart,
         alloc,
         group,
         sequence,
@@ -155,10 +233,11 @@ fn put_findings<W: Target>(
 }
 
 /// Puts the lines of findings in the transaction of that sequence in the group of that ID, with what explains them where that is asked
-/// for, counts them, and then puts the lines of advice. Its first record is on that line of the file. So much is said of the
-/// transmission. The lines of advice are made in the buffer. The levels of all that is told are noted.
+/// for, counts them, and then puts the lines of the advice that is told after so many pieces of each rule, and counts all advice. Its
+/// first record is on that line of the file. So much is said of the transmission. The lines of advice are made in the buffer. The levels
+/// of all findings and all advice are noted.
 fn put_advised_in<W: Target>(
-    explained: bool,
+    manner: Manner,
     alloc: Global,
     said: Said,
     group: u32,
@@ -166,6 +245,7 @@ fn put_advised_in<W: Target>(
     first: u64,
     transaction: &Transaction,
     count: &mut u64,
+    told: &mut AdviceCounts,
     worst: &mut Worst,
     text: &mut AdviceText,
     sink: &mut Sink<W>,
@@ -173,9 +253,10 @@ fn put_advised_in<W: Target>(
     requires unfailed { has_failed sink.old ≡ false }
     requires few { first + length transaction.now ≤ 100000000 }
     ensures puts { PutsLines W.contents W.failures (has_advice transaction.now)
-        (advised_transaction explained said group sequence first transaction.now) result sink.old
+        (advised_after manner told.old said group sequence first transaction.now) result sink.old
         sink.new }
     ensures counted { OnOk result (count.new ≡ told_with count.old (Item.Transaction transaction.now)) }
+    ensures told { OnOk result (told.new ≡ counts_after told.old (advice_of said transaction.now)) }
     ensures seen { OnOk result ((asked : Option Level) → is_reached asked worst.new.level
         ≡ (is_reached asked worst.old.level || own_reaches asked said (Item.Transaction transaction.now))) }
 {
@@ -183,7 +264,8 @@ fn put_advised_in<W: Target>(
         return Err(ToolFault::Memory);
     };
     put_findings(
-        explained,
+        manner.explained,
+        manner.apart,
         alloc,
         group,
         sequence,
@@ -195,21 +277,23 @@ fn put_advised_in<W: Target>(
     )?;
     worst.see_advice(found.as_slice());
     put_advice(
+        manner,
         group,
         sequence,
         first,
         transaction,
         found.as_slice(),
+        told,
         text,
         sink,
     )
 }
 
 /// Puts the lines of findings in the transaction of that sequence in the group of that ID, with what explains them where that is asked
-/// for, counts them, and then puts the lines of advice. Its first record is on that line of the file. So much is said of the
-/// transmission.
+/// for, counts them, and then puts the lines of the advice that is told after so many pieces of each rule, and counts all advice. Its
+/// first record is on that line of the file. So much is said of the transmission.
 pub fn put_advised<W: Target>(
-    explained: bool,
+    manner: Manner,
     alloc: Global,
     said: Said,
     group: u32,
@@ -217,17 +301,19 @@ pub fn put_advised<W: Target>(
     first: u64,
     transaction: &Transaction,
     count: &mut u64,
+    told: &mut AdviceCounts,
     sink: &mut Sink<W>,
 ) -> Result<(), ToolFault>
     requires unfailed { has_failed sink.old ≡ false }
     requires few { first + length transaction.now ≤ 100000000 }
     ensures puts { PutsLines W.contents W.failures (has_advice transaction.now)
-        (advised_transaction explained said group sequence first transaction.now) result sink.old
+        (advised_after manner told.old said group sequence first transaction.now) result sink.old
         sink.new }
     ensures counted { OnOk result (count.new ≡ told_with count.old (Item.Transaction transaction.now)) }
+    ensures told { OnOk result (told.new ≡ counts_after told.old (advice_of said transaction.now)) }
 {
     put_advised_in(
-        explained,
+        manner,
         alloc,
         said,
         group,
@@ -235,21 +321,24 @@ pub fn put_advised<W: Target>(
         first,
         transaction,
         count,
+        told,
         &mut Worst::nothing(),
         &mut AdviceText::new(),
         sink,
     )
 }
 
-/// Puts the findings and the advice of an item that comes after items with these numbers, which say so much of the transmission, and
-/// counts the findings. The lines of advice are made in the buffer. The levels of all that is told are noted.
+/// Puts the findings of an item that comes after items with these numbers, which say so much of the transmission, and of its advice what
+/// is told after so many pieces of each rule, and counts both. The lines of advice are made in the buffer. The levels of all findings and
+/// all advice are noted.
 fn put_own<W: Target>(
-    explained: bool,
+    manner: Manner,
     alloc: Global,
     said: Said,
     counts: &Totals,
     item: &Item,
     count: &mut u64,
+    told: &mut AdviceCounts,
     worst: &mut Worst,
     text: &mut AdviceText,
     sink: &mut Sink<W>,
@@ -257,14 +346,15 @@ fn put_own<W: Target>(
     requires unfailed { has_failed sink.old ≡ false }
     requires few { counts.now.records + length (item_records item.now) ≤ 99999999 }
     ensures puts { PutsLines W.contents W.failures (has_advised item.now)
-        (advised_at explained said counts.now item.now) result sink.old sink.new }
+        (advised_at manner told.old said counts.now item.now) result sink.old sink.new }
     ensures counted { OnOk result (count.new ≡ told_with count.old item.now) }
+    ensures told { OnOk result (told.new ≡ counts_after told.old (own_advice said item.now)) }
     ensures seen { OnOk result ((asked : Option Level) → is_reached asked worst.new.level
         ≡ (is_reached asked worst.old.level || own_reaches asked said item.now)) }
 {
     match item {
         Item::Transaction(transaction) => put_advised_in(
-            explained,
+            manner,
             alloc,
             said,
             counts.groups,
@@ -272,6 +362,7 @@ fn put_own<W: Target>(
             u64::from(counts.records) + 1,
             transaction,
             count,
+            told,
             worst,
             text,
             sink,
@@ -302,31 +393,35 @@ fn put_work<W: Target>(
     sink.put(text.as_slice())
 }
 
-/// The same, as a part of what is written of items.
+/// The same as a part of what is written of items, so far as it is told after so many pieces of advice of each rule. It is counted.
 fn put_repeated<W: Target>(
+    all: bool,
     limit: u32,
     counts: &Totals,
     item: &Item,
     repeated: &Repeated,
+    told: &mut AdviceCounts,
     text: &mut AdviceText,
     sink: &mut Sink<W>,
 ) -> Result<(), ToolFault>
     requires unfailed { has_failed sink.old ≡ false }
     requires few { counts.now.records ≤ 99999999 }
-    ensures { PutsLines W.contents W.failures false
-        (repeated_at limit counts.now item.now repeated.now) result sink.old sink.new }
+    ensures puts { PutsLines W.contents W.failures false (repeated_at limit counts.now item.now
+        (shown_repeated all told.old repeated.now)) result sink.old sink.new }
+    ensures told { told.new ≡ counts_with_repeated told.old repeated.now }
 {
-    match put_work(limit, counts, item, repeated, text, sink) {
+    let shown = told.take_repeated(all, repeated);
+    match put_work(limit, counts, item, &shown, text, sink) {
         Ok(()) => Ok(()),
         Err(fault) => Err(writer_fault(fault)),
     }
 }
 
-/// Puts what is written of an item that comes after items with these numbers, which say so much of the transmission: its findings, which
-/// are counted, its advice, and what is to be told of it among the works before. The numbers of so many works are kept. Lines are made in
-/// the buffer. The levels of all that is told are noted.
+/// Puts what is written of an item that comes after items with these numbers, which say so much of the transmission: its findings, and
+/// after so many pieces of advice of each rule its advice, and what is to be told of it among the works before. Findings and advice are
+/// counted. The numbers of so many works are kept. Lines are made in the buffer. The levels of all findings and all advice are noted.
 pub(crate) fn put_item<W: Target>(
-    explained: bool,
+    manner: Manner,
     alloc: Global,
     said: Said,
     limit: u32,
@@ -334,6 +429,7 @@ pub(crate) fn put_item<W: Target>(
     item: &Item,
     repeated: &Repeated,
     count: &mut u64,
+    told: &mut AdviceCounts,
     worst: &mut Worst,
     text: &mut AdviceText,
     sink: &mut Sink<W>,
@@ -341,16 +437,22 @@ pub(crate) fn put_item<W: Target>(
     requires unfailed { has_failed sink.old ≡ false }
     requires room { counts.now.records ≤ 99999999 }
     requires few { counts.now.records + length (item_records item.now) ≤ 99999999 }
-    ensures puts { PutsLines W.contents W.failures (has_advised item.now) (advised_at explained said
-        counts.now item.now ++ repeated_at limit counts.now item.now
-        repeated.now) result sink.old sink.new }
+    ensures puts { PutsLines W.contents W.failures (has_advised item.now)
+        (advised_at manner told.old said counts.now item.now
+        ++ repeated_at limit counts.now item.now
+        (shown_repeated manner.all (counts_after told.old (own_advice said item.now)) repeated.now))
+        result sink.old sink.new }
     ensures counted { OnOk result (count.new ≡ told_with count.old item.now) }
+    ensures told { OnOk result (told.new ≡ counts_with_repeated
+        (counts_after told.old (own_advice said item.now)) repeated.now) }
     ensures seen { OnOk result ((asked : Option Level) → is_reached asked worst.new.level
         ≡ (is_reached asked worst.old.level || reaches_at asked said item.now repeated.now)) }
 {
     put_own(
-        explained, alloc, said, counts, item, count, worst, text, sink,
+        manner, alloc, said, counts, item, count, told, worst, text, sink,
     )?;
     worst.see_repeated(repeated);
-    put_repeated(limit, counts, item, repeated, text, sink)
+    put_repeated(
+        manner.all, limit, counts, item, repeated, told, text, sink,
+    )
 }

@@ -5,9 +5,12 @@ mod advice_texts;
 mod before;
 mod item_advice;
 mod kept_works;
+pub mod laws;
 mod repeats;
 mod running;
+mod told;
 mod worst;
 
-pub use item_advice::put_advised;
+pub use item_advice::{Manner, put_advised};
 pub use running::{advise, advise_up_to_fault};
+pub use told::AdviceCounts;

@@ -1,28 +1,31 @@
 //! Whole runs over a text: the findings and the advice in each transaction, and the verdict.
 
-ghost use Rattle.std.specs.Prelude.{◌≡◌, [], true, IfOk, OnOk, IsSomeAnd, None};
+ghost use Rattle.std.specs.Prelude.{◌≡◌, [], ◌++◌, true, false, IfErr, IfOk, OnOk, IsSomeAnd, None};
 ghost use Rattle.std.specs.Io.KnownBytes.{GrowsBy};
+ghost use Rattle.cwr_devices.specs.Steps.Sinks.{Puts, has_failed, written_of};
 ghost use Rattle.cwr_tools.specs.Format.Reports.{CountsReaderFault, CountsWriterFault, ReportsText};
+ghost use Rattle.cwr_tools.specs.Format.Texts.{verdict_line};
 ghost use Rattle.cwr_tools.specs.Format.Watching.{findings_with};
 ghost use Rattle.cwr_tools.specs.Steps.Reports.{Reports, StandsAfter};
 ghost use Rattle.cwr_tools.specs.Steps.Verdicts.{IsReadLast};
 ghost use Rattle.cwr_advise.specs.Format.AdviceLevels.{SeesTold};
-ghost use Rattle.cwr_advise.specs.Format.AdviceLines.{lines_advised, lines_of_advice, said_in};
-ghost use Rattle.cwr_advise.specs.Steps.AdvisedItems.{IsBefore};
+ghost use Rattle.cwr_advise.specs.Format.AdviceLines.{advice_on, lines_advised, lines_of_advice, said_in};
+ghost use Rattle.cwr_advise.specs.Steps.AdviceCounts.{counts_of, summary_by};
+ghost use Rattle.cwr_advise.specs.Steps.AdvisedItems.{IsBefore, last_by};
 ghost use Rattle.cwr_advise.specs.Steps.KeptWorks.{AreKeptOf};
 
 use crate::advice_texts::AdviceText;
 use crate::before::Before;
-use crate::item_advice::put_item;
+use crate::item_advice::{Manner, put_item};
 use crate::kept_works::AdvisedSums;
 use crate::repeats::Repeats;
+use crate::told::AdviceCounts;
 use crate::worst::Worst;
 use cwr_advice::Said;
 use cwr_devices::{Sink, SinkFault, Source, Target};
 use cwr_shape::{Level, Limits};
 use cwr_tools::{
-    CheckedFront, Report, ToolFault, Totals, Verdict, put_unrefused_line, put_verdict_line,
-    write_report,
+    CheckedFront, Report, ToolFault, Totals, Verdict, put_verdict_line, write_report,
 };
 use cwr_values::Item;
 use std::alloc::Global;
@@ -30,9 +33,9 @@ use std::alloc::Global;
 /// The findings and the advice in each transaction, and the line of the verdict.
 #[derive(Drop)]
 struct AdviceLines {
-    /// With what explains each finding.
-    explained: bool,
-    /// Without the line of a refusal: who goes on after it tells it.
+    /// How findings and advice are told.
+    manner: Manner,
+    /// Without the line of a refusal: who goes on after it tells it, and how much of the advice isn't told.
     up_to_fault: bool,
     /// What the items so far leave behind.
     before: Before,
@@ -40,7 +43,9 @@ struct AdviceLines {
     repeats: Repeats,
     /// The findings that were told. It stays at `u64::MAX`.
     findings: u64,
-    /// The worst level of all that was told.
+    /// How much advice came from each rule.
+    told: AdviceCounts,
+    /// The worst level of all findings and all advice.
     worst: Worst,
     /// In which lines of advice are made.
     text: AdviceText,
@@ -48,21 +53,24 @@ struct AdviceLines {
 
 impl AdviceLines {
     /// Before the first item. The numbers of so many works are to be kept.
-    fn new(alloc: Global, explained: bool, up_to_fault: bool, repeated: u32) -> AdviceLines
-        ensures explained { result.explained ≡ explained }
+    fn new(alloc: Global, manner: Manner, up_to_fault: bool, repeated: u32) -> AdviceLines
+        requires { up_to_fault ≡ true → repeated ≡ 0 }
+        ensures manner { result.manner ≡ manner }
         ensures up_to_fault { result.up_to_fault ≡ up_to_fault }
         ensures repeated { result.repeats.limit ≡ repeated }
         ensures before { IsBefore result.before [] }
         ensures works { AreKeptOf result.repeats [] }
         ensures none { result.findings ≡ 0 }
+        ensures uncounted { result.told ≡ counts_of (advice_on repeated []) }
         ensures untold { result.worst.level ≡ None }
     {
         AdviceLines {
-            explained,
+            manner,
             up_to_fault,
             before: Before::nothing(),
             repeats: Repeats::new(alloc, repeated),
             findings: 0,
+            told: AdviceCounts::nothing(),
             worst: Worst::nothing(),
             text: AdviceText::new(),
         }
@@ -70,18 +78,19 @@ impl AdviceLines {
 }
 
 impl Report for AdviceLines {
-    ghost use Rattle.std.specs.Prelude.{◌≡◌, Option};
+    ghost use Rattle.std.specs.Prelude.{◌≡◌, true, Option};
     ghost use Rattle.cwr_shape.specs.declared.reasons.Level.{Level};
     ghost use Rattle.cwr_advise.specs.Format.AdviceLevels.{any_reaches};
-    ghost use Rattle.cwr_advise.specs.Format.AdviceLines.{lines_advised};
+    ghost use Rattle.cwr_advise.specs.Format.AdviceLines.{advice_on, lines_advised};
     ghost use Rattle.cwr_advise.specs.Format.RepeatedWorks.{works_in};
+    ghost use Rattle.cwr_advise.specs.Steps.AdviceCounts.{counts_of};
     ghost use Rattle.cwr_advise.specs.Steps.AdvisedItems.{IsBefore};
     ghost use Rattle.cwr_advise.specs.Steps.KeptWorks.{AreKeptOf};
     ghost use Rattle.cwr_tools.specs.Format.Watching.{findings_with, is_reached};
 
     type Works = AdvisedSums;
 
-    ghost stands = { λ report of given. (of ≡ lines_advised report.explained report.up_to_fault report.repeats.limit) × IsBefore report.before given × AreKeptOf report.repeats (works_in given) × (report.findings ≡ findings_with 0 given) × ((asked : Option Level) → is_reached asked report.worst.level ≡ any_reaches report.repeats.limit asked given) };
+    ghost stands = { λ report of given. (of ≡ lines_advised report.manner report.up_to_fault report.repeats.limit) × IsBefore report.before given × AreKeptOf report.repeats (works_in given) × (report.findings ≡ findings_with 0 given) × (report.told ≡ counts_of (advice_on report.repeats.limit given)) × ((asked : Option Level) → is_reached asked report.worst.level ≡ any_reaches report.repeats.limit asked given) × (report.up_to_fault ≡ true → report.repeats.limit ≡ 0) };
 
     fn works(&self) -> AdvisedSums {
         AdvisedSums::new()
@@ -108,7 +117,7 @@ impl Report for AdviceLines {
             return Err(ToolFault::Memory);
         };
         put_item(
-            self.explained,
+            self.manner,
             alloc,
             self.before.said(),
             limit,
@@ -116,6 +125,7 @@ impl Report for AdviceLines {
             item,
             &repeated,
             &mut self.findings,
+            &mut self.told,
             &mut self.worst,
             &mut self.text,
             sink,
@@ -129,19 +139,59 @@ impl Report for AdviceLines {
         verdict: &Verdict,
         sink: &mut Sink<W>,
     ) -> Result<(), SinkFault> {
-        match self.up_to_fault {
-            true => put_unrefused_line(verdict, sink),
-            false => put_verdict_line(verdict, sink),
-        }
+        put_last(
+            self.up_to_fault,
+            self.manner.all,
+            &self.told,
+            verdict,
+            sink,
+        )
+    }
+}
+
+/// Puts how much of the advice isn't told, and the line of the verdict.
+fn put_summed<W: Target>(
+    all: bool,
+    told: &AdviceCounts,
+    verdict: &Verdict,
+    sink: &mut Sink<W>,
+) -> Result<(), SinkFault>
+    requires { has_failed sink.old ≡ false }
+    ensures puts { Puts W.contents W.failures (summary_by all told.now ++ verdict_line verdict.now)
+        result sink.old sink.new }
+    ensures fault { IfErr result (λ f. f.written ≡ written_of sink.new) }
+{
+    told.put_summary(all, sink)?;
+    put_verdict_line(verdict, sink)
+}
+
+/// Puts the same, or, up to a fault, nothing of a refusal.
+fn put_last<W: Target>(
+    up_to_fault: bool,
+    all: bool,
+    told: &AdviceCounts,
+    verdict: &Verdict,
+    sink: &mut Sink<W>,
+) -> Result<(), SinkFault>
+    requires { has_failed sink.old ≡ false }
+    ensures puts { Puts W.contents W.failures (last_by up_to_fault all told.now verdict.now) result
+        sink.old sink.new }
+    ensures fault { IfErr result (λ f. f.written ≡ written_of sink.new) }
+{
+    match (up_to_fault, verdict) {
+        (true, Verdict::Refused(_)) => Ok(()),
+        _ => put_summed(all, told, verdict, sink),
     }
 }
 
 /// Advises on a transmission: reads it up to its end or to where it is refused, writes the findings in each transaction that is handed
 /// out, with what explains them, and after them the advice on it, and at the end the line of the verdict. The writer comes back.
 ///
-/// The numbers of the first `repeated` works are kept, and each work with such a number is told. The first work beyond is told too: from
-/// there on works are compared with those that are kept alone. Beside its answer comes the worst level of all that is told: of findings,
-/// of advice, and of such works.
+/// All advice is told, or of each rule the first three pieces, and before the verdict how much of each rule isn't told.
+///
+/// The numbers of the first `repeated` works are kept, and each work with such a number is advised on. The first work beyond is told too:
+/// from there on works are compared with those that are kept alone. Beside its answer comes the worst level of all findings and all
+/// advice, told or not.
 ///
 /// The verdict and the faults are those of a check: advice changes nothing. It answers `ToolFault::Memory` where memory for a
 /// transaction, for its findings, for the advice on it or for its number was refused. It holds one transaction, the advice on it, and
@@ -149,18 +199,19 @@ impl Report for AdviceLines {
 pub fn advise<R: Source, W: Target + Drop>(
     alloc: Global,
     limits: Limits,
+    all: bool,
     repeated: u32,
     reader: &mut R,
     writer: W,
 ) -> (W, Result<Verdict, ToolFault>, Option<Level>)
     // Of any reader, by what was read of it.
-    ensures reported { Reports (lines_of_advice repeated) limits (R.remaining reader.old)
+    ensures reported { Reports (lines_of_advice all repeated) limits (R.remaining reader.old)
         (R.remaining reader.new) W.contents writer result.0 result.1 }
     // Of bytes that are known, in the words of the text alone.
-    ensures told { ReportsText (lines_of_advice repeated) limits (R.remaining reader.old)
+    ensures told { ReportsText (lines_of_advice all repeated) limits (R.remaining reader.old)
         (R.remaining reader.new) W.contents writer result.0 result.1 }
     // Where the text is accepted, the worst level is that of what is told of its transmission.
-    ensures seen { OnOk result.1 (SeesTold (lines_of_advice repeated) limits
+    ensures seen { OnOk result.1 (SeesTold (lines_of_advice all repeated) limits
         (R.remaining reader.old) result.2) }
     // No failure is passed over: a device failed only where that is the answer.
     ensures reader_failures { CountsReaderFault result.1 (R.failures reader.old)
@@ -169,28 +220,35 @@ pub fn advise<R: Source, W: Target + Drop>(
     // All that was written was handed on.
     ensures handed_on { OnOk result.1 (W.handed_on result.0 ≡ true) }
 {
-    let mut lines = AdviceLines::new(alloc, true, false, repeated);
+    let manner = Manner {
+        explained: true,
+        apart: false,
+        all,
+    };
+    let mut lines = AdviceLines::new(alloc, manner, false, repeated);
     let (writer, outcome, _) = write_report(&mut lines, false, alloc, limits, reader, writer);
     (writer, outcome, lines.worst.level)
 }
 
-/// Advises on a transmission as `advise` does, with what explains its findings or without, and writes what that writes, but no line of a
-/// refusal: who goes on after that tells it. No numbers of works are kept. How far it came is answered too, and what the header says.
+/// Advises on a transmission as `advise` does, in that manner, and writes what that writes, but nothing of a refusal: who goes on after
+/// that tells it, and how much of the advice isn't told. No numbers of works are kept. How far it came is answered too, what the header
+/// says, and how much advice came from each rule.
 pub fn advise_up_to_fault<R: Source, W: Target + Drop>(
     alloc: Global,
     limits: Limits,
-    explained: bool,
+    manner: Manner,
     reader: &mut R,
     writer: W,
-) -> (W, Result<Verdict, ToolFault>, CheckedFront, Said)
-    ensures reported { Reports (lines_advised explained true 0) limits (R.remaining reader.old)
+) -> (W, Result<Verdict, ToolFault>, CheckedFront, Said, AdviceCounts)
+    ensures reported { Reports (lines_advised manner true 0) limits (R.remaining reader.old)
         (R.remaining reader.new) W.contents writer result.0 result.1 }
-    ensures told { ReportsText (lines_advised explained true 0) limits (R.remaining reader.old)
+    ensures told { ReportsText (lines_advised manner true 0) limits (R.remaining reader.old)
         (R.remaining reader.new) W.contents writer result.0 result.1 }
     ensures counted { GrowsBy (W.contents writer) (W.contents result.0) result.2.written }
-    // What the items before the verdict say, and how many findings they have.
+    // What the items before the verdict say, how many findings they have, and how much advice there is on them.
     ensures said { IfOk result.1 (StandsAfter
-        (λ given. (result.3 ≡ said_in given) × (result.2.findings ≡ findings_with 0 given)) limits
+        (λ given. (result.3 ≡ said_in given) × (result.2.findings ≡ findings_with 0 given)
+        × (result.4 ≡ counts_of (advice_on 0 given))) limits
         (R.remaining reader.old) (R.remaining reader.new)) }
     ensures reader_failures { CountsReaderFault result.1 (R.failures reader.old)
         (R.failures reader.new) }
@@ -200,7 +258,7 @@ pub fn advise_up_to_fault<R: Source, W: Target + Drop>(
     ensures last { IfOk result.1 (λ verdict. IsSomeAnd result.2.last
         (IsReadLast limits (R.remaining reader.old) (R.remaining reader.new) verdict)) }
 {
-    let mut lines = AdviceLines::new(alloc, explained, true, 0);
+    let mut lines = AdviceLines::new(alloc, manner, true, 0);
     let (writer, outcome, front) = write_report(&mut lines, true, alloc, limits, reader, writer);
     let checked = CheckedFront {
         last: front.last,
@@ -208,5 +266,6 @@ pub fn advise_up_to_fault<R: Source, W: Target + Drop>(
         written: front.written,
     };
     let said = lines.before.said();
-    (writer, outcome, checked, said)
+    let told = lines.told.copy();
+    (writer, outcome, checked, said, told)
 }

@@ -108,11 +108,11 @@ fn data_report(
 /// The report of a lint.
 fn lint_report(alloc: Global, limits: Limits, text: &[u8]) -> (Vec<u8>, Result<Verdict, ToolFault>)
     ensures judged { IsJudged limits text.now result.1 }
-    ensures written { IsWritten (IsLintOn (wanting false false) limits text.now result.0.items) result.1 }
+    ensures written { IsWritten (IsLintOn (wanting false false false) limits text.now result.0.items) result.1 }
 {
     let mut reader = InMemory::new(text);
     let writer = Counted::new(Vec::new(alloc));
-    let (writer, verdict) = lint(alloc, limits, None, false, &mut reader, writer);
+    let (writer, verdict) = lint(alloc, limits, None, false, false, &mut reader, writer);
     (writer.into_inner(), verdict)
 }
 
@@ -124,12 +124,12 @@ fn explained_lint_report(
     text: &[u8],
 ) -> (Vec<u8>, Result<Verdict, ToolFault>)
     ensures judged { IsJudged limits text.now result.1 }
-    ensures written { IsWritten (IsLintOn (wanting true false) limits text.now result.0.items)
+    ensures written { IsWritten (IsLintOn (wanting true false false) limits text.now result.0.items)
         result.1 }
 {
     let mut reader = InMemory::new(text);
     let writer = Counted::new(Vec::new(alloc));
-    let (writer, verdict) = lint(alloc, limits, Some(name), false, &mut reader, writer);
+    let (writer, verdict) = lint(alloc, limits, Some(name), false, false, &mut reader, writer);
     (writer.into_inner(), verdict)
 }
 

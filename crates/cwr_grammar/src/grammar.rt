@@ -72,6 +72,9 @@ pub const EXPLAINED: &str = "explain";
 /// The id of the flag that asks for advice.
 pub const ADVICE: &str = "advice";
 
+/// The id of the flag that asks for all advice.
+pub const ALL: &str = "all";
+
 /// The id of how many works' numbers are kept.
 pub const REPEATED: &str = "repeated";
 
@@ -352,8 +355,12 @@ const FAILS: Word = Word {
 /// The words of subcommands that judge transmissions.
 const JUDGED: [Word; 3] = [FAILS, SILENT, MANY];
 
+/// What all advice is.
+const ALL_HELP: &str =
+    "Tells all advice, where else of each rule the first three places are told, and then how many there are";
+
 /// The words of the lint.
-const LINTED: [Word; 4] = [
+const LINTED: [Word; 5] = [
     Word {
         id: EXPLAINED,
         form: Form::Flag,
@@ -364,12 +371,17 @@ const LINTED: [Word; 4] = [
         form: Form::Flag,
         help: "Tells what a society may send back, too, as cwr advise does",
     },
+    Word {
+        id: ALL,
+        form: Form::FlagBeside(ADVICE),
+        help: ALL_HELP,
+    },
     SILENT,
     MANY,
 ];
 
 /// The words of advice.
-const ADVISED: [Word; 4] = [
+const ADVISED: [Word; 5] = [
     Word {
         id: FAIL_ON,
         form: Form::Level,
@@ -379,6 +391,11 @@ const ADVISED: [Word; 4] = [
         id: QUIET,
         form: Form::Flag,
         help: "Prints findings and advice, and no verdict on what is good",
+    },
+    Word {
+        id: ALL,
+        form: Form::Flag,
+        help: ALL_HELP,
     },
     REPEATS,
     MANY,

@@ -5,18 +5,19 @@ ghost use Rattle.cwr_devices.specs.Steps.Sinks.{has_failed};
 ghost use Rattle.cwr_lines.specs.Steps.Held.{held_record};
 ghost use Rattle.cwr_values.specs.Format.Begun.{BeginsWithOneMore};
 ghost use Rattle.cwr_levels.specs.Format.Findings.{findings};
-ghost use Rattle.cwr_lint.specs.Format.FaultsOfLines.{ended_lines, said_if, told_lines};
+ghost use Rattle.cwr_advise.specs.Steps.AdviceCounts.{counts_after, told_by};
+ghost use Rattle.cwr_lint.specs.Format.FaultsOfLines.{advice_if, ended_lines, said_if, told_lines};
 ghost use Rattle.cwr_lint.specs.Steps.Runs.{asking_of};
 ghost use Rattle.cwr_lint_lines.specs.Steps.Cells.{held_cut};
 ghost use Rattle.cwr_lint.specs.Steps.CutShort.{IsNoneOr, Leaves};
 ghost use Rattle.cwr_lint.specs.Steps.Puts.{PutsWith};
 ghost use Rattle.cwr_lint_lines.specs.Steps.States.{is_whole};
 ghost use Rattle.cwr_lint_lines.specs.declared.takings.Taking.{Taking};
-ghost use Rattle.cwr_lint.specs.Steps.Walks.{AfterCarried, AfterJudged, AfterRecord, GoesOnWith, ended_by, ended_in, ends_by_taking, ends_transaction, findings_after};
+ghost use Rattle.cwr_lint.specs.Steps.Walks.{AfterCarried, AfterJudged, AfterRecord, GoesOnWith, counts_ended, ended_by, ended_in, ends_by_taking, ends_transaction, findings_after, told_ended};
 
 use crate::puts::{Asked, report_number};
 use cwr_advice::Said;
-use cwr_advise::put_advised;
+use cwr_advise::{AdviceCounts, Manner, put_advised};
 use cwr_devices::{Sink, Target};
 use cwr_lines::{CutLine, RecordRef};
 use cwr_lint_lines::{Judged, Known, LintState, OpenGroup, Taking};
@@ -160,7 +161,7 @@ fn said_if(numbered: bool, said: Option<Said>) -> Option<Said>
 }
 
 /// Puts the lines of findings in a transaction, and counts them, and then those of the advice on it, where that is asked for and its lines
-/// have numbers that words can name.
+/// have numbers that words can name: of the advice what is told after so many pieces of each rule. All advice is counted.
 fn put_told<W: Target>(
     asked: &Asked<'_>,
     numbered: bool,
@@ -169,21 +170,31 @@ fn put_told<W: Target>(
     first: u64,
     transaction: &Transaction,
     told: &mut u64,
+    advice: &mut AdviceCounts,
     sink: &mut Sink<W>,
 ) -> Result<(), ToolFault>
     requires unfailed { has_failed sink.old ≡ false }
     requires few { numbered ≡ true → first + length transaction.now ≤ 100000000 }
-    ensures puts { PutsWith (λ _ text. text ≡ told_lines (asking_of asked.now) numbered group
-        sequence first transaction.now) W.contents W.failures result sink.old sink.new }
-    ensures leaves { Leaves (IsNoneOr (told_lines (asking_of asked.now) numbered group sequence
-        first transaction.now)) W.contents result sink.old sink.new }
+    ensures puts { PutsWith (λ _ text. text ≡ told_lines (asking_of asked.now) numbered
+        (told_by asked.now.all advice.old (advice_if (said_if numbered asked.now.said) transaction.now))
+        group sequence first transaction.now) W.contents W.failures result sink.old sink.new }
+    ensures leaves { Leaves (IsNoneOr (told_lines (asking_of asked.now) numbered
+        (told_by asked.now.all advice.old (advice_if (said_if numbered asked.now.said) transaction.now))
+        group sequence first transaction.now)) W.contents result sink.old sink.new }
     ensures counted { OnOk result
         (told.new ≡ min (told.old + length (findings transaction.now)) (2 ^ 64 - 1)) }
+    ensures advised { OnOk result (advice.new ≡ counts_after advice.old
+        (advice_if (said_if numbered asked.now.said) transaction.now)) }
 {
-    let explained = is_worded(asked.name.is_some(), numbered);
+    let apart = asked.name.is_some();
+    let explained = is_worded(apart, numbered);
     match said_if(numbered, asked.said) {
         Some(said) => put_advised(
-            explained,
+            Manner {
+                explained,
+                apart,
+                all: asked.all,
+            },
             asked.alloc,
             said,
             group,
@@ -191,10 +202,12 @@ fn put_told<W: Target>(
             first,
             transaction,
             told,
+            advice,
             sink,
         ),
         None => put_transaction_findings(
             explained,
+            apart,
             asked.alloc,
             group,
             sequence,
@@ -206,22 +219,29 @@ fn put_told<W: Target>(
     }
 }
 
-/// Puts what is told of a transaction, which is that of the open group, and counts its findings.
+/// Puts what is told of a transaction, which is that of the open group, and counts its findings and the advice on it.
 fn put_findings<W: Target>(
     asked: &Asked<'_>,
     state: &LintState,
     group: &OpenGroup,
     transaction: &Transaction,
     told: &mut u64,
+    advice: &mut AdviceCounts,
     sink: &mut Sink<W>,
 ) -> Result<(), ToolFault>
     requires { has_failed sink.old ≡ false }
     ensures puts { PutsWith (λ _ text. text ≡ ended_lines (asking_of asked.now)
+        (told_ended (asking_of asked.now) advice.old
+        (ended_in state.now (Some group.now) (Some transaction.now)))
         (ended_in state.now (Some group.now) (Some transaction.now))) W.contents W.failures result
         sink.old sink.new }
-    ensures leaves { Leaves (IsNoneOr (ended_lines (asking_of asked.now) (ended_in state.now
+    ensures leaves { Leaves (IsNoneOr (ended_lines (asking_of asked.now)
+        (told_ended (asking_of asked.now) advice.old
+        (ended_in state.now (Some group.now) (Some transaction.now))) (ended_in state.now
         (Some group.now) (Some transaction.now)))) W.contents result sink.old sink.new }
     ensures counted { OnOk result (told.new ≡ findings_after told.old
+        (ended_in state.now (Some group.now) (Some transaction.now))) }
+    ensures advised { OnOk result (advice.new ≡ counts_ended (asking_of asked.now) advice.old
         (ended_in state.now (Some group.now) (Some transaction.now))) }
 {
     let number = group.open_transaction().number;
@@ -235,25 +255,31 @@ fn put_findings<W: Target>(
         first,
         transaction,
         told,
+        advice,
         sink,
     )
 }
 
-/// Puts what is told of the open transaction, where its records and its group are known, and counts its findings.
+/// Puts what is told of the open transaction, where its records and its group are known, and counts its findings and the advice on it.
 fn put_open<W: Target>(
     asked: &Asked<'_>,
     state: &LintState,
     begun: &Option<Transaction>,
     told: &mut u64,
+    advice: &mut AdviceCounts,
     sink: &mut Sink<W>,
 ) -> Result<(), ToolFault>
     requires { has_failed sink.old ≡ false }
     ensures puts { PutsWith (λ _ text. text ≡ ended_lines (asking_of asked.now)
+        (told_ended (asking_of asked.now) advice.old (ended_in state.now state.now.group begun.now))
         (ended_in state.now state.now.group begun.now)) W.contents W.failures result sink.old
         sink.new }
-    ensures leaves { Leaves (IsNoneOr (ended_lines (asking_of asked.now) (ended_in state.now
-        state.now.group begun.now))) W.contents result sink.old sink.new }
+    ensures leaves { Leaves (IsNoneOr (ended_lines (asking_of asked.now)
+        (told_ended (asking_of asked.now) advice.old (ended_in state.now state.now.group begun.now))
+        (ended_in state.now state.now.group begun.now))) W.contents result sink.old sink.new }
     ensures counted { OnOk result (told.new ≡ findings_after told.old
+        (ended_in state.now state.now.group begun.now)) }
+    ensures advised { OnOk result (advice.new ≡ counts_ended (asking_of asked.now) advice.old
         (ended_in state.now state.now.group begun.now)) }
 {
     match (&state.group, begun) {
@@ -263,32 +289,38 @@ fn put_open<W: Target>(
             group,
             transaction,
             told,
+            advice,
             sink,
         ),
         _ => Ok(()),
     }
 }
 
-/// Puts what is told of the open transaction, where a line ends it, and counts its findings. Nothing is put of one that had a fault, or
-/// isn't whole.
+/// Puts what is told of the open transaction, where a line ends it, and counts its findings and the advice on it. Nothing is put of one
+/// that had a fault, or isn't whole.
 pub(crate) fn put_ended<W: Target>(
     asked: &Asked<'_>,
     state: &LintState,
     begun: &Option<Transaction>,
     judged: &Judged,
     told: &mut u64,
+    advice: &mut AdviceCounts,
     sink: &mut Sink<W>,
 ) -> Result<(), ToolFault>
     requires { has_failed sink.old ≡ false }
     ensures puts { PutsWith (λ _ text. text ≡ ended_lines (asking_of asked.now)
+        (told_ended (asking_of asked.now) advice.old (ended_by judged.now state.now begun.now))
         (ended_by judged.now state.now begun.now)) W.contents W.failures result sink.old sink.new }
     ensures leaves { Leaves (IsNoneOr (ended_lines (asking_of asked.now)
+        (told_ended (asking_of asked.now) advice.old (ended_by judged.now state.now begun.now))
         (ended_by judged.now state.now begun.now))) W.contents result sink.old sink.new }
     ensures counted { OnOk result
         (told.new ≡ findings_after told.old (ended_by judged.now state.now begun.now)) }
+    ensures advised { OnOk result (advice.new ≡ counts_ended (asking_of asked.now) advice.old
+        (ended_by judged.now state.now begun.now)) }
 {
     if ends_whole(state, judged) {
-        put_open(asked, state, begun, told, sink)
+        put_open(asked, state, begun, told, advice, sink)
     } else {
         Ok(())
     }

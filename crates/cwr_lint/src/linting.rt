@@ -12,10 +12,11 @@ ghost use Rattle.cwr_tools.specs.Format.Watching.{findings_with};
 ghost use Rattle.cwr_tools.specs.Steps.Reports.{Reports, StandsAfter};
 ghost use Rattle.cwr_tools.specs.Steps.Verdicts.{IsReadLast};
 ghost use Rattle.cwr_advise.specs.Format.AdviceLines.{said_in};
-ghost use Rattle.cwr_lint.specs.Format.Wanted.{lines_before_fault, lines_linted, said_when, wanting};
+ghost use Rattle.cwr_advise.specs.Steps.AdviceCounts.{counts_of};
+ghost use Rattle.cwr_lint.specs.Format.Wanted.{advice_when, lines_before_fault, lines_linted, said_when, wanting};
 ghost use Rattle.cwr_lint_lines.specs.Format.FaultsAtFields.{fields_end, one_more_line};
 ghost use Rattle.cwr_lint_lines.specs.Steps.Fronts.{state_at};
-ghost use Rattle.cwr_lint.specs.Steps.Walks.{AfterJudged, ended_by, findings_after, judged_in, state_by};
+ghost use Rattle.cwr_lint.specs.Steps.Walks.{AfterJudged, counts_ended, ended_by, findings_after, judged_in, state_by, told_ended};
 ghost use Rattle.cwr_fields.specs.Format.Bytes.{is_spaces};
 ghost use Rattle.cwr_lint_lines.specs.Steps.JudgedLines.{IsFaultFrom, IsJudged, ends_by, judged_at, scope_by};
 ghost use Rattle.cwr_lint_lines.specs.Steps.Cells.{held_cut};
@@ -31,7 +32,7 @@ use crate::findings::{after_line, put_ended};
 use crate::puts::{Asked, Shown, put_end, report_number};
 use crate::raw_lines::RawLine;
 use cwr_advice::Said;
-use cwr_advise::advise_up_to_fault;
+use cwr_advise::{AdviceCounts, Manner, advise_up_to_fault};
 use cwr_causes::before_last;
 use cwr_decode::{LastRead, Refusal};
 use cwr_devices::{Sink, Source, Target};
@@ -52,6 +53,8 @@ struct LintRun {
     faults: u64,
     /// The findings that were told. It stays at `u64::MAX`.
     findings: u64,
+    /// How much advice came from each rule.
+    advice: AdviceCounts,
 }
 
 impl LintRun {
@@ -131,17 +134,21 @@ impl LintRun {
         requires unfailed { has_failed sink.old ≡ false }
         requires judged { IsJudged line.now judged.now }
         requires first { 1 ≤ from }
-        ensures puts { PutsWith (TellsJudged (asking_of asked.now) self.old.state
-            self.old.begun line.now judged.now from) W.contents W.failures result sink.old
-            sink.new }
+        ensures puts { PutsWith (TellsJudged (asking_of asked.now) self.old line.now judged.now
+            from) W.contents W.failures result sink.old sink.new }
         ensures leaves { Leaves (TellsPart (asking_of asked.now)
             (judged_in self.old.state line.now judged.now)
-            (ended_by judged.now self.old.state self.old.begun) from) W.contents result sink.old
+            (ended_by judged.now self.old.state self.old.begun)
+            (told_ended (asking_of asked.now) self.old.advice
+            (ended_by judged.now self.old.state self.old.begun)) from) W.contents result sink.old
             sink.new }
         ensures state { self.new.state ≡ self.old.state }
         ensures begun { self.new.begun ≡ self.old.begun }
         ensures faults { self.new.faults ≡ self.old.faults }
         ensures findings { OnOk result (self.new.findings ≡ findings_after self.old.findings
+            (ended_by judged.now self.old.state self.old.begun)) }
+        ensures advice { OnOk result
+            (self.new.advice ≡ counts_ended (asking_of asked.now) self.old.advice
             (ended_by judged.now self.old.state self.old.begun)) }
     {
         match put_ended(
@@ -150,6 +157,7 @@ impl LintRun {
             &self.begun,
             judged,
             &mut self.findings,
+            &mut self.advice,
             sink,
         ) {
             Ok(()) => self.tell(asked, judged, line, from, shown, sink),
@@ -174,6 +182,7 @@ impl LintRun {
         ensures over { self.new.state.over ≡ ends_by judged.now }
         ensures faults { self.new.faults ≡ self.old.faults }
         ensures findings { self.new.findings ≡ self.old.findings }
+        ensures advice { self.new.advice ≡ self.old.advice }
     {
         match judged {
             Judged::Known(known) => {
@@ -377,6 +386,8 @@ impl LintRun {
     {
         match self.tell_from(asked, refusal, before, reader, raw, sink) {
             Ok(()) => put_end(
+                asked.all,
+                &self.advice,
                 self.state.over,
                 self.faults,
                 self.findings,
@@ -466,23 +477,24 @@ fn state_before(last: &LastRead, refusal: &Refusal) -> LintState
     LintState::at(last.stage, &last.counts, lines)
 }
 
-/// Goes on after the first fault, which a check has met and not told, where that has told so many findings and
-/// written so many bytes, and answers the verdict.
+/// Goes on after the first fault, which a check has met and not told, where that has told so many findings, there was so much advice of
+/// each rule, and so many bytes were written, and answers the verdict.
 fn tell_faults<R: Source, W: Target>(
     asked: &Asked<'_>,
     refusal: Refusal,
     last: &LastRead,
     findings: u64,
+    advice: AdviceCounts,
     before: u64,
     reader: &mut R,
     writer: W,
 ) -> (W, Result<Verdict, ToolFault>)
     ensures told { OnOk result.1 (AppendsSuch W.contents writer result.0 (TellsAfter
-        (asking_of asked.now) last.now findings refusal (R.remaining reader.old)
+        (asking_of asked.now) last.now findings advice refusal (R.remaining reader.old)
         (R.remaining reader.new))) }
     ensures words { AddsWords W.contents writer result.0 }
     ensures leaves { AppendsUpTo W.contents writer result.0 result.1 (TellsAfterUpTo
-        (asking_of asked.now) last.now findings refusal (R.remaining reader.old)) }
+        (asking_of asked.now) last.now findings advice refusal (R.remaining reader.old)) }
     ensures counted { CountsAfter W.contents before writer result.0 result.1 }
     ensures taken { TakesMore (R.remaining reader.old) (R.remaining reader.new) }
     ensures answered { IsAnswerTo (Verdict.Refused refusal) result.1 }
@@ -497,29 +509,32 @@ fn tell_faults<R: Source, W: Target>(
         begun: None,
         faults: 1,
         findings,
+        advice,
     };
     let mut sink = Sink::new(writer);
     let told = lint.run(asked, &refusal, last, reader, &mut sink);
     finish(refusal, told, before, sink)
 }
 
-/// Checks a transmission up to its first fault, and advises on it where that is wanted. How far it came is answered too, and what the
-/// header says where there is advice.
+/// Checks a transmission up to its first fault, and advises on it where that is wanted: all advice is told, or of each rule the first
+/// three pieces. How far it came is answered too, what the header says where there is advice, and how much came from each rule.
 fn check_front<R: Source, W: Target + Drop>(
     alloc: Global,
     limits: Limits,
     explained: bool,
     advised: bool,
+    all: bool,
     reader: &mut R,
     writer: W,
-) -> (W, Result<Verdict, ToolFault>, CheckedFront, Option<Said>)
-    ensures reported { Reports (lines_before_fault advised explained) limits
+) -> (W, Result<Verdict, ToolFault>, CheckedFront, Option<Said>, AdviceCounts)
+    ensures reported { Reports (lines_before_fault advised explained all) limits
         (R.remaining reader.old) (R.remaining reader.new) W.contents writer result.0 result.1 }
     ensures judged { JudgesText limits (R.remaining reader.old) result.1 }
     ensures counted { GrowsBy (W.contents writer) (W.contents result.0) result.2.written }
     ensures said { IfOk result.1 (StandsAfter
         (λ given. (result.3 ≡ said_when advised (said_in given))
-        × (result.2.findings ≡ findings_with 0 given)) limits (R.remaining reader.old)
+        × (result.2.findings ≡ findings_with 0 given)
+        × (result.4 ≡ counts_of (advice_when advised given))) limits (R.remaining reader.old)
         (R.remaining reader.new)) }
     ensures reader_failures { CountsReaderFault result.1 (R.failures reader.old)
         (R.failures reader.new) }
@@ -530,16 +545,21 @@ fn check_front<R: Source, W: Target + Drop>(
 {
     match advised {
         true => {
-            let (writer, checked, front, said) = advise_up_to_fault(
-                alloc, limits, explained, reader, writer,
+            let manner = Manner {
+                explained,
+                apart: explained,
+                all,
+            };
+            let (writer, checked, front, said, advice) = advise_up_to_fault(
+                alloc, limits, manner, reader, writer,
             );
-            (writer, checked, front, Some(said))
+            (writer, checked, front, Some(said), advice)
         }
         false => {
             let (writer, checked, front) = check_up_to_fault(
                 alloc, limits, explained, reader, writer,
             );
-            (writer, checked, front, None)
+            (writer, checked, front, None, AdviceCounts::nothing())
         }
     }
 }
@@ -548,8 +568,9 @@ fn check_front<R: Source, W: Target + Drop>(
 ///
 /// Up to the first fault it is a check, and writes what `check` writes. In the place of a refusal it writes a line for each fault, the
 /// refusal first, with the findings between them, and at the end how many faults and findings it told, and in how many lines. The
-/// answer is the verdict of `check`. With a name for the input, lines under each say what `explain` says of it. Where advice is wanted,
-/// that on a transaction follows its findings.
+/// answer is the verdict of `check`. With a name for the input, lines under each say what `explain` says of it, and an empty line follows.
+/// Where advice is wanted, that on a transaction follows its findings: all of it, or of each rule the first three pieces, and then at the
+/// end how much of each rule isn't told.
 ///
 /// Where the reader or memory fails after the first fault, what is told up to there is written, and where the writer fails, the first of
 /// the bytes that would be: so many as the fault says.
@@ -558,18 +579,19 @@ pub fn lint<R: Source, W: Target + Drop>(
     limits: Limits,
     name: Option<&str>,
     advised: bool,
+    all: bool,
     reader: &mut R,
     writer: W,
 ) -> (W, Result<Verdict, ToolFault>)
     // Of any reader, by what was read of it: the lines of a check, and what stands after them where a
     // device or memory fails.
-    ensures lints { Lints (wanting (is_some name.entry) advised) limits (R.remaining reader.old)
+    ensures lints { Lints (wanting (is_some name.entry) advised all) limits (R.remaining reader.old)
         (R.remaining reader.new) W.contents writer result.0 result.1 }
-    ensures tells { IfOk result.1 (Tells (wanting (is_some name.entry) advised) limits
+    ensures tells { IfOk result.1 (Tells (wanting (is_some name.entry) advised all) limits
         (R.remaining reader.old) (R.remaining reader.new) W.contents writer result.0) }
     ensures judged { JudgesText limits (R.remaining reader.old) result.1 }
     ensures accepted { IfOk result.1 (JudgesAccepted
-        (lines_linted (wanting (is_some name.entry) advised)) limits (R.remaining reader.old)
+        (lines_linted (wanting (is_some name.entry) advised all)) limits (R.remaining reader.old)
         (R.remaining reader.new) W.contents writer result.0) }
     // Where the writer failed, the fault says how many bytes were written in all.
     ensures written { CountsWritten W.contents writer result.0 result.1 }
@@ -580,11 +602,12 @@ pub fn lint<R: Source, W: Target + Drop>(
     // All that was written was handed on.
     ensures handed_on { OnOk result.1 (W.handed_on result.0 ≡ true) }
 {
-    let (writer, checked, front, said) = check_front(
+    let (writer, checked, front, said, advice) = check_front(
         alloc,
         limits,
         name.is_some(),
         advised,
+        all,
         reader,
         writer,
     );
@@ -605,8 +628,11 @@ pub fn lint<R: Source, W: Target + Drop>(
                         limits,
                         name,
                         said,
+                        all,
                     };
-                    tell_faults(&asked, refusal, &last, findings, written, reader, writer)
+                    tell_faults(
+                        &asked, refusal, &last, findings, advice, written, reader, writer,
+                    )
                 }
                 None => unreachable!(),
             },

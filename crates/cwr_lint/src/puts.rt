@@ -1,18 +1,20 @@
 //! The lines that a lint puts: of one fault with what explains it, and how an input ended.
 
-ghost use Rattle.std.specs.Prelude.{◌≡◌, ◌++◌, false};
+ghost use Rattle.std.specs.Prelude.{◌≡◌, ◌++◌, ◌∷◌, [], false};
 ghost use Rattle.std.specs.Option.{is_some};
 ghost use Rattle.cwr_devices.specs.Steps.Sinks.{has_failed};
+ghost use Rattle.cwr_advise.specs.Steps.AdviceCounts.{summary_by};
 ghost use Rattle.cwr_levels.specs.Format.ReportLines.{fault_line, faults_line};
 ghost use Rattle.cwr_lint_lines.specs.Format.FaultsAtFields.{report_number};
 ghost use Rattle.cwr_lint.specs.Format.FaultsOfLines.{IsFaultText};
 ghost use Rattle.cwr_lint.specs.Format.Told.{truncated_unless};
 ghost use Rattle.cwr_lint.specs.Steps.CutShort.{IsFrontOf, Leaves};
 ghost use Rattle.cwr_lint.specs.Steps.Puts.{PutsAfter, PutsWith, tool_result};
-ghost use Rattle.cwr_lint.specs.Steps.Runs.{AreWords, IsEndText, asking_of};
+ghost use Rattle.cwr_lint.specs.Steps.Runs.{AreWords, IsEndText, asking_of, sums_text};
 
 use crate::raw_lines::RawLine;
 use cwr_advice::Said;
+use cwr_advise::AdviceCounts;
 use cwr_causes::explain_fault;
 use cwr_decode::Refusal;
 use cwr_devices::{Sink, SinkFault, Target};
@@ -30,6 +32,8 @@ pub(crate) struct Asked<'a> {
     pub name: Option<&'a str>,
     /// What the header says, where there is to be advice.
     pub said: Option<Said>,
+    /// All advice, or of each rule the first three pieces.
+    pub all: bool,
 }
 
 /// A line that is told, and what is held beside it.
@@ -81,6 +85,19 @@ fn put_words<W: Target>(words: &[u8], sink: &mut Sink<W>) -> Result<(), ToolFaul
     as_told(sink.put(words))
 }
 
+/// Puts lines that explain a fault, and an empty line after them.
+fn put_apart<W: Target>(words: &[u8], sink: &mut Sink<W>) -> Result<(), ToolFault>
+    requires { has_failed sink.old ≡ false }
+    ensures puts { PutsWith (λ _ text. text ≡ words.now ++ 10 ∷ []) W.contents W.failures result
+        sink.old sink.new }
+    ensures leaves { Leaves (IsFrontOf (words.now ++ 10 ∷ [])) W.contents result sink.old sink.new }
+{
+    match put_words(words, sink) {
+        Ok(()) => put_words(b"\n", sink),
+        Err(fault) => Err(fault),
+    }
+}
+
 /// Puts that an input ended too early, after so many lines, unless it is over.
 fn put_truncated<W: Target>(is_over: bool, lines: u64, sink: &mut Sink<W>) -> Result<(), ToolFault>
     requires { has_failed sink.old ≡ false }
@@ -111,8 +128,23 @@ fn put_faults_line<W: Target>(
     as_told(faults_line(faults, findings, lines, sink))
 }
 
+/// Puts how much of so much advice isn't told.
+fn put_untold<W: Target>(
+    all: bool,
+    advice: &AdviceCounts,
+    sink: &mut Sink<W>,
+) -> Result<(), ToolFault>
+    requires { has_failed sink.old ≡ false }
+    ensures puts { PutsAfter W.contents W.failures (summary_by all advice.now) result sink.old
+        sink.new }
+    ensures leaves { Leaves (λ text. text ≡ summary_by all advice.now) W.contents result sink.old
+        sink.new }
+{
+    as_told(advice.put_summary(all, sink))
+}
+
 /// Puts how an input ended, of which so many lines were read, and how many faults and findings it has.
-pub(crate) fn put_end<W: Target>(
+fn put_sums<W: Target>(
     is_over: bool,
     faults: u64,
     findings: u64,
@@ -120,10 +152,10 @@ pub(crate) fn put_end<W: Target>(
     sink: &mut Sink<W>,
 ) -> Result<(), ToolFault>
     requires { has_failed sink.old ≡ false }
-    ensures puts { PutsWith (λ _. IsEndText is_over faults findings lines) W.contents W.failures
-        result sink.old sink.new }
-    ensures leaves { Leaves (IsFrontOf (truncated_unless is_over lines
-        ++ faults_line faults findings lines)) W.contents result sink.old sink.new }
+    ensures puts { PutsWith (λ _ text. text ≡ sums_text is_over faults findings lines) W.contents
+        W.failures result sink.old sink.new }
+    ensures leaves { Leaves (IsFrontOf (sums_text is_over faults findings lines)) W.contents result
+        sink.old sink.new }
 {
     match put_truncated(is_over, lines, sink) {
         Ok(()) => put_faults_line(faults, findings, lines, sink),
@@ -131,8 +163,32 @@ pub(crate) fn put_end<W: Target>(
     }
 }
 
+/// Puts how much of so much advice isn't told, how an input ended, of which so many lines were read, and how many faults and findings it
+/// has.
+pub(crate) fn put_end<W: Target>(
+    all: bool,
+    advice: &AdviceCounts,
+    is_over: bool,
+    faults: u64,
+    findings: u64,
+    lines: u64,
+    sink: &mut Sink<W>,
+) -> Result<(), ToolFault>
+    requires { has_failed sink.old ≡ false }
+    ensures puts { PutsWith (λ _. IsEndText all advice.now is_over faults findings lines)
+        W.contents W.failures result sink.old sink.new }
+    ensures leaves { Leaves (IsFrontOf
+        (summary_by all advice.now ++ sums_text is_over faults findings lines)) W.contents result
+        sink.old sink.new }
+{
+    match put_untold(all, advice, sink) {
+        Ok(()) => put_sums(is_over, faults, findings, lines, sink),
+        Err(fault) => Err(fault),
+    }
+}
+
 impl Asked<'_> {
-    /// Puts the lines that explain a fault of a line, where they are asked for. What is to be said of the whole line is said with its
+    /// Puts the lines that explain a fault of a line, and an empty line, where they are asked for. What is to be said of the whole line is said with its
     /// first one.
     fn put_explanation<W: Target>(
         &self,
@@ -162,7 +218,7 @@ impl Asked<'_> {
             line.stage,
         );
         match explained {
-            Ok(text) => put_words(text.as_bytes(), sink),
+            Ok(text) => put_apart(text.as_bytes(), sink),
             Err(_) => Err(ToolFault::Memory),
         }
     }

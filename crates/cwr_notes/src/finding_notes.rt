@@ -1,9 +1,9 @@
 //! The lines under findings, put to a sink.
 
-ghost use Rattle.std.specs.Prelude.{◌≡◌, ◌+◌, ◌<◌, ◌≤◌, false, length, Some, slice_get, IfErr};
+ghost use Rattle.std.specs.Prelude.{◌≡◌, ◌+◌, ◌-◌, ◌<◌, ◌≤◌, ◌++◌, false, length, Some, slice_get, IfErr};
 ghost use Rattle.std.specs.List.{flat_map};
 ghost use Rattle.cwr_devices.specs.Steps.Sinks.{Puts, has_failed, written_of};
-ghost use Rattle.cwr_notes.specs.Format.FindingNotes.{explained_finding, finding_notes, head_lines, noted_at, notes_on, others, tail_lines};
+ghost use Rattle.cwr_notes.specs.Format.FindingNotes.{explained_finding, finding_notes, head_lines, more_line, most_others, noted_at, notes_on, others, tail_lines, total_line};
 ghost use Rattle.cwr_notes.specs.Format.WorkNames.{work_of};
 ghost use Rattle.cwr_notes.specs.Steps.OtherRecords.{AreListed, HasPassed};
 
@@ -108,8 +108,10 @@ fn put_others<W: Target>(
     Ok(())
 }
 
-/// Puts the last lines under a finding: how many records more there are, and what the rule adds up or counts.
+/// Puts the last lines under a finding: how many records more there are, what the rule adds up or counts, and an empty line where
+/// findings stand apart.
 fn put_tail<W: Target>(
+    apart: bool,
     rule: Rule,
     count: usize,
     transaction: &Transaction,
@@ -118,18 +120,35 @@ fn put_tail<W: Target>(
 ) -> Result<(), SinkFault>
     requires unfailed { has_failed sink.old ≡ false }
     requires few { length transaction.now ≤ 100000000 }
-    ensures puts { Puts W.contents W.failures (tail_lines rule count transaction.now) result
+    ensures puts { Puts W.contents W.failures (tail_lines apart rule count transaction.now) result
         sink.old sink.new }
     ensures fault { IfErr result (λ f. f.written ≡ written_of sink.new) }
 {
-    set_tail(rule, count, transaction, lines);
+    set_tail(apart, rule, count, transaction, lines);
     sink.put(lines.as_slice())
 }
 
 /// Sets the last lines under a finding.
-fn set_tail(rule: Rule, count: usize, transaction: &Transaction, lines: &mut NoteLines)
+fn set_tail(
+    apart: bool,
+    rule: Rule,
+    count: usize,
+    transaction: &Transaction,
+    lines: &mut NoteLines,
+)
     requires { length transaction.now ≤ 100000000 }
-    ensures { lines.new ≡ tail_lines rule count transaction.now }
+    ensures { lines.new ≡ tail_lines apart rule count transaction.now }
+{
+    set_total(rule, count, transaction, lines);
+    lines.add_gap(apart);
+}
+
+/// Sets how many records more there are, and what the rule adds up or counts.
+fn set_total(rule: Rule, count: usize, transaction: &Transaction, lines: &mut NoteLines)
+    requires { length transaction.now ≤ 100000000 }
+    ensures text { lines.new
+        ≡ more_line (count - most_others) ++ total_line rule count transaction.now }
+    ensures len { length lines.new ≤ 120 }
 {
     lines.set_more(count.saturating_sub(20) as u64);
     match rule {
@@ -142,6 +161,7 @@ fn set_tail(rule: Rule, count: usize, transaction: &Transaction, lines: &mut Not
 /// Puts the lines under a finding at a record of a transaction, whose first record is on that line of the file. The line on its work is
 /// that.
 fn put_notes_on<W: Target>(
+    apart: bool,
     first: u64,
     work: &WorkLine,
     transaction: &Transaction,
@@ -157,7 +177,7 @@ fn put_notes_on<W: Target>(
     requires there { finding.now.rec < length transaction.now }
     requires found { AreListed (others finding.now.rule transaction.now finding.now.rec shown.now)
         found.now }
-    ensures puts { Puts W.contents W.failures (notes_on first transaction.now finding.now shown.now)
+    ensures puts { Puts W.contents W.failures (notes_on apart first transaction.now finding.now shown.now)
         result sink.old sink.new }
     ensures fault { IfErr result (λ f. f.written ≡ written_of sink.new) }
 {
@@ -177,11 +197,19 @@ fn put_notes_on<W: Target>(
         lines,
         sink,
     )?;
-    put_tail(finding.rule, found.count, transaction, lines, sink)
+    put_tail(
+        apart,
+        finding.rule,
+        found.count,
+        transaction,
+        lines,
+        sink,
+    )
 }
 
 /// Puts the lines under a finding in a transaction, whose first record is on that line of the file. The line on its work is that.
 fn put_notes<W: Target>(
+    apart: bool,
     first: u64,
     work: &WorkLine,
     transaction: &Transaction,
@@ -194,7 +222,7 @@ fn put_notes<W: Target>(
     requires few { first + length transaction.now ≤ 100000000 }
     requires work { work.now ≡ work_of transaction.now }
     requires passed { HasPassed transaction.now passed.old }
-    ensures puts { Puts W.contents W.failures (finding_notes first transaction.now finding.now)
+    ensures puts { Puts W.contents W.failures (finding_notes apart first transaction.now finding.now)
         result sink.old sink.new }
     ensures fault { IfErr result (λ f. f.written ≡ written_of sink.new) }
     ensures passed { HasPassed transaction.now passed.new }
@@ -205,6 +233,7 @@ fn put_notes<W: Target>(
     passed.move_to(transaction, finding.rec);
     let found = others(finding, transaction, passed, &shown);
     put_notes_on(
+        apart,
         first,
         work,
         transaction,
@@ -218,6 +247,7 @@ fn put_notes<W: Target>(
 
 /// Puts the line of a finding, and the lines under it. The line on the transaction's work is that.
 fn put_explained<W: Target>(
+    apart: bool,
     group: u32,
     sequence: u32,
     first: u64,
@@ -233,17 +263,28 @@ fn put_explained<W: Target>(
     requires work { work.now ≡ work_of transaction.now }
     requires passed { HasPassed transaction.now passed.old }
     ensures puts { Puts W.contents W.failures
-        (explained_finding group sequence first transaction.now finding.now) result sink.old
+        (explained_finding apart group sequence first transaction.now finding.now) result sink.old
         sink.new }
     ensures fault { IfErr result (λ f. f.written ≡ written_of sink.new) }
     ensures passed { HasPassed transaction.now passed.new }
 {
     finding_line(group, sequence, finding, sink)?;
-    put_notes(first, work, transaction, finding, passed, lines, sink)
+    put_notes(
+        apart,
+        first,
+        work,
+        transaction,
+        finding,
+        passed,
+        lines,
+        sink,
+    )
 }
 
 /// Puts the lines of findings in a transaction, and the lines under them. The transaction's first record is on that line of the file.
+/// Where they stand apart, an empty line follows each.
 pub fn put_all_explained<W: Target>(
+    apart: bool,
     group: u32,
     sequence: u32,
     first: u64,
@@ -254,7 +295,7 @@ pub fn put_all_explained<W: Target>(
     requires unfailed { has_failed sink.old ≡ false }
     requires few { first + length transaction.now ≤ 100000000 }
     ensures puts { Puts W.contents W.failures
-        (flat_map (explained_finding group sequence first transaction.now) found.now) result
+        (flat_map (explained_finding apart group sequence first transaction.now) found.now) result
         sink.old sink.new }
     ensures fault { IfErr result (λ f. f.written ≡ written_of sink.new) }
 {
@@ -264,6 +305,7 @@ pub fn put_all_explained<W: Target>(
     let mut i = 0;
     while let Some(finding) = found.get(i) {
         put_explained(
+            apart,
             group,
             sequence,
             first,

@@ -3,7 +3,7 @@
 ghost use Rattle.std.specs.Prelude.{◌≡◌, ◌+◌, ◌*◌, ◌≤◌, [], ◌++◌, ◌∷◌, Some, length, codes, decimal};
 ghost use Rattle.std.specs.Str.{bytes_eq};
 ghost use Rattle.cwr_fields.specs.Steps.Views.{field_view};
-ghost use Rattle.cwr_notes.specs.Format.FindingNotes.{head_lines, level_words, more_line, named_line, noted_cells, noted_line, number_of_field, rule_words};
+ghost use Rattle.cwr_notes.specs.Format.FindingNotes.{gap, head_lines, level_words, more_line, named_line, noted_cells, noted_line, number_of_field, rule_words};
 ghost use Rattle.cwr_notes.specs.Format.FindingNotes.{value_words, where_line};
 
 use crate::record_lines::{LONGEST, Text, push, push_number};
@@ -259,7 +259,8 @@ impl NoteLines {
     /// Adds what the rule adds up.
     pub(crate) fn add_total(&mut self, total: u64)
         requires { length self.old ≤ 60 }
-        ensures { self.new ≡ self.old ++ codes "  total     " ++ decimal total ++ 10 ∷ [] }
+        ensures text { self.new ≡ self.old ++ codes "  total     " ++ decimal total ++ 10 ∷ [] }
+        ensures len { length self.new ≤ length self.old + 60 }
     {
         push(&mut self.text, b"  total     ");
         push_number(&mut self.text, total);
@@ -269,11 +270,22 @@ impl NoteLines {
     /// Adds how many components there are.
     pub(crate) fn add_components(&mut self, count: u64)
         requires { length self.old ≤ 60 }
-        ensures { self.new
+        ensures text { self.new
             ≡ self.old ++ codes "  total     COM records: " ++ decimal count ++ 10 ∷ [] }
+        ensures len { length self.new ≤ length self.old + 60 }
     {
         push(&mut self.text, b"  total     COM records: ");
         push_number(&mut self.text, count);
         push(&mut self.text, b"\n");
+    }
+
+    /// Adds an empty line, where findings stand apart.
+    pub(crate) fn add_gap(&mut self, apart: bool)
+        requires { length self.old ≤ 120 }
+        ensures { self.new ≡ self.old ++ gap apart }
+    {
+        if apart {
+            push(&mut self.text, b"\n");
+        }
     }
 }

@@ -39,10 +39,12 @@ pub enum Telling<'a> {
     Findings,
     /// The same with what explains them, in which the input has that name.
     Explained(&'a str),
-    /// Every fault in the place of a refusal; with what explains them where the input's name is given, and with advice or without.
+    /// Every fault in the place of a refusal; with what explains them where the input's name is given, and with advice or without: all of
+    /// it, or of each rule the first three pieces.
     Faults {
         name: Option<&'a str>,
         advised: bool,
+        all: bool,
     },
     /// The records with their cells, and the verdict.
     Records,
@@ -57,8 +59,13 @@ pub enum Telling<'a> {
     Rows(Table),
     /// What the acknowledgements say, in that form, and the verdict to standard error.
     Answers(Form),
-    /// The findings with what explains them, the advice, and the verdict. The numbers of so many works are kept.
-    Advice(u32),
+    /// The findings with what explains them, the advice, and the verdict.
+    Advice {
+        /// All advice, or of each rule the first three pieces.
+        all: bool,
+        /// The numbers of so many works are kept.
+        repeated: u32,
+    },
 }
 
 /// What is told of an input that is judged and is called so in lines, where it is explained too.
@@ -70,8 +77,12 @@ pub fn telling_of<'a>(asked: &Asked, explained: bool, name: &'a str) -> Telling<
         (true, advised, _) => Telling::Faults {
             name: explained.then_some(name),
             advised,
+            all: asked.all,
         },
-        (false, true, _) => Telling::Advice(asked.repeated),
+        (false, true, _) => Telling::Advice {
+            all: asked.all,
+            repeated: asked.repeated,
+        },
         (false, false, true) => Telling::Explained(name),
         (false, false, false) => Telling::Findings,
     }
@@ -89,6 +100,8 @@ pub struct Asked {
     pub faults: bool,
     /// Advice is told.
     pub advised: bool,
+    /// Of that all, where else of each rule the first three pieces are told.
+    pub all: bool,
     /// For that the numbers of so many works are kept.
     pub repeated: u32,
 }
@@ -222,8 +235,8 @@ fn tell<R: Source, W: Target + Drop>(
             };
             (writer, outcome, look_of(found), count)
         }
-        Telling::Faults { name, advised } => {
-            let (writer, outcome) = lint(alloc, limits, name, advised, reader, writer);
+        Telling::Faults { name, advised, all } => {
+            let (writer, outcome) = lint(alloc, limits, name, advised, all, reader, writer);
             let look = look_after(reader, &outcome);
             (writer, outcome, look, Count::nothing())
         }
@@ -251,8 +264,8 @@ fn tell<R: Source, W: Target + Drop>(
             let look = look_after(reader, &outcome);
             (writer, outcome, look, Count::of_answers(answers))
         }
-        Telling::Advice(repeated) => {
-            let (writer, outcome, worst) = advise(alloc, limits, repeated, reader, writer);
+        Telling::Advice { all, repeated } => {
+            let (writer, outcome, worst) = advise(alloc, limits, all, repeated, reader, writer);
             note_worst(watch, worst);
             let look = look_after(reader, &outcome);
             (writer, outcome, look, Count::nothing())
@@ -350,7 +363,7 @@ pub(crate) fn tell_aside<E: Write>(
                 tell_findings(error, name, &count.findings, judgement.status);
             }
         }
-        Telling::Faults { .. } | Telling::Advice(_) => {
+        Telling::Faults { .. } | Telling::Advice { .. } => {
             tell_following(error, name, &judgement.look);
         }
         Telling::Data { .. } | Telling::Rows(_) => tell_verdict(error, name, judgement),

@@ -106,7 +106,7 @@ fn linted(
         text: Vec::new(rt.alloc()),
         room,
     });
-    let (writer, answer) = lint(rt.alloc(), limits, None, false, &mut reader, writer);
+    let (writer, answer) = lint(rt.alloc(), limits, None, false, false, &mut reader, writer);
     (writer.into_inner().text, answer)
 }
 

@@ -125,7 +125,8 @@ pub struct CheckedFront {
 }
 
 /// Checks a transmission as `check` does, or where it is to be explained as `check_explained` does, and writes what that writes, but
-/// no line of a refusal: who goes on after that tells it. How far it came is answered too.
+/// no line of a refusal: who goes on after that tells it. An empty line stands after each finding that is explained. How far it came is
+/// answered too.
 pub fn check_up_to_fault<R: Source, W: Target + Drop>(
     alloc: Global,
     limits: Limits,

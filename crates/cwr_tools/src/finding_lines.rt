@@ -53,9 +53,11 @@ fn put_found<W: Target>(
 }
 
 /// Puts the lines of findings in the transaction of that sequence in the group of that ID, and notes that they are told. Where they are
-/// explained, lines follow each, and the transaction's first record is on that line of the file.
+/// explained, lines follow each, and the transaction's first record is on that line of the file. Where those stand apart an empty line
+/// follows.
 fn put_findings_in<W: Target>(
     explained: bool,
+    apart: bool,
     alloc: Global,
     group: u32,
     sequence: u32,
@@ -67,7 +69,8 @@ fn put_findings_in<W: Target>(
     requires unfailed { has_failed sink.old ≡ false }
     requires few { explained ≡ true → first + length transaction.now ≤ 100000000 }
     ensures puts { PutsLines W.contents W.failures (has_findings (Item.Transaction transaction.now))
-        (transaction_lines explained group sequence first transaction.now) result sink.old sink.new }
+        (transaction_lines explained apart group sequence first transaction.now) result sink.old
+        sink.new }
     ensures seen { OnOk result
         (Sees told.old.worst told.new.worst (Item.Transaction transaction.now ∷ [])) }
     ensures counted { OnOk result
@@ -78,7 +81,15 @@ fn put_findings_in<W: Target>(
     };
     told.add(found.as_slice());
     let put = match explained {
-        true => put_all_explained(group, sequence, first, transaction, found.as_slice(), sink),
+        true => put_all_explained(
+            apart,
+            group,
+            sequence,
+            first,
+            transaction,
+            found.as_slice(),
+            sink,
+        ),
         false => put_found(group, sequence, found.as_slice(), sink),
     };
     match put {
@@ -88,9 +99,10 @@ fn put_findings_in<W: Target>(
 }
 
 /// Puts the lines of findings in the transaction of that sequence in the group of that ID, and counts them. Where they are explained,
-/// lines follow each, and the transaction's first record is on that line of the file.
+/// lines follow each, and the transaction's first record is on that line of the file. Where those stand apart an empty line follows.
 pub fn put_transaction_findings<W: Target>(
     explained: bool,
+    apart: bool,
     alloc: Global,
     group: u32,
     sequence: u32,
@@ -102,13 +114,15 @@ pub fn put_transaction_findings<W: Target>(
     requires unfailed { has_failed sink.old ≡ false }
     requires few { explained ≡ true → first + length transaction.now ≤ 100000000 }
     ensures puts { PutsLines W.contents W.failures (has_findings (Item.Transaction transaction.now))
-        (transaction_lines explained group sequence first transaction.now) result sink.old sink.new }
+        (transaction_lines explained apart group sequence first transaction.now) result sink.old
+        sink.new }
     ensures counted { OnOk result
         (count.new ≡ findings_with count.old (Item.Transaction transaction.now ∷ [])) }
 {
     let mut told = FindingCount::new();
     let put = put_findings_in(
         explained,
+        apart,
         alloc,
         group,
         sequence,
@@ -126,7 +140,7 @@ pub fn put_transaction_findings<W: Target>(
 pub(crate) struct FindingLines {
     /// With the rule under each finding, and the cells that it speaks of.
     explained: bool,
-    /// Without the line of a refusal: who goes on after it tells it.
+    /// Without the line of a refusal: who goes on after it tells it. Findings that are explained then stand apart.
     up_to_fault: bool,
     /// Those that were told.
     pub(crate) told: FindingCount,
@@ -208,6 +222,7 @@ impl Report for FindingLines {
         match item {
             Item::Transaction(transaction) => put_findings_in(
                 self.explained,
+                self.up_to_fault,
                 alloc,
                 counts.groups,
                 counts.in_group,

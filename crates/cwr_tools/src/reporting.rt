@@ -10,7 +10,7 @@ ghost use Rattle.cwr_levels.specs.Steps.Putting.{PutsText};
 ghost use Rattle.cwr_tools.specs.Format.Reports.{CountsReaderFault, CountsWriterFault, ItemLines, unrefused_line};
 ghost use Rattle.cwr_tools.specs.Format.Texts.{verdict_line};
 ghost use Rattle.cwr_tools.specs.Format.Verdicts.{IsVerdictOf};
-ghost use Rattle.cwr_tools.specs.Steps.Reports.{PutsReport, Reports, StandsAtEnd};
+ghost use Rattle.cwr_tools.specs.Steps.Reports.{PutsReport, Reports, StandsAtEnd, StandsPut};
 ghost use Rattle.cwr_tools.specs.Steps.Verdicts.{IsReadLast};
 
 use crate::finding_lines::writer_fault;
@@ -108,12 +108,15 @@ fn put_items<L: Report, R: Source, W: Target>(
     requires stands { (of : ItemLines) × L.stands lines.old of [] }
     requires unfailed { has_failed sink.old ≡ false }
     requires empty { HasWritten W.contents (W.contents (writer_of sink.old)) [] sink.old }
-    ensures puts { (of : ItemLines) → L.stands lines.old of [] → PutsReport of (λ verdict. [])
+    ensures puts { (of : ItemLines) → L.stands lines.old of [] → PutsReport of (λ given verdict. [])
         limits (R.remaining reader.old) (R.remaining reader.new) W.contents W.failures result
         sink.old sink.new }
     ensures failures { CountsReaderFault result (R.failures reader.old) (R.failures reader.new) }
     ensures stands { (of : ItemLines) → L.stands lines.old of [] → StandsAtEnd
         (L.stands lines.new of) limits (R.remaining reader.old) (R.remaining reader.new) result }
+    ensures stands_put { (of : ItemLines) → L.stands lines.old of [] → StandsPut of
+        (L.stands lines.new of) limits (R.remaining reader.old) (R.remaining reader.new) W.contents
+        W.failures result sink.old sink.new }
     ensures last { holds_last ≡ true → IfOk result (λ verdict. IsSomeAnd front.new.last
         (IsReadLast limits (R.remaining reader.old) (R.remaining reader.new) verdict)) }
 {

@@ -66,7 +66,7 @@ pub trait Report {
     fn put_verdict<W: Target>(&self, verdict: &Verdict, sink: &mut Sink<W>) -> Result<(), SinkFault>
         requires { has_failed sink.old ≡ false }
         ensures { (of : ItemLines) (given : List Item) → stands self.now of given
-            → PutsText W.contents W.failures (of.last verdict.now) result sink.old sink.new };
+            → PutsText W.contents W.failures (of.last given verdict.now) result sink.old sink.new };
 }
 
 /// Keeps nothing of any transaction: none is passed over.

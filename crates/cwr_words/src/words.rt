@@ -10,7 +10,7 @@ use clap::error::ErrorKind;
 use clap::{ArgMatches, Error};
 use cwr_fields::Kind;
 use cwr_grammar::{
-    ACKS, ADVICE, ADVISE, ANYWAY, AS_JSON, BY_PLACE, CREATED, CSV, EXPLAIN, EXPLAINED, FAIL_ON,
+    ACKS, ADVICE, ADVISE, ALL, ANYWAY, AS_JSON, BY_PLACE, CREATED, CSV, EXPLAIN, EXPLAINED, FAIL_ON,
     FILE, GROUPS, INTO, JOIN, JSON, KIND, LINE, LINT, MANUAL, NEW, NO_PROGRESS, NUMBER, NUMBERS,
     OUT, PREFIX, PROGRESS, QUIET, RECORDS, RENUMBER, REPEATED, SAME_SENDER, SENT, SHOW, SPLIT,
     STATE, TRANSACTION, UTF8, WHOLE, WORKS, WRITE, command,
@@ -66,11 +66,15 @@ pub enum Work<'a> {
         explained: bool,
         /// With advice.
         advised: bool,
+        /// With all advice, where else of each rule the first three pieces are told.
+        all: bool,
     },
     /// They are checked, and there is advice on them.
     Advise {
         /// Which transmissions. Advice ends the run as a finding of its level does, and quiet lines leave none out.
         judging: Judging<'a>,
+        /// All advice is told, where else of each rule the first three pieces are.
+        all: bool,
         /// The numbers of so many works are kept, and those that stand twice are told.
         repeated: u32,
     },
@@ -296,6 +300,7 @@ fn lint_in<'a>(alloc: Global, given: &ArgMatches<'a>) -> Result<Work<'a>, AllocE
         quiet: given.get_flag(QUIET),
         explained: given.get_flag(EXPLAINED),
         advised: given.get_flag(ADVICE),
+        all: given.get_flag(ALL),
     })
 }
 
@@ -308,6 +313,7 @@ fn advice_in<'a>(alloc: Global, given: &ArgMatches<'a>) -> Result<Option<Work<'a
     };
     Ok(Some(Work::Advise {
         judging: judging_in(alloc, given)?,
+        all: given.get_flag(ALL),
         repeated,
     }))
 }

@@ -20,7 +20,7 @@ fn asked(rt: &(impl Abort + AllocGlobal), words: &[&str]) -> Option<(String, Lim
 
 /// Words, what they ask for, and its limits.
 #[rattlefmt::skip]
-static ASKED: [(&[&str], &str, Numbers); 41] = [
+static ASKED: [(&[&str], &str, Numbers); 43] = [
     (&["cwr"], "Check(Judging { files: [], quiet: false, fail_on: None })", LARGEST),
     (&["cwr", "check"], "Check(Judging { files: [], quiet: false, fail_on: None })", LARGEST),
     (&["cwr", "show"], "Show { file: None, fail_on: None }", LARGEST),
@@ -30,8 +30,8 @@ static ASKED: [(&[&str], &str, Numbers); 41] = [
     (&["cwr", "check", "--records", "5", "--groups=2", "--transaction", "7", "a.cwr"], "Check(Judging { files: [\"a.cwr\"], quiet: false, fail_on: None })", (5, 2, 7)),
     (&["cwr", "check", "a.cwr", "-", "--quiet", "--fail-on", "G"], "Check(Judging { files: [\"a.cwr\", \"-\"], quiet: true, fail_on: Some(G) })", LARGEST),
     (&["cwr", "explain", "--fail-on=F"], "Explain(Judging { files: [], quiet: false, fail_on: Some(F) })", LARGEST),
-    (&["cwr", "lint"], "Lint { files: [], quiet: false, explained: false, advised: false }", LARGEST),
-    (&["cwr", "lint", "a.cwr", "--quiet", "-", "--explain"], "Lint { files: [\"a.cwr\", \"-\"], quiet: true, explained: true, advised: false }", LARGEST),
+    (&["cwr", "lint"], "Lint { files: [], quiet: false, explained: false, advised: false, all: false }", LARGEST),
+    (&["cwr", "lint", "a.cwr", "--quiet", "-", "--explain"], "Lint { files: [\"a.cwr\", \"-\"], quiet: true, explained: true, advised: false, all: false }", LARGEST),
     (&["cwr", "json", "--utf8", "a.cwr"], "Json { file: Some(\"a.cwr\"), out: None, numbers: false, utf8: true }", LARGEST),
     (&["cwr", "csv", "SWR"], "Csv { rows: Records(Swr), file: None, out: None }", LARGEST),
     (&["cwr", "csv", "SWR", "-o", "t.csv"], "Csv { rows: Records(Swr), file: None, out: Some(\"t.csv\") }", LARGEST),
@@ -50,8 +50,10 @@ static ASKED: [(&[&str], &str, Numbers); 41] = [
     (&["cwr", "join", "out.cwr", "a.cwr"], "Join { out: \"out.cwr\", files: [\"a.cwr\"], only_new: false, fail_on: None, same_sender: false, repeated: 0 }", LARGEST),
     (&["cwr", "join", "out.cwr", "a.cwr", "b.cwr"], "Join { out: \"out.cwr\", files: [\"a.cwr\", \"b.cwr\"], only_new: false, fail_on: None, same_sender: false, repeated: 0 }", LARGEST),
     (&["cwr", "show", "--fail-on", "T", "a.cwr"], "Show { file: Some(\"a.cwr\"), fail_on: Some(T) }", LARGEST),
-    (&["cwr", "advise", "--repeated", "7", "a.cwr"], "Advise { judging: Judging { files: [\"a.cwr\"], quiet: false, fail_on: None }, repeated: 7 }", LARGEST),
-    (&["cwr", "advise", "--quiet", "a.cwr", "-", "--fail-on", "R"], "Advise { judging: Judging { files: [\"a.cwr\", \"-\"], quiet: true, fail_on: Some(R) }, repeated: 0 }", LARGEST),
+    (&["cwr", "advise", "--repeated", "7", "a.cwr"], "Advise { judging: Judging { files: [\"a.cwr\"], quiet: false, fail_on: None }, all: false, repeated: 7 }", LARGEST),
+    (&["cwr", "advise", "--quiet", "a.cwr", "-", "--fail-on", "R"], "Advise { judging: Judging { files: [\"a.cwr\", \"-\"], quiet: true, fail_on: Some(R) }, all: false, repeated: 0 }", LARGEST),
+    (&["cwr", "advise", "--all", "a.cwr"], "Advise { judging: Judging { files: [\"a.cwr\"], quiet: false, fail_on: None }, all: true, repeated: 0 }", LARGEST),
+    (&["cwr", "lint", "--all", "--advice"], "Lint { files: [], quiet: false, explained: false, advised: true, all: true }", LARGEST),
     (&["cwr", "json", "a.cwr", "-o", "-"], "Json { file: Some(\"a.cwr\"), out: None, numbers: false, utf8: false }", LARGEST),
     (&["cwr", "renumber", "a.cwr", "-"], "Renumber { file: Some(\"a.cwr\"), out: None, only_new: false, fail_on: None, anyway: false }", LARGEST),
     (&["cwr", "renumber", "-", "-o", "./-"], "Renumber { file: Some(\"-\"), out: Some(\"./-\"), only_new: false, fail_on: None, anyway: false }", LARGEST),
@@ -76,7 +78,7 @@ fn work_that_is_asked_for(rt: HostRuntime) {
 
 /// Words that are missing or out of range.
 #[rattlefmt::skip]
-static WRONG: [&[&str]; 29] = [
+static WRONG: [&[&str]; 30] = [
     &["cwr", "csv"],
     &["cwr", "csv", "swr"],
     &["cwr", "check", "--fail-on", "X"],
@@ -105,6 +107,7 @@ static WRONG: [&[&str]; 29] = [
     &["cwr", "join", "-o", "-", "a.cwr"],
     &["cwr", "join", "-", "a.cwr"],
     &["cwr", "advise", "--fail-on", "A4a"],
+    &["cwr", "lint", "--all", "a.cwr"],
     &["cwr", "renumber", "a.cwr", "b.cwr", "-o", "c.cwr"],
 ];
 
@@ -124,11 +127,12 @@ fn told(rt: &(impl Abort + AllocGlobal), words: &[&str]) -> Option<String> {
 
 /// Words that are wrong, and what is told of them.
 #[rattlefmt::skip]
-static TOLD: [(&[&str], &str); 8] = [
+static TOLD: [(&[&str], &str); 9] = [
     (&["cwr", "acks", "a.cwr", "--state"], "--sent <SENT>"),
     (&["cwr", "acks", "a.cwr", "--by-place"], "--sent <SENT>"),
     (&["cwr", "split", "-n", "1", "a.cwr"], "-o <PREFIX>"),
     (&["cwr", "split", "-n", "1", "a.cwr", "part-", "--created", "today"], "YYYYMMDDTHHMMSS"),
+    (&["cwr", "lint", "--all", "a.cwr"], "--advice"),
     (&["cwr", "join", "out.cwr"], "<FILE>..."),
     (&["cwr", "join", "-", "a.cwr"], "./- is a file of that name"),
     (&["cwr", "acks", "a.cwr", "--fail-on", "rejected"], "--sent <SENT>"),

@@ -13,7 +13,7 @@ use Rattle.cwr_endings.specs.Format.Endings.{IsStatusBy}
 use Rattle.cwr_reports.specs.Format.Endings.{Counts}
 
 -- the status that a run has on an input whose bytes are known: that of a fault where the input, standard output or memory failed
-abbrev pub StatusOnInput : Option ℕ → Limits → Wanted → Option (List ℕ) → Status → Type 0
+abbrev pub StatusOnInput : Option (Bool × ℕ) → Limits → Wanted → Option (List ℕ) → Status → Type 0
 StatusOnInput advice limits wanted input statuses.Fault = Unit {0}
 StatusOnInput advice limits wanted input status = IfSome input (λ text. IsStatusBy (Counts advice) limits wanted text status)
 
@@ -26,13 +26,13 @@ IsOfInput (Json file out numbers utf8) = (is_standard (option_map (λ name. name
 IsOfInput (Csv rows file out) = (is_standard (option_map (λ name. name.now) file) ≡ true) × (out ≡ None)
 IsOfInput (Acks files sent as_json by_place state fail_on) =
     (are_standard (map (λ name. name.now) files.items) ≡ true) × (sent.items ≡ [])
-IsOfInput (Lint files quiet explained advised) = are_standard (map (λ name. name.now) files.items) ≡ true
-IsOfInput (Advise judging repeated) = are_standard (map (λ name. name.now) judging.files.items) ≡ true
+IsOfInput (Lint files quiet explained advised all) = are_standard (map (λ name. name.now) files.items) ≡ true
+IsOfInput (Advise judging all repeated) = are_standard (map (λ name. name.now) judging.files.items) ≡ true
 IsOfInput work = ⊥
 
--- of how many works the numbers are kept, where advice is asked for: it counts for the status as findings do
-abbrev pub advice_of : Work → Option ℕ
-advice_of (Advise judging repeated) = Some repeated
+-- whether all advice is told, and of how many works the numbers are kept, where advice is asked for: it counts for the status as findings do
+abbrev pub advice_of : Work → Option (Bool × ℕ)
+advice_of (Advise judging all repeated) = Some (all, repeated)
 advice_of work = None
 
 -- what is wanted of the transmission: the options of a judgement say which findings end it
@@ -40,8 +40,8 @@ abbrev pub wanted_in : Bool → Work → Wanted
 wanted_in whole (Check judging) = record { whole = whole; fail_on = judging.fail_on }
 wanted_in whole (Explain judging) = record { whole = whole; fail_on = judging.fail_on }
 wanted_in whole (Show file fail_on) = record { whole = whole; fail_on = fail_on }
-wanted_in whole (Lint files quiet explained advised) = record { whole = whole; fail_on = None }
-wanted_in whole (Advise judging repeated) = record { whole = whole; fail_on = judging.fail_on }
+wanted_in whole (Lint files quiet explained advised all) = record { whole = whole; fail_on = None }
+wanted_in whole (Advise judging all repeated) = record { whole = whole; fail_on = judging.fail_on }
 wanted_in whole work = record { whole = whole; fail_on = None }
 
 -- the status of a fault: what was to be written may not be, or what was to be read can't be, or a file, a device or memory failed

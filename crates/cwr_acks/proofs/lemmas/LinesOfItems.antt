@@ -473,6 +473,6 @@ same_lines telling shown matched held so k =
     ap (λ (t : Telling). lines_of_held t held) so
     ∙ (λ z. record {
       lines = λ items. lines_told telling matched held k items z;
-      last = λ verdict. [];
+      last = λ items verdict. [];
       take_memory = λ item. matched_kept held matched [] k z && keeps_of item;
     })

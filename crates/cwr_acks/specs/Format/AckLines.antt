@@ -162,6 +162,6 @@ keeps_of item = is_answer item
 abbrev pub lines_of_acks : Telling → Option Matched → ItemLines
 lines_of_acks telling matched = record {
   lines = ack_lines telling matched;
-  last = λ verdict. [];
+  last = λ items verdict. [];
   take_memory = λ item. is_some matched && keeps_of item;
 }

@@ -223,7 +223,7 @@ lines_held telling held items = flat_map (λ q. line_held telling held (take q.0
 abbrev pub lines_of_held : Telling → Option Held → ItemLines
 lines_of_held telling held = record {
   lines = lines_held telling held;
-  last = λ verdict. [];
+  last = λ items verdict. [];
   take_memory = λ item. is_some held && keeps_of item;
 }
 

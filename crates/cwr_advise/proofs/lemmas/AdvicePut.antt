@@ -16,18 +16,19 @@ use Rattle.cwr_advice.specs.declared.rules.Advice.{Advice}
 use Rattle.cwr_advise.specs.Format.AdviceTexts.{lines_at_record, noted_advice}
 
 -- where no record has that place nothing is written of it
-pub noted_none : (group sequence n : ℕ) (t : List RecordValue) (a : Advice) → None ≡ slice_get t a.rec
-    → noted_advice group sequence n t a ≡ []
+pub noted_none : (apart : Bool) (group sequence n : ℕ) (t : List RecordValue) (a : Advice) → None ≡ slice_get t a.rec
+    → noted_advice apart group sequence n t a ≡ []
 unfolding noted_advice
-noted_none group sequence n t a e =
-    ap (λ (o : Option RecordValue). flat_map (lines_at_record group sequence (n + a.rec) (work_of t) a) (option_to_list o)) (sym e)
+noted_none apart group sequence n t a e =
+    ap (λ (o : Option RecordValue). flat_map (lines_at_record apart group sequence (n + a.rec) (work_of t) a) (option_to_list o)) (sym e)
 
-pub noted_some : (group sequence n : ℕ) (t : List RecordValue) (a : Advice) (r : RecordValue) → Some r ≡ slice_get t a.rec
-    → lines_at_record group sequence (n + a.rec) (work_of t) a r ≡ noted_advice group sequence n t a
+pub noted_some : (apart : Bool) (group sequence n : ℕ) (t : List RecordValue) (a : Advice) (r : RecordValue)
+    → Some r ≡ slice_get t a.rec
+    → lines_at_record apart group sequence (n + a.rec) (work_of t) a r ≡ noted_advice apart group sequence n t a
 unfolding noted_advice
-noted_some group sequence n t a r e =
-    sym (append-nil (lines_at_record group sequence (n + a.rec) (work_of t) a r))
-    ∙ ap (λ (o : Option RecordValue). flat_map (lines_at_record group sequence (n + a.rec) (work_of t) a) (option_to_list o)) e
+noted_some apart group sequence n t a r e =
+    sym (append-nil (lines_at_record apart group sequence (n + a.rec) (work_of t) a r))
+    ∙ ap (λ (o : Option RecordValue). flat_map (lines_at_record apart group sequence (n + a.rec) (work_of t) a) (option_to_list o)) e
 
 -- something is found where findings are, or advice is
 pub found_first : (m n : ℕ) → nat_lt 0 m ≡ true → nat_lt 0 (m + n) ≡ true

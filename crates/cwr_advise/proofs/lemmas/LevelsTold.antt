@@ -28,10 +28,10 @@ use Rattle.cwr_advice.specs.declared.said.Said.{Said}
 use Rattle.cwr_advice.specs.Format.Rules.{advice_of, cell_at}
 use Rattle.cwr_advise.specs.declared.repeats.Place.{Place}
 use Rattle.cwr_advise.specs.declared.repeats.Repeated.{Repeated}
-use Rattle.cwr_advise.specs.Format.AdviceLevels.{advice_reaches, any_reaches, any_reaches_after, is_repeated, item_reaches, own_reaches}
+use Rattle.cwr_advise.specs.Format.AdviceLevels.{advice_reaches, any_reaches, any_reaches_after, item_reaches, own_reaches}
 use Rattle.cwr_advise.specs.Format.AdviceLevels.{IsWorstTold, SeesTold}
 use Rattle.cwr_advise.specs.Format.AdviceLines.{said_in}
-use Rattle.cwr_advise.specs.Format.RepeatedWorks.{place_of, repeated_advice, work_header, works_in}
+use Rattle.cwr_advise.specs.Format.RepeatedWorks.{is_repeated, place_of, repeated_advice, work_header, works_in}
 use Rattle.cwr_advise.specs.Steps.KeptWorks.{reaches_at}
 use Rattle.cwr_advise.proofs.lemmas.WorksKept.{none_taken}
 
@@ -62,7 +62,7 @@ any_more limit asked given item = after_more limit asked [] given item
 
 -- ---- findings, and then advice
 
-on_all : {E : Type 0} (r : Result (Unit {0}) E) (P : Type 0) → P → OnOk r P
+pub on_all : {E : Type 0} (r : Result (Unit {0}) E) (P : Type 0) → P → OnOk r P
 on_all (Ok u) P p = p
 on_all (Err e) P p = tt
 
@@ -121,8 +121,8 @@ none_any : {A : Type 0} (p : A → Bool) → ((x : A) → p x ≡ false) → (xs
 none_any p none [] = refl
 none_any p none (x ∷ xs) = ap₂ (λ (a b : Bool). a || b) (none x) (none_any p none xs)
 
-unrepeated : (given : List Item) (item : Item) → is_repeated 0 given item ≡ false
-unrepeated given item =
+pub never_repeated : (given : List Item) (item : Item) → is_repeated 0 given item ≡ false
+never_repeated given item =
     none_any (λ h. is_some (place_of (cell_at h 6) (take 0 (works_in given))))
     (λ h. ap (λ (works : List (List ℕ × Place)). is_some (place_of (cell_at h 6) works)) (none_taken (works_in given)))
     (work_header item)
@@ -147,7 +147,7 @@ worst_passed worst limit given t zero none quiet is asked =
     ∙ sym (any_more limit asked given (Transaction t)
     ∙ ap₂ (λ (own repeated : Bool). any_reaches limit asked given || (own || (repeated && advice_reaches asked repeated_advice)))
     (none_own asked (said_in given) t none quiet)
-    (ap (λ (n : ℕ). is_repeated n given (Transaction t)) zero ∙ unrepeated given (Transaction t))
+    (ap (λ (n : ℕ). is_repeated n given (Transaction t)) zero ∙ never_repeated given (Transaction t))
     ∙ or_false (any_reaches limit asked given))
 
 -- ---- after a run

@@ -1,10 +1,12 @@
 -- What is put of advice, one text after another.
-use Rattle.std.proofs.Common.{◌≡◌, ℕ, ◌+◌, false, List, [], ◌∷◌, ◌++◌, take, Option, Some, None, refl, sym, ap, subst, ◌∙◌}
+use Rattle.std.proofs.Common.{◌≡◌, ℕ, ◌+◌, false, true≢false, List, [], ◌∷◌, ◌++◌, take, Option, Some, None, refl, sym, ap, subst, ◌∙◌}
 use Rattle.std.proofs.Common.{append-nil, arith}
-use Rattle.std.specs.Prelude.{slice_get, Result, Ok, Err, IsErr, is_err}
+use Rattle.std.specs.Prelude.{slice_get, Result, Ok, Err, IfErr, IsErr, is_err}
 use Rattle.std.specs.List.{flat_map}
 use Rattle.cwr_devices.specs.declared.sinks.Sink.{Sink}
-use Rattle.cwr_devices.specs.Steps.Sinks.{writer_of, has_failed, HasWritten, Puts, CountsOn}
+use Rattle.cwr_devices.specs.declared.sinks.SinkFault.{SinkFault}
+use Rattle.cwr_devices.specs.Steps.Sinks.{writer_of, written_of, has_failed, HasWritten, Puts, CountsOn}
+use Rattle.cwr_levels.specs.Steps.Putting.{PutsText}
 use Rattle.cwr_encode.proofs.lemmas.Numbered.{numbered, puts_as, step_more, steps_refused, steps_whole}
 
 -- a text that was made is put
@@ -17,6 +19,20 @@ pub puts_set : {W E : Type 0} (contents : W → Option (List ℕ)) (failures : W
 puts_set contents failures text other result old new unfailed same written failed counts =
     puts_as contents failures text other old new result same
     (record { written = written; failed = failed; counts = counts unfailed })
+
+-- a text is put to a sink that hasn't failed
+pub text_put : {W : Type 0} (contents : W → Option (List ℕ)) (failures : W → ℕ) (text other : List ℕ)
+    (result : Result (Unit {0}) SinkFault) (old new : Sink W) → has_failed old ≡ false
+    → Puts contents failures text result old new → IfErr result (λ f. f.written ≡ written_of new) → text ≡ other
+    → PutsText contents failures other result old new
+text_put contents failures text other result old new unfailed p counted same =
+    subst (λ (l : List ℕ). PutsText contents failures l result old new) same (record {
+      written = p.written;
+      fault = counted;
+      failed = p.failed;
+      failures_counted = λ _. p.counts;
+      again = λ failed. absurd (true≢false (sym failed ∙ unfailed));
+    })
 
 -- nothing is put
 pub puts_nothing : {W E : Type 0} (contents : W → Option (List ℕ)) (failures : W → ℕ) (u : Unit {0}) (text : List ℕ)

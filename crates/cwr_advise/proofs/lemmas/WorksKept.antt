@@ -29,8 +29,8 @@ use Rattle.cwr_advise.specs.declared.repeats.Place.{Place}
 use Rattle.cwr_advise.specs.declared.repeats.Repeated.{Repeated}
 use Rattle.cwr_advise.specs.declared.repeats.Repeats.{Repeats}
 use Rattle.cwr_advise.specs.Format.RepeatedWorks.{place_after, place_of, repeated_in, repeated_text, work_header, work_in}
-use Rattle.cwr_advise.specs.Format.RepeatedWorks.{works_in}
-use Rattle.cwr_advise.specs.Steps.KeptWorks.{AreKeptOf, place_at, repeated_at}
+use Rattle.cwr_advise.specs.Format.RepeatedWorks.{told_place, works_in}
+use Rattle.cwr_advise.specs.Steps.KeptWorks.{AreKeptOf, place_at, repeated_at, shown_if}
 
 -- ---- works among items
 
@@ -50,19 +50,25 @@ enumerate_from-snoc {X = X} n (y ∷ xs) x =
     ap (λ (l : List (ℕ × X)). (n, y) ∷ l)
     (enumerate_from-snoc (n + 1) xs x ∙ ap (λ (m : ℕ). enumerate_from (n + 1) xs ++ (m, x) ∷ []) (omega arith))
 
+-- what comes of each item by those before it, with one item more
+pub of_items-snoc : {X : Type 0} (f : List Item → Item → List X) (given : List Item) (item : Item)
+    → flat_map (λ p. f (take p.0 (given ++ item ∷ [])) p.1) (enumerate_from 0 (given ++ item ∷ []))
+    ≡ flat_map (λ p. f (take p.0 given) p.1) (enumerate_from 0 given) ++ f given item
+of_items-snoc {X = X} f given item =
+    let all : List Item = given ++ item ∷ [] in
+    let one : (ℕ × Item) → List X = λ p. f (take p.0 all) p.1 in
+    ap (flat_map one) (enumerate_from-snoc 0 given item)
+    ∙ flat_map-append one (enumerate_from 0 given) ((0 + length given, item) ∷ [])
+    ∙ ap₂ (λ (xs ys : List X). xs ++ ys)
+    (same_fronts f given 0 all given (λ k lt. take-append-le k given (item ∷ []) (omega (arith, lt))))
+    (append-nil (f (take (0 + length given) all) item)
+    ∙ ap (λ (before : List Item). f before item)
+    (ap (λ (n : ℕ). take n all) (omega arith) ∙ take-append_seam given (item ∷ [])))
+
 -- with one item more
 pub works_more : (given : List Item) (item : Item) → works_in (given ++ item ∷ []) ≡ works_in given ++ work_in given item
 unfolding works_in
-works_more given item =
-    let all : List Item = given ++ item ∷ [] in
-    let one : (ℕ × Item) → List (List ℕ × Place) = λ p. work_in (take p.0 all) p.1 in
-    ap (flat_map one) (enumerate_from-snoc 0 given item)
-    ∙ flat_map-append one (enumerate_from 0 given) ((0 + length given, item) ∷ [])
-    ∙ ap₂ (λ (xs ys : List (List ℕ × Place)). xs ++ ys)
-    (same_fronts work_in given 0 all given (λ k lt. take-append-le k given (item ∷ []) (omega (arith, lt))))
-    (append-nil (work_in (take (0 + length given) all) item)
-    ∙ ap (λ (before : List Item). work_in before item)
-    (ap (λ (n : ℕ). take n all) (omega arith) ∙ take-append_seam given (item ∷ [])))
+works_more given item = of_items-snoc work_in given item
 
 -- no items have none
 pub works_none : works_in [] ≡ []
@@ -245,27 +251,29 @@ same_place : (c : Totals) (given : List Item) → IsCount c given → place_at c
 same_place c given k = cc (k.groups, k.in_group, k.records)
 
 -- what is told of a work
-pub told_work : (limit : ℕ) (c : Totals) (given : List Item) (item : Item) (h : RecordValue) (told : Repeated) (number : List ℕ)
+pub told_work : (limit : ℕ) (c : Totals) (given : List Item) (item : Item) (h : RecordValue) (found : Repeated) (number : List ℕ)
     → IsCount c given → work_header item ≡ h ∷ [] → number ≡ cell_at h 6
-    → told.first ≡ place_of number (take limit (works_in given))
-    → told.is_beyond ≡ (nat_lt 0 limit && (length (works_in given) == limit))
-    → repeated_at limit c item told ≡ repeated_in limit given item
-told_work limit c given item h told number k header e first beyond =
-    ap (flat_map (λ (r : RecordValue). repeated_text limit (place_at c) r told.first told.is_beyond)) header
-    ∙ ap₂ (λ (o : Option Place) (b : Bool). repeated_text limit (place_at c) h o b ++ [])
+    → found.first ≡ place_of number (take limit (works_in given))
+    → found.is_beyond ≡ (nat_lt 0 limit && (length (works_in given) == limit))
+    → (told : Bool) → repeated_at limit c item (shown_if told found) ≡ repeated_in told limit given item
+told_work limit c given item h found number k header e first beyond told =
+    ap (flat_map (λ (r : RecordValue). repeated_text limit (place_at c) r (told_place told found.first) found.is_beyond)) header
+    ∙ ap₂ (λ (o : Option Place) (b : Bool). repeated_text limit (place_at c) h (told_place told o) b ++ [])
     (first ∙ ap (λ (n : List ℕ). place_of n (take limit (works_in given))) e) beyond
-    ∙ ap (λ (place : Place). repeated_text limit place h (place_of (cell_at h 6) (take limit (works_in given)))
+    ∙ ap (λ (place : Place). repeated_text limit place h (told_place told (place_of (cell_at h 6) (take limit (works_in given))))
     (nat_lt 0 limit && (length (works_in given) == limit)) ++ []) (same_place c given k)
     ∙ sym (ap (flat_map (λ (r : RecordValue). repeated_text limit (place_after given) r
-    (place_of (cell_at r 6) (take limit (works_in given))) (nat_lt 0 limit && (length (works_in given) == limit)))) header)
+    (told_place told (place_of (cell_at r 6) (take limit (works_in given))))
+    (nat_lt 0 limit && (length (works_in given) == limit)))) header)
 
 -- of what is no work nothing is told
-pub told_other : (limit : ℕ) (c : Totals) (given : List Item) (item : Item) (told : Repeated) → work_header item ≡ []
-    → repeated_at limit c item told ≡ repeated_in limit given item
-told_other limit c given item told header =
-    ap (flat_map (λ (r : RecordValue). repeated_text limit (place_at c) r told.first told.is_beyond)) header
+pub told_other : (limit : ℕ) (c : Totals) (given : List Item) (item : Item) (found : Repeated) → work_header item ≡ []
+    → (told : Bool) → repeated_at limit c item (shown_if told found) ≡ repeated_in told limit given item
+told_other limit c given item found header told =
+    ap (flat_map (λ (r : RecordValue). repeated_text limit (place_at c) r (told_place told found.first) found.is_beyond)) header
     ∙ sym (ap (flat_map (λ (r : RecordValue). repeated_text limit (place_after given) r
-    (place_of (cell_at r 6) (take limit (works_in given))) (nat_lt 0 limit && (length (works_in given) == limit)))) header)
+    (told_place told (place_of (cell_at r 6) (take limit (works_in given))))
+    (nat_lt 0 limit && (length (works_in given) == limit)))) header)
 
 -- of a work, that is the text
 pub told_here : (limit : ℕ) (c : Totals) (item : Item) (h : RecordValue) (place : Place) (told : Repeated)

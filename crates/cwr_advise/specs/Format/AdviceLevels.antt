@@ -1,7 +1,6 @@
 -- Whether something that is told of items has a level, or a worse one.
-use Rattle.std.specs.Prelude.{ℕ, Bool, false, ◌&&◌, ◌||◌, List, [], ◌∷◌, ◌++◌, take, Option, IfSome, ◌≡◌}
+use Rattle.std.specs.Prelude.{ℕ, Bool, false, ◌&&◌, ◌||◌, List, [], ◌∷◌, ◌++◌, Option, IfSome, ◌≡◌}
 use Rattle.std.specs.List.{list_any}
-use Rattle.std.specs.Option.{is_some}
 use Rattle.cwr_shape.specs.declared.limits.Limits.{Limits}
 use Rattle.cwr_shape.specs.declared.reasons.Level.{Level}
 use Rattle.cwr_values.specs.declared.items.Item.{Item}
@@ -14,9 +13,10 @@ use Rattle.cwr_tools.specs.Format.Reports.{ItemLines}
 use Rattle.cwr_tools.specs.Format.Watching.{has_from, is_reached, is_reached_by}
 use Rattle.cwr_advice.specs.declared.rules.Advice.{Advice}
 use Rattle.cwr_advice.specs.declared.said.Said.{Said}
-use Rattle.cwr_advice.specs.Format.Rules.{advice_of, cell_at, level_of_rule}
+use Rattle.cwr_advice.specs.Format.Rules.{advice_of, level_of_rule}
+use Rattle.cwr_advise.specs.declared.item_advice.Manner.{Manner}
 use Rattle.cwr_advise.specs.Format.AdviceLines.{lines_advised, said_in}
-use Rattle.cwr_advise.specs.Format.RepeatedWorks.{place_of, repeated_advice, work_header, works_in}
+use Rattle.cwr_advise.specs.Format.RepeatedWorks.{is_repeated, repeated_advice}
 
 -- the advice has the level that is asked for, or a worse one; without a level none is asked for
 abbrev pub advice_reaches : Option Level → Advice → Bool
@@ -26,11 +26,6 @@ advice_reaches asked a = is_reached_by asked (level_of_rule a.rule)
 abbrev pub own_reaches : Option Level → Said → Item → Bool
 own_reaches asked said (Transaction t) = has_from asked (findings t) || list_any (advice_reaches asked) (advice_of said t)
 own_reaches asked said item = false
-
--- the item is a work whose number stands in a work before; the numbers of so many works are kept
-abbrev pub is_repeated : ℕ → List Item → Item → Bool
-is_repeated limit before item =
-    list_any (λ h. is_some (place_of (cell_at h 6) (take limit (works_in before)))) (work_header item)
 
 -- something that is told of an item which comes after these has the level or a worse one
 abbrev pub item_reaches : ℕ → Option Level → List Item → Item → Bool
@@ -51,13 +46,13 @@ any_reaches limit asked items = any_reaches_after limit asked [] items
 -- works the numbers are kept the lines say.
 abbrev pub TellsFrom : ItemLines → Option Level → List Item → Bool → Type 0
 TellsFrom of asked items found =
-    (explained : Bool) × (up_to_fault : Bool) × (limit : ℕ) × (of ≡ lines_advised explained up_to_fault limit)
+    (manner : Manner) × (up_to_fault : Bool) × (limit : ℕ) × (of ≡ lines_advised manner up_to_fault limit)
     × (found ≡ any_reaches limit asked items)
 
 -- it is the worst level of what is told of the items in these lines
 abbrev pub IsWorstTold : ItemLines → Option Level → List Item → Type 0
 IsWorstTold of worst items =
-    (explained : Bool) × (up_to_fault : Bool) × (limit : ℕ) × (of ≡ lines_advised explained up_to_fault limit)
+    (manner : Manner) × (up_to_fault : Bool) × (limit : ℕ) × (of ≡ lines_advised manner up_to_fault limit)
     × ((asked : Option Level) → is_reached asked worst ≡ any_reaches limit asked items)
 
 -- where a text is accepted, it is that of its transmission

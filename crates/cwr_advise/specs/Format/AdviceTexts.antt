@@ -1,10 +1,10 @@
 -- The lines of advice at a record.
-use Rattle.std.specs.Prelude.{ℕ, ◌+◌, List, [], ◌∷◌, ◌++◌, codes, decimal, flat_map, slice_get}
+use Rattle.std.specs.Prelude.{ℕ, ◌+◌, Bool, List, [], ◌∷◌, ◌++◌, codes, decimal, flat_map, slice_get}
 use Rattle.std.specs.Option.{option_to_list}
 use Rattle.cwr_lines.specs.Format.Carried.{carried_at, record_cell}
 use Rattle.cwr_lines.specs.Format.Records.{RecordValue}
 use Rattle.cwr_shape.specs.Format.ReasonTexts.{level_text}
-use Rattle.cwr_notes.specs.Format.FindingNotes.{noted_line, where_line}
+use Rattle.cwr_notes.specs.Format.FindingNotes.{gap, noted_line, where_line}
 use Rattle.cwr_notes.specs.Format.WorkNames.{work_of}
 use Rattle.cwr_advice.specs.declared.rules.Advice.{Advice}
 use Rattle.cwr_advice.specs.Format.Rules.{level_of_rule}
@@ -26,12 +26,12 @@ abbrev pub words_line : Advice → List ℕ
 words_line a = codes "  advice    " ++ advice_words a.rule ++ 10 ∷ []
 
 -- the lines of advice at a record on line n of the file, in a transaction on whose work that is the line: what it is, where the record
--- stands, that line, its cell, and the advice in words
-abbrev pub lines_at_record : ℕ → ℕ → ℕ → List ℕ → Advice → RecordValue → List ℕ
-lines_at_record group sequence n work a r =
-    advice_line group sequence a ++ where_line n r.kind ++ work ++ cell_line n r a.field ++ words_line a
+-- stands, that line, its cell, the advice in words, and an empty line where it stands apart
+abbrev pub lines_at_record : Bool → ℕ → ℕ → ℕ → List ℕ → Advice → RecordValue → List ℕ
+lines_at_record apart group sequence n work a r =
+    advice_line group sequence a ++ where_line n r.kind ++ work ++ cell_line n r a.field ++ words_line a ++ gap apart
 
 -- the same in the transaction t, whose first record is on line n of the file
-unfoldable pub noted_advice : ℕ → ℕ → ℕ → List RecordValue → Advice → List ℕ
-noted_advice group sequence n t a =
-    flat_map (lines_at_record group sequence (n + a.rec) (work_of t) a) (option_to_list (slice_get t a.rec))
+unfoldable pub noted_advice : Bool → ℕ → ℕ → ℕ → List RecordValue → Advice → List ℕ
+noted_advice apart group sequence n t a =
+    flat_map (lines_at_record apart group sequence (n + a.rec) (work_of t) a) (option_to_list (slice_get t a.rec))

@@ -1,8 +1,8 @@
 -- Works of a transmission whose submitter's work numbers stand in works before them.
 use Rattle.std.specs.Prelude.{ℕ, ◌+◌, Bool, not, ◌&&◌, ◌==◌, nat_lt, if◌then◌else◌, List, [], ◌∷◌, ◌++◌, codes, decimal, length}
 use Rattle.std.specs.Prelude.{map, filter, take, count_by, flat_map, Option, Some, None}
-use Rattle.std.specs.List.{after_last, enumerate_from}
-use Rattle.std.specs.Option.{option_to_list}
+use Rattle.std.specs.List.{after_last, enumerate_from, list_any}
+use Rattle.std.specs.Option.{is_some, option_to_list}
 use Rattle.std.specs.Str.{bytes_eq}
 use Rattle.cwr_lines.specs.Format.Records.{RecordValue}
 use Rattle.cwr_values.specs.declared.items.Item.{Item}
@@ -45,6 +45,11 @@ abbrev pub place_of : List ℕ → List (List ℕ × Place) → Option Place
 place_of number [] = None
 place_of number (w ∷ works) = if bytes_eq w.0 number then Some w.1 else place_of number works
 
+-- the item is a work whose number stands in a work before it; the numbers of so many works are kept
+abbrev pub is_repeated : ℕ → List Item → Item → Bool
+is_repeated limit before item =
+    list_any (λ h. is_some (place_of (cell_at h 6) (take limit (works_in before)))) (work_header item)
+
 -- ---- what is told of them
 
 -- A5a is broken by the header of a work, at its number
@@ -74,11 +79,15 @@ abbrev pub repeated_text : ℕ → Place → RecordValue → Option Place → Bo
 repeated_text limit place h first is_beyond =
     flat_map (repeated_lines place h) (option_to_list first) ++ (if is_beyond then limit_line limit place else [])
 
+-- where the first work with the number stands, where that is told
+abbrev pub told_place : Bool → Option Place → Option Place
+told_place told first = if told then first else None
+
 -- The lines on an item that comes after these items. The numbers of so many works are kept, and with these it is compared; with the limit 0
--- nothing is.
-abbrev pub repeated_in : ℕ → List Item → Item → List ℕ
-repeated_in limit before item =
-    flat_map (λ h. repeated_text limit (place_after before) h (place_of (cell_at h 6) (take limit (works_in before)))
+-- nothing is. That its number stands in a work before is told or not.
+abbrev pub repeated_in : Bool → ℕ → List Item → Item → List ℕ
+repeated_in told limit before item =
+    flat_map (λ h. repeated_text limit (place_after before) h (told_place told (place_of (cell_at h 6) (take limit (works_in before))))
     (nat_lt 0 limit && (length (works_in before) == limit))) (work_header item)
 
 -- memory is taken for its number

@@ -1,12 +1,21 @@
 -- What is written of an item, by what is kept of the items before it.
-use Rattle.std.specs.Prelude.{◌≡◌, ℕ, ◌+◌, ◌-◌, ◌^◌, min, Bool, List, length}
+use Rattle.std.specs.Prelude.{◌≡◌, ℕ, ◌+◌, ◌-◌, ◌^◌, min, Bool, true, List, [], ◌++◌, length, flat_map}
 use Rattle.cwr_values.specs.declared.items.Item.{Item}
 use Rattle.cwr_values.specs.declared.items.Item.TheVariants.{Transaction}
 use Rattle.cwr_levels.specs.Format.Findings.{findings}
+use Rattle.cwr_lines.specs.Format.Records.{RecordValue}
 use Rattle.cwr_tools.specs.declared.totals.Totals.{Totals}
+use Rattle.cwr_tools.specs.declared.verdicts.Verdict.{Verdict}
+use Rattle.cwr_tools.specs.declared.verdicts.Verdict.TheVariants.{Refused}
+use Rattle.cwr_tools.specs.Format.Reports.{transaction_lines}
+use Rattle.cwr_tools.specs.Format.Texts.{verdict_line}
 use Rattle.cwr_advice.specs.declared.said.Said.{Said}
+use Rattle.cwr_advice.specs.Format.Rules.{advice_of}
 use Rattle.cwr_advise.specs.declared.before.Before.{Before}
-use Rattle.cwr_advise.specs.Format.AdviceLines.{advised_in, said_in}
+use Rattle.cwr_advise.specs.declared.item_advice.Manner.{Manner}
+use Rattle.cwr_advise.specs.Format.AdviceLines.{said_in}
+use Rattle.cwr_advise.specs.Format.AdviceTexts.{noted_advice}
+use Rattle.cwr_advise.specs.Steps.AdviceCounts.{summary_by, told_by}
 
 -- it is what the items so far leave behind
 abbrev pub IsBefore : Before → List Item → Type 0
@@ -17,6 +26,19 @@ abbrev pub told_with : ℕ → Item → ℕ
 told_with before (Transaction t) = min (before + length (findings t)) (2 ^ 64 - 1)
 told_with before item = before
 
--- the lines of one item more
-abbrev pub advised_at : Bool → Said → Totals → Item → List ℕ
-advised_at explained said counts item = advised_in explained said counts.groups counts.in_group (counts.records + 1) item
+-- the findings of a transaction, and then the advice on it that is told after so much of each rule
+abbrev pub advised_after : Manner → List ℕ → Said → ℕ → ℕ → ℕ → List RecordValue → List ℕ
+advised_after manner told said group sequence n t =
+    transaction_lines manner.explained manner.apart group sequence n t
+    ++ flat_map (noted_advice manner.apart group sequence n t) (told_by manner.all told (advice_of said t))
+
+-- the lines of one item more, after items with these numbers, and after so much advice of each rule
+abbrev pub advised_at : Manner → List ℕ → Said → Totals → Item → List ℕ
+advised_at manner told said counts (Transaction t) =
+    advised_after manner told said counts.groups counts.in_group (counts.records + 1) t
+advised_at manner told said counts item = []
+
+-- how much of so much advice of each rule isn't told, and the verdict's line, or, up to a fault, nothing of a refusal
+abbrev pub last_by : Bool → Bool → List ℕ → Verdict → List ℕ
+last_by true all told (Refused refusal) = []
+last_by up_to_fault all told verdict = summary_by all told ++ verdict_line verdict

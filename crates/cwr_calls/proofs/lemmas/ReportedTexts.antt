@@ -116,12 +116,12 @@ tells_to wanted limits after text report contents old new (Refused refusal) none
 
 pub lint_on_items : {W : Type 0} (explained : Bool) (limits : Limits) (before after : Option (List ℕ)) (text report : List ℕ)
     (contents : W → Option (List ℕ)) (old new : W) (result : Result Verdict ToolFault)
-    → Lints (wanting explained false) limits before after contents old new result → before ≡ Some text → contents old ≡ Some []
-    → contents new ≡ Some report → IfOk result (Tells (wanting explained false) limits before after contents old new)
-    → IsWritten (IsLintOn (wanting explained false) limits text report) result
+    → Lints (wanting explained false false) limits before after contents old new result → before ≡ Some text → contents old ≡ Some []
+    → contents new ≡ Some report → IfOk result (Tells (wanting explained false false) limits before after contents old new)
+    → IsWritten (IsLintOn (wanting explained false false) limits text report) result
 lint_on_items explained limits before after text report contents old new (Err fault) l e none has h = tt
 lint_on_items explained limits before after text report contents old new (Ok verdict) l e none has h = (
   after,
-  tells_to (wanting explained false) limits after text report contents old new verdict none has
-      (subst (λ (b : Option (List ℕ)). Tells (wanting explained false) limits b after contents old new verdict) e h),
+  tells_to (wanting explained false false) limits after text report contents old new verdict none has
+      (subst (λ (b : Option (List ℕ)). Tells (wanting explained false false) limits b after contents old new verdict) e h),
 )

@@ -57,8 +57,8 @@ IsReportOn asks.Show limits text report verdict = IsTextOn lines_of_records limi
 IsReportOn asks.Explain limits text report verdict = IsExplainedOn limits text report verdict
 IsReportOn asks.Data limits text report verdict = IsTextOn (lines_of_data Latin1 false) limits text report verdict
 IsReportOn asks.NotedData limits text report verdict = IsTextOn (lines_of_data Latin1 true) limits text report verdict
-IsReportOn asks.Lint limits text report verdict = IsLintOn (wanting false false) limits text report verdict
-IsReportOn asks.ExplainedLint limits text report verdict = IsLintOn (wanting true false) limits text report verdict
+IsReportOn asks.Lint limits text report verdict = IsLintOn (wanting false false false) limits text report verdict
+IsReportOn asks.ExplainedLint limits text report verdict = IsLintOn (wanting true false false) limits text report verdict
 
 -- where there is a verdict, the report on it was written
 abbrev pub IsWritten : (Verdict → Type 0) → Result Verdict ToolFault → Type 0

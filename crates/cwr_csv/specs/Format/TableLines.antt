@@ -14,4 +14,4 @@ table_text Works given = work_table given
 
 -- that, and nothing for the verdict
 abbrev pub lines_of_table : Table → ItemLines
-lines_of_table table = record { lines = table_text table; last = λ verdict. []; take_memory = λ item. false }
+lines_of_table table = record { lines = table_text table; last = λ items verdict. []; take_memory = λ item. false }

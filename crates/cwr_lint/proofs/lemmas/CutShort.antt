@@ -15,6 +15,7 @@ use Rattle.cwr_tools.specs.declared.verdicts.Verdict.{Verdict}
 use Rattle.cwr_tools.specs.declared.verdicts.ToolFault.{ToolFault}
 use Rattle.cwr_tools.specs.declared.verdicts.ToolFault.TheVariants as faults
 use Rattle.cwr_tools.specs.Steps.Reports.{PutsLines}
+use Rattle.cwr_advice.specs.declared.rules.Advice.{Advice}
 use Rattle.cwr_lint_lines.specs.declared.judging.Judged.{Judged}
 use Rattle.cwr_lint_lines.specs.Format.FaultsAtFields.{JudgedLine, LineCut, fields_end}
 use Rattle.cwr_lint_lines.specs.Steps.Cells.{held_cut}
@@ -29,7 +30,7 @@ use Rattle.cwr_lint.specs.Steps.LinesRead.{GoesOn, ReadsLine, held_raw, spelled}
 use Rattle.cwr_lint.specs.Steps.Lints.{EndsRun, counted}
 use Rattle.cwr_lint.specs.Steps.Puts.{tool_result}
 use Rattle.cwr_lint.specs.Steps.Runs.{TellsOfLine, TellsRun, TellsToEnd, walk_of}
-use Rattle.cwr_lint.specs.Steps.Walks.{Walk, WalksLine, ended_by}
+use Rattle.cwr_lint.specs.Steps.Walks.{Walk, WalksLine, ended_by, told_ended}
 use Rattle.cwr_lint.proofs.lemmas.RawLines.{goes_both, goes_line, goes_none, raw_cut}
 use Rattle.cwr_lint.proofs.lemmas.Running.{RunSoFar, all_more}
 use Rattle.cwr_lint.proofs.lemmas.Telling.{ToldSoFar}
@@ -167,33 +168,35 @@ told_part contents failures asked l from j count end fault stop old mid new with
     )) q
 
 -- the findings of the transaction that it ends, or none
-pub findings_part : (asked : Asking) (l : JudgedLine) (ended : Option EndedTransaction) (from : ℕ) (text : List ℕ)
-    → IsNoneOr (ended_lines asked ended) text → TellsPart asked l ended from text
-findings_part asked l ended from text (inl e) = inl e
-findings_part asked l ended from text (inr e) =
-    inr ([], (0, omega arith, [], (refl, refl)), e ∙ sym (append-nil (ended_lines asked ended)))
+pub findings_part : (asked : Asking) (l : JudgedLine) (ended : Option EndedTransaction) (advice : List Advice) (from : ℕ)
+    (text : List ℕ) → IsNoneOr (ended_lines asked advice ended) text → TellsPart asked l ended advice from text
+findings_part asked l ended advice from text (inl e) = inl e
+findings_part asked l ended advice from text (inr e) =
+    inr ([], (0, omega arith, [], (refl, refl)), e ∙ sym (append-nil (ended_lines asked advice ended)))
 
 -- all of them, and some faults
-pub faults_part : (asked : Asking) (l : JudgedLine) (ended : Option EndedTransaction) (from : ℕ) (found lines : List ℕ)
-    → found ≡ ended_lines asked ended → TellsSome asked l from (fields_end l.cut.kind) lines
-    → TellsPart asked l ended from (found ++ lines)
-faults_part asked l ended from found lines e s = inr (lines, s, ap (λ (l : List ℕ). l ++ lines) e)
+pub faults_part : (asked : Asking) (l : JudgedLine) (ended : Option EndedTransaction) (advice : List Advice) (from : ℕ)
+    (found lines : List ℕ)
+    → found ≡ ended_lines asked advice ended → TellsSome asked l from (fields_end l.cut.kind) lines
+    → TellsPart asked l ended advice from (found ++ lines)
+faults_part asked l ended advice from found lines e s = inr (lines, s, ap (λ (l : List ℕ). l ++ lines) e)
 
 -- the same line, judged at the state
 pub part_at : (asked : Asking) (h : HeldLine) (judged : Judged) (from : ℕ) (old : Walk) (text : List ℕ)
     → judged ≡ judged_as old.state (held_cut h)
-    → TellsPart asked (judged_at old.state.lines (scope_by old.state.group) h judged) (ended_by judged old.state old.begun) from text
+    → TellsPart asked (judged_at old.state.lines (scope_by old.state.group) h judged) (ended_by judged old.state old.begun)
+    (told_ended asked old.advice (ended_by judged old.state old.begun)) from text
     → WalksPart asked old (held_cut h) from text
 part_at asked h judged from old text e t =
     subst
     (λ (j : Judged). TellsPart asked (judged_at old.state.lines (scope_by old.state.group) h j) (ended_by j old.state old.begun)
-    from text) e t
+    (told_ended asked old.advice (ended_by j old.state old.begun)) from text) e t
 
 -- all of a line is a part of it
 pub whole_part : (asked : Asking) (h : HeldLine) (judged : Judged) (from count : ℕ) (old : Walk) (text : List ℕ)
     → judged ≡ judged_as old.state (held_cut h)
-    → TellsOfLine asked (judged_at old.state.lines (scope_by old.state.group) h judged) (ended_by judged old.state old.begun) from
-    count text
+    → TellsOfLine asked (judged_at old.state.lines (scope_by old.state.group) h judged) (ended_by judged old.state old.begun)
+    (told_ended asked old.advice (ended_by judged old.state old.begun)) from count text
     → WalksPart asked old (held_cut h) from text
 whole_part asked h judged from count old text e t =
     part_at asked h judged from old text e

@@ -186,7 +186,7 @@ over_at_end limits v last range whole within stands =
 -- ---- just that cell
 
 pub one_cell : OneCellIsTold
-one_cell asked limits text left refusal tally found refused lines last over bytes written before wrong kind k d short is_refused taken
+one_cell asked limits text left refusal tally found advice refused lines last over bytes written before wrong kind k d short is_refused taken
     read cut told =
     (rec_is, field_is, first.2.nothing, later)
   where
@@ -263,7 +263,7 @@ one_cell asked limits text left refusal tally found refused lines last over byte
         (front_itself limits (map symbol_of front) (symbol_of r ∷ map symbol_of place.front.more) whole_symbols)
 
     begins : Walk
-    begins = begins_at (state_at tally.stage tally.counts (refusal.rec - 1)) found
+    begins = begins_at (state_at tally.stage tally.counts (refusal.rec - 1)) found advice
 
     -- the tally is that of the front
     xs : List Symbol

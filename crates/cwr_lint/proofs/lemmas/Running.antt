@@ -9,6 +9,7 @@ use Rattle.std.proofs.KnownBytes.{Consumes-nil, Consumes-trans}
 use Rattle.std.proofs.lemmas.List.{length-append}
 use Rattle.cwr_judge.specs.declared.refusals.Refusal.{Refusal}
 use Rattle.cwr_levels.specs.Format.ReportLines.{faults_line}
+use Rattle.cwr_advise.specs.Steps.AdviceCounts.{summary_by}
 use Rattle.cwr_lint.specs.declared.linting.LintRun.{LintRun}
 use Rattle.cwr_lint.specs.declared.raw_lines.RawLine.{RawLine}
 use Rattle.cwr_lint_lines.specs.Format.FaultsAtFields.{LineCut, cut_of, one_more_line}
@@ -17,7 +18,7 @@ use Rattle.cwr_lint.specs.Steps.Walks.{Walk, WalksLine, WalksLines}
 use Rattle.cwr_lint.specs.Format.Told.{truncated_unless}
 use Rattle.cwr_lint_lines.specs.Steps.Cells.{held_cut}
 use Rattle.cwr_lint.specs.Steps.LinesRead.{GoesOn, HoldsRaw, IsAllRead, ReadsLine, held_raw, spelled}
-use Rattle.cwr_lint.specs.Steps.Runs.{BeginsAt, EndsAtTrl, IsEndText, TakesAll, TakesFirst, TakesFrom, TakesLine, TakesLines}
+use Rattle.cwr_lint.specs.Steps.Runs.{BeginsAt, EndsAtTrl, IsEndText, TakesAll, TakesFirst, TakesFrom, TakesLine, TakesLines, sums_text}
 use Rattle.cwr_lint.specs.Steps.Runs.{TakesNext, TakesNextIf, TakesNone, TakesRead, TellsToEnd, walk_of}
 use Rattle.cwr_lint.proofs.lemmas.RawLines.{ends_with, goes_both, goes_line, goes_none, raw_cut}
 
@@ -227,7 +228,7 @@ from_taken asked refusal left after raw old between new beside later p q =
 
 pub told_to_end : (asked : Asking) (refusal : Refusal) (left after : Option (List ℕ)) (raw : RawLine) (old new : LintRun)
     (text end : List ℕ) → BeginsAt refusal old → TakesFrom asked refusal raw old new left after text
-    → IsEndText new.state.over new.faults new.findings new.state.lines end
+    → IsEndText asked.all new.advice new.state.over new.faults new.findings new.state.lines end
     → TellsToEnd asked (walk_of old) refusal raw left after (text ++ end)
 told_to_end asked refusal left after raw old new text end begins p e = record {
   bytes = p.rest.takes.bytes;
@@ -269,23 +270,25 @@ told_to_end asked refusal left after raw old new text end begins p e = record {
   faults_are : new.faults ≡ min (1 + length p.first.takes.told + length p.rest.takes.told) (2 ^ 64 - 1)
   faults_are = omega (arith, p.rest.takes.faults few, p.first.takes.faults, begins.faults)
 
-  end_is : end ≡ truncated_unless new.state.over (count_after (one_more_line (refusal.rec - 1)) p.rest.takes.lines)
-      ++ faults_line (min (1 + length p.first.takes.told + length p.rest.takes.told) (2 ^ 64 - 1)) new.findings
+  end_is : end ≡ summary_by asked.all new.advice
+      ++ sums_text new.state.over (min (1 + length p.first.takes.told + length p.rest.takes.told) (2 ^ 64 - 1)) new.findings
       (count_after (one_more_line (refusal.rec - 1)) p.rest.takes.lines)
-  end_is = e ∙ ap (λ (k : ℕ). truncated_unless new.state.over k ++ faults_line new.faults new.findings k) lines_are
-      ∙ ap (λ (k : ℕ). truncated_unless new.state.over (count_after (one_more_line (refusal.rec - 1)) p.rest.takes.lines)
-      ++ faults_line k new.findings (count_after (one_more_line (refusal.rec - 1)) p.rest.takes.lines)) faults_are
+  end_is = e
+      ∙ ap (λ (k : ℕ). summary_by asked.all new.advice ++ sums_text new.state.over new.faults new.findings k) lines_are
+      ∙ ap (λ (k : ℕ). summary_by asked.all new.advice ++ sums_text new.state.over k new.findings
+      (count_after (one_more_line (refusal.rec - 1)) p.rest.takes.lines)) faults_are
 
   text_is : text ≡ p.first.line ++ p.first.beside ++ p.later
   text_is = p.whole ∙ ap (λ (l : List ℕ). l ++ p.later) p.first.whole
 
-  whole : text ++ end ≡ p.first.line ++ p.first.beside ++ p.later
+  whole : text ++ end ≡ p.first.line ++ p.first.beside ++ p.later ++ summary_by asked.all new.advice
       ++ truncated_unless new.state.over (count_after (one_more_line (refusal.rec - 1)) p.rest.takes.lines)
       ++ faults_line (min (1 + length p.first.takes.told + length p.rest.takes.told) (2 ^ 64 - 1)) new.findings
       (count_after (one_more_line (refusal.rec - 1)) p.rest.takes.lines)
   whole =
       ap (λ (l : List ℕ). l ++ end) text_is ∙ ap (λ (l : List ℕ). (p.first.line ++ p.first.beside ++ p.later) ++ l) end_is
-      ∙ sym (append_assoc (p.first.line ++ p.first.beside ++ p.later)
+      ∙ sym (append_assoc (p.first.line ++ p.first.beside ++ p.later) (summary_by asked.all new.advice) _)
+      ∙ sym (append_assoc ((p.first.line ++ p.first.beside ++ p.later) ++ summary_by asked.all new.advice)
       (truncated_unless new.state.over (count_after (one_more_line (refusal.rec - 1)) p.rest.takes.lines)) _)
 
   ends_at : (refused : List ℕ) → HoldsRaw refused raw

@@ -13,6 +13,7 @@ use Rattle.cwr_devices.specs.declared.sinks.Sink.{Sink}
 use Rattle.cwr_devices.specs.Steps.Sinks.{has_failed}
 use Rattle.cwr_tools.specs.declared.verdicts.ToolFault.{ToolFault}
 use Rattle.cwr_tools.specs.declared.verdicts.ToolFault.TheVariants as faults
+use Rattle.cwr_advice.specs.declared.rules.Advice.{Advice}
 use Rattle.cwr_lint_lines.specs.declared.judging.Judged.{Judged}
 use Rattle.cwr_lint_lines.specs.declared.judging.Judged.TheVariants.{Unknown, Known as Of}
 use Rattle.cwr_lint.specs.declared.linting.LintRun.{LintRun}
@@ -22,7 +23,7 @@ use Rattle.cwr_lint_lines.specs.Format.FaultsAtFields.{JudgedLine, LineCut, fiel
 use Rattle.cwr_lint.specs.Format.FaultsOfLines.{Asking, EndedTransaction, IsFaultText, Tells, TellsLine, TellsMore, ended_lines}
 use Rattle.cwr_lint_lines.specs.Steps.JudgedLines.{IsFaultFrom, IsJudged, ends_by, judged_as, judged_at, scope_by}
 use Rattle.cwr_lint_lines.specs.Steps.Cells.{held_cut}
-use Rattle.cwr_lint.specs.Steps.Walks.{AfterJudged, ended_at, ended_by, findings_after, is_quiet, judged_line, state_by}
+use Rattle.cwr_lint.specs.Steps.Walks.{AfterJudged, counts_ended, ended_at, ended_by, findings_after, is_quiet, judged_line, state_by, told_ended}
 use Rattle.cwr_lint.specs.Steps.Puts.{PutsAfter, PutsWith}
 use Rattle.cwr_lint.specs.Steps.Runs.{TakesFirst, TakesLine, TellsOfLine, TellsSoMany, more_faults}
 use Rattle.cwr_lint.proofs.lemmas.TextsPut.{none_put, put_both, put_err, put_ok}
@@ -165,10 +166,10 @@ with_other P Q contents failures x y old new f p = (p.0, put_ok contents failure
 
 -- the findings, and then the faults
 pub findings_then : (asked : Asking) (n : ℕ) (scope : Scope) (h : HeldLine) (judged : Judged) (ended : Option EndedTransaction)
-    (from : ℕ) (found lines : List ℕ) (count : ℕ) → found ≡ ended_lines asked ended → TellsSoMany asked
+    (advice : List Advice) (from : ℕ) (found lines : List ℕ) (count : ℕ) → found ≡ ended_lines asked advice ended → TellsSoMany asked
     (judged_at n scope h judged) from (fields_end (held_kind h)) count lines
-    → TellsOfLine asked (judged_at n scope h judged) ended from count (found ++ lines)
-findings_then asked n scope h judged ended from found lines count findings s =
+    → TellsOfLine asked (judged_at n scope h judged) ended advice from count (found ++ lines)
+findings_then asked n scope h judged ended advice from found lines count findings s =
     (s.0, record { lines = lines; tells = s.1; whole = ap (λ (l : List ℕ). l ++ lines) findings }, s.2)
 
 ends_known : (h : HeldLine) (judged : Judged) → IsJudged h judged → ends_by judged ≡ true → held_kind h ≡ Some Trl
@@ -177,13 +178,15 @@ ends_known h (Of known) j e = j.kind ∙ ap (λ (k : Kind). Some k) (j.ends e)
 
 -- the same line, judged at the state
 tells_at : (asked : Asking) (h : HeldLine) (judged : Judged) (from : ℕ) (state : LintState) (begun : Option (List RecordValue))
-    (told : List Refusal) (text : List ℕ) → judged ≡ judged_as state (held_cut h)
-    → TellsLine asked (judged_at state.lines (scope_by state.group) h judged) (ended_by judged state begun) from told text
-    → TellsLine asked (judged_line state (held_cut h)) (ended_at state begun (held_cut h)) from told text
-tells_at asked h judged from state begun told text e t =
+    (advice : List ℕ) (told : List Refusal) (text : List ℕ) → judged ≡ judged_as state (held_cut h)
+    → TellsLine asked (judged_at state.lines (scope_by state.group) h judged) (ended_by judged state begun)
+    (told_ended asked advice (ended_by judged state begun)) from told text
+    → TellsLine asked (judged_line state (held_cut h)) (ended_at state begun (held_cut h))
+    (told_ended asked advice (ended_at state begun (held_cut h))) from told text
+tells_at asked h judged from state begun advice told text e t =
     subst
-    (λ (j : Judged). TellsLine asked (judged_at state.lines (scope_by state.group) h j) (ended_by j state begun) from told text) e
-    t
+    (λ (j : Judged). TellsLine asked (judged_at state.lines (scope_by state.group) h j) (ended_by j state begun)
+    (told_ended asked advice (ended_by j state begun)) from told text) e t
 
 -- no fault was told
 quiet_by : (count : ℕ) (told : List Refusal) → count ≡ length told → (count == 0) ≡ is_quiet told
@@ -197,17 +200,18 @@ quiet_by count (f ∷ told) e = by (count == 0) refl
 -- it was gone on with
 pub line_taken : (asked : Asking) (h : HeldLine) (judged : Judged) (from count : ℕ) (good : Bool) (old new : LintRun)
     (text : List ℕ) → IsJudged h judged → judged ≡ judged_as old.state (held_cut h)
-    → TellsOfLine asked (judged_at old.state.lines (scope_by old.state.group) h judged) (ended_by judged old.state old.begun) from
-    count text
+    → TellsOfLine asked (judged_at old.state.lines (scope_by old.state.group) h judged) (ended_by judged old.state old.begun)
+    (told_ended asked old.advice (ended_by judged old.state old.begun)) from count text
     → good ≡ ((count == 0) && (from == 1)) → new.state ≡ state_by judged old.state (held_cut h)
     → AfterJudged good judged (is_some new.state.stage) old.begun (held_cut h) new.begun
     → new.state.lines ≡ one_more_line old.state.lines → new.faults ≡ more_faults old.faults count
     → new.state.over ≡ ends_by judged → new.findings ≡ findings_after old.findings (ended_by judged old.state old.begun)
+    → new.advice ≡ counts_ended asked old.advice (ended_by judged old.state old.begun)
     → TakesLine asked (held_cut h) from old new text
-line_taken asked h judged from count good old new text j same t quiet state begun lines faults over findings = record {
+line_taken asked h judged from count good old new text j same t quiet state begun lines faults over findings advice = record {
   told = t.0;
   walks = record {
-    tells = tells_at asked h judged from old.state old.begun t.0 text same t.1;
+    tells = tells_at asked h judged from old.state old.begun old.advice t.0 text same t.1;
     state = state ∙ ap (λ (k : Judged). state_by k old.state (held_cut h)) same;
     begun =
         subst
@@ -216,6 +220,7 @@ line_taken asked h judged from count good old new text j same t quiet state begu
         (subst (λ (b : Bool). AfterJudged b judged (is_some new.state.stage) old.begun (held_cut h) new.begun)
         (quiet ∙ ap (λ (b : Bool). b && (from == 1)) (quiet_by count t.0 t.2)) begun);
     findings = findings ∙ ap (λ (k : Judged). findings_after old.findings (ended_by k old.state old.begun)) same;
+    advice = advice ∙ ap (λ (k : Judged). counts_ended asked old.advice (ended_by k old.state old.begun)) same;
   };
   lines = lines;
   faults = faults ∙ ap (more_faults old.faults) t.2;

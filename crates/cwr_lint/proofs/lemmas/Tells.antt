@@ -16,9 +16,11 @@ use Rattle.cwr_decode.specs.Steps.Runs.{StopsRun}
 use Rattle.cwr_decode.proofs.lemmas.ClosedTexts.{text_of-push}
 use Rattle.cwr_causes.proofs.lemmas.RefusedLines.{refused_last}
 use Rattle.cwr_tools.specs.Steps.Verdicts.{IsReadLast, IsRightVerdict, StopsAfter, StopsAt}
-use Rattle.cwr_advise.specs.Format.AdviceLines.{said_in}
+use Rattle.cwr_advise.specs.Format.AdviceLines.{advice_on, said_in}
+use Rattle.cwr_advise.specs.Steps.AdviceCounts.{counts_of}
 use Rattle.cwr_lint.specs.Format.FaultsOfLines.{Asking}
-use Rattle.cwr_lint.specs.Format.Wanted.{Wanted, asking_for, lines_before_fault, lines_linted, lines_up_to, lines_with, said_when}
+use Rattle.cwr_lint.specs.Format.Wanted.{Wanted, advice_when, asking_for, lines_before_fault, lines_linted, lines_up_to}
+use Rattle.cwr_lint.specs.Format.Wanted.{lines_with, said_when}
 use Rattle.cwr_lint.specs.declared.raw_lines.RawLine.{RawLine}
 use Rattle.cwr_lint.specs.Steps.CutShort.{AppendsUpTo, IsToldUpTo, IsUnread, TellsAfterUpTo, TellsLastUpTo}
 use Rattle.cwr_lint.specs.Steps.LinesRead.{GoesOn, HoldsRaw, IsAllRead, IsTextOf, ReadsLast, spelled}
@@ -54,26 +56,27 @@ pub tells_good : {W : Type 0} (wanted : Wanted) (limits : Limits) (before after 
     (contents : W → Option (List ℕ)) (old new : W) (groups transactions records : ℕ)
     → Reports (lines_up_to wanted) limits before after contents old new (Ok (Good groups transactions records))
     → Tells wanted limits before after contents old new (Good groups transactions records)
-tells_good wanted limits before after contents old new groups transactions records h = good_with wanted.advised wanted.explained h
+tells_good wanted limits before after contents old new groups transactions records h =
+    good_with wanted.advised wanted.explained wanted.all h
   where
-    good_with : (a e : Bool)
-        → Reports (lines_before_fault a e) limits before after contents old new (Ok (Good groups transactions records))
-        → Reports (lines_with a e) limits before after contents old new (Ok (Good groups transactions records))
-    good_with false false h = h
-    good_with false true h = h
-    good_with true e h = h
+    good_with : (a e m : Bool)
+        → Reports (lines_before_fault a e m) limits before after contents old new (Ok (Good groups transactions records))
+        → Reports (lines_with a e m) limits before after contents old new (Ok (Good groups transactions records))
+    good_with false e m h = h
+    good_with true e m h = h
 
 pub tells_truncated : {W : Type 0} (wanted : Wanted) (limits : Limits) (before after : Option (List ℕ))
     (contents : W → Option (List ℕ)) (old new : W) (records : ℕ)
     → Reports (lines_up_to wanted) limits before after contents old new (Ok (Truncated records))
     → Tells wanted limits before after contents old new (Truncated records)
-tells_truncated wanted limits before after contents old new records h = truncated_with wanted.advised wanted.explained h
+tells_truncated wanted limits before after contents old new records h =
+    truncated_with wanted.advised wanted.explained wanted.all h
   where
-    truncated_with : (a e : Bool) → Reports (lines_before_fault a e) limits before after contents old new (Ok (Truncated records))
-        → Reports (lines_with a e) limits before after contents old new (Ok (Truncated records))
-    truncated_with false false h = h
-    truncated_with false true h = h
-    truncated_with true e h = h
+    truncated_with : (a e m : Bool)
+        → Reports (lines_before_fault a e m) limits before after contents old new (Ok (Truncated records))
+        → Reports (lines_with a e m) limits before after contents old new (Ok (Truncated records))
+    truncated_with false e m h = h
+    truncated_with true e m h = h
 
 -- all was read, by the bytes that are known
 at_end_kept : (left after : Option (List ℕ)) (bytes : List ℕ) → Consumes left after bytes → IsAtEnd left
@@ -103,36 +106,38 @@ all_read (Some known) (Some xs) (Some ys) (Some zs) input first later a b c (inr
     (arith, n, ap length a, length-append input xs, ap length b, length-append first ys, ap length c, length-append later zs))
 
 -- of a refusal nothing is written
-refused_text : (advised explained : Bool) (given : List Item) (refusal : Refusal)
-    → text_on (lines_before_fault advised explained) given (Refused refusal) ≡ (lines_with advised explained).lines given
-refused_text false explained given refusal = append-nil ((lines_with false explained).lines given)
-refused_text true explained given refusal = append-nil ((lines_with true explained).lines given)
+refused_text : (advised explained all : Bool) (given : List Item) (refusal : Refusal)
+    → text_on (lines_before_fault advised explained all) given (Refused refusal) ≡ (lines_with advised explained all).lines given
+refused_text false explained all given refusal = append-nil ((lines_with false explained all).lines given)
+refused_text true explained all given refusal = append-nil ((lines_with true explained all).lines given)
 
--- what is asked for, and how many findings were told, by what was heard before the same stop
+-- what is asked for, how many findings were told, and how much advice came from each rule, by what was heard before the same stop
 pub record Hears (wanted : Wanted) (limits : Limits) (before left : Option (List ℕ)) (refusal : Refusal) (asking : Asking)
-    (found : ℕ) : Type 0 where
+    (found : ℕ) (advice : List ℕ) : Type 0 where
   pub heard : List Item
   pub stopped : StopsAfter limits (read_faults.Refused refusal) before left heard
   pub asks : asking ≡ asking_for wanted (said_in heard)
   pub counted : found ≡ findings_with 0 heard
+  pub advised : advice ≡ counts_of (advice_when wanted.advised heard)
 
--- what is held at the first fault, where the stage, the counts and the findings are the same
-begins_same : {stage other : Stage} {counts more : Counts} {found told : ℕ} (n : ℕ) → stage ≡ other → counts ≡ more
-    → found ≡ told → begins_at (state_at stage counts n) found ≡ begins_at (state_at other more n) told
-begins_same n e f g = λ i. begins_at (state_at (e i) (f i) n) (g i)
+-- what is held at the first fault, where the stage, the counts, the findings and the advice are the same
+begins_same : {stage other : Stage} {counts more : Counts} {found told : ℕ} {advice heard : List ℕ} (n : ℕ) → stage ≡ other
+    → counts ≡ more → found ≡ told → advice ≡ heard
+    → begins_at (state_at stage counts n) found advice ≡ begins_at (state_at other more n) told heard
+begins_same n e f g h = λ i. begins_at (state_at (e i) (f i) n) (g i) (h i)
 
 -- the faults follow
 built : {W : Type 0} (wanted : Wanted) (limits : Limits) (before left after : Option (List ℕ)) (contents : W → Option (List ℕ))
-    (old between new : W) (refusal : Refusal) (asking : Asking) (found : ℕ) (last : LastRead) (text : List ℕ)
+    (old between new : W) (refusal : Refusal) (asking : Asking) (found : ℕ) (advice : List ℕ) (last : LastRead) (text : List ℕ)
     → Reports (lines_up_to wanted) limits before left contents old between (Ok (Refused refusal))
     → (s : StopsAt limits (read_faults.Refused refusal) before left last)
-    → (x : Hears wanted limits before left refusal asking found)
-    → (t : TellsRun asking (begins_at (state_at last.stage last.counts (refusal.rec - 1)) found) refusal last.bytes left after text)
+    → (x : Hears wanted limits before left refusal asking found advice)
+    → (t : TellsRun asking (begins_at (state_at last.stage last.counts (refusal.rec - 1)) found advice) refusal last.bytes left after text)
     → Appends (contents between) (contents new) text
     → (refused : List ℕ) → HoldsRaw refused t.raw → IfSome before (λ known. (bytes : List ℕ) × Consumes before after bytes
     × AreLinesRead refusal s.0.decoder.tally t.tells.last bytes refused t.tells.lines)
     → TellsFaults wanted limits before after contents old new refusal
-built wanted limits before left after contents old between new refusal asking found last text h s x t written refused holds read =
+built wanted limits before left after contents old between new refusal asking found advice last text h s x t written refused holds read =
     record {
       given = h.0;
       left = left;
@@ -149,12 +154,12 @@ built wanted limits before left after contents old between new refusal asking fo
       heard_before = x.stopped;
       told =
           subst (λ (w : Walk). IsTold (asking_for wanted (said_in x.heard)) w refusal refused t.tells.lines t.tells.over text)
-          (begins_same (refusal.rec - 1) s.1 s.3 x.counted)
-          (subst (λ (a : Asking). IsTold a (begins_at (state_at last.stage last.counts (refusal.rec - 1)) found) refusal refused
+          (begins_same (refusal.rec - 1) s.1 s.3 x.counted x.advised)
+          (subst (λ (a : Asking). IsTold a (begins_at (state_at last.stage last.counts (refusal.rec - 1)) found advice) refusal refused
           t.tells.lines t.tells.over text) x.asks (t.tells.told refused holds));
       written =
           subst (λ (l : List ℕ). Appends (contents old) (contents new) (l ++ text))
-          (refused_text wanted.advised wanted.explained h.0 refusal)
+          (refused_text wanted.advised wanted.explained wanted.all h.0 refusal)
           (Appends-trans (contents old) (contents between) (contents new) (text_on (lines_up_to wanted) h.0 (Refused refusal)) text
           h.2 written);
       read = read;
@@ -228,32 +233,32 @@ lines_read limits known left between after refusal last raw more lines ended s r
       ∙ sym (text_of-push stopped.lines (stopped.line.bytes ++ found.0))
 
 tells_faults : {W : Type 0} (wanted : Wanted) (limits : Limits) (before left after : Option (List ℕ))
-    (contents : W → Option (List ℕ)) (old between new : W) (refusal : Refusal) (asking : Asking) (found : ℕ) (last : LastRead) (text : List ℕ)
+    (contents : W → Option (List ℕ)) (old between new : W) (refusal : Refusal) (asking : Asking) (found : ℕ) (advice : List ℕ) (last : LastRead) (text : List ℕ)
     → Reports (lines_up_to wanted) limits before left contents old between (Ok (Refused refusal))
-    → StopsAt limits (read_faults.Refused refusal) before left last → Hears wanted limits before left refusal asking found
-    → TellsRun asking (begins_at (state_at last.stage last.counts (refusal.rec - 1)) found) refusal last.bytes left after text
+    → StopsAt limits (read_faults.Refused refusal) before left last → Hears wanted limits before left refusal asking found advice
+    → TellsRun asking (begins_at (state_at last.stage last.counts (refusal.rec - 1)) found advice) refusal last.bytes left after text
     → Appends (contents between) (contents new) text
     → Tells wanted limits before after contents old new (Refused refusal)
-tells_faults wanted limits None left after contents old between new refusal asking found last text h s x t written =
-    built wanted limits None left after contents old between new refusal asking found last text h s x t written t.held.line t.held.holds
+tells_faults wanted limits None left after contents old between new refusal asking found advice last text h s x t written =
+    built wanted limits None left after contents old between new refusal asking found advice last text h s x t written t.held.line t.held.holds
     tt
-tells_faults wanted limits (Some known) left after contents old between new refusal asking found last text h s x t written =
+tells_faults wanted limits (Some known) left after contents old between new refusal asking found advice last text h s x t written =
     let parts =
     lines_read limits known left t.between after refusal last t.raw t.tells.bytes t.tells.lines t.tells.last s t.read t.tells.taken
     t.tells.goes t.tells.no_lf in
-    built wanted limits (Some known) left after contents old between new refusal asking found last text h s x t written parts.0 parts.1
+    built wanted limits (Some known) left after contents old between new refusal asking found advice last text h s x t written parts.0 parts.1
     (parts.2, parts.3, parts.4)
 
 -- what is told up to a fault
-built_up_to : (wanted : Wanted) (limits : Limits) (before left : Option (List ℕ)) (refusal : Refusal) (asking : Asking) (found : ℕ)
+built_up_to : (wanted : Wanted) (limits : Limits) (before left : Option (List ℕ)) (refusal : Refusal) (asking : Asking) (found : ℕ) (advice : List ℕ)
     (last : LastRead) (text : List ℕ) → (s : StopsAt limits (read_faults.Refused refusal) before left last)
-    → Hears wanted limits before left refusal asking found
-    → (t : TellsLastUpTo asking (begins_at (state_at last.stage last.counts (refusal.rec - 1)) found) refusal last.bytes left text)
+    → Hears wanted limits before left refusal asking found advice
+    → (t : TellsLastUpTo asking (begins_at (state_at last.stage last.counts (refusal.rec - 1)) found advice) refusal last.bytes left text)
     → (refused : List ℕ) → HoldsRaw refused t.raw
     → IfSome before (λ known. (bytes : List ℕ) × (now : Option (List ℕ)) × Consumes before now bytes
     × AreLinesRead refusal s.0.decoder.tally t.tells.last bytes refused t.tells.lines)
     → TellsUpToFault wanted limits before left refusal text
-built_up_to wanted limits before left refusal asking found last text s x t refused holds read = record {
+built_up_to wanted limits before left refusal asking found advice last text s x t refused holds read = record {
   refused = refused;
   lines = t.tells.lines;
   last = t.tells.last;
@@ -262,41 +267,41 @@ built_up_to wanted limits before left refusal asking found last text s x t refus
   heard_before = x.stopped;
   told =
       subst (λ (w : Walk). IsToldUpTo (asking_for wanted (said_in x.heard)) w refusal refused t.tells.lines text)
-      (begins_same (refusal.rec - 1) s.1 s.3 x.counted)
-      (subst (λ (a : Asking). IsToldUpTo a (begins_at (state_at last.stage last.counts (refusal.rec - 1)) found) refusal refused
+      (begins_same (refusal.rec - 1) s.1 s.3 x.counted x.advised)
+      (subst (λ (a : Asking). IsToldUpTo a (begins_at (state_at last.stage last.counts (refusal.rec - 1)) found advice) refusal refused
       t.tells.lines text) x.asks (t.tells.told refused holds));
   read = read;
 }
 
-tells_up_to : (wanted : Wanted) (limits : Limits) (before left : Option (List ℕ)) (refusal : Refusal) (asking : Asking) (found : ℕ)
+tells_up_to : (wanted : Wanted) (limits : Limits) (before left : Option (List ℕ)) (refusal : Refusal) (asking : Asking) (found : ℕ) (advice : List ℕ)
     (last : LastRead) (fault : ToolFault) → StopsAt limits (read_faults.Refused refusal) before left last
-    → Hears wanted limits before left refusal asking found → (text : List ℕ)
-    → IsUnread fault text ⊎ TellsAfterUpTo asking last found refusal left text
+    → Hears wanted limits before left refusal asking found advice → (text : List ℕ)
+    → IsUnread fault text ⊎ TellsAfterUpTo asking last found advice refusal left text
     → IsUnread fault text ⊎ TellsUpToFault wanted limits before left refusal text
-tells_up_to wanted limits before left refusal asking found last fault s x text (inl e) = inl e
-tells_up_to wanted limits None left refusal asking found last fault s x text (inr t) =
-    inr (built_up_to wanted limits None left refusal asking found last text s x t t.held.line t.held.holds tt)
-tells_up_to wanted limits (Some known) left refusal asking found last fault s x text (inr t) =
+tells_up_to wanted limits before left refusal asking found advice last fault s x text (inl e) = inl e
+tells_up_to wanted limits None left refusal asking found advice last fault s x text (inr t) =
+    inr (built_up_to wanted limits None left refusal asking found advice last text s x t t.held.line t.held.holds tt)
+tells_up_to wanted limits (Some known) left refusal asking found advice last fault s x text (inr t) =
     let parts =
     lines_read limits known left t.between t.tells.mid refusal last t.raw t.tells.bytes t.tells.lines t.tells.last s t.read
     t.tells.taken t.tells.goes t.tells.no_lf in
-    inr (built_up_to wanted limits (Some known) left refusal asking found last text s x t parts.0 parts.1
+    inr (built_up_to wanted limits (Some known) left refusal asking found advice last text s x t parts.0 parts.1
     (parts.2, t.tells.mid, parts.3, parts.4))
 
 -- where the answer is a verdict
 pub tells_after : {W : Type 0} (wanted : Wanted) (limits : Limits) (before left after : Option (List ℕ))
-    (contents : W → Option (List ℕ)) (old between new : W) (refusal : Refusal) (asking : Asking) (found : ℕ) (last : LastRead)
+    (contents : W → Option (List ℕ)) (old between new : W) (refusal : Refusal) (asking : Asking) (found : ℕ) (advice : List ℕ) (last : LastRead)
     (result : Result Verdict ToolFault)
     → Reports (lines_up_to wanted) limits before left contents old between (Ok (Refused refusal))
-    → StopsAt limits (read_faults.Refused refusal) before left last → Hears wanted limits before left refusal asking found
+    → StopsAt limits (read_faults.Refused refusal) before left last → Hears wanted limits before left refusal asking found advice
     → IsAnswerTo (Refused refusal) result → OnOk result ((text : List ℕ)
-    × TellsRun asking (begins_at (state_at last.stage last.counts (refusal.rec - 1)) found) refusal last.bytes left after text
+    × TellsRun asking (begins_at (state_at last.stage last.counts (refusal.rec - 1)) found advice) refusal last.bytes left after text
     × Appends (contents between) (contents new) text)
     → IfOk result (Tells wanted limits before after contents old new)
-tells_after wanted limits before left after contents old between new refusal asking found last (Ok verdict) h s x answered told =
+tells_after wanted limits before left after contents old between new refusal asking found advice last (Ok verdict) h s x answered told =
     subst (Tells wanted limits before after contents old new) (sym answered)
-    (tells_faults wanted limits before left after contents old between new refusal asking found last told.0 h s x told.1 told.2)
-tells_after wanted limits before left after contents old between new refusal asking found last (Err fault) h s x answered told = tt
+    (tells_faults wanted limits before left after contents old between new refusal asking found advice last told.0 h s x told.1 told.2)
+tells_after wanted limits before left after contents old between new refusal asking found advice last (Err fault) h s x answered told = tt
 
 -- a check and words after it
 lints_after : {W : Type 0} (wanted : Wanted) (limits : Limits) (before left after : Option (List ℕ))
@@ -383,43 +388,43 @@ unrefused_at flag wanted limits before after contents old new checked verdict sa
     (subst (Reports (lines_up_to flag) limits before after contents old new) e h))
 
 pub refused_at : {W : Type 0} (flag wanted : Wanted) (limits : Limits) (before left after : Option (List ℕ))
-    (contents : W → Option (List ℕ)) (old between new : W) (refusal : Refusal) (asking : Asking) (found : ℕ) (last : LastRead)
+    (contents : W → Option (List ℕ)) (old between new : W) (refusal : Refusal) (asking : Asking) (found : ℕ) (advice : List ℕ) (last : LastRead)
     (checked result : Result Verdict ToolFault)
     → flag ≡ wanted → Reports (lines_up_to flag) limits before left contents old between checked
-    → StopsAt limits (read_faults.Refused refusal) before left last → Hears wanted limits before left refusal asking found
+    → StopsAt limits (read_faults.Refused refusal) before left last → Hears wanted limits before left refusal asking found advice
     → checked ≡ Ok (Refused refusal)
     → IsAnswerTo (Refused refusal) result → OnOk result ((text : List ℕ)
-    × TellsRun asking (begins_at (state_at last.stage last.counts (refusal.rec - 1)) found) refusal last.bytes left after text
+    × TellsRun asking (begins_at (state_at last.stage last.counts (refusal.rec - 1)) found advice) refusal last.bytes left after text
     × Appends (contents between) (contents new) text)
     → IfOk result (Tells wanted limits before after contents old new)
-refused_at flag wanted limits before left after contents old between new refusal asking found last checked result same h s x e answered
+refused_at flag wanted limits before left after contents old between new refusal asking found advice last checked result same h s x e answered
     told =
-    tells_after wanted limits before left after contents old between new refusal asking found last result
+    tells_after wanted limits before left after contents old between new refusal asking found advice last result
     (subst (λ (b : Wanted). Reports (lines_up_to b) limits before left contents old between (Ok (Refused refusal))) same
     (subst (Reports (lines_up_to flag) limits before left contents old between) e h)) s x answered told
 
 pub faults_at : {W : Type 0} (flag wanted : Wanted) (limits : Limits) (before left after : Option (List ℕ))
-    (contents : W → Option (List ℕ)) (old between new : W) (refusal : Refusal) (asking : Asking) (found : ℕ) (last : LastRead)
+    (contents : W → Option (List ℕ)) (old between new : W) (refusal : Refusal) (asking : Asking) (found : ℕ) (advice : List ℕ) (last : LastRead)
     (checked result : Result Verdict ToolFault)
     → flag ≡ wanted → Reports (lines_up_to flag) limits before left contents old between checked
-    → StopsAt limits (read_faults.Refused refusal) before left last → Hears wanted limits before left refusal asking found
+    → StopsAt limits (read_faults.Refused refusal) before left last → Hears wanted limits before left refusal asking found advice
     → checked ≡ Ok (Refused refusal) → AddsWords contents between new
-    → AppendsUpTo contents between new result (TellsAfterUpTo asking last found refusal left) → TakesMore left after
+    → AppendsUpTo contents between new result (TellsAfterUpTo asking last found advice refusal left) → TakesMore left after
     → IsAnswerTo (Refused refusal) result → Lints wanted limits before after contents old new result
-faults_at flag wanted limits before left after contents old between new refusal asking found last checked (Ok verdict) same h s x e words
+faults_at flag wanted limits before left after contents old between new refusal asking found advice last checked (Ok verdict) same h s x e words
     cut more answered =
     lints_after wanted limits before left after contents old between new checked (Ok verdict) words.0
     (subst (λ (b : Wanted). Reports (lines_up_to b) limits before left contents old between checked) same h) words.1 more
     (subst (λ (r : Result Verdict ToolFault). IsAnswerAfter r (Ok verdict)) (sym e) answered) tt
-faults_at flag wanted limits before left after contents old between new refusal asking found last checked (Err fault) same h s x e words
+faults_at flag wanted limits before left after contents old between new refusal asking found advice last checked (Err fault) same h s x e words
     cut more answered =
     lints_after wanted limits before left after contents old between new checked (Err fault) cut.0
     (subst (λ (b : Wanted). Reports (lines_up_to b) limits before left contents old between checked) same h) cut.2 more
     (subst (λ (r : Result Verdict ToolFault). IsAnswerAfter r (Err fault)) (sym e) answered)
     (subst (λ (r : Result Verdict ToolFault). AreWordsUpTo wanted limits before left r fault cut.0) (sym e)
-    (cut_as (λ text. IsUnread fault text ⊎ TellsAfterUpTo asking last found refusal left text)
+    (cut_as (λ text. IsUnread fault text ⊎ TellsAfterUpTo asking last found advice refusal left text)
     (λ text. IsUnread fault text ⊎ TellsUpToFault wanted limits before left refusal text) fault cut.0
-    (tells_up_to wanted limits before left refusal asking found last fault s x) cut.1))
+    (tells_up_to wanted limits before left refusal asking found advice last fault s x) cut.1))
 
 -- the verdict on an accepted text, and what is written of it
 judges_accepted : {W : Type 0} (of : ItemLines) (limits : Limits) (before after : Option (List ℕ))
@@ -496,46 +501,54 @@ read_last limits before left checked refusal found last h e f =
 pub known_ok : (checked : Result Verdict ToolFault) (v w : Verdict) → checked ≡ Ok v → v ≡ w → checked ≡ Ok w
 known_ok checked v w p q = subst (λ (x : Verdict). checked ≡ Ok x) q p
 
--- ---- what the header says, and the findings
+-- ---- what the header says, the findings and the advice
 
--- what was said and how many findings were told, by the items before the stop
-abbrev pub SaysAfter : Bool → Option Said → ℕ → List Item → Type 0
-SaysAfter advised said found given = (said ≡ said_when advised (said_in given)) × (found ≡ findings_with 0 given)
+-- what was said, how many findings were told, and how much advice came from each rule, by the items before the stop
+abbrev pub SaysAfter : Bool → Option Said → ℕ → List ℕ → List Item → Type 0
+SaysAfter advised said found advice given =
+    (said ≡ said_when advised (said_in given)) × (found ≡ findings_with 0 given)
+    × (advice ≡ counts_of (advice_when advised given))
 
 said_at : (verdict : Verdict) (refusal : Refusal) (wanted : Wanted) (limits : Limits) (before left : Option (List ℕ))
-    (asking : Asking) (said : Option Said) (found : ℕ) → verdict ≡ Refused refusal → asking ≡ record
-    { explained = wanted.explained; said = said }
-    → StandsAfter (SaysAfter wanted.advised said found) limits before left verdict
-    → Hears wanted limits before left refusal asking found
-said_at verdict refusal wanted limits before left asking said found e asks h =
-    let stands : StandsAfter (SaysAfter wanted.advised said found) limits before left (Refused refusal) =
-    subst (λ (v : Verdict). StandsAfter (SaysAfter wanted.advised said found) limits before left v) e h in
+    (asking : Asking) (said : Option Said) (found : ℕ) (advice : List ℕ) → verdict ≡ Refused refusal → asking ≡ record
+    { explained = wanted.explained; said = said; all = wanted.all }
+    → StandsAfter (SaysAfter wanted.advised said found advice) limits before left verdict
+    → Hears wanted limits before left refusal asking found advice
+said_at verdict refusal wanted limits before left asking said found advice e asks h =
+    let stands : StandsAfter (SaysAfter wanted.advised said found advice) limits before left (Refused refusal) =
+    subst (λ (v : Verdict). StandsAfter (SaysAfter wanted.advised said found advice) limits before left v) e h in
     record {
       heard = stands.0;
       stopped = stands.1;
-      asks = asks ∙ ap (λ (o : Option Said). record { explained = wanted.explained; said = o }) stands.2.0;
+      asks =
+          asks ∙ ap (λ (o : Option Said). record { explained = wanted.explained; said = o; all = wanted.all }) stands.2.0;
       counted = stands.2.1;
+      advised = stands.2.2;
     }
 
 pub hears : (checked : Result Verdict ToolFault) (refusal : Refusal) (wanted : Wanted) (limits : Limits)
-    (before left : Option (List ℕ)) (asking : Asking) (said : Option Said) (found : ℕ) → checked ≡ Ok (Refused refusal)
-    → asking ≡ record { explained = wanted.explained; said = said }
-    → IfOk checked (StandsAfter (SaysAfter wanted.advised said found) limits before left)
-    → Hears wanted limits before left refusal asking found
-hears checked refusal wanted limits before left asking said found e asks h =
-    said_at (Refused refusal) refusal wanted limits before left asking said found refl asks
-    (subst (λ (r : Result Verdict ToolFault). IfOk r (StandsAfter (SaysAfter wanted.advised said found) limits before left)) e h)
+    (before left : Option (List ℕ)) (asking : Asking) (said : Option Said) (found : ℕ) (advice : List ℕ)
+    → checked ≡ Ok (Refused refusal)
+    → asking ≡ record { explained = wanted.explained; said = said; all = wanted.all }
+    → IfOk checked (StandsAfter (SaysAfter wanted.advised said found advice) limits before left)
+    → Hears wanted limits before left refusal asking found advice
+hears checked refusal wanted limits before left asking said found advice e asks h =
+    said_at (Refused refusal) refusal wanted limits before left asking said found advice refl asks
+    (subst (λ (r : Result Verdict ToolFault). IfOk r (StandsAfter (SaysAfter wanted.advised said found advice) limits before left))
+    e h)
 
--- where no advice is wanted nothing is said
+-- where no advice is wanted nothing is said, and none is counted
 pub nothing_said_when : (checked : Result Verdict ToolFault) (limits : Limits) (before left : Option (List ℕ)) (found : ℕ)
+    (advice : List ℕ) → advice ≡ counts_of []
     → IfOk checked (StandsAfter (λ (given : List Item). found ≡ findings_with 0 given) limits before left)
-    → IfOk checked (StandsAfter (SaysAfter false None found) limits before left)
-nothing_said_when (Ok verdict) limits before left found h = (h.0, h.1, (refl, h.2))
-nothing_said_when (Err fault) limits before left found h = tt
+    → IfOk checked (StandsAfter (SaysAfter false None found advice) limits before left)
+nothing_said_when (Ok verdict) limits before left found advice none h = (h.0, h.1, (refl, h.2, none))
+nothing_said_when (Err fault) limits before left found advice none h = tt
 
 pub something_said_when : (checked : Result Verdict ToolFault) (limits : Limits) (before left : Option (List ℕ)) (said : Said)
-    (found : ℕ)
-    → IfOk checked (StandsAfter (λ (given : List Item). (said ≡ said_in given) × (found ≡ findings_with 0 given)) limits before left)
-    → IfOk checked (StandsAfter (SaysAfter true (Some said) found) limits before left)
-something_said_when (Ok verdict) limits before left said found h = (h.0, h.1, (ap Some h.2.0, h.2.1))
-something_said_when (Err fault) limits before left said found h = tt
+    (found : ℕ) (advice : List ℕ)
+    → IfOk checked (StandsAfter (λ (given : List Item). (said ≡ said_in given) × (found ≡ findings_with 0 given)
+    × (advice ≡ counts_of (advice_on 0 given))) limits before left)
+    → IfOk checked (StandsAfter (SaysAfter true (Some said) found advice) limits before left)
+something_said_when (Ok verdict) limits before left said found advice h = (h.0, h.1, (ap Some h.2.0, h.2.1, h.2.2))
+something_said_when (Err fault) limits before left said found advice h = tt

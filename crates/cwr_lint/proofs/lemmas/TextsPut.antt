@@ -67,6 +67,10 @@ pub if_ok : {A E : Type 0} (result : Result A E) (P : Type 0) → P → IfOk res
 if_ok (Ok x) P p = p
 if_ok (Err e) P p = tt
 
+pub if_same : {A E : Type 0} (result : Result A E) (P Q : Type 0) → (P → Q) → IfOk result (λ x. P) → IfOk result (λ x. Q)
+if_same (Ok x) P Q f p = f p
+if_same (Err e) P Q f p = tt
+
 -- the line of a fault, and words under it
 pub fault_put : {W : Type 0} (asked : Asking) (fault : Refusal) (contents : W → Option (List ℕ)) (failures : W → ℕ) (u : Unit {0})
     (result : Result (Unit {0}) ToolFault) (old mid new : Sink W) → PutsAfter {A = Unit {0}} contents failures (fault_line fault)

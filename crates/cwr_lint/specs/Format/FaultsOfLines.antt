@@ -6,17 +6,20 @@ use Rattle.cwr_shape.specs.declared.reasons.Reason.{Reason}
 use Rattle.cwr_judge.specs.declared.refusals.Refusal.{Refusal}
 use Rattle.cwr_levels.specs.Format.ReportLines.{fault_line}
 use Rattle.cwr_tools.specs.Format.Reports.{transaction_lines}
+use Rattle.cwr_advice.specs.declared.rules.Advice.{Advice}
 use Rattle.cwr_advice.specs.declared.said.Said.{Said}
 use Rattle.cwr_advice.specs.Format.Rules.{advice_of}
 use Rattle.cwr_advise.specs.Format.AdviceTexts.{noted_advice}
 use Rattle.cwr_lint_lines.specs.Format.FaultsAtFields.{JudgedLine, IsToldAt, fault_in, fields_end, one_more_line}
 
--- what is asked for beside the lines of faults and findings: words under each, and advice, where this is said of the transmission
+-- what is asked for beside the lines of faults and findings: words under each, and then an empty line; advice, where this is said of the
+-- transmission; and of that all, or of each rule the first three pieces
 pub record Asking : Type 0 where
   pub explained : Bool
   pub said : Option Said
+  pub all : Bool
 
--- the line of a fault, under which words stand where they are asked for
+-- the line of a fault, under which words and an empty line stand where they are asked for
 abbrev pub IsFaultText : Asking → Refusal → List ℕ → Type 0
 IsFaultText asked fault text = (words : List ℕ) × (asked.explained ≡ false → words ≡ []) × (text ≡ fault_line fault ++ words)
 
@@ -41,31 +44,42 @@ pub record EndedTransaction : Type 0 where
   pub records : List RecordValue
 
 -- the advice on a transaction, where so much is said of the transmission, and where nothing is, none
-abbrev pub advice_if : Option Said → ℕ → ℕ → ℕ → List RecordValue → List ℕ
-advice_if None group sequence first t = []
-advice_if (Some said) group sequence first t = flat_map (noted_advice group sequence first t) (advice_of said t)
+abbrev pub advice_if : Option Said → List RecordValue → List Advice
+advice_if None t = []
+advice_if (Some said) t = advice_of said t
 
 -- what is said, where advice is asked for, and lines have numbers that words can name
 abbrev pub said_if : Bool → Option Said → Option Said
 said_if numbered said = if numbered then said else None
 
--- The lines of findings in a transaction, and then the advice on it. Words stand under each finding where they are asked for.
-abbrev pub told_lines : Asking → Bool → ℕ → ℕ → ℕ → List RecordValue → List ℕ
-told_lines asked numbered group sequence first t =
-    transaction_lines (asked.explained && numbered) group sequence first t
-    ++ advice_if (said_if numbered asked.said) group sequence first t
+-- words can name the numbers of the lines up to that after the transaction
+abbrev pub is_numbered : EndedTransaction → Bool
+is_numbered t = nat_le (t.first + length t.records) 100000000
 
--- what is told of a transaction that ended
-abbrev pub ended_lines : Asking → Option EndedTransaction → List ℕ
-ended_lines asked None = []
-ended_lines asked (Some t) = told_lines asked (nat_le (t.first + length t.records) 100000000) t.group t.sequence t.first t.records
+-- the advice on a transaction that ended
+abbrev pub advice_ended : Asking → Option EndedTransaction → List Advice
+advice_ended asked None = []
+advice_ended asked (Some t) = advice_if (said_if (is_numbered t) asked.said) t.records
 
--- What is told of a line that was judged: the findings of the transaction that it ends, and then its faults at the fields from one on.
-pub record TellsLine (asked : Asking) (judged : JudgedLine) (ended : Option EndedTransaction) (from : ℕ) (told : List Refusal)
-    (text : List ℕ) : Type 0 where
+-- The lines of findings in a transaction, and then of that advice on it. Words stand under each finding where they are asked for, and an
+-- empty line after all that is told.
+abbrev pub told_lines : Asking → Bool → List Advice → ℕ → ℕ → ℕ → List RecordValue → List ℕ
+told_lines asked numbered advice group sequence first t =
+    transaction_lines (asked.explained && numbered) asked.explained group sequence first t
+    ++ flat_map (noted_advice asked.explained group sequence first t) advice
+
+-- what is told of a transaction that ended, and that advice
+abbrev pub ended_lines : Asking → List Advice → Option EndedTransaction → List ℕ
+ended_lines asked advice None = []
+ended_lines asked advice (Some t) = told_lines asked (is_numbered t) advice t.group t.sequence t.first t.records
+
+-- What is told of a line that was judged: the findings of the transaction that it ends, that advice on it, and then its faults at the fields
+-- from one on.
+pub record TellsLine (asked : Asking) (judged : JudgedLine) (ended : Option EndedTransaction) (advice : List Advice) (from : ℕ)
+    (told : List Refusal) (text : List ℕ) : Type 0 where
   pub lines : List ℕ
   pub tells : Tells asked judged from (fields_end judged.cut.kind) told lines
-  pub whole : text ≡ ended_lines asked ended ++ lines
+  pub whole : text ≡ ended_lines asked advice ended ++ lines
 
 -- the count of lines after these
 abbrev pub count_after : ℕ → List (List ℕ) → ℕ

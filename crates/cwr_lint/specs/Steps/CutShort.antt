@@ -5,6 +5,7 @@ use Rattle.std.specs.List.{AllByRecursion, list_any}
 use Rattle.std.specs.Io.KnownBytes.{Appends, Consumes}
 use Rattle.cwr_lines.specs.Format.Lines.{is_lf}
 use Rattle.cwr_judge.specs.declared.refusals.Refusal.{Refusal}
+use Rattle.cwr_advice.specs.declared.rules.Advice.{Advice}
 use Rattle.cwr_decode.specs.declared.last_bytes.LastBytes.{LastBytes}
 use Rattle.cwr_decode.specs.declared.readings.LastRead.{LastRead}
 use Rattle.cwr_devices.specs.declared.sinks.Sink.{Sink}
@@ -20,7 +21,7 @@ use Rattle.cwr_lint.specs.declared.raw_lines.RawLine.{RawLine}
 use Rattle.cwr_lint.specs.Format.FaultsOfLines.{Asking, EndedTransaction, IsFaultText, Tells, ended_lines}
 use Rattle.cwr_lint.specs.Steps.LinesRead.{GoesOn, HoldsRaw, IsOfLine, ReadsLast, ReadsLine, held_raw}
 use Rattle.cwr_lint.specs.Steps.Runs.{TakesFirst, walk_of}
-use Rattle.cwr_lint.specs.Steps.Walks.{IsTold, Walk, WalksLine, WalksLines, begins_at, ended_at, judged_line}
+use Rattle.cwr_lint.specs.Steps.Walks.{IsTold, Walk, WalksLine, WalksLines, begins_at, ended_at, judged_line, told_ended}
 
 -- ---- texts that were put
 
@@ -68,15 +69,17 @@ IsFrontOf whole text = (rest : List ℕ) × (whole ≡ text ++ rest)
 abbrev pub TellsSome : Asking → JudgedLine → ℕ → ℕ → List ℕ → Type 0
 TellsSome asked l from end text = (upto : ℕ) × (upto ≤ end) × (told : List Refusal) × Tells asked l from upto told text
 
--- nothing, or the findings of the transaction that it ends and some of its faults
-abbrev pub TellsPart : Asking → JudgedLine → Option EndedTransaction → ℕ → List ℕ → Type 0
-TellsPart asked l ended from text =
+-- nothing, or the findings of the transaction that it ends, that advice on it, and some of its faults
+abbrev pub TellsPart : Asking → JudgedLine → Option EndedTransaction → List Advice → ℕ → List ℕ → Type 0
+TellsPart asked l ended advice from text =
     (text ≡ [])
-    ⊎ ((lines : List ℕ) × TellsSome asked l from (fields_end l.cut.kind) lines × (text ≡ ended_lines asked ended ++ lines))
+    ⊎ ((lines : List ℕ) × TellsSome asked l from (fields_end l.cut.kind) lines × (text ≡ ended_lines asked advice ended ++ lines))
 
 -- so of the line that comes next
 abbrev pub WalksPart : Asking → Walk → LineCut → ℕ → List ℕ → Type 0
-WalksPart asked old l from text = TellsPart asked (judged_line old.state l) (ended_at old.state old.begun l) from text
+WalksPart asked old l from text =
+    TellsPart asked (judged_line old.state l) (ended_at old.state old.begun l)
+    (told_ended asked old.advice (ended_at old.state old.begun l)) from text
 
 -- ---- lines
 
@@ -178,10 +181,11 @@ pub record TellsLastUpTo (asked : Asking) (begins : Walk) (refusal : Refusal) (l
   pub read : ReadsLast left between last raw
   pub tells : TellsUpTo asked begins refusal raw between text
 
--- so it is told from where the records had come before the refused line, of which the last bytes are held, and after so many findings
-abbrev pub TellsAfterUpTo : Asking → LastRead → ℕ → Refusal → Option (List ℕ) → List ℕ → Type 0
-TellsAfterUpTo asked last found refusal left text =
-    TellsLastUpTo asked (begins_at (state_at last.stage last.counts (refusal.rec - 1)) found) refusal last.bytes left text
+-- so it is told from where the records had come before the refused line, of which the last bytes are held, and after so many findings and so
+-- much advice of each rule
+abbrev pub TellsAfterUpTo : Asking → LastRead → ℕ → List ℕ → Refusal → Option (List ℕ) → List ℕ → Type 0
+TellsAfterUpTo asked last found advice refusal left text =
+    TellsLastUpTo asked (begins_at (state_at last.stage last.counts (refusal.rec - 1)) found advice) refusal last.bytes left text
 
 -- ---- a whole lint
 

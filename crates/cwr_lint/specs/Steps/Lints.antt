@@ -20,10 +20,11 @@ use Rattle.cwr_tools.specs.declared.verdicts.Verdict.TheVariants.{Refused}
 use Rattle.cwr_tools.specs.declared.verdicts.ToolFault.{ToolFault}
 use Rattle.cwr_tools.specs.declared.verdicts.ToolFault.TheVariants.{Writer}
 use Rattle.cwr_advise.specs.Format.AdviceLines.{said_in}
+use Rattle.cwr_advise.specs.Steps.AdviceCounts.{counts_of}
 use Rattle.cwr_tools.specs.Steps.Reports.{Reports}
 use Rattle.cwr_tools.specs.Steps.Verdicts.{StopsAfter}
 use Rattle.cwr_lint_lines.specs.Steps.Fronts.{state_at}
-use Rattle.cwr_lint.specs.Format.Wanted.{Wanted, asking_for, lines_linted, lines_up_to}
+use Rattle.cwr_lint.specs.Format.Wanted.{Wanted, advice_when, asking_for, lines_linted, lines_up_to}
 use Rattle.cwr_lint.specs.Steps.CutShort.{IsCutText, IsToldUpTo, IsUnread}
 use Rattle.cwr_lint.specs.Steps.LinesRead.{IsTextOf}
 use Rattle.cwr_lint.specs.Steps.Runs.{EndsAtTrl}
@@ -53,7 +54,8 @@ pub record TellsUpToFault (wanted : Wanted) (limits : Limits) (before left : Opt
   pub heard : List Item
   pub heard_before : StopsAfter limits (read_faults.Refused refusal) before left heard
   pub told : IsToldUpTo (asking_for wanted (said_in heard))
-      (begins_at (state_at tally.stage tally.counts (refusal.rec - 1)) (findings_with 0 heard)) refusal refused lines text
+      (begins_at (state_at tally.stage tally.counts (refusal.rec - 1)) (findings_with 0 heard)
+      (counts_of (advice_when wanted.advised heard))) refusal refused lines text
   pub read : IfSome before (λ known. (bytes : List ℕ) × (now : Option (List ℕ)) × Consumes before now bytes
       × AreLinesRead refusal tally last bytes refused lines)
 
@@ -100,7 +102,8 @@ pub record TellsFaults {W : Type 0} (wanted : Wanted) (limits : Limits) (before 
   pub heard : List Item
   pub heard_before : StopsAfter limits (read_faults.Refused refusal) before left heard
   pub told : IsTold (asking_for wanted (said_in heard))
-      (begins_at (state_at tally.stage tally.counts (refusal.rec - 1)) (findings_with 0 heard)) refusal refused lines over text
+      (begins_at (state_at tally.stage tally.counts (refusal.rec - 1)) (findings_with 0 heard)
+      (counts_of (advice_when wanted.advised heard))) refusal refused lines over text
   pub written : Appends (contents old) (contents new) ((lines_linted wanted).lines given ++ text)
   pub read : IfSome before
       (λ known. (bytes : List ℕ) × Consumes before after bytes × AreLinesRead refusal tally last bytes refused lines)

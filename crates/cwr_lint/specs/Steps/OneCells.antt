@@ -17,11 +17,11 @@ use Rattle.cwr_lint.specs.Steps.Walks.{IsTold, begins_at}
 abbrev pub OneCellIsTold : Type 0
 OneCellIsTold =
     (asked : Asking) (limits : Limits) (text : List ℕ) (left : Option (List ℕ)) (refusal : Refusal) (tally : TallyValue)
-    (found : ℕ) (refused : List ℕ) (lines : List (List ℕ)) (last over : Bool) (bytes written : List ℕ)
+    (found : ℕ) (advice : List ℕ) (refused : List ℕ) (lines : List (List ℕ)) (last over : Bool) (bytes written : List ℕ)
     → (before : List (List ℕ)) (wrong : List ℕ) (kind : Kind) (k : ℕ) → DiffersInOneCell limits text before wrong kind k
     → length text < 2 ^ 64 - 1 → IsRefused limits text refusal
     → Consumes (Some text) left bytes → AreLinesRead refusal tally last bytes refused lines
     → (last ≡ false → IsAtEnd left ⊎ (2 ^ 64 - 1 ≤ length text))
-    → (told : IsTold asked (begins_at (state_at tally.stage tally.counts (refusal.rec - 1)) found) refusal refused lines over
+    → (told : IsTold asked (begins_at (state_at tally.stage tally.counts (refusal.rec - 1)) found advice) refusal refused lines over
     written)
     → (refusal.rec ≡ length before + 1) × (refusal.field ≡ k) × (told.others ≡ []) × (told.later ≡ [])

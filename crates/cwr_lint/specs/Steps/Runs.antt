@@ -9,6 +9,8 @@ use Rattle.cwr_lines.specs.Format.Records.{RecordValue}
 use Rattle.cwr_lines.specs.Steps.Held.{HeldLine}
 use Rattle.cwr_fields.specs.declared.kinds.Kind.TheVariants.{Trl}
 use Rattle.cwr_judge.specs.declared.refusals.Refusal.{Refusal}
+use Rattle.cwr_advice.specs.declared.rules.Advice.{Advice}
+use Rattle.cwr_advise.specs.Steps.AdviceCounts.{summary_by}
 use Rattle.cwr_levels.specs.Format.ReportLines.{faults_line}
 use Rattle.cwr_lint.specs.declared.linting.LintRun.{LintRun}
 use Rattle.cwr_lint.specs.declared.puts.Asked.{Asked}
@@ -18,7 +20,7 @@ use Rattle.cwr_lint_lines.specs.declared.states.LintState.{LintState}
 use Rattle.cwr_lint_lines.specs.Format.FaultsAtFields.{JudgedLine, LineCut, cut_of, one_more_line}
 use Rattle.cwr_lint.specs.Format.FaultsOfLines.{Asking, EndedTransaction, IsFaultText, Tells, TellsLine, count_after}
 use Rattle.cwr_lint.specs.Format.Told.{truncated_unless}
-use Rattle.cwr_lint.specs.Steps.Walks.{IsTold, Walk, WalksLine, WalksLines, begins_at, ended_by, judged_in}
+use Rattle.cwr_lint.specs.Steps.Walks.{IsTold, Walk, WalksLine, WalksLines, begins_at, ended_by, judged_in, told_ended}
 use Rattle.cwr_lint_lines.specs.Steps.Cells.{held_cut}
 use Rattle.cwr_lint.specs.Steps.LinesRead.{GoesOn, HoldsRaw, IsAllRead, IsOfLine, ReadsLast, ReadsLine, held_raw}
 use Rattle.cwr_decode.specs.declared.last_bytes.LastBytes.{LastBytes}
@@ -27,7 +29,7 @@ use Rattle.cwr_lint_lines.specs.Steps.Fronts.{state_at}
 
 -- what is asked for
 abbrev pub asking_of : Asked → Asking
-asking_of asked = record { explained = is_some asked.name; said = asked.said }
+asking_of asked = record { explained = is_some asked.name; said = asked.said; all = asked.all }
 
 -- words are put only where they are asked for
 abbrev pub AreWords : Bool → List ℕ → Type 0
@@ -37,19 +39,20 @@ AreWords explained text = explained ≡ false → text ≡ []
 abbrev pub TellsSoMany : Asking → JudgedLine → ℕ → ℕ → ℕ → List ℕ → Type 0
 TellsSoMany asked l from upto count text = (told : List Refusal) × Tells asked l from upto told text × (count ≡ length told)
 
--- so many faults were told of a line, and before them the findings of the transaction that it ends
-abbrev pub TellsOfLine : Asking → JudgedLine → Option EndedTransaction → ℕ → ℕ → List ℕ → Type 0
-TellsOfLine asked judged ended from count text =
-    (told : List Refusal) × TellsLine asked judged ended from told text × (count ≡ length told)
+-- so many faults were told of a line, and before them the findings of the transaction that it ends, and that advice on it
+abbrev pub TellsOfLine : Asking → JudgedLine → Option EndedTransaction → List Advice → ℕ → ℕ → List ℕ → Type 0
+TellsOfLine asked judged ended advice from count text =
+    (told : List Refusal) × TellsLine asked judged ended advice from told text × (count ≡ length told)
 
--- so it is told of a line that was judged in that state, where these are the records of the open transaction
-abbrev pub TellsJudged : Asking → LintState → Option (List RecordValue) → HeldLine → Judged → ℕ → ℕ → List ℕ → Type 0
-TellsJudged asked state begun line judged from =
-    TellsOfLine asked (judged_in state line judged) (ended_by judged state begun) from
+-- so it is told of a line that was judged before which the lint holds that
+abbrev pub TellsJudged : Asking → LintRun → HeldLine → Judged → ℕ → ℕ → List ℕ → Type 0
+TellsJudged asked run line judged from =
+    TellsOfLine asked (judged_in run.state line judged) (ended_by judged run.state run.begun)
+    (told_ended asked run.advice (ended_by judged run.state run.begun)) from
 
 -- what a run holds between two lines
 abbrev pub walk_of : LintRun → Walk
-walk_of run = record { state = run.state; begun = run.begun; findings = run.findings }
+walk_of run = record { state = run.state; begun = run.begun; findings = run.findings; advice = run.advice }
 
 -- more faults were counted; the count stays at the largest number of 64 bits
 abbrev pub more_faults : ℕ → ℕ → ℕ
@@ -164,10 +167,15 @@ pub record TellsRun (asked : Asking) (begins : Walk) (refusal : Refusal) (last :
   pub tells : TellsToEnd asked begins refusal raw between after text
 
 -- how it ended, and how many faults there are, in how many lines
-abbrev pub IsEndText : Bool → ℕ → ℕ → ℕ → List ℕ → Type 0
-IsEndText over faults findings n text = text ≡ truncated_unless over n ++ faults_line faults findings n
+abbrev pub sums_text : Bool → ℕ → ℕ → ℕ → List ℕ
+sums_text over faults findings n = truncated_unless over n ++ faults_line faults findings n
 
--- so it is told from where the records had come before the refused line, of which the last bytes are held, and after so many findings
-abbrev pub TellsAfter : Asking → LastRead → ℕ → Refusal → Option (List ℕ) → Option (List ℕ) → List ℕ → Type 0
-TellsAfter asked last found refusal left after text =
-    TellsRun asked (begins_at (state_at last.stage last.counts (refusal.rec - 1)) found) refusal last.bytes left after text
+-- how much of the advice isn't told, and then that
+abbrev pub IsEndText : Bool → List ℕ → Bool → ℕ → ℕ → ℕ → List ℕ → Type 0
+IsEndText all advice over faults findings n text = text ≡ summary_by all advice ++ sums_text over faults findings n
+
+-- so it is told from where the records had come before the refused line, of which the last bytes are held, and after so many findings and so
+-- much advice of each rule
+abbrev pub TellsAfter : Asking → LastRead → ℕ → List ℕ → Refusal → Option (List ℕ) → Option (List ℕ) → List ℕ → Type 0
+TellsAfter asked last found advice refusal left after text =
+    TellsRun asked (begins_at (state_at last.stage last.counts (refusal.rec - 1)) found advice) refusal last.bytes left after text

@@ -15,7 +15,10 @@ use Rattle.cwr_lint_lines.specs.declared.states.LintState.{LintState}
 use Rattle.cwr_lint_lines.specs.declared.takings.Taking.{Taking}
 use Rattle.cwr_lint_lines.specs.declared.takings.Taking.TheVariants as takings
 use Rattle.cwr_lint_lines.specs.Format.FaultsAtFields.{JudgedLine, LineCut, cut_of, one_more_line, report_number}
-use Rattle.cwr_lint.specs.Format.FaultsOfLines.{Asking, EndedTransaction, IsFaultText, TellsLine, count_after}
+use Rattle.cwr_lint.specs.Format.FaultsOfLines.{Asking, EndedTransaction, IsFaultText, TellsLine, advice_ended}
+use Rattle.cwr_lint.specs.Format.FaultsOfLines.{count_after}
+use Rattle.cwr_advice.specs.declared.rules.Advice.{Advice}
+use Rattle.cwr_advise.specs.Steps.AdviceCounts.{counts_after, summary_by, told_by}
 use Rattle.cwr_lint_lines.specs.Steps.JudgedLines.{judged_as, judged_at, judged_cut, scope_by}
 use Rattle.cwr_lint_lines.specs.Steps.NextStates.{state_with, state_with_unknown}
 use Rattle.cwr_lint_lines.specs.Steps.States.{is_whole, open_transaction}
@@ -97,25 +100,36 @@ abbrev pub findings_after : ℕ → Option EndedTransaction → ℕ
 findings_after before None = before
 findings_after before (Some t) = min (before + length (findings t.records)) (2 ^ 64 - 1)
 
+-- the advice on the transaction that ends which is told after so many pieces of each rule
+abbrev pub told_ended : Asking → List ℕ → Option EndedTransaction → List Advice
+told_ended asked counts ended = told_by asked.all counts (advice_ended asked ended)
+
+-- how many pieces came from each rule with those on it
+abbrev pub counts_ended : Asking → List ℕ → Option EndedTransaction → List ℕ
+counts_ended asked counts ended = counts_after counts (advice_ended asked ended)
+
 -- ---- lines, one after another
 
--- what is held between two lines, and how many findings were told
+-- what is held between two lines, how many findings were told, and how much advice came from each rule
 pub record Walk : Type 0 where
   pub state : LintState
   pub begun : Option (List RecordValue)
   pub findings : ℕ
+  pub advice : List ℕ
 
--- what is held where a check has met the first fault, and has told so many findings
-abbrev pub begins_at : LintState → ℕ → Walk
-begins_at state found = record { state = state; begun = None; findings = found }
+-- what is held where a check has met the first fault, and has told so many findings, and so much advice came from each rule
+abbrev pub begins_at : LintState → ℕ → List ℕ → Walk
+begins_at state found advice = record { state = state; begun = None; findings = found; advice = advice }
 
 -- What is told of one more line, at its fields from one on, and what is held after it.
 pub record WalksLine (asked : Asking) (old : Walk) (l : LineCut) (from : ℕ) (told : List Refusal) (text : List ℕ)
     (new : Walk) : Type 0 where
-  pub tells : TellsLine asked (judged_line old.state l) (ended_at old.state old.begun l) from told text
+  pub tells : TellsLine asked (judged_line old.state l) (ended_at old.state old.begun l)
+      (told_ended asked old.advice (ended_at old.state old.begun l)) from told text
   pub state : new.state ≡ next_state old.state l
   pub begun : AfterJudged (is_quiet told && (from == 1)) (judged_as old.state l) (is_some new.state.stage) old.begun l new.begun
   pub findings : new.findings ≡ findings_after old.findings (ended_at old.state old.begun l)
+  pub advice : new.advice ≡ counts_ended asked old.advice (ended_at old.state old.begun l)
 
 -- what is told of lines, and what is held after them
 abbrev pub WalksLines : Asking → Walk → List (List ℕ) → List Refusal → List ℕ → Walk → Type 0
@@ -126,8 +140,8 @@ WalksLines asked old (line ∷ lines) told text new =
     × WalksLine asked old (cut_of line) 1 here first between × WalksLines asked between lines later rest new
     × (told ≡ here ++ later) × (text ≡ first ++ rest)
 
--- The line of the refusal; the other faults of the line that is refused, which is this one; those of the lines after it; and how many
--- faults and findings there are, in how many lines. Words stand under a fault where they are asked for. At the line that is refused that is held, and so many findings were told
+-- The line of the refusal; the other faults of the line that is refused, which is this one; those of the lines after it; how much of the
+-- advice isn't told; and how many faults and findings there are, in how many lines. Words stand under a fault where they are asked for. At the line that is refused that is held, and so many findings were told
 -- before.
 pub record IsTold (asked : Asking) (begins : Walk) (refusal : Refusal) (refused : List ℕ) (lines : List (List ℕ))
     (over : Bool) (text : List ℕ) : Type 0 where
@@ -144,5 +158,5 @@ pub record IsTold (asked : Asking) (begins : Walk) (refusal : Refusal) (refused 
   pub tells_later : WalksLines asked between lines later after last
   pub over_is : over ≡ last.state.over
   pub whole : let n = count_after (one_more_line (refusal.rec - 1)) lines in
-      text ≡ line ++ beside ++ after ++ truncated_unless over n
+      text ≡ line ++ beside ++ after ++ summary_by asked.all last.advice ++ truncated_unless over n
       ++ faults_line (min (1 + length others + length later) (2 ^ 64 - 1)) last.findings n

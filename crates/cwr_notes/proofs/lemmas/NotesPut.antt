@@ -1,5 +1,5 @@
 -- What is put under a finding, one text after another.
-use Rattle.std.proofs.Common.{◌≡◌, ℕ, ◌+◌, false, List, [], ◌++◌, Option, Some, None, refl, sym, ap, subst, ◌∙◌, append-nil}
+use Rattle.std.proofs.Common.{◌≡◌, ℕ, ◌+◌, Bool, false, List, [], ◌++◌, Option, Some, None, refl, sym, ap, subst, ◌∙◌, append-nil}
 use Rattle.std.specs.Prelude.{Result, Ok, Err, IsErr, slice_get}
 use Rattle.std.specs.List.{flat_map}
 use Rattle.std.specs.Option.{option_to_list}
@@ -67,15 +67,16 @@ noted_some n t rule place r e =
     sym (append-nil (noted_cells (n + place) rule r))
     ∙ ap (λ (o : Option RecordValue). flat_map (noted_cells (n + place) rule) (option_to_list o)) e
 
-pub notes_none : (n : ℕ) (t : List RecordValue) (f : Finding) → None ≡ slice_get t f.rec → finding_notes n t f ≡ []
+pub notes_none : (apart : Bool) (n : ℕ) (t : List RecordValue) (f : Finding) → None ≡ slice_get t f.rec
+    → finding_notes apart n t f ≡ []
 unfolding finding_notes
-notes_none n t f e = ap (λ (o : Option RecordValue). flat_map (notes_on n t f) (option_to_list o)) (sym e)
+notes_none apart n t f e = ap (λ (o : Option RecordValue). flat_map (notes_on apart n t f) (option_to_list o)) (sym e)
 
-pub notes_some : (n : ℕ) (t : List RecordValue) (f : Finding) (r : RecordValue) → Some r ≡ slice_get t f.rec
-    → notes_on n t f r ≡ finding_notes n t f
+pub notes_some : (apart : Bool) (n : ℕ) (t : List RecordValue) (f : Finding) (r : RecordValue) → Some r ≡ slice_get t f.rec
+    → notes_on apart n t f r ≡ finding_notes apart n t f
 unfolding finding_notes
-notes_some n t f r e =
-    sym (append-nil (notes_on n t f r)) ∙ ap (λ (o : Option RecordValue). flat_map (notes_on n t f) (option_to_list o)) e
+notes_some apart n t f r e =
+    sym (append-nil (notes_on apart n t f r)) ∙ ap (λ (o : Option RecordValue). flat_map (notes_on apart n t f) (option_to_list o)) e
 
 -- ---- of a transaction's header
 

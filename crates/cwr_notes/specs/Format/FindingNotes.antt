@@ -175,37 +175,42 @@ total_line V5 count t = codes "  total     " ++ decimal (ownership (right_of V5)
 total_line V9 count t = codes "  total     COM records: " ++ decimal count ++ 10 ∷ []
 total_line rule count t = []
 
--- how many records more there are, and what is added up
-abbrev pub tail_lines : Rule → ℕ → List RecordValue → List ℕ
-tail_lines rule count t = more_line (count - most_others) ++ total_line rule count t
+-- an empty line, where what is told stands apart from what follows
+abbrev pub gap : Bool → List ℕ
+gap false = []
+gap true = 10 ∷ []
+
+-- how many records more there are, what is added up, and an empty line where findings stand apart
+abbrev pub tail_lines : Bool → Rule → ℕ → List RecordValue → List ℕ
+tail_lines apart rule count t = more_line (count - most_others) ++ total_line rule count t ++ gap apart
 
 -- the lines under a finding at a record
-abbrev pub notes_on : ℕ → List RecordValue → Finding → RecordValue → List ℕ
-notes_on n t f r =
+abbrev pub notes_on : Bool → ℕ → List RecordValue → Finding → RecordValue → List ℕ
+notes_on apart n t f r =
     head_lines (n + f.rec) (work_of t) f r ++ flat_map (noted_at n t f.rule) (take most_others (others f.rule t f.rec r))
-    ++ tail_lines f.rule (length (others f.rule t f.rec r)) t
+    ++ tail_lines apart f.rule (length (others f.rule t f.rec r)) t
 
 -- the lines under a finding in the transaction t, whose first record is on line n of the file
-unfoldable pub finding_notes : ℕ → List RecordValue → Finding → List ℕ
-finding_notes n t f = flat_map (notes_on n t f) (option_to_list (slice_get t f.rec))
+unfoldable pub finding_notes : Bool → ℕ → List RecordValue → Finding → List ℕ
+finding_notes apart n t f = flat_map (notes_on apart n t f) (option_to_list (slice_get t f.rec))
 
 -- ---- of items
 
 -- the line of a finding, and the lines under it
-abbrev pub explained_finding : ℕ → ℕ → ℕ → List RecordValue → Finding → List ℕ
-explained_finding group sequence n t f = finding_line group sequence f ++ finding_notes n t f
+abbrev pub explained_finding : Bool → ℕ → ℕ → ℕ → List RecordValue → Finding → List ℕ
+explained_finding apart group sequence n t f = finding_line group sequence f ++ finding_notes apart n t f
 
 -- the explained findings of an item, where it is the transaction of that sequence in the group of that ID, and begins on line n
-abbrev pub explained_in : ℕ → ℕ → ℕ → Item → List ℕ
-explained_in group sequence n (Transaction t) = flat_map (explained_finding group sequence n t) (findings t)
-explained_in group sequence n item = []
+abbrev pub explained_in : Bool → ℕ → ℕ → ℕ → Item → List ℕ
+explained_in apart group sequence n (Transaction t) = flat_map (explained_finding apart group sequence n t) (findings t)
+explained_in apart group sequence n item = []
 
 -- the same, by the items before it
-abbrev pub explained_findings : List Item → Item → List ℕ
-explained_findings before item =
-    explained_in (count_by opens_group before) (count_by is_transaction (after_last opens_group before))
+abbrev pub explained_findings : Bool → List Item → Item → List ℕ
+explained_findings apart before item =
+    explained_in apart (count_by opens_group before) (count_by is_transaction (after_last opens_group before))
     (length (records_in before) + 1) item
 
--- what `explain` writes for items
-unfoldable pub explained_lines : List Item → List ℕ
-explained_lines items = flat_map (λ p. explained_findings (take p.0 items) p.1) (enumerate_from 0 items)
+-- what is written of items whose findings are explained, apart from one another or not
+unfoldable pub explained_lines : Bool → List Item → List ℕ
+explained_lines apart items = flat_map (λ p. explained_findings apart (take p.0 items) p.1) (enumerate_from 0 items)

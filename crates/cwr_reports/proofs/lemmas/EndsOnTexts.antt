@@ -40,7 +40,7 @@ use Rattle.cwr_reports.specs.Steps.Looks.{JudgesOn, LooksAfter, SeesCounted, loo
 
 -- ---- the status of a verdict
 
-status_on : (advice : Option ℕ) (limits : Limits) (wanted : Wanted) (text : List ℕ) (verdict : Verdict) (look : Look) (old new : Watch)
+status_on : (advice : Option (Bool × ℕ)) (limits : Limits) (wanted : Wanted) (text : List ℕ) (verdict : Verdict) (look : Look) (old new : Watch)
     (status : Status) → old ≡ record { from = wanted.fail_on; found = false } → IsVerdictOn limits text verdict
     → SeesCounted advice limits (Some text) old new → LooksAfter limits (Some text) look
     → status_in wanted verdict look new.found ≡ Some status → IsStatusBy (Counts advice) limits wanted text status
@@ -62,7 +62,7 @@ status_on advice limits wanted text (verdicts.Truncated records) look old new st
     subst (IsStatusBy (Counts advice) limits wanted text) refused (inr (inl (records, judged)))
 
 -- where its bytes are known
-pub status_on_input : (advice : Option ℕ) (limits : Limits) (wanted : Wanted) (before : Option (List ℕ)) (verdict : Verdict) (look : Look)
+pub status_on_input : (advice : Option (Bool × ℕ)) (limits : Limits) (wanted : Wanted) (before : Option (List ℕ)) (verdict : Verdict) (look : Look)
     (old new : Watch) (status : Status) → old ≡ record { from = wanted.fail_on; found = false }
     → JudgesText limits before (Ok verdict) → SeesCounted advice limits before old new → LooksAfter limits before look
     → status_in wanted verdict look new.found ≡ Some status → IfSome before (λ text. IsStatusBy (Counts advice) limits wanted text status)
@@ -93,23 +93,23 @@ sees_nothing limits None watch (Ok verdict) none = tt
 sees_nothing limits (Some text) watch (Ok verdict) none = λ v n a. watched_same watch watch.from (value_items v) refl none
 
 -- where no advice is told, it saw the findings
-pub sees_found : (advice : Option ℕ) (limits : Limits) (before : Option (List ℕ)) (old new : Watch) (outcome : Result Verdict ToolFault)
+pub sees_found : (advice : Option (Bool × ℕ)) (limits : Limits) (before : Option (List ℕ)) (old new : Watch) (outcome : Result Verdict ToolFault)
     → advice ≡ None → OnOk outcome (SeesAccepted limits before old new) → OnOk outcome (SeesCounted advice limits before old new)
 sees_found advice limits before old new (Err fault) none seen = tt
 sees_found advice limits None old new (Ok verdict) none seen = tt
 sees_found advice limits (Some text) old new (Ok verdict) none seen =
-    subst (λ (a : Option ℕ). SeesCounted a limits (Some text) old new) (sym none)
+    subst (λ (a : Option (Bool × ℕ)). SeesCounted a limits (Some text) old new) (sym none)
     (λ v n accepted. (any_from old.from (value_items v), refl, seen v n accepted))
 
 -- where advice is told, it saw the worst level of all that is told
-pub sees_advice : (advice : Option ℕ) (limit : ℕ) (limits : Limits) (before : Option (List ℕ)) (old new : Watch) (worst : Option Level)
-    (outcome : Result Verdict ToolFault) → advice ≡ Some limit
+pub sees_advice : (advice : Option (Bool × ℕ)) (all : Bool) (limit : ℕ) (limits : Limits) (before : Option (List ℕ)) (old new : Watch) (worst : Option Level)
+    (outcome : Result Verdict ToolFault) → advice ≡ Some (all, limit)
     → new ≡ record old { found = old.found || is_reached old.from worst }
-    → OnOk outcome (SeesTold (lines_of_advice limit) limits before worst) → OnOk outcome (SeesCounted advice limits before old new)
-sees_advice advice limit limits before old new worst (Err fault) some is seen = tt
-sees_advice advice limit limits None old new worst (Ok verdict) some is seen = tt
-sees_advice advice limit limits (Some text) old new worst (Ok verdict) some is seen =
-    subst (λ (a : Option ℕ). SeesCounted a limits (Some text) old new) (sym some)
+    → OnOk outcome (SeesTold (lines_of_advice all limit) limits before worst) → OnOk outcome (SeesCounted advice limits before old new)
+sees_advice advice all limit limits before old new worst (Err fault) some is seen = tt
+sees_advice advice all limit limits None old new worst (Ok verdict) some is seen = tt
+sees_advice advice all limit limits (Some text) old new worst (Ok verdict) some is seen =
+    subst (λ (a : Option (Bool × ℕ)). SeesCounted a limits (Some text) old new) (sym some)
     (λ v n accepted. let told = seen v n accepted in
     (is_reached old.from worst, (told.0, told.1, told.2, told.3, told.4 old.from), is))
 
@@ -148,7 +148,7 @@ looks_found limits (Some text) after (Ok verdict) found h = λ v n a. (after, by
   by left (Some t) s = s
 
 -- what is made of an input is right of its bytes
-pub judges_on : (advice : Option ℕ) (limits : Limits) (wanted : Wanted) (before : Option (List ℕ)) (outcome : Result Verdict ToolFault) (look : Look)
+pub judges_on : (advice : Option (Bool × ℕ)) (limits : Limits) (wanted : Wanted) (before : Option (List ℕ)) (outcome : Result Verdict ToolFault) (look : Look)
     (old new : Watch) → old ≡ record { from = wanted.fail_on; found = false }
     → JudgesText limits before outcome → OnOk outcome (SeesCounted advice limits before old new)
     → OnOk outcome (LooksAfter limits before look)
@@ -273,22 +273,22 @@ judged_counts wanted (Err tool_faults.Output) look found old new e = e
 
 -- ---- how a run ends
 
-pub ends_ok : (advice : Option ℕ) (limits : Limits) (wanted : Wanted) (before : Option (List ℕ)) (judged : Result Judgement ToolFault)
+pub ends_ok : (advice : Option (Bool × ℕ)) (limits : Limits) (wanted : Wanted) (before : Option (List ℕ)) (judged : Result Judgement ToolFault)
     (judgement : Judgement) → judged ≡ Ok judgement → JudgesOn advice limits wanted before judged → EndsOnInput advice limits wanted before
     (Ok judgement.status)
 ends_ok advice limits wanted before judged judgement e h = subst (JudgesOn advice limits wanted before) e h
 
-pub ends_read : (advice : Option ℕ) (limits : Limits) (wanted : Wanted) (before : Option (List ℕ)) (told : Told)
+pub ends_read : (advice : Option (Bool × ℕ)) (limits : Limits) (wanted : Wanted) (before : Option (List ℕ)) (told : Told)
     → EndsOnInput advice limits wanted before (Err (faults.Read told))
 ends_read advice limits wanted None told = tt
 ends_read advice limits wanted (Some text) told = tt
 
-pub ends_write : (advice : Option ℕ) (limits : Limits) (wanted : Wanted) (before : Option (List ℕ)) (told : Told)
+pub ends_write : (advice : Option (Bool × ℕ)) (limits : Limits) (wanted : Wanted) (before : Option (List ℕ)) (told : Told)
     → EndsOnInput advice limits wanted before (Err (faults.Write told))
 ends_write advice limits wanted None told = tt
 ends_write advice limits wanted (Some text) told = tt
 
-pub ends_memory : (advice : Option ℕ) (limits : Limits) (wanted : Wanted) (before : Option (List ℕ))
+pub ends_memory : (advice : Option (Bool × ℕ)) (limits : Limits) (wanted : Wanted) (before : Option (List ℕ))
     → EndsOnInput advice limits wanted before (Err faults.Memory)
 ends_memory advice limits wanted None = tt
 ends_memory advice limits wanted (Some text) = tt

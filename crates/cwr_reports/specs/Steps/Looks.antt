@@ -33,21 +33,21 @@ look_of (Some trailing) = looks.Found trailing
 abbrev pub tells_findings : Telling → Bool
 tells_findings tellings.Findings = true
 tells_findings (tellings.Explained name) = true
-tells_findings (tellings.Faults name advised) = false
+tells_findings (tellings.Faults name advised all) = false
 tells_findings tellings.Records = true
 tells_findings (tellings.Data encoding numbers) = false
 tells_findings (tellings.Rows table) = false
 tells_findings (tellings.Answers form) = false
-tells_findings (tellings.Advice repeated) = true
+tells_findings (tellings.Advice all repeated) = true
 
 -- where a text is accepted, the watch saw what counts of its transmission
-abbrev pub SeesCounted : Option ℕ → Limits → Option (List ℕ) → Watch → Watch → Type 0
+abbrev pub SeesCounted : Option (Bool × ℕ) → Limits → Option (List ℕ) → Watch → Watch → Type 0
 SeesCounted advice limits before old new =
     IfSome before (λ text. (v : TransmissionValue) (n : ℕ) → IsAccepted limits text v n
     → (found : Bool) × Counts advice old.from (value_items v) found × (new ≡ record old { found = old.found || found }))
 
 -- an input whose bytes are known has the status on them, or a device or memory failed
-abbrev pub JudgesOn : Option ℕ → Limits → Wanted → Option (List ℕ) → Result Judgement ToolFault → Type 0
+abbrev pub JudgesOn : Option (Bool × ℕ) → Limits → Wanted → Option (List ℕ) → Result Judgement ToolFault → Type 0
 JudgesOn advice limits wanted before (Ok judgement) =
     IfSome before (λ text. IsStatusBy (Counts advice) limits wanted text judgement.status)
 JudgesOn advice limits wanted before (Err tool_faults.Reader) = Unit {0}

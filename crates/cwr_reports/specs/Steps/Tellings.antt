@@ -39,9 +39,9 @@ TellsUpTo tellings.Findings limits before after contents old new outcome =
     Reports lines_of_findings limits before after contents old new outcome
 TellsUpTo (tellings.Explained name) limits before after contents old new outcome =
     Explains limits name.now before after contents old new outcome
-TellsUpTo (tellings.Faults name advised) limits before after contents old new outcome =
-    Lints (wanting (is_some name) advised) limits before after contents old new outcome
-    × IfOk outcome (Tells (wanting (is_some name) advised) limits before after contents old new)
+TellsUpTo (tellings.Faults name advised all) limits before after contents old new outcome =
+    Lints (wanting (is_some name) advised all) limits before after contents old new outcome
+    × IfOk outcome (Tells (wanting (is_some name) advised all) limits before after contents old new)
 TellsUpTo tellings.Records limits before after contents old new outcome =
     Reports lines_of_counted limits before after contents old new outcome
 TellsUpTo (tellings.Data encoding numbers) limits before after contents old new outcome =
@@ -50,8 +50,8 @@ TellsUpTo (tellings.Rows table) limits before after contents old new outcome =
     Reports (lines_of_table table) limits before after contents old new outcome
 TellsUpTo (tellings.Answers form) limits before after contents old new outcome =
     Reports (lines_of_acks (telling_alone form) None) limits before after contents old new outcome
-TellsUpTo (tellings.Advice repeated) limits before after contents old new outcome =
-    Reports (lines_of_advice repeated) limits before after contents old new outcome
+TellsUpTo (tellings.Advice all repeated) limits before after contents old new outcome =
+    Reports (lines_of_advice all repeated) limits before after contents old new outcome
 
 -- so it was, before what follows the transmission was looked at
 abbrev pub TellsText : {W : Type 0} → Telling → Limits → Option (List ℕ) → (W → Option (List ℕ)) → W → W

@@ -20,7 +20,7 @@ use Rattle.cwr_tools.specs.declared.totals.Totals.{Totals}
 use Rattle.cwr_notes.specs.Format.RecordTexts.{record_lines, numbered_records}
 use Rattle.cwr_tools.specs.Format.Texts.{check_lines, finding_lines, finding_lines_in, show_lines}
 use Rattle.cwr_notes.specs.Format.FindingNotes.{explained_finding, explained_findings, explained_in, explained_lines}
-use Rattle.cwr_tools.specs.Format.Reports.{has_findings, lines_checked, transaction_lines}
+use Rattle.cwr_tools.specs.Format.Reports.{has_findings, transaction_lines}
 use Rattle.cwr_tools.specs.Steps.Counts.{IsCount}
 use Rattle.cwr_tools.specs.Steps.Reports.{findings_at, lines_told, notes_at}
 
@@ -74,10 +74,10 @@ check_lines-snoc : (given : List Item) (item : Item)
 unfolding check_lines
 check_lines-snoc given item = lines_from-snoc finding_lines given item
 
-explained_lines-snoc : (given : List Item) (item : Item)
-    → explained_lines (given ++ item ∷ []) ≡ explained_lines given ++ explained_findings given item
+explained_lines-snoc : (apart : Bool) (given : List Item) (item : Item)
+    → explained_lines apart (given ++ item ∷ []) ≡ explained_lines apart given ++ explained_findings apart given item
 unfolding explained_lines
-explained_lines-snoc given item = lines_from-snoc explained_findings given item
+explained_lines-snoc apart given item = lines_from-snoc (explained_findings apart) given item
 
 -- ---- data
 
@@ -111,55 +111,67 @@ told_none false true = refl
 told_none true false = refl
 told_none true true = refl
 
-findings_more : (explained : Bool) (c : Totals) (given : List Item) (item : Item) → IsCount c given
-    → (lines_checked explained).lines (given ++ item ∷ []) ≡ (lines_checked explained).lines given ++ findings_at explained c item
-findings_more false c given item k =
+check_more : (c : Totals) (given : List Item) (item : Item) → IsCount c given
+    → check_lines (given ++ item ∷ []) ≡ check_lines given ++ finding_lines_in c.groups c.in_group item
+check_more c given item k =
     check_lines-snoc given item
     ∙ ap₂ (λ (group sequence : ℕ). check_lines given ++ finding_lines_in group sequence item) (sym k.groups) (sym k.in_group)
-findings_more true c given item k =
-    explained_lines-snoc given item
-    ∙ ap₂ (λ (group sequence : ℕ). explained_lines given ++ explained_in group sequence (length (records_in given) + 1) item)
-    (sym k.groups) (sym k.in_group)
-    ∙ ap (λ (n : ℕ). explained_lines given ++ explained_in c.groups c.in_group (n + 1) item) (sym k.records)
+
+explained_more : (apart : Bool) (c : Totals) (given : List Item) (item : Item) → IsCount c given
+    → explained_lines apart (given ++ item ∷ [])
+    ≡ explained_lines apart given ++ explained_in apart c.groups c.in_group (c.records + 1) item
+explained_more apart c given item k =
+    explained_lines-snoc apart given item
+    ∙ ap₂ (λ (group sequence : ℕ). explained_lines apart given
+    ++ explained_in apart group sequence (length (records_in given) + 1) item) (sym k.groups) (sym k.in_group)
+    ∙ ap (λ (n : ℕ). explained_lines apart given ++ explained_in apart c.groups c.in_group (n + 1) item) (sym k.records)
 
 pub told_more : (explained up_to_fault : Bool) (c : Totals) (given : List Item) (item : Item) → IsCount c given
     → (lines_told explained up_to_fault).lines (given ++ item ∷ [])
-    ≡ (lines_told explained up_to_fault).lines given ++ findings_at explained c item
-told_more explained false c given item k = findings_more explained c given item k
-told_more explained true c given item k = findings_more explained c given item k
+    ≡ (lines_told explained up_to_fault).lines given ++ findings_at explained up_to_fault c item
+told_more false false c given item k = check_more c given item k
+told_more false true c given item k = check_more c given item k
+told_more true false c given item k = explained_more false c given item k
+told_more true true c given item k = explained_more true c given item k
 
 -- a transaction without findings has no lines
-told_clean : (explained : Bool) (given : List Item) (t : List RecordValue) → findings t ≡ []
-    → (lines_checked explained).lines (given ++ items.Transaction t ∷ []) ≡ (lines_checked explained).lines given
-told_clean false given t none =
+check_clean : (given : List Item) (t : List RecordValue) → findings t ≡ []
+    → check_lines (given ++ items.Transaction t ∷ []) ≡ check_lines given
+check_clean given t none =
     check_lines-snoc given (items.Transaction t)
     ∙ ap (λ (found : List Finding). check_lines given ++ flat_map
     (finding_line (count_by opens_group given) (count_by is_transaction (after_last opens_group given))) found) none
     ∙ append-nil (check_lines given)
-told_clean true given t none =
-    explained_lines-snoc given (items.Transaction t)
-    ∙ ap (λ (found : List Finding). explained_lines given ++ flat_map (explained_finding (count_by opens_group given)
+
+explained_clean : (apart : Bool) (given : List Item) (t : List RecordValue) → findings t ≡ []
+    → explained_lines apart (given ++ items.Transaction t ∷ []) ≡ explained_lines apart given
+explained_clean apart given t none =
+    explained_lines-snoc apart given (items.Transaction t)
+    ∙ ap (λ (found : List Finding). explained_lines apart given ++ flat_map (explained_finding apart (count_by opens_group given)
     (count_by is_transaction (after_last opens_group given)) (length (records_in given) + 1) t) found) none
-    ∙ append-nil (explained_lines given)
+    ∙ append-nil (explained_lines apart given)
 
 pub told_passed : (explained up_to_fault : Bool) (given : List Item) (t : List RecordValue) → findings t ≡ []
     → (lines_told explained up_to_fault).lines (given ++ items.Transaction t ∷ [])
     ≡ (lines_told explained up_to_fault).lines given
-told_passed explained false given t none = told_clean explained given t none
-told_passed explained true given t none = told_clean explained given t none
+told_passed false false given t none = check_clean given t none
+told_passed false true given t none = check_clean given t none
+told_passed true false given t none = explained_clean false given t none
+told_passed true true given t none = explained_clean true given t none
 
 -- with a transaction more, which begins after so many records
 pub told_transaction : (explained up_to_fault : Bool) (c : Totals) (given : List Item) (item : Item) (t : List RecordValue)
     (before : ℕ) → IsCount c given → item ≡ items.Transaction t → before ≡ c.records
     → (lines_told explained up_to_fault).lines (given ++ item ∷ [])
-    ≡ (lines_told explained up_to_fault).lines given ++ transaction_lines explained c.groups c.in_group (before + 1) t
+    ≡ (lines_told explained up_to_fault).lines given ++ transaction_lines explained up_to_fault c.groups c.in_group (before + 1) t
 told_transaction explained up_to_fault c given item t before k is e =
     told_more explained up_to_fault c given item k
     ∙ ap (λ (l : List ℕ). (lines_told explained up_to_fault).lines given ++ l) (by explained)
   where
-    by : (with_notes : Bool) → findings_at with_notes c item ≡ transaction_lines with_notes c.groups c.in_group (before + 1) t
+    by : (with_notes : Bool)
+        → findings_at with_notes up_to_fault c item ≡ transaction_lines with_notes up_to_fault c.groups c.in_group (before + 1) t
     by false = ap (finding_lines_in c.groups c.in_group) is
-    by true = ap₂ (λ (n : ℕ) (it : Item). explained_in c.groups c.in_group (n + 1) it) (sym e) is
+    by true = ap₂ (λ (n : ℕ) (it : Item). explained_in up_to_fault c.groups c.in_group (n + 1) it) (sym e) is
 
 -- with any other item, which has no findings
 pub told_other : (explained up_to_fault : Bool) (c : Totals) (given : List Item) (item : Item) → IsCount c given
@@ -169,7 +181,7 @@ told_other explained up_to_fault c given item k other =
     told_more explained up_to_fault c given item k
     ∙ ap (λ (l : List ℕ). (lines_told explained up_to_fault).lines given ++ l) (by explained item other)
   where
-    by : (with_notes : Bool) (it : Item) → is_transaction it ≡ false → findings_at with_notes c it ≡ []
+    by : (with_notes : Bool) (it : Item) → is_transaction it ≡ false → findings_at with_notes up_to_fault c it ≡ []
     by false (items.Transaction t) e = absurd (cc e)
     by true (items.Transaction t) e = absurd (cc e)
     by false (items.Opened r) e = refl

@@ -1,6 +1,6 @@
 -- What is written of explained findings is what a check writes of them, with indented lines put in.
 use Rattle.std.proofs.Common.{◌≡◌, ℕ, ◌+◌, List, [], ◌∷◌, ◌++◌, length, take, Option, Some, None, refl, ap, ap₂, ◌∙◌, inl, inr}
-use Rattle.std.proofs.Common.{append-nil}
+use Rattle.std.proofs.Common.{append-nil, false}
 use Rattle.std.specs.Prelude.{count_by, slice_get}
 use Rattle.std.specs.List.{after_last, enumerate_from, flat_map}
 use Rattle.std.specs.Option.{option_to_list}
@@ -20,26 +20,26 @@ use Rattle.cwr_tools.specs.Format.Reports.{lines_of_explained, text_on}
 use Rattle.cwr_tools.specs.Format.Laws.{AreIndented, IsIndented, IsNoted}
 
 -- the lines under a finding are indented
-notes_indented : (n : ℕ) (t : List RecordValue) (f : Finding) → IsIndented (finding_notes n t f)
+notes_indented : (n : ℕ) (t : List RecordValue) (f : Finding) → IsIndented (finding_notes false n t f)
 unfolding finding_notes
 notes_indented n t f = by (slice_get t f.rec)
   where
-    by : (o : Option RecordValue) → IsIndented (flat_map (notes_on n t f) (option_to_list o))
+    by : (o : Option RecordValue) → IsIndented (flat_map (notes_on false n t f) (option_to_list o))
     by None = inl refl
     by (Some r) = inr refl
 
 -- the line of each finding, and the lines under it
 parts_of : ℕ → ℕ → ℕ → List RecordValue → List Finding → List (List ℕ × List ℕ)
 parts_of group sequence n t [] = []
-parts_of group sequence n t (f ∷ found) = (finding_line group sequence f, finding_notes n t f) ∷ parts_of group sequence n t found
+parts_of group sequence n t (f ∷ found) = (finding_line group sequence f, finding_notes false n t f) ∷ parts_of group sequence n t found
 
 parts_whole : (group sequence n : ℕ) (t : List RecordValue) (found : List Finding)
     → flat_map (λ (p : List ℕ × List ℕ). p.0 ++ p.1) (parts_of group sequence n t found)
-    ≡ flat_map (explained_finding group sequence n t) found
+    ≡ flat_map (explained_finding false group sequence n t) found
 unfolding parts_of
 parts_whole group sequence n t [] = refl
 parts_whole group sequence n t (f ∷ found) =
-    ap (λ (l : List ℕ). explained_finding group sequence n t f ++ l) (parts_whole group sequence n t found)
+    ap (λ (l : List ℕ). explained_finding false group sequence n t f ++ l) (parts_whole group sequence n t found)
 
 parts_without : (group sequence n : ℕ) (t : List RecordValue) (found : List Finding)
     → flat_map (λ (p : List ℕ × List ℕ). p.0) (parts_of group sequence n t found) ≡ flat_map (finding_line group sequence) found
@@ -80,7 +80,7 @@ noted_alone x =
 -- ---- of items
 
 noted_in : (group sequence n : ℕ) (item : Item)
-    → IsNoted (explained_in group sequence n item) (finding_lines_in group sequence item)
+    → IsNoted (explained_in false group sequence n item) (finding_lines_in group sequence item)
 noted_in group sequence n (Transaction t) = record {
   parts = parts_of group sequence n t (findings t);
   whole = parts_whole group sequence n t (findings t);
@@ -90,10 +90,10 @@ noted_in group sequence n (Transaction t) = record {
 noted_in group sequence n item = noted_nothing
 
 noted_all : (all : List Item) (ps : List (ℕ × Item))
-    → IsNoted (flat_map (λ p. explained_findings (take p.0 all) p.1) ps) (flat_map (λ p. finding_lines (take p.0 all) p.1) ps)
+    → IsNoted (flat_map (λ p. explained_findings false (take p.0 all) p.1) ps) (flat_map (λ p. finding_lines (take p.0 all) p.1) ps)
 noted_all all [] = noted_nothing
 noted_all all (p ∷ ps) =
-    noted_join (explained_findings (take p.0 all) p.1) (flat_map (λ q. explained_findings (take q.0 all) q.1) ps)
+    noted_join (explained_findings false (take p.0 all) p.1) (flat_map (λ q. explained_findings false (take q.0 all) q.1) ps)
     (finding_lines (take p.0 all) p.1) (flat_map (λ q. finding_lines (take q.0 all) q.1) ps)
     (noted_in (count_by opens_group (take p.0 all)) (count_by is_transaction (after_last opens_group (take p.0 all)))
     (length (records_in (take p.0 all)) + 1) p.1) (noted_all all ps)
@@ -102,5 +102,5 @@ pub explained_noted : (items : List Item) (verdict : Verdict)
     → IsNoted (text_on lines_of_explained items verdict) (check_text items verdict)
 unfolding explained_lines check_lines
 explained_noted items verdict =
-    noted_join (explained_lines items) (verdict_line verdict) (check_lines items) (verdict_line verdict)
+    noted_join (explained_lines false items) (verdict_line verdict) (check_lines items) (verdict_line verdict)
     (noted_all items (enumerate_from 0 items)) (noted_alone (verdict_line verdict))

@@ -64,11 +64,12 @@ next_lines contents failures of it given item text result old new e more p =
     subst (λ (lines : ItemLines). PutsNext contents failures lines given item result old new) (sym e) (text, more, p)
 
 -- the verdict
-pub last_lines : {W : Type 0} (contents : W → Option (List ℕ)) (failures : W → ℕ) (of it : ItemLines) (verdict : Verdict)
-    (result : Result (Unit {0}) SinkFault) (old new : Sink W) → of ≡ it
-    → PutsText contents failures (it.last verdict) result old new → PutsText contents failures (of.last verdict) result old new
-last_lines contents failures of it verdict result old new e p =
-    subst (λ (lines : ItemLines). PutsText contents failures (lines.last verdict) result old new) (sym e) p
+pub last_lines : {W : Type 0} (contents : W → Option (List ℕ)) (failures : W → ℕ) (of it : ItemLines) (given : List Item)
+    (verdict : Verdict) (result : Result (Unit {0}) SinkFault) (old new : Sink W) → of ≡ it
+    → PutsText contents failures (it.last given verdict) result old new
+    → PutsText contents failures (of.last given verdict) result old new
+last_lines contents failures of it given verdict result old new e p =
+    subst (λ (lines : ItemLines). PutsText contents failures (lines.last given verdict) result old new) (sym e) p
 
 -- nothing stands for it
 pub no_verdict : {W : Type 0} (contents : W → Option (List ℕ)) (failures : W → ℕ) (u : Unit {0}) (sink : Sink W)

@@ -28,7 +28,7 @@ use Rattle.cwr_tools.specs.Format.Verdicts.{IsVerdictOf}
 use Rattle.cwr_tools.specs.Steps.Verdicts.{totals_with, StopsAfter, IsRightVerdict}
 use Rattle.cwr_tools.specs.Format.Reports.{CountsReaderFault, ItemLines}
 use Rattle.cwr_tools.specs.Steps.Counts.{HasRoomToCount, IsCount}
-use Rattle.cwr_tools.specs.Steps.Reports.{HasPut, PutsLines, PutsNext, PutsReport}
+use Rattle.cwr_tools.specs.Steps.Reports.{HasPut, PutsLines, PutsNext, PutsReport, StandsPut}
 use Rattle.cwr_tools.specs.Steps.Counts.{HasRoomToCount}
 use Rattle.cwr_tools.proofs.lemmas.CountedTotals.{count_more, good_count, has_room}
 
@@ -107,7 +107,7 @@ first_put of stands limits d before now contents failures c u old sink reading c
 }
 
 -- the writer failed in it
-pub first_fault : {W : Type 0} (of : ItemLines) (end : Verdict → List ℕ) (limits : Limits) (d : Standing)
+pub first_fault : {W : Type 0} (of : ItemLines) (end : List Item → Verdict → List ℕ) (limits : Limits) (d : Standing)
     (before now : Option (List ℕ)) (contents : W → Option (List ℕ)) (failures : W → ℕ) (fault : ToolFault) (old sink : Sink W)
     → IsReadingOn limits d before now [] → HasWritten contents (contents (writer_of old)) [] old
     → PutsLines contents failures false (of.lines []) (Err fault) old sink
@@ -172,7 +172,7 @@ reports_item of stands more limits d new before left after contents failures c o
 -- ---- the ends
 
 -- a fault came while the item's lines were put
-pub item_fault : {W : Type 0} (of : ItemLines) (stands : List Item → Type 0) (end : Verdict → List ℕ) (limits : Limits)
+pub item_fault : {W : Type 0} (of : ItemLines) (stands : List Item → Type 0) (end : List Item → Verdict → List ℕ) (limits : Limits)
     (d new : Standing) (before left after : Option (List ℕ)) (contents : W → Option (List ℕ)) (failures : W → ℕ) (c : Totals)
     (old sink next : Sink W) (item : Item) (fault : ToolFault)
     → (h : IsReporting of stands limits d before left contents failures c old sink)
@@ -229,8 +229,8 @@ same_fault (Ok x) fault h = absurd h
 same_fault (Err e) fault h = ap Err h
 
 -- with no text for the verdict
-abbrev pub nothing : Verdict → List ℕ
-nothing verdict = []
+abbrev pub nothing : List Item → Verdict → List ℕ
+nothing given verdict = []
 
 put_nothing : {W : Type 0} (contents : W → Option (List ℕ)) (failures : W → ℕ) (text : List ℕ) (old new : Sink W)
     → HasPut contents failures text old new → HasPut contents failures (text ++ []) old new
@@ -272,3 +272,29 @@ good_reported of limits before after contents failures old sink given c verdict 
     ) in
     subst (λ (v : Verdict). PutsReport of nothing limits before after contents failures (Ok v) old sink) (sym e)
     (given, right, put_nothing contents failures (of.lines given) old sink put)
+
+-- ---- what stands then
+
+-- after the reading stopped with that fault
+pub fault_stands : {W : Type 0} (of : ItemLines) (stands : List Item → Type 0) (limits : Limits) (before after : Option (List ℕ))
+    (contents : W → Option (List ℕ)) (failures : W → ℕ) (old sink : Sink W) (given : List Item) (fault : ReadFault)
+    (result : Result Verdict ToolFault)
+    → StopsAfter limits fault before after given → stands given → HasPut contents failures (of.lines given) old sink
+    → IsVerdictOf fault result → StandsPut of stands limits before after contents failures result old sink
+fault_stands of stands limits before after contents failures old sink given faults.Reader result stop here put e =
+    subst (λ (r : Result Verdict ToolFault). StandsPut of stands limits before after contents failures r old sink) (sym e) tt
+fault_stands of stands limits before after contents failures old sink given (faults.Refused refusal) result stop here put e =
+    subst (λ (r : Result Verdict ToolFault). StandsPut of stands limits before after contents failures r old sink) (sym e)
+    (given, stop, here, put)
+fault_stands of stands limits before after contents failures old sink given (faults.Truncated records) result stop here put e =
+    subst (λ (r : Result Verdict ToolFault). StandsPut of stands limits before after contents failures r old sink) (sym e)
+    (given, stop, here, put)
+fault_stands of stands limits before after contents failures old sink given faults.Memory result stop here put e =
+    subst (λ (r : Result Verdict ToolFault). StandsPut of stands limits before after contents failures r old sink) (sym e) tt
+
+-- after a fault nothing is said of it
+pub no_stands : {W : Type 0} (of : ItemLines) (stands : List Item → Type 0) (limits : Limits) (before after : Option (List ℕ))
+    (contents : W → Option (List ℕ)) (failures : W → ℕ) (result : Result Verdict ToolFault) (fault : ToolFault)
+    (old sink : Sink W) → result ≡ Err fault → StandsPut of stands limits before after contents failures result old sink
+no_stands of stands limits before after contents failures result fault old sink e =
+    subst (λ (r : Result Verdict ToolFault). StandsPut of stands limits before after contents failures r old sink) (sym e) tt

@@ -12,56 +12,50 @@ use Rattle.cwr_devices.specs.Steps.Sinks.{HasWritten, writer_of, written_of}
 use Rattle.cwr_encode.specs.Format.Finishing.{HasFront}
 use Rattle.cwr_encode.proofs.lemmas.Ends.{all_written, appends_kept}
 use Rattle.cwr_levels.specs.Steps.Putting.{PutsText}
+use Rattle.cwr_values.specs.declared.items.Item.{Item}
 use Rattle.cwr_tools.specs.declared.verdicts.Verdict.{Verdict}
 use Rattle.cwr_tools.specs.declared.verdicts.ToolFault.{ToolFault}
 use Rattle.cwr_tools.specs.declared.verdicts.ToolFault.TheVariants.{Writer}
 use Rattle.cwr_tools.specs.declared.verdicts.ToolFault.TheVariants as faults
 use Rattle.cwr_tools.specs.Format.Reports.{CountsAfter, CountsWritten, ItemLines}
 use Rattle.cwr_tools.specs.Steps.Reports.{HasPut, PutsReport, Reports}
-use Rattle.cwr_tools.proofs.lemmas.ReportsOn.{nothing}
+use Rattle.cwr_tools.specs.Steps.Verdicts.{IsRightVerdict}
 
 -- ---- the line of the verdict
 
-before_verdict : {W : Type 0} (contents : W → Option (List ℕ)) (failures : W → ℕ) (text line : List ℕ) (old mid new : Sink W)
-    (result : Result (Unit {0}) SinkFault) → HasPut contents failures (text ++ []) old mid → PutsText contents failures line
-    result mid new
-    → HasWritten contents (contents (writer_of old)) (text ++ line) new
-before_verdict contents failures text line old mid new result h p =
-    p.written (contents (writer_of old)) text
-    (subst (λ (l : List ℕ). HasWritten contents (contents (writer_of old)) l mid) (append-nil text) h.written)
-
--- it was put
+-- it was put after the lines of these items
 pub verdict_put : {W : Type 0} (of : ItemLines) (limits : Limits) (before after : Option (List ℕ))
-    (contents : W → Option (List ℕ)) (failures : W → ℕ) (verdict : Verdict) (u : Unit {0}) (old mid new : Sink W)
-    → PutsReport of nothing limits before after contents failures (Ok verdict) old mid
-    → PutsText contents failures (of.last verdict) (Ok u) mid new
+    (contents : W → Option (List ℕ)) (failures : W → ℕ) (verdict : Verdict) (given : List Item) (u : Unit {0})
+    (old mid new : Sink W)
+    → IsRightVerdict limits before verdict after given → HasPut contents failures (of.lines given) old mid
+    → PutsText contents failures (of.last given verdict) (Ok u) mid new
     → PutsReport of of.last limits before after contents failures (Ok verdict) old new
-verdict_put of limits before after contents failures verdict u old mid new h p = (
-  h.0,
-  h.1,
+verdict_put of limits before after contents failures verdict given u old mid new right h p = (
+  given,
+  right,
   record {
-    written = before_verdict contents failures (of.lines h.0) (of.last verdict) old mid new (Ok u) h.2 p;
+    written = p.written (contents (writer_of old)) (of.lines given) h.written;
     unfailed = p.failed;
-    quiet = p.failures_counted h.2.unfailed ∙ h.2.quiet;
+    quiet = p.failures_counted h.unfailed ∙ h.quiet;
   },
 )
 
 -- the writer failed in it
 pub verdict_cut : {W : Type 0} (of : ItemLines) (limits : Limits) (before after : Option (List ℕ))
-    (contents : W → Option (List ℕ)) (failures : W → ℕ) (verdict : Verdict) (fault : SinkFault) (reported : ToolFault)
-    (old mid new : Sink W) → reported ≡ Writer fault.written
-    → PutsReport of nothing limits before after contents failures (Ok verdict) old mid
-    → PutsText contents failures (of.last verdict) (Err fault) mid new
+    (contents : W → Option (List ℕ)) (failures : W → ℕ) (verdict : Verdict) (given : List Item) (fault : SinkFault)
+    (reported : ToolFault) (old mid new : Sink W) → reported ≡ Writer fault.written
+    → IsRightVerdict limits before verdict after given → HasPut contents failures (of.lines given) old mid
+    → PutsText contents failures (of.last given verdict) (Err fault) mid new
     → PutsReport of of.last limits before after contents failures (Err reported) old new
-verdict_cut of limits before after contents failures verdict fault reported old mid new e h p =
+verdict_cut of limits before after contents failures verdict given fault reported old mid new e right h p =
     subst (λ (f : ToolFault). PutsReport of of.last limits before after contents failures (Err f) old new) (sym e) (
-      h.0,
-      of.lines h.0 ++ of.last verdict,
-      inr (verdict, h.1, refl),
+      given,
+      of.lines given ++ of.last given verdict,
+      inr (verdict, right, refl),
       record {
-        written = before_verdict contents failures (of.lines h.0) (of.last verdict) old mid new (Err fault) h.2 p;
+        written = p.written (contents (writer_of old)) (of.lines given) h.written;
         counted = p.fault;
-        failed = p.failures_counted h.2.unfailed ∙ ap one_more_failure h.2.quiet;
+        failed = p.failures_counted h.unfailed ∙ ap one_more_failure h.quiet;
       },
     )
 
@@ -102,7 +96,7 @@ pub reports_flushed : {W : Type 0} (of : ItemLines) (limits : Limits) (before af
 reports_flushed {W = W} of limits before after contents failures verdict writer mid new first sink same out kept h = (
   h.0,
   h.1,
-  appended contents failures (of.lines h.0 ++ of.last verdict) writer new first sink same
+  appended contents failures (of.lines h.0 ++ of.last h.0 verdict) writer new first sink same
       (subst (λ (w : W). Keeps (contents w) (contents new)) out kept) h.2,
 )
 
@@ -115,9 +109,9 @@ pub reports_stuck : {W : Type 0} (of : ItemLines) (limits : Limits) (before afte
     → Reports of limits before after contents writer new (Err (Writer n))
 reports_stuck {W = W} of limits before after contents failures verdict writer mid new first sink n same out counted kept h = (
   h.0,
-  of.lines h.0 ++ of.last verdict,
+  of.lines h.0 ++ of.last h.0 verdict,
   inr (verdict, h.1, refl),
-  front contents (of.lines h.0 ++ of.last verdict) writer new first sink n same
+  front contents (of.lines h.0 ++ of.last h.0 verdict) writer new first sink n same
       (subst (λ (w : W). Keeps (contents w) (contents new)) out kept) h.2.written counted,
 )
 
@@ -160,11 +154,11 @@ reports_failed of limits before after contents failures (faults.Limit l) writer 
 
 -- ---- how many bytes were written
 
-put_text : {W : Type 0} (of : ItemLines) (end : Verdict → List ℕ) (limits : Limits) (before after : Option (List ℕ))
+put_text : {W : Type 0} (of : ItemLines) (end : List Item → Verdict → List ℕ) (limits : Limits) (before after : Option (List ℕ))
     (contents : W → Option (List ℕ)) (failures : W → ℕ) (result : Result Verdict ToolFault) (first sink : Sink W)
     → PutsReport of end limits before after contents failures result first sink
     → (text : List ℕ) × HasWritten contents (contents (writer_of first)) text sink
-put_text of end limits before after contents failures (Ok verdict) first sink h = (of.lines h.0 ++ end verdict, h.2.written)
+put_text of end limits before after contents failures (Ok verdict) first sink h = (of.lines h.0 ++ end h.0 verdict, h.2.written)
 put_text of end limits before after contents failures (Err faults.Reader) first sink h = (of.lines h.0, h.2.written)
 put_text of end limits before after contents failures (Err faults.Memory) first sink h = (of.lines h.0, h.2.written)
 put_text of end limits before after contents failures (Err (Writer n)) first sink h = (h.1, h.3.written)

@@ -26,7 +26,7 @@ use Rattle.cwr_notes.specs.Format.FindingNotes.{explained_in, explained_lines}
 -- the lines of items, in order, what stands after them for the verdict, and for which items they take memory
 pub record ItemLines : Type 0 where
   pub lines : List Item → List ℕ
-  pub last : Verdict → List ℕ
+  pub last : List Item → Verdict → List ℕ
   pub take_memory : Item → Bool
 
 -- the item is a transaction that has findings
@@ -36,11 +36,11 @@ has_findings item = false
 
 -- the findings in each transaction
 abbrev pub lines_of_findings : ItemLines
-lines_of_findings = record { lines = check_lines; last = verdict_line; take_memory = has_findings }
+lines_of_findings = record { lines = check_lines; last = λ items. verdict_line; take_memory = has_findings }
 
 -- the same, and lines under each finding
 abbrev pub lines_of_explained : ItemLines
-lines_of_explained = record { lines = explained_lines; last = verdict_line; take_memory = has_findings }
+lines_of_explained = record { lines = explained_lines false; last = λ items. verdict_line; take_memory = has_findings }
 
 -- the verdict's line, where that is no refusal
 abbrev pub unrefused_line : Verdict → List ℕ
@@ -52,31 +52,42 @@ abbrev pub lines_checked : Bool → ItemLines
 lines_checked false = lines_of_findings
 lines_checked true = lines_of_explained
 
+-- the findings in each transaction, or with lines under each and then an empty line, so that they stand apart
+abbrev pub lines_apart : Bool → List Item → List ℕ
+lines_apart false = check_lines
+lines_apart true = explained_lines true
+
+-- the same, and the verdict's line
+abbrev pub lines_checked_apart : Bool → ItemLines
+lines_checked_apart explained =
+    record { lines = lines_apart explained; last = λ items. verdict_line; take_memory = has_findings }
+
 -- the same, and no line of a refusal
 abbrev pub lines_up_to_fault : Bool → ItemLines
 lines_up_to_fault explained =
-    record { lines = (lines_checked explained).lines; last = unrefused_line; take_memory = has_findings }
+    record { lines = lines_apart explained; last = λ items. unrefused_line; take_memory = has_findings }
 
--- the lines of findings in a transaction, of that sequence in the group of that ID, whose first record is on line n of the file
-abbrev pub transaction_lines : Bool → ℕ → ℕ → ℕ → List RecordValue → List ℕ
-transaction_lines false group sequence n t = finding_lines_in group sequence (Transaction t)
-transaction_lines true group sequence n t = explained_in group sequence n (Transaction t)
+-- the lines of findings in a transaction, of that sequence in the group of that ID, whose first record is on line n of the file, explained
+-- or not, and then apart or not
+abbrev pub transaction_lines : Bool → Bool → ℕ → ℕ → ℕ → List RecordValue → List ℕ
+transaction_lines false apart group sequence n t = finding_lines_in group sequence (Transaction t)
+transaction_lines true apart group sequence n t = explained_in apart group sequence n (Transaction t)
 
 -- the records with their cells
 abbrev pub lines_of_records : ItemLines
-lines_of_records = record { lines = show_lines; last = verdict_line; take_memory = λ item. false }
+lines_of_records = record { lines = show_lines; last = λ items. verdict_line; take_memory = λ item. false }
 
 -- the same, while the findings in them are counted
 abbrev pub lines_of_counted : ItemLines
-lines_of_counted = record { lines = show_lines; last = verdict_line; take_memory = has_findings }
+lines_of_counted = record { lines = show_lines; last = λ items. verdict_line; take_memory = has_findings }
 
 -- the data of each item, its cells shown by the encoding, with notes or without, and nothing for the verdict
 abbrev pub lines_of_data : Encoding → Bool → ItemLines
-lines_of_data enc noted = record { lines = data_lines enc noted; last = λ verdict. []; take_memory = λ item. false }
+lines_of_data enc noted = record { lines = data_lines enc noted; last = λ items verdict. []; take_memory = λ item. false }
 
 -- the text on items and the verdict
 abbrev pub text_on : ItemLines → List Item → Verdict → List ℕ
-text_on of given verdict = of.lines given ++ of.last verdict
+text_on of given verdict = of.lines given ++ of.last given verdict
 
 -- the reader's failures count one more where its fault is reported, and else they stay
 abbrev pub CountsReaderFault : Result Verdict ToolFault → ℕ → ℕ → Type 0

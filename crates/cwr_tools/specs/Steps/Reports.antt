@@ -76,10 +76,10 @@ notes_at true counts item =
     Some (record
     { group = counts.groups + (if opens_group item then 1 else 0); transaction = counts.in_group; line = counts.records + 1 })
 
--- the lines of the findings in one item more, after items with these numbers
-abbrev pub findings_at : Bool → Totals → Item → List ℕ
-findings_at false counts item = finding_lines_in counts.groups counts.in_group item
-findings_at true counts item = explained_in counts.groups counts.in_group (counts.records + 1) item
+-- the lines of the findings in one item more, after items with these numbers, explained or not, and then apart or not
+abbrev pub findings_at : Bool → Bool → Totals → Item → List ℕ
+findings_at false apart counts item = finding_lines_in counts.groups counts.in_group item
+findings_at true apart counts item = explained_in apart counts.groups counts.in_group (counts.records + 1) item
 
 -- The lines of an item are put, or the writer fails in them. Where memory for them is refused none of them is put.
 abbrev pub PutsLines : {W : Type 0} → (W → Option (List ℕ)) → (W → ℕ) → Bool → List ℕ → Result (Unit {0}) ToolFault → Sink W
@@ -133,11 +133,11 @@ pub record HasPutFront {W : Type 0} (contents : W → Option (List ℕ)) (failur
   pub failed : failures (writer_of new) ≡ one_more_failure (failures (writer_of old))
 
 -- what a run has put: with the lines of the items, what stands at the end for the verdict
-abbrev pub PutsReport : {W : Type 0} → ItemLines → (Verdict → List ℕ) → Limits → Option (List ℕ) → Option (List ℕ)
+abbrev pub PutsReport : {W : Type 0} → ItemLines → (List Item → Verdict → List ℕ) → Limits → Option (List ℕ) → Option (List ℕ)
     → (W → Option (List ℕ)) → (W → ℕ) → Result Verdict ToolFault → Sink W → Sink W → Type 0
 PutsReport of end limits before after contents failures (Ok verdict) old new =
     (given : List Item) × IsRightVerdict limits before verdict after given
-    × HasPut contents failures (of.lines given ++ end verdict) old new
+    × HasPut contents failures (of.lines given ++ end given verdict) old new
 PutsReport of end limits before after contents failures (Err Reader) old new =
     (given : List Item) × StopsAfter limits read_faults.Reader before after given
     × HasPut contents failures (of.lines given) old new
@@ -147,3 +147,11 @@ PutsReport of end limits before after contents failures (Err (Writer written)) o
     (given : List Item) × (text : List ℕ) × IsReported of limits before after given text
     × HasPutFront contents failures text written old new
 PutsReport of end limits before after contents failures (Err fault) old new = ⊥
+
+-- the lines of the items before the verdict were put, and after these it is so
+abbrev pub StandsPut : {W : Type 0} → ItemLines → (List Item → Type 0) → Limits → Option (List ℕ) → Option (List ℕ)
+    → (W → Option (List ℕ)) → (W → ℕ) → Result Verdict ToolFault → Sink W → Sink W → Type 0
+StandsPut of stands limits before after contents failures (Ok verdict) old new =
+    (given : List Item) × IsRightVerdict limits before verdict after given × stands given
+    × HasPut contents failures (of.lines given) old new
+StandsPut of stands limits before after contents failures (Err fault) old new = Unit {0}

@@ -81,8 +81,8 @@ abbrev pub IsSplitOf : Found → Work → Type 0
 IsSplitOf found (Check judging) = ⊥
 IsSplitOf found (Show file fail_on) = ⊥
 IsSplitOf found (Explain judging) = ⊥
-IsSplitOf found (Lint files quiet explained advised) = ⊥
-IsSplitOf found (Advise judging repeated) = ⊥
+IsSplitOf found (Lint files quiet explained advised all) = ⊥
+IsSplitOf found (Advise judging all repeated) = ⊥
 IsSplitOf found (Json file out numbers utf8) = ⊥
 IsSplitOf found (Csv rows file out) = ⊥
 IsSplitOf found (Acks files sent as_json by_place state fail_on) = ⊥
@@ -97,18 +97,18 @@ IsSplitOf found (Join out files only_new fail_on same_sender repeated) = ⊥
 IsSplitOf found (Renumber file out only_new fail_on anyway) = ⊥
 IsSplitOf found Manual = ⊥
 
--- every fault of the files FILE, explained where that flag is given, and with advice where that one is
+-- every fault of the files FILE, explained where that flag is given, with advice where that one is, and with all advice where that one is
 abbrev pub IsLintOf : Found → Work → Type 0
-IsLintOf found (Lint files quiet explained advised) =
+IsLintOf found (Lint files quiet explained advised all) =
     AreNamesOf found (map (λ name. name.now) files.items) × IsFlagOf found (codes "quiet") quiet
-    × IsFlagOf found (codes "explain") explained × IsFlagOf found (codes "advice") advised
+    × IsFlagOf found (codes "explain") explained × IsFlagOf found (codes "advice") advised × IsFlagOf found (codes "all") all
 IsLintOf found work = ⊥
 
--- advice on the transmissions of the files FILE, with what the options of a judgement say, where the numbers of so many works are kept as
--- that option says
+-- advice on the transmissions of the files FILE, with what the options of a judgement say, all of it where that flag is given, where the
+-- numbers of so many works are kept as that option says
 abbrev pub IsAdviceOf : Found → Work → Type 0
-IsAdviceOf found (Advise judging repeated) =
-    IsJudgingOf found judging × ((text : List ℕ) → one_text found (codes "repeated") ≡ Some text
+IsAdviceOf found (Advise judging all repeated) =
+    IsJudgingOf found judging × IsFlagOf found (codes "all") all × ((text : List ℕ) → one_text found (codes "repeated") ≡ Some text
     → repeated ≡ digits_value 10 (without_leading_plus text))
 IsAdviceOf found work = ⊥
 
@@ -189,10 +189,10 @@ IsWorkOf name found (Show file fail_on) =
     (bytes_eq name (codes "show") ≡ true) × (option_map (λ f. f.now) file ≡ first_value found (codes "FILE"))
     × (fail_on ≡ level_given (first_value found (codes "fail-on")))
 IsWorkOf name found (Explain judging) = (bytes_eq name (codes "explain") ≡ true) × IsJudgingOf found judging
-IsWorkOf name found (Lint files quiet explained advised) =
-    (bytes_eq name (codes "lint") ≡ true) × IsLintOf found (Lint files quiet explained advised)
-IsWorkOf name found (Advise judging repeated) =
-    (bytes_eq name (codes "advise") ≡ true) × IsAdviceOf found (Advise judging repeated)
+IsWorkOf name found (Lint files quiet explained advised all) =
+    (bytes_eq name (codes "lint") ≡ true) × IsLintOf found (Lint files quiet explained advised all)
+IsWorkOf name found (Advise judging all repeated) =
+    (bytes_eq name (codes "advise") ≡ true) × IsAdviceOf found (Advise judging all repeated)
 IsWorkOf name found (Json file out numbers utf8) =
     (bytes_eq name (codes "json") ≡ true) × IsExportOf found (Json file out numbers utf8)
 IsWorkOf name found (Csv rows file out) = (bytes_eq name (codes "csv") ≡ true) × IsTableOf found (Csv rows file out)

@@ -14,8 +14,10 @@ use Rattle.cwr_advice.specs.declared.rules.Advice.{Advice}
 use Rattle.cwr_advice.specs.Format.Rules.{advice_of}
 use Rattle.cwr_advice.specs.Format.Said.{before_all_days}
 use Rattle.cwr_advise.specs.Format.AdviceLevels.{advice_reaches}
-use Rattle.cwr_advise.specs.Format.AdviceLines.{advised_transaction, has_advice}
+use Rattle.cwr_advise.specs.Format.AdviceLines.{has_advice}
 use Rattle.cwr_advise.specs.Format.AdviceTexts.{noted_advice}
+use Rattle.cwr_advise.specs.Steps.AdviceCounts.{told_by}
+use Rattle.cwr_advise.specs.Steps.AdvisedItems.{advised_after}
 use Rattle.cwr_advise.proofs.lemmas.AdvicePut.{first_fault, found_first, found_second, some_there, then_put}
 use Rattle.cwr_advise.proofs.lemmas.LevelsTold.{seen_both}
 use Rattle.cwr_advise.proofs.lemmas.SaidBefore.{said_some}
@@ -25,12 +27,13 @@ pub returns-in_err-put_findings-clause-puts : goal.returns-in_err-put_findings-c
 returns-in_err-put_findings-clause-puts g c =
     let t = c.args.transaction.now in
     subst (λ (r : Result (Unit {0}) ToolFault). PutsLines g.W.Target.contents g.W.Target.failures (has_advice t)
-    (advised_transaction c.args.explained c.args.said c.args.group c.args.sequence c.args.first t) r c.args.sink.now
+    (advised_after c.args.manner c.args.told.now c.args.said c.args.group c.args.sequence c.args.first t) r c.args.sink.now
     c.put_findings.new.sink)
     (sym (same_fault c.from_residual.result c.in_err-put_findings.field-0.0 c.from_residual.ensures.1))
     (first_fault g.W.Target.contents g.W.Target.failures (has_findings (Transaction t)) (has_advice t)
-    (transaction_lines c.args.explained c.args.group c.args.sequence c.args.first t)
-    (flat_map (noted_advice c.args.group c.args.sequence c.args.first t) (advice_of c.args.said t)) c.args.sink.now
+    (transaction_lines c.args.manner.explained c.args.manner.apart c.args.group c.args.sequence c.args.first t)
+    (flat_map (noted_advice c.args.manner.apart c.args.group c.args.sequence c.args.first t)
+    (told_by c.args.manner.all c.args.told.now (advice_of c.args.said t))) c.args.sink.now
     c.put_findings.new.sink c.in_err-put_findings.field-0.0
     (found_first (length (findings t)) (length (advice_of (before_all_days Unsaid) t) + length
     (advice_of (before_all_days Utf8) t) + length
@@ -49,15 +52,16 @@ pub returns-clause-puts : goal.returns-clause-puts
 returns-clause-puts g c =
     let t = c.args.transaction.now in
     subst (λ (found : List Advice). PutsLines g.W.Target.contents g.W.Target.failures (has_advice t) (transaction_lines
-    c.args.explained c.args.group c.args.sequence c.args.first t ++ flat_map
-    (noted_advice c.args.group c.args.sequence c.args.first t)
-    found) c.put_advice.result c.args.sink.now c.put_advice.new.sink)
+    c.args.manner.explained c.args.manner.apart c.args.group c.args.sequence c.args.first t ++ flat_map
+    (noted_advice c.args.manner.apart c.args.group c.args.sequence c.args.first t) (told_by c.args.manner.all c.args.told.now
+    found)) c.put_advice.result c.args.sink.now c.put_advice.new.sink)
     (c.as_slice-2.ensures.value ∙ c.in-Ok.ensures.ok)
     (then_put g.W.Target.contents g.W.Target.failures (has_findings (Transaction t)) (has_advice t)
-    (transaction_lines c.args.explained c.args.group c.args.sequence c.args.first t)
-    (flat_map (noted_advice c.args.group c.args.sequence c.args.first t) c.as_slice-2.result.now) c.args.sink.now
+    (transaction_lines c.args.manner.explained c.args.manner.apart c.args.group c.args.sequence c.args.first t)
+    (flat_map (noted_advice c.args.manner.apart c.args.group c.args.sequence c.args.first t)
+    (told_by c.args.manner.all c.args.told.now c.as_slice-2.result.now)) c.args.sink.now
     c.put_findings.new.sink c.put_advice.new.sink tt c.put_advice.result
-    c.in_ok-put_findings.ensures.puts c.put_advice.ensures)
+    c.in_ok-put_findings.ensures.puts c.put_advice.ensures.puts)
 
 pub returns-clause-seen : goal.returns-clause-seen
 returns-clause-seen g c =

@@ -1,6 +1,7 @@
-use Rattle.std.proofs.Common.{◌≡◌, ℕ, ◌+◌, ◌-◌, List, min, ap, ap₂, subst, ◌∙◌}
-use Rattle.std.specs.Prelude.{◌^◌, nat_le, length}
-use Rattle.cwr_lint.specs.Format.FaultsOfLines.{told_lines}
+use Rattle.std.proofs.Common.{◌≡◌, ℕ, ◌+◌, ◌-◌, Bool, List, min, ap, ap₂, subst, ◌∙◌}
+use Rattle.std.specs.Prelude.{◌^◌, nat_le, length, OnOk}
+use Rattle.cwr_advise.specs.Steps.AdviceCounts.{counts_after, told_by}
+use Rattle.cwr_lint.specs.Format.FaultsOfLines.{advice_if, said_if, told_lines}
 use Rattle.cwr_lint.specs.Steps.CutShort.{IsNoneOr, Leaves}
 use Rattle.cwr_lint.specs.Steps.Puts.{PutsWith}
 use Rattle.cwr_lint.specs.Steps.Runs.{asking_of}
@@ -19,7 +20,8 @@ returns-clause-puts g c =
     c.report_number-2.ensures ∙ ap (λ (t : OpenTransaction). report_number t.number) c.open_transaction-number.ensures in
     subst (λ (wanted : List ℕ). PutsWith {A = Unit {0}} (λ (u : Unit {0}) (text : List ℕ). text ≡ wanted) g.W.Target.contents
     g.W.Target.failures c.put_told.result c.args.sink.now c.put_told.new.sink)
-    (λ i. told_lines (asking_of c.args.asked.now) (numbered i) (c.report_number.ensures i) (sequence i) (first i)
+    (λ i. told_lines (asking_of c.args.asked.now) (numbered i) (told_by c.args.asked.now.all c.args.advice.now
+    (advice_if (said_if (numbered i) c.args.asked.now.said) c.args.transaction.now)) (c.report_number.ensures i) (sequence i) (first i)
     c.args.transaction.now) c.put_told.ensures.puts
 
 pub returns-clause-leaves : goal.returns-clause-leaves
@@ -32,5 +34,16 @@ returns-clause-leaves g c =
     let sequence =
     c.report_number-2.ensures ∙ ap (λ (t : OpenTransaction). report_number t.number) c.open_transaction-number.ensures in
     subst (λ (wanted : List ℕ). Leaves (IsNoneOr wanted) g.W.Target.contents c.put_told.result c.args.sink.now c.put_told.new.sink)
-    (λ i. told_lines (asking_of c.args.asked.now) (numbered i) (c.report_number.ensures i) (sequence i) (first i)
+    (λ i. told_lines (asking_of c.args.asked.now) (numbered i) (told_by c.args.asked.now.all c.args.advice.now
+    (advice_if (said_if (numbered i) c.args.asked.now.said) c.args.transaction.now)) (c.report_number.ensures i) (sequence i) (first i)
     c.args.transaction.now) c.put_told.ensures.leaves
+
+pub returns-clause-advised : goal.returns-clause-advised
+returns-clause-advised g c =
+    let count : c.len-count.result ≡ length c.args.transaction.now = c.len-count.ensures.len in
+    let first : c.saturating_add-first.result ≡ min ((c.args.state.now.lines - length c.args.transaction.now) + 1) (2 ^ 64 - 1)
+    = c.saturating_add-first.ensures ∙ ap (λ (n : ℕ). min (n + 1) (2 ^ 64 - 1))
+    (c.saturating_sub.ensures ∙ ap (λ (n : ℕ). c.args.state.now.lines - n) count) in
+    let numbered = c.is_numbered.ensures ∙ ap₂ (λ (a b : ℕ). nat_le (a + b) 100000000) first count in
+    subst (λ (b : Bool). OnOk c.put_told.result (c.put_told.new.advice ≡ counts_after c.args.advice.now
+    (advice_if (said_if b c.args.asked.now.said) c.args.transaction.now))) numbered c.put_told.ensures.advised

@@ -2,7 +2,8 @@ use Rattle.std.proofs.Common.{Bool, sym, ap, ◌∙◌}
 use Rattle.std.specs.Prelude.{◌&&◌}
 use Rattle.cwr_tools.specs.Format.Reports.{has_findings, transaction_lines}
 use Rattle.cwr_values.specs.declared.items.Item.TheVariants.{Transaction}
-use Rattle.cwr_advise.specs.Format.AdviceLines.{advised_transaction, has_advice}
+use Rattle.cwr_advise.specs.Format.AdviceLines.{has_advice}
+use Rattle.cwr_advise.specs.Steps.AdvisedItems.{advised_after}
 use Rattle.cwr_lint.specs.Steps.Runs.{asking_of}
 use Rattle.cwr_lint.proofs.lemmas.AdviceTold.{some_numbered, told_with, told_without}
 use Rattle.cwr_lint.proofs.lemmas.CutShort.{findings_leave}
@@ -15,40 +16,40 @@ put_advised-requires-clause-few g c =
 
 pub returns-in-Some-clause-puts : goal.returns-in-Some-clause-puts
 returns-in-Some-clause-puts g c =
-    let explained = c.is_worded-explained.ensures ∙ ap (λ (b : Bool). b && c.args.numbered) c.is_some.ensures in
-    findings_put g.W.Target.contents g.W.Target.failures (has_advice c.args.transaction.now) (advised_transaction
-    c.is_worded-explained.result c.in-Some.said c.args.group c.args.sequence c.args.first
-    c.args.transaction.now) _ c.put_advised.result c.args.sink.now c.put_advised.new.sink
-    (told_with (asking_of c.args.asked.now) c.is_worded-explained.result c.args.numbered c.in-Some.said c.args.group
-    c.args.sequence c.args.first c.args.transaction.now explained (sym c.said_if.ensures ∙ c.in-Some.is))
+    let explained = c.is_worded-explained.ensures ∙ ap (λ (b : Bool). b && c.args.numbered) c.is_some-apart.ensures in
+    findings_put g.W.Target.contents g.W.Target.failures (has_advice c.args.transaction.now) (advised_after
+    (record { explained = c.is_worded-explained.result; apart = c.is_some-apart.result; all = c.args.asked.now.all })
+    c.args.advice.now c.in-Some.said c.args.group c.args.sequence c.args.first c.args.transaction.now) _ c.put_advised.result c.args.sink.now c.put_advised.new.sink
+    (told_with (asking_of c.args.asked.now) c.is_worded-explained.result c.is_some-apart.result c.args.numbered c.args.advice.now
+    c.in-Some.said c.args.group c.args.sequence c.args.first c.args.transaction.now explained c.is_some-apart.ensures (sym c.said_if.ensures ∙ c.in-Some.is))
     c.requires.unfailed c.put_advised.ensures.puts
 
 pub returns-in-Some-clause-leaves : goal.returns-in-Some-clause-leaves
 returns-in-Some-clause-leaves g c =
-    let explained = c.is_worded-explained.ensures ∙ ap (λ (b : Bool). b && c.args.numbered) c.is_some.ensures in
-    findings_leave g.W.Target.contents g.W.Target.failures (has_advice c.args.transaction.now) (advised_transaction
-    c.is_worded-explained.result c.in-Some.said c.args.group c.args.sequence c.args.first
-    c.args.transaction.now) _ c.put_advised.result c.args.sink.now c.put_advised.new.sink
-    (told_with (asking_of c.args.asked.now) c.is_worded-explained.result c.args.numbered c.in-Some.said c.args.group
-    c.args.sequence c.args.first c.args.transaction.now explained (sym c.said_if.ensures ∙ c.in-Some.is))
+    let explained = c.is_worded-explained.ensures ∙ ap (λ (b : Bool). b && c.args.numbered) c.is_some-apart.ensures in
+    findings_leave g.W.Target.contents g.W.Target.failures (has_advice c.args.transaction.now) (advised_after
+    (record { explained = c.is_worded-explained.result; apart = c.is_some-apart.result; all = c.args.asked.now.all })
+    c.args.advice.now c.in-Some.said c.args.group c.args.sequence c.args.first c.args.transaction.now) _ c.put_advised.result c.args.sink.now c.put_advised.new.sink
+    (told_with (asking_of c.args.asked.now) c.is_worded-explained.result c.is_some-apart.result c.args.numbered c.args.advice.now
+    c.in-Some.said c.args.group c.args.sequence c.args.first c.args.transaction.now explained c.is_some-apart.ensures (sym c.said_if.ensures ∙ c.in-Some.is))
     c.requires.unfailed c.put_advised.ensures.puts
 
 pub returns-in-None-clause-puts : goal.returns-in-None-clause-puts
 returns-in-None-clause-puts g c =
-    let explained = c.is_worded-explained.ensures ∙ ap (λ (b : Bool). b && c.args.numbered) c.is_some.ensures in
+    let explained = c.is_worded-explained.ensures ∙ ap (λ (b : Bool). b && c.args.numbered) c.is_some-apart.ensures in
     findings_put g.W.Target.contents g.W.Target.failures (has_findings (Transaction c.args.transaction.now))
-    (transaction_lines c.is_worded-explained.result c.args.group c.args.sequence c.args.first c.args.transaction.now) _
+    (transaction_lines c.is_worded-explained.result c.is_some-apart.result c.args.group c.args.sequence c.args.first c.args.transaction.now) _
     c.put_transaction_findings.result c.args.sink.now c.put_transaction_findings.new.sink
-    (told_without (asking_of c.args.asked.now) c.is_worded-explained.result c.args.numbered c.args.group c.args.sequence
-    c.args.first c.args.transaction.now explained (sym c.said_if.ensures ∙ c.in-None.is))
+    (told_without (asking_of c.args.asked.now) c.is_worded-explained.result c.is_some-apart.result c.args.numbered
+    c.args.advice.now c.args.group c.args.sequence c.args.first c.args.transaction.now explained c.is_some-apart.ensures (sym c.said_if.ensures ∙ c.in-None.is))
     c.requires.unfailed c.put_transaction_findings.ensures.puts
 
 pub returns-in-None-clause-leaves : goal.returns-in-None-clause-leaves
 returns-in-None-clause-leaves g c =
-    let explained = c.is_worded-explained.ensures ∙ ap (λ (b : Bool). b && c.args.numbered) c.is_some.ensures in
+    let explained = c.is_worded-explained.ensures ∙ ap (λ (b : Bool). b && c.args.numbered) c.is_some-apart.ensures in
     findings_leave g.W.Target.contents g.W.Target.failures (has_findings (Transaction c.args.transaction.now))
-    (transaction_lines c.is_worded-explained.result c.args.group c.args.sequence c.args.first c.args.transaction.now) _
+    (transaction_lines c.is_worded-explained.result c.is_some-apart.result c.args.group c.args.sequence c.args.first c.args.transaction.now) _
     c.put_transaction_findings.result c.args.sink.now c.put_transaction_findings.new.sink
-    (told_without (asking_of c.args.asked.now) c.is_worded-explained.result c.args.numbered c.args.group c.args.sequence
-    c.args.first c.args.transaction.now explained (sym c.said_if.ensures ∙ c.in-None.is))
+    (told_without (asking_of c.args.asked.now) c.is_worded-explained.result c.is_some-apart.result c.args.numbered
+    c.args.advice.now c.args.group c.args.sequence c.args.first c.args.transaction.now explained c.is_some-apart.ensures (sym c.said_if.ensures ∙ c.in-None.is))
     c.requires.unfailed c.put_transaction_findings.ensures.puts

@@ -13,29 +13,29 @@ use Rattle.cwr_lint.proofs.linting.lint.Goals as goal
 
 pub returns-in-Err-clause-lints : goal.returns-in-Err-clause-lints
 returns-in-Err-clause-lints g c =
-    lints_at (wanting c.is_some.result c.args.advised) (wanting (is_some c.args.name) c.args.advised) c.args.limits
+    lints_at (wanting c.is_some.result c.args.advised c.args.all) (wanting (is_some c.args.name) c.args.advised c.args.all) c.args.limits
     (g.R.Source.remaining c.args.reader.now) (g.R.Source.remaining c.check_front-writer.new.reader) g.W.Target.contents
     c.args.writer c.check_front-writer.result.0 c.check_front-writer.result.1 (Err c.in-Err.fault)
-    (ap (λ (b : Bool). wanting b c.args.advised) c.is_some.ensures) c.check_front-writer.ensures.reported c.in-Err.is
+    (ap (λ (b : Bool). wanting b c.args.advised c.args.all) c.is_some.ensures) c.check_front-writer.ensures.reported c.in-Err.is
 
 pub returns-in-Some-clause-lints : goal.returns-in-Some-clause-lints
 returns-in-Some-clause-lints g c =
-    faults_at (wanting c.is_some.result c.args.advised) (wanting (is_some c.args.name) c.args.advised) c.args.limits
+    faults_at (wanting c.is_some.result c.args.advised c.args.all) (wanting (is_some c.args.name) c.args.advised c.args.all) c.args.limits
     (g.R.Source.remaining c.args.reader.now) (g.R.Source.remaining c.check_front-writer.new.reader)
     (g.R.Source.remaining c.tell_faults.new.reader) g.W.Target.contents c.args.writer c.check_front-writer.result.0
     c.tell_faults.result.0 c.in-Refused.refusal
-    (asking_of (record { alloc = c.args.alloc; limits = c.args.limits; name = c.args.name; said = c.check_front-writer.result.3 }))
-    c.check_front-writer.result.2.findings c.in-Some.last c.check_front-writer.result.1 c.tell_faults.result.1
-    (ap (λ (b : Bool). wanting b c.args.advised) c.is_some.ensures) c.check_front-writer.ensures.reported
+    (asking_of (record { alloc = c.args.alloc; limits = c.args.limits; name = c.args.name; said = c.check_front-writer.result.3; all = c.args.all }))
+    c.check_front-writer.result.2.findings c.check_front-writer.result.4 c.in-Some.last c.check_front-writer.result.1 c.tell_faults.result.1
+    (ap (λ (b : Bool). wanting b c.args.advised c.args.all) c.is_some.ensures) c.check_front-writer.ensures.reported
     (read_last c.args.limits (g.R.Source.remaining c.args.reader.now) (g.R.Source.remaining c.check_front-writer.new.reader)
     c.check_front-writer.result.1 c.in-Refused.refusal c.check_front-writer.result.2.last c.in-Some.last
     c.check_front-writer.ensures.last
     (known_ok c.check_front-writer.result.1 c.in-Ok.verdict (Refused c.in-Refused.refusal) c.in-Ok.is c.in-Refused.is)
     c.in-Some.is)
-    (hears c.check_front-writer.result.1 c.in-Refused.refusal (wanting (is_some c.args.name) c.args.advised) c.args.limits
+    (hears c.check_front-writer.result.1 c.in-Refused.refusal (wanting (is_some c.args.name) c.args.advised c.args.all) c.args.limits
     (g.R.Source.remaining c.args.reader.now) (g.R.Source.remaining c.check_front-writer.new.reader)
-    (asking_of (record { alloc = c.args.alloc; limits = c.args.limits; name = c.args.name; said = c.check_front-writer.result.3 }))
-    c.check_front-writer.result.3 c.check_front-writer.result.2.findings
+    (asking_of (record { alloc = c.args.alloc; limits = c.args.limits; name = c.args.name; said = c.check_front-writer.result.3; all = c.args.all }))
+    c.check_front-writer.result.3 c.check_front-writer.result.2.findings c.check_front-writer.result.4
     (known_ok c.check_front-writer.result.1 c.in-Ok.verdict (Refused c.in-Refused.refusal) c.in-Ok.is c.in-Refused.is) refl
     c.check_front-writer.ensures.said) (known_ok c.check_front-writer.result.1 c.in-Ok.verdict (Refused c.in-Refused.refusal)
     c.in-Ok.is c.in-Refused.is) c.tell_faults.ensures.words c.tell_faults.ensures.leaves c.tell_faults.ensures.taken
@@ -43,29 +43,29 @@ returns-in-Some-clause-lints g c =
 
 pub returns-in-Some-clause-tells : goal.returns-in-Some-clause-tells
 returns-in-Some-clause-tells g c =
-    refused_at (wanting c.is_some.result c.args.advised) (wanting (is_some c.args.name) c.args.advised) c.args.limits
+    refused_at (wanting c.is_some.result c.args.advised c.args.all) (wanting (is_some c.args.name) c.args.advised c.args.all) c.args.limits
     (g.R.Source.remaining c.args.reader.now) (g.R.Source.remaining c.check_front-writer.new.reader)
     (g.R.Source.remaining c.tell_faults.new.reader) g.W.Target.contents c.args.writer c.check_front-writer.result.0
     c.tell_faults.result.0 c.in-Refused.refusal
-    (asking_of (record { alloc = c.args.alloc; limits = c.args.limits; name = c.args.name; said = c.check_front-writer.result.3 }))
-    c.check_front-writer.result.2.findings c.in-Some.last c.check_front-writer.result.1 c.tell_faults.result.1
-    (ap (λ (b : Bool). wanting b c.args.advised) c.is_some.ensures) c.check_front-writer.ensures.reported
+    (asking_of (record { alloc = c.args.alloc; limits = c.args.limits; name = c.args.name; said = c.check_front-writer.result.3; all = c.args.all }))
+    c.check_front-writer.result.2.findings c.check_front-writer.result.4 c.in-Some.last c.check_front-writer.result.1 c.tell_faults.result.1
+    (ap (λ (b : Bool). wanting b c.args.advised c.args.all) c.is_some.ensures) c.check_front-writer.ensures.reported
     (read_last c.args.limits (g.R.Source.remaining c.args.reader.now) (g.R.Source.remaining c.check_front-writer.new.reader)
     c.check_front-writer.result.1 c.in-Refused.refusal c.check_front-writer.result.2.last c.in-Some.last
     c.check_front-writer.ensures.last
     (known_ok c.check_front-writer.result.1 c.in-Ok.verdict (Refused c.in-Refused.refusal) c.in-Ok.is c.in-Refused.is)
     c.in-Some.is)
-    (hears c.check_front-writer.result.1 c.in-Refused.refusal (wanting (is_some c.args.name) c.args.advised) c.args.limits
+    (hears c.check_front-writer.result.1 c.in-Refused.refusal (wanting (is_some c.args.name) c.args.advised c.args.all) c.args.limits
     (g.R.Source.remaining c.args.reader.now) (g.R.Source.remaining c.check_front-writer.new.reader)
-    (asking_of (record { alloc = c.args.alloc; limits = c.args.limits; name = c.args.name; said = c.check_front-writer.result.3 }))
-    c.check_front-writer.result.3 c.check_front-writer.result.2.findings
+    (asking_of (record { alloc = c.args.alloc; limits = c.args.limits; name = c.args.name; said = c.check_front-writer.result.3; all = c.args.all }))
+    c.check_front-writer.result.3 c.check_front-writer.result.2.findings c.check_front-writer.result.4
     (known_ok c.check_front-writer.result.1 c.in-Ok.verdict (Refused c.in-Refused.refusal) c.in-Ok.is c.in-Refused.is) refl
     c.check_front-writer.ensures.said) (known_ok c.check_front-writer.result.1 c.in-Ok.verdict (Refused c.in-Refused.refusal)
     c.in-Ok.is c.in-Refused.is) c.tell_faults.ensures.answered c.tell_faults.ensures.told
 
 pub returns-in-Some-clause-accepted : goal.returns-in-Some-clause-accepted
 returns-in-Some-clause-accepted g c =
-    accepted_after (wanting (is_some c.args.name) c.args.advised) c.args.limits (g.R.Source.remaining c.args.reader.now)
+    accepted_after (wanting (is_some c.args.name) c.args.advised c.args.all) c.args.limits (g.R.Source.remaining c.args.reader.now)
     (g.R.Source.remaining c.tell_faults.new.reader) g.W.Target.contents c.args.writer c.tell_faults.result.0 c.in-Refused.refusal
     c.check_front-writer.result.1 c.tell_faults.result.1
     (known_ok c.check_front-writer.result.1 c.in-Ok.verdict (Refused c.in-Refused.refusal) c.in-Ok.is c.in-Refused.is)
@@ -73,22 +73,22 @@ returns-in-Some-clause-accepted g c =
 
 pub returns-in-Good-clause-lints : goal.returns-in-Good-clause-lints
 returns-in-Good-clause-lints g c =
-    lints_at (wanting c.is_some.result c.args.advised) (wanting (is_some c.args.name) c.args.advised) c.args.limits
+    lints_at (wanting c.is_some.result c.args.advised c.args.all) (wanting (is_some c.args.name) c.args.advised c.args.all) c.args.limits
     (g.R.Source.remaining c.args.reader.now) (g.R.Source.remaining c.check_front-writer.new.reader) g.W.Target.contents
     c.args.writer c.check_front-writer.result.0 c.check_front-writer.result.1 (Ok c.in-Ok.verdict)
-    (ap (λ (b : Bool). wanting b c.args.advised) c.is_some.ensures) c.check_front-writer.ensures.reported c.in-Ok.is
+    (ap (λ (b : Bool). wanting b c.args.advised c.args.all) c.is_some.ensures) c.check_front-writer.ensures.reported c.in-Ok.is
 
 pub returns-in-Good-clause-tells : goal.returns-in-Good-clause-tells
 returns-in-Good-clause-tells g c =
-    unrefused_at (wanting c.is_some.result c.args.advised) (wanting (is_some c.args.name) c.args.advised) c.args.limits
+    unrefused_at (wanting c.is_some.result c.args.advised c.args.all) (wanting (is_some c.args.name) c.args.advised c.args.all) c.args.limits
     (g.R.Source.remaining c.args.reader.now) (g.R.Source.remaining c.check_front-writer.new.reader) g.W.Target.contents
     c.args.writer c.check_front-writer.result.0 c.check_front-writer.result.1 c.in-Ok.verdict
-    (ap (λ (b : Bool). wanting b c.args.advised) c.is_some.ensures) c.check_front-writer.ensures.reported c.in-Ok.is
+    (ap (λ (b : Bool). wanting b c.args.advised c.args.all) c.is_some.ensures) c.check_front-writer.ensures.reported c.in-Ok.is
     (subst IsUnrefused (sym c.in-Good.is) tt)
 
 pub returns-in-Good-clause-accepted : goal.returns-in-Good-clause-accepted
 returns-in-Good-clause-accepted g c =
-    accepted_at (wanting (is_some c.args.name) c.args.advised) c.args.limits (g.R.Source.remaining c.args.reader.now)
+    accepted_at (wanting (is_some c.args.name) c.args.advised c.args.all) c.args.limits (g.R.Source.remaining c.args.reader.now)
     (g.R.Source.remaining c.check_front-writer.new.reader) g.W.Target.contents c.args.writer c.check_front-writer.result.0
     c.in-Ok.verdict (Ok c.in-Ok.verdict) refl
     (subst (JudgesText c.args.limits (g.R.Source.remaining c.args.reader.now)) c.in-Ok.is c.check_front-writer.ensures.judged)
@@ -96,22 +96,22 @@ returns-in-Good-clause-accepted g c =
 
 pub returns-in-Truncated-clause-lints : goal.returns-in-Truncated-clause-lints
 returns-in-Truncated-clause-lints g c =
-    lints_at (wanting c.is_some.result c.args.advised) (wanting (is_some c.args.name) c.args.advised) c.args.limits
+    lints_at (wanting c.is_some.result c.args.advised c.args.all) (wanting (is_some c.args.name) c.args.advised c.args.all) c.args.limits
     (g.R.Source.remaining c.args.reader.now) (g.R.Source.remaining c.check_front-writer.new.reader) g.W.Target.contents
     c.args.writer c.check_front-writer.result.0 c.check_front-writer.result.1 (Ok c.in-Ok.verdict)
-    (ap (λ (b : Bool). wanting b c.args.advised) c.is_some.ensures) c.check_front-writer.ensures.reported c.in-Ok.is
+    (ap (λ (b : Bool). wanting b c.args.advised c.args.all) c.is_some.ensures) c.check_front-writer.ensures.reported c.in-Ok.is
 
 pub returns-in-Truncated-clause-tells : goal.returns-in-Truncated-clause-tells
 returns-in-Truncated-clause-tells g c =
-    unrefused_at (wanting c.is_some.result c.args.advised) (wanting (is_some c.args.name) c.args.advised) c.args.limits
+    unrefused_at (wanting c.is_some.result c.args.advised c.args.all) (wanting (is_some c.args.name) c.args.advised c.args.all) c.args.limits
     (g.R.Source.remaining c.args.reader.now) (g.R.Source.remaining c.check_front-writer.new.reader) g.W.Target.contents
     c.args.writer c.check_front-writer.result.0 c.check_front-writer.result.1 c.in-Ok.verdict
-    (ap (λ (b : Bool). wanting b c.args.advised) c.is_some.ensures) c.check_front-writer.ensures.reported c.in-Ok.is
+    (ap (λ (b : Bool). wanting b c.args.advised c.args.all) c.is_some.ensures) c.check_front-writer.ensures.reported c.in-Ok.is
     (subst IsUnrefused (sym c.in-Truncated.is) tt)
 
 pub returns-in-Truncated-clause-accepted : goal.returns-in-Truncated-clause-accepted
 returns-in-Truncated-clause-accepted g c =
-    accepted_at (wanting (is_some c.args.name) c.args.advised) c.args.limits (g.R.Source.remaining c.args.reader.now)
+    accepted_at (wanting (is_some c.args.name) c.args.advised c.args.all) c.args.limits (g.R.Source.remaining c.args.reader.now)
     (g.R.Source.remaining c.check_front-writer.new.reader) g.W.Target.contents c.args.writer c.check_front-writer.result.0
     c.in-Ok.verdict (Ok c.in-Ok.verdict) refl
     (subst (JudgesText c.args.limits (g.R.Source.remaining c.args.reader.now)) c.in-Ok.is c.check_front-writer.ensures.judged)
@@ -120,7 +120,7 @@ returns-in-Truncated-clause-accepted g c =
 pub returns-in-Err-clause-written : goal.returns-in-Err-clause-written
 returns-in-Err-clause-written g c =
     subst (CountsWritten g.W.Target.contents c.args.writer c.check_front-writer.result.0) c.in-Err.is
-    (counts_reported (lines_before_fault c.args.advised c.is_some.result) c.args.limits (g.R.Source.remaining c.args.reader.now)
+    (counts_reported (lines_before_fault c.args.advised c.is_some.result c.args.all) c.args.limits (g.R.Source.remaining c.args.reader.now)
     (g.R.Source.remaining c.check_front-writer.new.reader) g.W.Target.contents c.args.writer c.check_front-writer.result.0
     c.check_front-writer.result.1 c.check_front-writer.ensures.reported)
 

@@ -16,11 +16,11 @@ run-told-requires-clause-unfailed g c = c.new-sink.ensures.unfailed
 pub returns-clause-told : goal.returns-clause-told
 returns-clause-told g c = let told = c.run-told.ensures.tells in
     ends_told (TellsRun (asking_of c.args.asked.now)
-    (begins_at (state_at c.args.last.now.stage c.args.last.now.counts (c.args.refusal.rec - 1)) c.args.findings) c.args.refusal c.args.last.now.bytes
+    (begins_at (state_at c.args.last.now.stage c.args.last.now.counts (c.args.refusal.rec - 1)) c.args.findings c.args.advice) c.args.refusal c.args.last.now.bytes
     (g.R.Source.remaining c.args.reader.now)
     (g.R.Source.remaining c.run-told.new.reader)) g.W.Target.contents (g.W.Target.contents
     c.args.writer) c.finish.result.0 c.args.refusal _ told.0 c.run-told.new.sink c.run-told.result _ _ c.finish.result.1
-    (subst (λ (s : LintState). IfOk c.run-told.result (λ (u : Unit {0}). TellsRun (asking_of c.args.asked.now) (begins_at s c.args.findings) c.args.refusal
+    (subst (λ (s : LintState). IfOk c.run-told.result (λ (u : Unit {0}). TellsRun (asking_of c.args.asked.now) (begins_at s c.args.findings c.args.advice) c.args.refusal
     c.args.last.now.bytes (g.R.Source.remaining c.args.reader.now) (g.R.Source.remaining c.run-told.new.reader)
     told.0)) c.state_before-begins.ensures.is told.2)
     told.1.unfailed c.finish.ensures.kept
@@ -59,13 +59,13 @@ returns-clause-leaves g c = let told = c.run-told.ensures.tells in
     let left = g.R.Source.remaining c.args.reader.now in
     let after = g.R.Source.remaining c.run-told.new.reader in
     let begins : LintState = state_at c.args.last.now.stage c.args.last.now.counts (c.args.refusal.rec - 1) in
-    ends_cut (TellsAfter (asking_of c.args.asked.now) c.args.last.now c.args.findings c.args.refusal left after)
-    (TellsAfterUpTo (asking_of c.args.asked.now) c.args.last.now c.args.findings c.args.refusal left) g.W.Target.contents c.args.writer
+    ends_cut (TellsAfter (asking_of c.args.asked.now) c.args.last.now c.args.findings c.args.advice c.args.refusal left after)
+    (TellsAfterUpTo (asking_of c.args.asked.now) c.args.last.now c.args.findings c.args.advice c.args.refusal left) g.W.Target.contents c.args.writer
     c.finish.result.0 c.args.refusal _ told.0 c.new-sink.result c.run-told.new.sink c.run-told.result _ _ c.finish.result.1
-    (λ text run. run_whole (asking_of c.args.asked.now) (begins_at begins c.args.findings) c.args.refusal c.args.last.now.bytes left after text run)
-    (subst (λ (s : LintState). IfOk c.run-told.result (λ (u : Unit {0}). TellsRun (asking_of c.args.asked.now) (begins_at s c.args.findings) c.args.refusal
+    (λ text run. run_whole (asking_of c.args.asked.now) (begins_at begins c.args.findings c.args.advice) c.args.refusal c.args.last.now.bytes left after text run)
+    (subst (λ (s : LintState). IfOk c.run-told.result (λ (u : Unit {0}). TellsRun (asking_of c.args.asked.now) (begins_at s c.args.findings c.args.advice) c.args.refusal
     c.args.last.now.bytes left after told.0)) c.state_before-begins.ensures.is told.2)
-    (subst (λ (s : LintState). LeavesOrUnread (TellsLastUpTo (asking_of c.args.asked.now) (begins_at s c.args.findings) c.args.refusal c.args.last.now.bytes left)
+    (subst (λ (s : LintState). LeavesOrUnread (TellsLastUpTo (asking_of c.args.asked.now) (begins_at s c.args.findings c.args.advice) c.args.refusal c.args.last.now.bytes left)
     g.W.Target.contents c.run-told.result c.new-sink.result c.run-told.new.sink) c.state_before-begins.ensures.is
     c.run-told.ensures.leaves) c.new-sink.ensures.empty
     (told.1.written (g.W.Target.contents c.args.writer) [] c.new-sink.ensures.empty) c.finish.ensures.kept

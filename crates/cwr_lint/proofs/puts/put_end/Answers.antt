@@ -1,35 +1,35 @@
-use Rattle.std.proofs.Common.{◌≡◌, List, [], ◌++◌, refl, sym, ap, ◌∙◌, append-nil}
-use Rattle.std.specs.Prelude.{ℕ}
-use Rattle.cwr_levels.specs.Format.ReportLines.{faults_line}
-use Rattle.cwr_lint.specs.Format.Told.{truncated_unless}
+use Rattle.std.proofs.Common.{◌≡◌, ℕ, List, ◌++◌, refl, sym, ap, ◌∙◌, append_assoc}
+use Rattle.cwr_advise.specs.Steps.AdviceCounts.{summary_by}
 use Rattle.cwr_lint.specs.Steps.CutShort.{IsFrontOf}
-use Rattle.cwr_lint.specs.Steps.Runs.{IsEndText}
+use Rattle.cwr_lint.specs.Steps.Runs.{sums_text}
 use Rattle.cwr_lint.proofs.lemmas.CutShort.{leaves_other, then_leaves}
-use Rattle.cwr_lint.proofs.lemmas.TextsPut.{if_ok, put_both}
+use Rattle.cwr_lint.proofs.lemmas.TextsPut.{if_same, put_both}
 use Rattle.cwr_lint.proofs.puts.put_end.Goals as goal
 
 pub returns-in-Ok-clause-puts : goal.returns-in-Ok-clause-puts
-returns-in-Ok-clause-puts g c = (
-  truncated_unless c.args.is_over c.args.lines ++ faults_line c.args.faults c.args.findings c.args.lines,
-  put_both g.W.Target.contents g.W.Target.failures c.in-Ok.field-0 c.put_faults_line.result
-      (truncated_unless c.args.is_over c.args.lines) (faults_line c.args.faults c.args.findings c.args.lines) c.args.sink.now
-      c.put_truncated.new.sink c.put_faults_line.new.sink c.in-Ok.ensures.puts c.put_faults_line.ensures.puts,
-  if_ok c.put_faults_line.result (IsEndText c.args.is_over c.args.faults c.args.findings c.args.lines
-      (truncated_unless c.args.is_over c.args.lines ++ faults_line c.args.faults c.args.findings c.args.lines)) refl,
-)
+returns-in-Ok-clause-puts g c =
+    let untold : List ℕ = summary_by c.args.all c.args.advice.now in
+    let sums : List ℕ = sums_text c.args.is_over c.args.faults c.args.findings c.args.lines in
+    let more : List ℕ = c.put_sums.ensures.puts.0 in (
+      untold ++ more,
+      put_both g.W.Target.contents g.W.Target.failures c.in-Ok.field-0 c.put_sums.result untold more c.args.sink.now
+          c.put_untold.new.sink c.put_sums.new.sink c.in-Ok.ensures.puts c.put_sums.ensures.puts.1,
+      if_same c.put_sums.result (more ≡ sums) (untold ++ more ≡ untold ++ sums) (λ e. ap (λ (l : List ℕ). untold ++ l) e)
+          c.put_sums.ensures.puts.2,
+    )
 
 pub returns-in-Ok-clause-leaves : goal.returns-in-Ok-clause-leaves
 returns-in-Ok-clause-leaves g c =
-    let truncated : List ℕ = truncated_unless c.args.is_over c.args.lines in
-    let sums : List ℕ = faults_line c.args.faults c.args.findings c.args.lines in
-    then_leaves (λ text. text ≡ sums) (IsFrontOf (truncated ++ sums)) g.W.Target.contents truncated c.put_faults_line.result
-    c.args.sink.now c.put_truncated.new.sink c.put_faults_line.new.sink c.in-Ok.ensures.puts.written
-    (λ more e. ([], ap (λ (l : List ℕ). truncated ++ l) (sym e) ∙ sym (append-nil (truncated ++ more))))
-    c.put_faults_line.ensures.leaves
+    let untold : List ℕ = summary_by c.args.all c.args.advice.now in
+    let sums : List ℕ = sums_text c.args.is_over c.args.faults c.args.findings c.args.lines in
+    then_leaves (IsFrontOf sums) (IsFrontOf (untold ++ sums)) g.W.Target.contents untold c.put_sums.result
+    c.args.sink.now c.put_untold.new.sink c.put_sums.new.sink c.in-Ok.ensures.puts.written
+    (λ more front. (front.0, ap (λ (l : List ℕ). untold ++ l) front.1 ∙ sym (append_assoc untold more front.0)))
+    c.put_sums.ensures.leaves
 
 pub returns-in-Err-clause-leaves : goal.returns-in-Err-clause-leaves
 returns-in-Err-clause-leaves g c =
-    let truncated : List ℕ = truncated_unless c.args.is_over c.args.lines in
-    let sums : List ℕ = faults_line c.args.faults c.args.findings c.args.lines in
-    leaves_other (λ text. text ≡ truncated) (IsFrontOf (truncated ++ sums)) g.W.Target.contents c.in-Err.fault c.args.sink.now
-    c.put_truncated.new.sink (λ text e. (sums, ap (λ (l : List ℕ). l ++ sums) (sym e))) c.in-Err.ensures.leaves
+    let untold : List ℕ = summary_by c.args.all c.args.advice.now in
+    let sums : List ℕ = sums_text c.args.is_over c.args.faults c.args.findings c.args.lines in
+    leaves_other (λ text. text ≡ untold) (IsFrontOf (untold ++ sums)) g.W.Target.contents c.in-Err.fault c.args.sink.now
+    c.put_untold.new.sink (λ text e. (sums, ap (λ (l : List ℕ). l ++ sums) (sym e))) c.in-Err.ensures.leaves

@@ -11,7 +11,7 @@ returns-in_err-put_explained-clause-puts g c =
     = sym (slice_get_read c.args.found.now (length c.args.found.now) c.loop-finding.i c.in-Some.finding.now refl
     c.in-Some.ensures.lookup.3.0 c.in-Some.ensures.lookup.1) in
     lines_refused g.W.Target.contents g.W.Target.failures
-    (explained_finding c.args.group c.args.sequence c.args.first c.args.transaction.now) c.loop-finding.i c.args.found.now
+    (explained_finding c.args.apart c.args.group c.args.sequence c.args.first c.args.transaction.now) c.loop-finding.i c.args.found.now
     c.in-Some.finding.now c.args.sink.now c.loop-finding.sink c.put_explained.new.sink
     c.in_err-put_explained.field-0.0 c.from_residual.result there c.from_residual.ensures.0 c.loop-finding.invariant.counts
     c.loop-finding.invariant.written c.in_err-put_explained.ensures.puts
@@ -28,7 +28,7 @@ loop-finding-preserved g c =
       counts = c.in_ok-put_explained.ensures.puts.counts ∙ c.loop-finding.invariant.counts;
       written =
           λ start before h. line_more g.W.Target.contents start before
-          (explained_finding c.args.group c.args.sequence c.args.first c.args.transaction.now) c.loop-finding.i c.args.found.now
+          (explained_finding c.args.apart c.args.group c.args.sequence c.args.first c.args.transaction.now) c.loop-finding.i c.args.found.now
           c.in-Some.finding.now c.put_explained.new.sink
           there (c.in_ok-put_explained.ensures.puts.written start _ (c.loop-finding.invariant.written start before h));
     }

@@ -13,7 +13,7 @@ invariant-loop-finding g l = record {
   counts : g.W.Target.failures (writer_of l.sink) ≡ g.W.Target.failures (writer_of l.initial.sink);
   written : (start : Option (List ℕ)) (before : List ℕ) → HasWritten g.W.Target.contents start before l.initial.sink
       → HasWritten g.W.Target.contents start
-      (before ++ flat_map (explained_finding l.group l.sequence l.first l.transaction) (take l.i l.found)) l.sink;
+      (before ++ flat_map (explained_finding l.apart l.group l.sequence l.first l.transaction) (take l.i l.found)) l.sink;
 }
 
 abbrev pub decreases-loop-finding : goal.decreases-loop-finding

@@ -7,7 +7,7 @@ use Rattle.cwr_notes.proofs.finding_notes.put_notes.Goals as goal
 pub returns-in_default-clause-puts : goal.returns-in_default-clause-puts
 returns-in_default-clause-puts g c =
     puts_nothing g.W.Target.contents g.W.Target.failures tt _ c.args.sink.now c.requires.unfailed
-    (notes_none c.args.first c.args.transaction.now c.args.finding.now c.in_default.ensures.value)
+    (notes_none c.args.apart c.args.first c.args.transaction.now c.args.finding.now c.in_default.ensures.value)
 
 pub move_to-requires-clause-within : goal.move_to-requires-clause-within
 move_to-requires-clause-within g c =
@@ -20,8 +20,8 @@ put_notes_on-requires-clause-there g c =
 pub returns-clause-puts : goal.returns-clause-puts
 returns-clause-puts g c =
     puts_as g.W.Target.contents g.W.Target.failures
-    (notes_on c.args.first c.args.transaction.now c.args.finding.now c.in-Some.shown)
-    (finding_notes c.args.first c.args.transaction.now c.args.finding.now)
+    (notes_on c.args.apart c.args.first c.args.transaction.now c.args.finding.now c.in-Some.shown)
+    (finding_notes c.args.apart c.args.first c.args.transaction.now c.args.finding.now)
     c.args.sink.now c.put_notes_on.new.sink c.put_notes_on.result
-    (notes_some c.args.first c.args.transaction.now c.args.finding.now c.in-Some.shown c.in-Some.ensures.value)
+    (notes_some c.args.apart c.args.first c.args.transaction.now c.args.finding.now c.in-Some.shown c.in-Some.ensures.value)
     c.put_notes_on.ensures.puts

@@ -12,7 +12,7 @@ returns-in_err-put_head-clause-puts g c =
     three_cut g.W.Target.contents g.W.Target.failures
     (head_lines (c.args.first + c.args.finding.now.rec) (work_of c.args.transaction.now) c.args.finding.now c.args.shown.now)
     (flat_map (noted_at c.args.first c.args.transaction.now c.args.finding.now.rule) (take most_others all))
-    (tail_lines c.args.finding.now.rule (length all) c.args.transaction.now)
+    (tail_lines c.args.apart c.args.finding.now.rule (length all) c.args.transaction.now)
     c.args.sink.now c.put_head.new.sink c.in_err-put_head.field-0.0 c.from_residual.result c.from_residual.ensures.0
     (puts_as g.W.Target.contents g.W.Target.failures _ _ c.args.sink.now c.put_head.new.sink _
     (ap (λ (work : List ℕ). head_lines (c.args.first + c.args.finding.now.rec) work c.args.finding.now c.args.shown.now)
@@ -24,7 +24,7 @@ returns-in_err-put_others-clause-puts g c =
     three_broken g.W.Target.contents g.W.Target.failures
     (head_lines (c.args.first + c.args.finding.now.rec) (work_of c.args.transaction.now) c.args.finding.now c.args.shown.now)
     (flat_map (noted_at c.args.first c.args.transaction.now c.args.finding.now.rule) (take most_others all)) _
-    (tail_lines c.args.finding.now.rule (length all) c.args.transaction.now)
+    (tail_lines c.args.apart c.args.finding.now.rule (length all) c.args.transaction.now)
     c.args.sink.now c.put_head.new.sink c.put_others.new.sink tt c.in_err-put_others.field-0.0
     c.from_residual-in_err-put_others.result c.from_residual-in_err-put_others.ensures.0
     (ap (flat_map (noted_at c.args.first c.args.transaction.now c.args.finding.now.rule))
@@ -38,11 +38,11 @@ returns-clause-puts g c =
     three_put g.W.Target.contents g.W.Target.failures
     (head_lines (c.args.first + c.args.finding.now.rec) (work_of c.args.transaction.now) c.args.finding.now c.args.shown.now)
     (flat_map (noted_at c.args.first c.args.transaction.now c.args.finding.now.rule) (take most_others all)) _
-    (tail_lines c.args.finding.now.rule (length all) c.args.transaction.now) _
+    (tail_lines c.args.apart c.args.finding.now.rule (length all) c.args.transaction.now) _
     c.args.sink.now c.put_head.new.sink c.put_others.new.sink c.put_tail.new.sink tt tt c.put_tail.result
     (ap (flat_map (noted_at c.args.first c.args.transaction.now c.args.finding.now.rule))
     (c.as_slice.ensures.value ∙ c.requires.found.first))
-    (ap (λ (n : ℕ). tail_lines c.args.finding.now.rule n c.args.transaction.now) c.requires.found.counted)
+    (ap (λ (n : ℕ). tail_lines c.args.apart c.args.finding.now.rule n c.args.transaction.now) c.requires.found.counted)
     (puts_as g.W.Target.contents g.W.Target.failures _ _ c.args.sink.now c.put_head.new.sink _
     (ap (λ (work : List ℕ). head_lines (c.args.first + c.args.finding.now.rec) work c.args.finding.now c.args.shown.now)
     c.requires.work) c.in_ok-put_head.ensures.puts) c.in_ok-put_others.ensures.puts c.put_tail.ensures.puts

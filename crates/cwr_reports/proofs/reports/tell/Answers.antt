@@ -77,7 +77,7 @@ returns-in-Faults-clause-seen g c =
 
 pub returns-in-Faults-clause-looks : goal.returns-in-Faults-clause-looks
 returns-in-Faults-clause-looks g c =
-    looks_after (lines_linted (wanting (is_some c.in-Faults.name) c.in-Faults.advised)) c.args.limits
+    looks_after (lines_linted (wanting (is_some c.in-Faults.name) c.in-Faults.advised c.in-Faults.all)) c.args.limits
     (g.R.Source.remaining c.args.reader.now) (g.R.Source.remaining c.lint-writer.new.reader)
     (g.R.Source.remaining c.look_after-look-in-Faults.new.reader) g.W.Target.contents
     c.args.writer c.lint-writer.result.0 c.lint-writer.result.1 c.look_after-look-in-Faults.result c.lint-writer.ensures.accepted
@@ -187,13 +187,13 @@ returns-in-Answers-clause-reader_failures g c =
 
 pub returns-in-Advice-clause-seen : goal.returns-in-Advice-clause-seen
 returns-in-Advice-clause-seen g c =
-    sees_advice (advice_in c.args.telling) c.in-Advice.repeated c.args.limits (g.R.Source.remaining c.args.reader.now)
+    sees_advice (advice_in c.args.telling) c.in-Advice.all c.in-Advice.repeated c.args.limits (g.R.Source.remaining c.args.reader.now)
     c.args.watch.now c.note_worst.new.watch c.advise-writer.result.2 c.advise-writer.result.1 (ap advice_in c.in-Advice.is)
     c.note_worst.ensures c.advise-writer.ensures.seen
 
 pub returns-in-Advice-clause-looks : goal.returns-in-Advice-clause-looks
 returns-in-Advice-clause-looks g c =
-    looks_told (lines_of_advice c.in-Advice.repeated) c.args.limits (g.R.Source.remaining c.args.reader.now)
+    looks_told (lines_of_advice c.in-Advice.all c.in-Advice.repeated) c.args.limits (g.R.Source.remaining c.args.reader.now)
     (g.R.Source.remaining c.advise-writer.new.reader) (g.R.Source.remaining c.look_after-look-in-Advice.new.reader)
     g.W.Target.contents
     c.args.writer c.advise-writer.result.0 c.advise-writer.result.1 c.look_after-look-in-Advice.result
@@ -240,7 +240,7 @@ returns-in-Answers-clause-judged g c =
 
 pub returns-in-Advice-clause-judged : goal.returns-in-Advice-clause-judged
 returns-in-Advice-clause-judged g c =
-    judged_text (lines_of_advice c.in-Advice.repeated) c.args.limits _ _ g.W.Target.contents c.args.writer
+    judged_text (lines_of_advice c.in-Advice.all c.in-Advice.repeated) c.args.limits _ _ g.W.Target.contents c.args.writer
     c.advise-writer.result.0
     c.advise-writer.result.1 c.advise-writer.ensures.told
 

@@ -8,13 +8,13 @@ use Rattle.cwr_tools.specs.declared.verdicts.Verdict.{Verdict}
 use Rattle.cwr_tools.specs.declared.verdicts.ToolFault.{ToolFault}
 use Rattle.cwr_tools.specs.declared.totals.Totals.{Totals}
 use Rattle.cwr_tools.specs.Format.Reports.{CountsReaderFault}
-use Rattle.cwr_tools.specs.Steps.Reports.{PutsReport, StandsAfter, StandsAtEnd}
+use Rattle.cwr_tools.specs.Steps.Reports.{PutsReport, StandsAfter, StandsAtEnd, StandsPut}
 use Rattle.cwr_tools.specs.Steps.Verdicts.{IsReadLast, IsRightVerdict, StopsAfter}
 use Rattle.cwr_tools.proofs.lemmas.CountedTotals.{counts_none, next_room, total_grows}
 use Rattle.cwr_tools.proofs.lemmas.LastReported.{HoldsRead, err_last, fault_answered, good_answered, holds_more, holds_none}
 use Rattle.cwr_tools.proofs.lemmas.ReportsOn.{IsReporting, fault_reported, first_fault, first_put, good_reported, item_fault}
 use Rattle.cwr_tools.proofs.lemmas.ReportsOn.{no_reader_fault, nothing, reads_item, reports_item, room_in, same_fault}
-use Rattle.cwr_tools.proofs.lemmas.ReportsOn.{stops_after}
+use Rattle.cwr_tools.proofs.lemmas.ReportsOn.{fault_stands, no_stands, stops_after}
 use Rattle.cwr_tools.proofs.lemmas.ReportsOn.{stops_decoder}
 use Rattle.cwr_tools.proofs.lemmas.ToldReports.{passes_over, told_grows, told_reporting}
 use Rattle.cwr_tools.proofs.lemmas.WatchedRuns.{good_right, put_tells, stands_before}
@@ -376,4 +376,58 @@ returns-in-Err-clause-last g c = λ held.
     same) c.last_read-front-in-Err.ensures.front)
     (holds_more _ _ _ _ _ (c.items.invariant.last held) c.in-Err.ensures.last) c.last_read-front-in-Err.ensures.bytes
     c.verdict_of.ensures in
+    search rules
+
+pub returns-in_err-put_first-clause-stands_put : goal.returns-in_err-put_first-clause-stands_put
+returns-in_err-put_first-clause-stands_put g c = λ of s.
+    no_stands of _ c.args.limits _ _ g.W.Target.contents g.W.Target.failures c.from_residual.result
+    c.in_err-put_first.field-0.0 _ _ (same_fault c.from_residual.result c.in_err-put_first.field-0.0 c.from_residual.ensures.1)
+
+pub returns-in_err-put_item-in-Ok-Some-clause-stands_put : goal.returns-in_err-put_item-in-Ok-Some-clause-stands_put
+returns-in_err-put_item-in-Ok-Some-clause-stands_put g c = λ of s.
+    no_stands of _ c.args.limits _ _ g.W.Target.contents g.W.Target.failures
+    c.from_residual-in_err-put_item-in-Ok-Some.result c.in_err-put_item-in-Ok-Some.field-0.0 _ _
+    (same_fault c.from_residual-in_err-put_item-in-Ok-Some.result c.in_err-put_item-in-Ok-Some.field-0.0
+    c.from_residual-in_err-put_item-in-Ok-Some.ensures.1)
+
+pub returns-in-Ok-None-clause-stands_put : goal.returns-in-Ok-None-clause-stands_put
+returns-in-Ok-None-clause-stands_put g c = λ of s.
+    let told =
+    (told_reporting _ of _ _ _ _ _ _ _ _ _ _ _ _ _ _ (passes_over c.passes.result _ of _ (λ t. c.passes.ensures t of))
+    (c.items.invariant.reporting of s) c.in-Ok-None.ensures.told) in
+    let all : HasReadAll c.args.limits (g.R.Source.remaining c.args.reader.now)
+    (g.R.Source.remaining c.read_on.new.reading.reader.now) told.given
+    = none_read c.args.limits c.in-Ok-None.ensures.told.reads.between c.read_on.new.reading.decoder
+    (g.R.Source.remaining c.args.reader.now) _ _ told.given c.in-Ok-None.field-0 _ c.in-Ok-None.field-0-is
+    told.reading c.in-Ok-None.ensures.told.reads.reads c.in-Ok-None.ensures.told.reads.again (λ e. e) in
+    let right : IsRightVerdict c.args.limits (g.R.Source.remaining c.args.reader.now) c.good.result
+    (g.R.Source.remaining c.read_on.new.reading.reader.now) told.given
+    = good_right c.args.limits _ _ told.given c.read_on.new.counts c.good.result all told.counts c.good.ensures in
+    let standing : StandsPut of (g.L.Report.stands c.items.lines of) c.args.limits (g.R.Source.remaining c.args.reader.now)
+    (g.R.Source.remaining c.read_on.new.reading.reader.now) g.W.Target.contents g.W.Target.failures (Ok c.good.result)
+    c.args.sink.now c.items.sink = (told.given, right, told.here, told.put) in
+    let same = c.in-Ok-None.ensures.same_reference ∙ c.items.invariant.same in
+    let at : (left : Option (List ℕ)) → left ≡ g.R.Source.remaining c.read_on.new.reading.reader.now → StandsPut of
+    (g.L.Report.stands c.items.lines of) c.args.limits (g.R.Source.remaining c.args.reader.now) left g.W.Target.contents
+    g.W.Target.failures (Ok c.good.result) c.args.sink.now c.items.sink
+    = λ left e. subst (λ (l : Option (List ℕ)). StandsPut of (g.L.Report.stands c.items.lines of) c.args.limits
+    (g.R.Source.remaining c.args.reader.now) l g.W.Target.contents g.W.Target.failures (Ok c.good.result) c.args.sink.now
+    c.items.sink) (sym e) standing in
+    at _ (search rules)
+
+pub returns-in-Err-clause-stands_put : goal.returns-in-Err-clause-stands_put
+returns-in-Err-clause-stands_put g c = λ of s.
+    let told =
+    (told_reporting _ of _ _ _ _ _ _ _ _ _ _ _ _ _ _ (passes_over c.passes.result _ of _ (λ t. c.passes.ensures t of))
+    (c.items.invariant.reporting of s) c.in-Err.ensures.told) in
+    let stop : StopsAfter c.args.limits c.in-Err.fault (g.R.Source.remaining c.args.reader.now)
+    (g.R.Source.remaining c.read_on.new.reading.reader.now) told.given
+    = stops_after c.args.limits c.in-Err.ensures.told.reads.between c.read_on.new.reading.decoder
+    (g.R.Source.remaining c.args.reader.now) _ _ told.given c.in-Err.fault _ _
+    told.reading c.in-Err.ensures.told.reads.reads c.in-Err.ensures.told.reads.again in
+    let standing : StandsPut of (g.L.Report.stands c.items.lines of) c.args.limits (g.R.Source.remaining c.args.reader.now)
+    (g.R.Source.remaining c.read_on.new.reading.reader.now) g.W.Target.contents g.W.Target.failures c.verdict_of.result
+    c.args.sink.now c.items.sink
+    = fault_stands of (g.L.Report.stands c.items.lines of) c.args.limits _ _ g.W.Target.contents g.W.Target.failures
+    c.args.sink.now c.items.sink told.given c.in-Err.fault c.verdict_of.result stop told.here told.put c.verdict_of.ensures in
     search rules

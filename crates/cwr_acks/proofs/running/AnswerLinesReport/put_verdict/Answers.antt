@@ -5,5 +5,5 @@ use Rattle.cwr_acks.proofs.running.AnswerLinesReport.put_verdict.Goals as goal
 
 pub returns : goal.returns
 returns g c =
-    λ of given here. last_lines g.W.Target.contents g.W.Target.failures of (lines_of_held (telling_of c.args.self.now.manner) g.B.Before.held) _ _ _ _
+    λ of given here. last_lines g.W.Target.contents g.W.Target.failures of (lines_of_held (telling_of c.args.self.now.manner) g.B.Before.held) given _ _ _ _
     here.0 (no_verdict g.W.Target.contents g.W.Target.failures tt _ c.requires)

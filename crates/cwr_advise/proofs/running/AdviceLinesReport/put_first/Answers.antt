@@ -8,6 +8,6 @@ use Rattle.cwr_advise.proofs.running.AdviceLinesReport.put_first.Goals as goal
 pub returns-clause-puts : goal.returns-clause-puts
 returns-clause-puts g c = λ of here.
     let self = c.args.self.now in
-    first_lines g.W.Target.contents g.W.Target.failures of (lines_advised self.explained self.up_to_fault self.repeats.limit) _
-    (Ok tt) c.args.arg2.now c.args.arg2.now here.0 (sym (advised_none self.explained self.repeats.limit))
+    first_lines g.W.Target.contents g.W.Target.failures of (lines_advised self.manner self.up_to_fault self.repeats.limit) _
+    (Ok tt) c.args.arg2.now c.args.arg2.now here.0 (sym (advised_none self.manner self.repeats.limit))
     (nothing_put g.W.Target.contents g.W.Target.failures false tt c.args.arg2.now c.requires.unfailed)

@@ -1,8 +1,7 @@
 use Rattle.std.proofs.Common.{ℕ, List, ◌++◌, refl}
-use Rattle.cwr_levels.specs.Format.ReportLines.{faults_line}
-use Rattle.cwr_lint.specs.Format.Told.{truncated_unless}
+use Rattle.cwr_advise.specs.Steps.AdviceCounts.{summary_by}
 use Rattle.cwr_lint.specs.Steps.CutShort.{IsFrontOf, TakesFromPart, TellsUpTo}
-use Rattle.cwr_lint.specs.Steps.Runs.{asking_of, IsEndText, TakesFrom, TellsToEnd, walk_of}
+use Rattle.cwr_lint.specs.Steps.Runs.{asking_of, IsEndText, TakesFrom, TellsToEnd, sums_text, walk_of}
 use Rattle.cwr_lint.proofs.lemmas.CutShort.{from_part, leaves_other, sums_part, then_leaves}
 use Rattle.cwr_lint.proofs.lemmas.Running.{told_to_end}
 use Rattle.cwr_lint.proofs.lemmas.TextsTold.{reads_after, reads_err, reads_put}
@@ -14,8 +13,8 @@ put_end-requires g c = c.in-Ok.ensures.tells.1.unfailed
 pub returns-in-Ok-clause-tells : goal.returns-in-Ok-clause-tells
 returns-in-Ok-clause-tells g c =
     reads_after (λ u. TakesFrom (asking_of c.args.asked.now) c.args.refusal.now c.args.raw
-    c.args.self.now c.tell_from.new.self (g.R.Source.remaining c.args.reader.now) (g.R.Source.remaining c.tell_from.new.reader)) (λ u. IsEndText
-    c.tell_from.new.self.state.over c.tell_from.new.self.faults c.tell_from.new.self.findings c.tell_from.new.self.state.lines)
+    c.args.self.now c.tell_from.new.self (g.R.Source.remaining c.args.reader.now) (g.R.Source.remaining c.tell_from.new.reader)) (λ u. IsEndText c.args.asked.now.all
+    c.tell_from.new.self.advice c.tell_from.new.self.state.over c.tell_from.new.self.faults c.tell_from.new.self.findings c.tell_from.new.self.state.lines)
     (λ u. TellsToEnd (asking_of c.args.asked.now) (walk_of c.args.self.now) c.args.refusal.now
     c.args.raw (g.R.Source.remaining c.args.reader.now) (g.R.Source.remaining c.tell_from.new.reader)) (g.R.Source.remaining
     c.args.reader.now) (g.R.Source.remaining c.tell_from.new.reader) (g.R.Source.remaining
@@ -25,7 +24,7 @@ returns-in-Ok-clause-tells g c =
     (λ text end u p q. told_to_end (asking_of c.args.asked.now) c.args.refusal.now (g.R.Source.remaining c.args.reader.now)
     (g.R.Source.remaining c.tell_from.new.reader) c.args.raw c.args.self.now c.tell_from.new.self text end c.requires.begins p q) c.in-Ok.ensures.tells
     (reads_put
-    (λ u. IsEndText c.tell_from.new.self.state.over c.tell_from.new.self.faults c.tell_from.new.self.findings c.tell_from.new.self.state.lines)
+    (λ u. IsEndText c.args.asked.now.all c.tell_from.new.self.advice c.tell_from.new.self.state.over c.tell_from.new.self.faults c.tell_from.new.self.findings c.tell_from.new.self.state.lines)
     (g.R.Source.remaining c.tell_from.new.reader) (g.R.Source.failures c.tell_from.new.reader) g.W.Target.contents
     g.W.Target.failures c.put_end.result c.tell_from.new.sink c.put_end.new.sink c.put_end.ensures.puts)
 
@@ -41,8 +40,9 @@ returns-in-Err-clause-tells g c =
 pub returns-in-Ok-clause-leaves : goal.returns-in-Ok-clause-leaves
 returns-in-Ok-clause-leaves g c =
     let text : List ℕ = c.in-Ok.ensures.tells.0 in
-    let end : List ℕ = truncated_unless c.tell_from.new.self.state.over c.tell_from.new.self.state.lines
-    ++ faults_line c.tell_from.new.self.faults c.tell_from.new.self.findings c.tell_from.new.self.state.lines in
+    let end : List ℕ = summary_by c.args.asked.now.all c.tell_from.new.self.advice
+    ++ sums_text c.tell_from.new.self.state.over c.tell_from.new.self.faults c.tell_from.new.self.findings
+    c.tell_from.new.self.state.lines in
     then_leaves (IsFrontOf end) (TellsUpTo (asking_of c.args.asked.now) (walk_of c.args.self.now) c.args.refusal.now c.args.raw
     (g.R.Source.remaining c.args.reader.now)) g.W.Target.contents text c.put_end.result c.args.sink.now c.tell_from.new.sink
     c.put_end.new.sink c.in-Ok.ensures.tells.1.written

@@ -4,5 +4,6 @@ use Rattle.cwr_tools.proofs.counted_records.CountedRecordsReport.put_verdict.Goa
 
 pub returns : goal.returns
 returns g c =
-    λ of given e. last_lines g.W.Target.contents g.W.Target.failures of lines_of_counted c.args.verdict.now _ _ _ e.0
+    λ of given e. last_lines g.W.Target.contents g.W.Target.failures of lines_of_counted given
+    c.args.verdict.now _ _ _ e.0
     c.put_verdict_line.ensures

@@ -11,7 +11,7 @@ returns-in-Transaction-clause-puts g c = λ of given counted here.
     let self = c.args.self.now in
     let it = lines_told self.explained self.up_to_fault in
     let t = c.in-Transaction.transaction in
-    let text = transaction_lines self.explained c.args.counts.now.groups c.args.counts.now.in_group (c.from.result + 1) t in
+    let text = transaction_lines self.explained self.up_to_fault c.args.counts.now.groups c.args.counts.now.in_group (c.from.result + 1) t in
     next_lines g.W.Target.contents g.W.Target.failures of it given c.args.item.now text c.put_findings_in.result c.args.sink.now
     c.put_findings_in.new.sink here.0
     (told_transaction self.explained self.up_to_fault c.args.counts.now given c.args.item.now t c.from.result counted

@@ -4,5 +4,6 @@ use Rattle.cwr_tools.proofs.shown_records.ShownRecordsReport.put_verdict.Goals a
 
 pub returns : goal.returns
 returns g c =
-    λ of given e. last_lines g.W.Target.contents g.W.Target.failures of lines_of_records c.args.verdict.now _ _ _ e
+    λ of given e. last_lines g.W.Target.contents g.W.Target.failures of lines_of_records given
+    c.args.verdict.now _ _ _ e
     c.put_verdict_line.ensures
