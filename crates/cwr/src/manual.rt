@@ -140,7 +140,9 @@ COMMANDS
        --utf8
               Cells in UTF-8 are their texts, and of any other cell each byte
               from 128 on is the character U+F780 to U+F7FF. Without it each
-              such byte is the character U+0080 to U+00FF.
+              such byte is the character U+0080 to U+00FF, as in ISO 8859-1;
+              where HDR names UTF-8 as its character set, a line on standard
+              error says that.
 
    cwr csv [OPTIONS] KIND [FILE]
        Writes a table to standard output (RFC 4180, UTF-8): a heading, and a
@@ -170,6 +172,11 @@ COMMANDS
               isn't whole, a line on standard error says at which record the
               table ends.
 
+       --utf8
+              Shows cells as `cwr json --utf8` does. Without it they are read
+              as ISO 8859-1, and where HDR names UTF-8, standard error says
+              that.
+
    cwr acks [OPTIONS] [FILE]...
        Tells what became of each transaction that the acknowledgements in
        transmissions answer. The verdict goes to standard error, and where a
@@ -180,11 +187,11 @@ COMMANDS
        the sequence of the transaction that was sent, its type, the worst
        level of the messages, the numbers of the submitter and of the
        recipient, and the title. What is blank is left out, and cells are as
-       they stand, without trailing spaces. Under it each message has a line
-       that begins with two spaces: what it rejects, what it is about, the
-       record in the transaction that was sent, counted from 0, and the text.
-       Other transactions are passed over, and so is the copy in an
-       acknowledgement. What each status means stands below, under
+       they stand, without trailing spaces, but with `--utf8`. Under it each
+       message has a line that begins with two spaces: what it rejects, what
+       it is about, the record in the transaction that was sent, counted from
+       0, and the text. Other transactions are passed over, and so is the copy
+       in an acknowledgement. What each status means stands below, under
        Acknowledgements.
 
        Of several files each line has the file's name and a colon before it,
@@ -236,6 +243,12 @@ COMMANDS
               The lines of `--sent` and of counts stand under Output. With
               `--state` each row is an object. All keys are in docs/ACKS.md of
               the repository.
+
+       --utf8
+              Shows cells as `cwr json --utf8` does. Without it they stand in
+              lines byte for byte. In JSON and in the table they are then read
+              as ISO 8859-1, and where HDR of a FILE or of SENT names UTF-8,
+              standard error says that.
 
    cwr write [OPTIONS] [FILE]
        Writes the transmission that lines of JSON are, with all its numbers.

@@ -1,19 +1,19 @@
 //! The program between its words and its devices.
 
-ghost use Rattle.std.specs.Prelude.{◌≡◌, ◌≢◌, ◌≤◌, [], map, option_map, true, false, None, IfOk, if◌then◌else◌};
+ghost use Rattle.std.specs.Prelude.{◌≡◌, ◌≢◌, ◌≤◌, [], map, option_map, true, false, None, IfOk};
 ghost use Rattle.std.specs.IoError.{error_kind};
 ghost use Rattle.std.specs.declared.io.ErrorKind.TheVariants.{OutOfMemory as lacks_memory};
 ghost use Rattle.clap.specs.Values.{kind_of};
 ghost use Rattle.cwr.specs.Format.Endings.{IsOfInput, StatusOnInput, advice_of, fault_status, wanted_in};
 ghost use Rattle.cwr_reports.specs.Format.Endings.{EndsOnInput, advice_asked, advice_in};
 ghost use Rattle.cwr_files.specs.Format.Inputs.{are_standard, is_standard};
-ghost use Rattle.cwr.specs.Format.Tables.{table_of};
+ghost use Rattle.cwr.specs.Format.Tables.{encoding_of, form_of, table_of};
 ghost use Rattle.cwr_reports.specs.Steps.Looks.{tells_findings};
 
 use crate::manual::MANUAL;
 use crate::terminal::{Cleared, Shown, Terminals};
 use clap::error::ErrorKind;
-use cwr_acks::Form;
+use cwr_acks::{Cells, Form};
 use cwr_answers::{Answering, match_answers};
 use cwr_csv::Table;
 use cwr_endings::{Status, Wanted, refuse_out};
@@ -218,7 +218,7 @@ fn write_data<'a, R: Files + AllocGlobal, I: Read + Drop, P: Pace, O: Write + Dr
 
 /// How cells are shown in data.
 fn encoding_of(utf8: bool) -> Encoding
-    ensures { result ≡ (if utf8 then Encoding.Utf8 else Encoding.Latin1) }
+    ensures { result ≡ encoding_of utf8 }
 {
     if utf8 {
         Encoding::Utf8
@@ -227,11 +227,15 @@ fn encoding_of(utf8: bool) -> Encoding
     }
 }
 
-/// How it is told what acknowledgements say.
-fn form_of(as_json: bool) -> Form
-    ensures { result ≡ (if as_json then Form.Json else Form.Words) }
+/// How it is told what acknowledgements say. In lines for people cells stand byte for byte, where they aren't to be in UTF-8.
+fn form_of(as_json: bool, utf8: bool) -> Form
+    ensures { result ≡ form_of as_json utf8 }
 {
-    if as_json { Form::Json } else { Form::Words }
+    match (as_json, utf8) {
+        (true, utf8) => Form::Json(encoding_of(utf8)),
+        (false, true) => Form::Words(Cells::Characters(Encoding::Utf8)),
+        (false, false) => Form::Words(Cells::Bytes),
+    }
 }
 
 /// Judges the transmissions of files, or the one on standard input.
@@ -396,8 +400,16 @@ fn perform<'a, R: Files + AllocGlobal, I: Read + Drop, P: Pace, O: Write + Drop,
                 rt, &asked, telling, *file, *out, standard, pace, output, error,
             );
         }
-        Work::Csv { rows, file, out } => {
-            let telling = Telling::Rows(table_of(*rows));
+        Work::Csv {
+            rows,
+            file,
+            out,
+            utf8,
+        } => {
+            let telling = Telling::Rows {
+                encoding: encoding_of(*utf8),
+                table: table_of(*rows),
+            };
             return write_data(
                 rt, &asked, telling, *file, *out, standard, pace, output, error,
             );
@@ -409,12 +421,14 @@ fn perform<'a, R: Files + AllocGlobal, I: Read + Drop, P: Pace, O: Write + Drop,
             by_place,
             state,
             fail_on,
+            utf8,
         } => {
             let answering = Answering {
                 alloc: rt.alloc(),
                 limits: task.limits,
                 whole: task.whole,
-                form: form_of(*as_json),
+                form: form_of(*as_json, *utf8),
+                encoding: encoding_of(*utf8),
                 files: files.as_slice(),
                 sent: sent.as_slice(),
                 by_place: *by_place,

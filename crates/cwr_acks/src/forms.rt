@@ -8,15 +8,25 @@ ghost use Rattle.cwr_acks.specs.Steps.AckSteps.{ack_in, message_as};
 use crate::line_texts::LineText;
 use cwr_delivery::Notes;
 use cwr_fields::MessageLevel;
+use cwr_json::Encoding;
 use cwr_lines::RecordRef;
+
+/// How cells stand in lines for people.
+#[derive(Clone, Copy, Debug, PartialEq, Eq)]
+pub enum Cells {
+    /// Byte for byte.
+    Bytes,
+    /// In the characters that their bytes are shown as, in UTF-8.
+    Characters(Encoding),
+}
 
 /// How it is told what acknowledgements say.
 #[derive(Clone, Copy, Debug, PartialEq, Eq)]
 pub enum Form {
     /// Lines for people: one for each acknowledgement, and one for each of its messages.
-    Words,
-    /// Lines of JSON: an object for each acknowledgement.
-    Json,
+    Words(Cells),
+    /// Lines of JSON: an object for each acknowledgement, with cells shown by the encoding.
+    Json(Encoding),
 }
 
 /// How it is told what acknowledgements say: in what form, and under which names of files, each as `shown_name` has it.
@@ -53,8 +63,8 @@ impl LineText {
         ensures { self.new ≡ ack_in form notes.now shown.now worst }
     {
         match form {
-            Form::Words => self.set_ack(shown, worst),
-            Form::Json => self.set_ack_data(notes, shown, worst),
+            Form::Words(cells) => self.set_ack(cells, shown, worst),
+            Form::Json(encoding) => self.set_ack_data(encoding, notes, shown, worst),
         }
     }
 
@@ -64,8 +74,8 @@ impl LineText {
         ensures { self.new ≡ message_as form later shown.now }
     {
         match form {
-            Form::Words => self.set_message(shown),
-            Form::Json => self.set_message_data(later, shown),
+            Form::Words(cells) => self.set_message(cells, shown),
+            Form::Json(encoding) => self.set_message_data(encoding, later, shown),
         }
     }
 }

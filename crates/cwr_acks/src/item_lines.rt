@@ -2,23 +2,23 @@
 
 ghost use Rattle.std.specs.Prelude.{◌≡◌, ◌≤◌, ◌++◌, IfErr, [], codes, false, is_none, length, option_map, true, if◌then◌else◌};
 ghost use Rattle.cwr_devices.specs.Steps.Sinks.{Puts, has_failed, written_of};
-ghost use Rattle.cwr_fields.specs.Format.Bytes.{trimmed};
 ghost use Rattle.cwr_tools.specs.Steps.Reports.{PutsLines};
 ghost use Rattle.cwr_delivery.specs.Format.Acknowledgements.{is_ack, worst_level};
-ghost use Rattle.cwr_acks.specs.Format.AckTexts.{marked_if, marked_line, note_lines, outcome_line, sent_part};
+ghost use Rattle.cwr_acks.specs.Format.AckTexts.{marked_if, marked_line, note_lines, outcome_line, sent_part, shown_as};
 ghost use Rattle.cwr_acks.specs.Steps.DataTexts.{counts_data_text, name_member};
 ghost use Rattle.cwr_acks.specs.Format.AckLines.{name_of_notes, note_lines_if, telling_of};
 ghost use Rattle.cwr_acks.specs.Steps.AckSteps.{ack_in, after_ack, answer_parts, before_ack, closing_as, counts_in, counts_parts, counts_text, end_at, held_if, held_lines_if};
 ghost use Rattle.cwr_acks.specs.Steps.AckSteps.{lines_at, message_in, messages_in, opening_in, transaction_at};
 
 use crate::counts::Answers;
-use crate::forms::{Form, Manner};
-use crate::line_texts::LineText;
+use crate::forms::{Cells, Form, Manner};
+use crate::line_texts::{LineText, push_cell};
 use crate::names::{name_of_notes, put_bytes, put_name_member, put_sent_part};
 use crate::unanswered::put_unanswered;
+use arrayvec::ArrayVec;
 use cwr_delivery::{Delivery, Notes, Outcome, is_ack, is_message, worst_level};
 use cwr_devices::{Sink, SinkFault, Target};
-use cwr_fields::{letters, trimmed};
+use cwr_fields::letters;
 use cwr_lines::RecordRef;
 use cwr_tools::{ToolFault, writer_fault};
 use cwr_values::{Item, Transaction};
@@ -68,8 +68,8 @@ fn put_before<W: Target>(
     ensures fault { IfErr result (λ f. f.written ≡ written_of sink.new) }
 {
     match form {
-        Form::Words => Ok(()),
-        Form::Json => put_names(file, name, sink),
+        Form::Words(_) => Ok(()),
+        Form::Json(_) => put_names(file, name, sink),
     }
 }
 
@@ -94,8 +94,8 @@ fn put_after<W: Target>(
     ensures fault { IfErr result (λ f. f.written ≡ written_of sink.new) }
 {
     match form {
-        Form::Words => put_line_end(name, sink),
-        Form::Json => Ok(()),
+        Form::Words(_) => put_line_end(name, sink),
+        Form::Json(_) => Ok(()),
     }
 }
 
@@ -231,6 +231,7 @@ fn put_messages<W: Target>(
 
 /// Puts a line of a word on an acknowledgement, with what stands for it in what was sent.
 fn put_marked<W: Target>(
+    cells: Cells,
     word: &[u8],
     head: &RecordRef<'_>,
     value: &[u8],
@@ -240,17 +241,18 @@ fn put_marked<W: Target>(
     requires unfailed { has_failed sink.old ≡ false }
     requires ack { is_ack head.now ≡ true }
     requires short { length word.now ≤ 20 }
-    requires shorter { length value.now ≤ 20 }
-    ensures puts { Puts W.contents W.failures (marked_line word.now head.now value.now) result
+    requires shorter { length value.now ≤ 50 }
+    ensures puts { Puts W.contents W.failures (marked_line cells word.now head.now value.now) result
         sink.old sink.new }
     ensures fault { IfErr result (λ f. f.written ≡ written_of sink.new) }
 {
-    text.set_marked(word, head, value);
+    text.set_marked(cells, word, head, value);
     put_text(text, sink)
 }
 
 /// Puts a line of a word alone, where it is to be told.
 fn put_marked_if<W: Target>(
+    cells: Cells,
     told: bool,
     word: &[u8],
     head: &RecordRef<'_>,
@@ -260,18 +262,19 @@ fn put_marked_if<W: Target>(
     requires unfailed { has_failed sink.old ≡ false }
     requires ack { is_ack head.now ≡ true }
     requires short { length word.now ≤ 20 }
-    ensures puts { Puts W.contents W.failures (marked_if told word.now head.now) result sink.old
+    ensures puts { Puts W.contents W.failures (marked_if cells told word.now head.now) result sink.old
         sink.new }
     ensures fault { IfErr result (λ f. f.written ≡ written_of sink.new) }
 {
     if !told {
         return Ok(());
     }
-    put_marked(word, head, b"", text, sink)
+    put_marked(cells, word, head, b"", text, sink)
 }
 
 /// Puts the line on a transaction that has another number than an acknowledgement names.
 fn put_renumbered<W: Target>(
+    cells: Cells,
     number: &[u8; 14],
     head: &RecordRef<'_>,
     text: &mut LineText,
@@ -280,14 +283,17 @@ fn put_renumbered<W: Target>(
     requires unfailed { has_failed sink.old ≡ false }
     requires ack { is_ack head.now ≡ true }
     ensures puts { Puts W.contents W.failures
-        (marked_line (codes "RENUMBERED ") head.now (trimmed number.now)) result sink.old sink.new }
+        (marked_line cells (codes "RENUMBERED ") head.now (shown_as cells number.now)) result sink.old sink.new }
     ensures fault { IfErr result (λ f. f.written ≡ written_of sink.new) }
 {
-    put_marked(b"RENUMBERED ", head, trimmed(number), text, sink)
+    let mut value: ArrayVec<u8, 42> = ArrayVec::new();
+    push_cell(&mut value, cells, number);
+    put_marked(cells, b"RENUMBERED ", head, value.as_slice(), text, sink)
 }
 
 /// Puts the line on why an acknowledgement answers nothing.
 fn put_outcome<W: Target>(
+    cells: Cells,
     outcome: &Outcome,
     head: &RecordRef<'_>,
     text: &mut LineText,
@@ -295,21 +301,24 @@ fn put_outcome<W: Target>(
 ) -> Result<(), SinkFault>
     requires unfailed { has_failed sink.old ≡ false }
     requires ack { is_ack head.now ≡ true }
-    ensures puts { Puts W.contents W.failures (outcome_line outcome.now head.now) result sink.old
+    ensures puts { Puts W.contents W.failures (outcome_line cells outcome.now head.now) result sink.old
         sink.new }
     ensures fault { IfErr result (λ f. f.written ≡ written_of sink.new) }
 {
     match outcome {
         Outcome::Answers { .. } => Ok(()),
-        Outcome::Unsent => put_marked(b"UNSENT ", head, b"", text, sink),
-        Outcome::Unclear => put_marked(b"UNCLEAR ", head, b"", text, sink),
-        Outcome::Retyped(kind) => put_marked(b"RETYPED ", head, letters(*kind), text, sink),
-        Outcome::Renumbered(number) => put_renumbered(number, head, text, sink),
+        Outcome::Unsent => put_marked(cells, b"UNSENT ", head, b"", text, sink),
+        Outcome::Unclear => put_marked(cells, b"UNCLEAR ", head, b"", text, sink),
+        Outcome::Retyped(kind) => {
+            put_marked(cells, b"RETYPED ", head, letters(*kind), text, sink)
+        }
+        Outcome::Renumbered(number) => put_renumbered(cells, number, head, text, sink),
     }
 }
 
 /// Puts the lines on what an acknowledgement answers.
 fn put_answered<W: Target>(
+    cells: Cells,
     notes: &Notes,
     head: &RecordRef<'_>,
     text: &mut LineText,
@@ -317,15 +326,16 @@ fn put_answered<W: Target>(
 ) -> Result<(), SinkFault>
     requires unfailed { has_failed sink.old ≡ false }
     requires ack { is_ack head.now ≡ true }
-    ensures puts { Puts W.contents W.failures (marked_if notes.now.unkeyed (codes "UNKEYED ") head.now ++ outcome_line notes.now.outcome head.now) result sink.old sink.new }
+    ensures puts { Puts W.contents W.failures (marked_if cells notes.now.unkeyed (codes "UNKEYED ") head.now ++ outcome_line cells notes.now.outcome head.now) result sink.old sink.new }
     ensures fault { IfErr result (λ f. f.written ≡ written_of sink.new) }
 {
-    put_marked_if(notes.unkeyed, b"UNKEYED ", head, text, sink)?;
-    put_outcome(&notes.outcome, head, text, sink)
+    put_marked_if(cells, notes.unkeyed, b"UNKEYED ", head, text, sink)?;
+    put_outcome(cells, &notes.outcome, head, text, sink)
 }
 
 /// Puts these, and the line on its title.
 fn put_titled<W: Target>(
+    cells: Cells,
     notes: &Notes,
     head: &RecordRef<'_>,
     text: &mut LineText,
@@ -333,15 +343,16 @@ fn put_titled<W: Target>(
 ) -> Result<(), SinkFault>
     requires unfailed { has_failed sink.old ≡ false }
     requires ack { is_ack head.now ≡ true }
-    ensures puts { Puts W.contents W.failures (marked_if notes.now.unkeyed (codes "UNKEYED ") head.now ++ outcome_line notes.now.outcome head.now ++ marked_if notes.now.retitled (codes "RETITLED ") head.now) result sink.old sink.new }
+    ensures puts { Puts W.contents W.failures (marked_if cells notes.now.unkeyed (codes "UNKEYED ") head.now ++ outcome_line cells notes.now.outcome head.now ++ marked_if cells notes.now.retitled (codes "RETITLED ") head.now) result sink.old sink.new }
     ensures fault { IfErr result (λ f. f.written ≡ written_of sink.new) }
 {
-    put_answered(notes, head, text, sink)?;
-    put_marked_if(notes.retitled, b"RETITLED ", head, text, sink)
+    put_answered(cells, notes, head, text, sink)?;
+    put_marked_if(cells, notes.retitled, b"RETITLED ", head, text, sink)
 }
 
 /// Puts the lines of what is told of an acknowledgement beside what it says.
 fn put_notes<W: Target>(
+    cells: Cells,
     notes: &Notes,
     head: &RecordRef<'_>,
     text: &mut LineText,
@@ -349,15 +360,16 @@ fn put_notes<W: Target>(
 ) -> Result<(), SinkFault>
     requires unfailed { has_failed sink.old ≡ false }
     requires ack { is_ack head.now ≡ true }
-    ensures puts { Puts W.contents W.failures (note_lines notes.now head.now) result sink.old sink.new }
+    ensures puts { Puts W.contents W.failures (note_lines cells notes.now head.now) result sink.old sink.new }
     ensures fault { IfErr result (λ f. f.written ≡ written_of sink.new) }
 {
-    put_titled(notes, head, text, sink)?;
-    put_marked_if(notes.again, b"AGAIN ", head, text, sink)
+    put_titled(cells, notes, head, text, sink)?;
+    put_marked_if(cells, notes.again, b"AGAIN ", head, text, sink)
 }
 
 /// The same, where it is matched with what was sent.
 fn put_notes_if<W: Target>(
+    cells: Cells,
     notes: &Option<Notes>,
     head: &RecordRef<'_>,
     text: &mut LineText,
@@ -365,12 +377,12 @@ fn put_notes_if<W: Target>(
 ) -> Result<(), SinkFault>
     requires unfailed { has_failed sink.old ≡ false }
     requires ack { is_ack head.now ≡ true }
-    ensures puts { Puts W.contents W.failures (note_lines_if notes.now head.now) result sink.old
+    ensures puts { Puts W.contents W.failures (note_lines_if cells notes.now head.now) result sink.old
         sink.new }
     ensures fault { IfErr result (λ f. f.written ≡ written_of sink.new) }
 {
     match notes {
-        Some(notes) => put_notes(notes, head, text, sink),
+        Some(notes) => put_notes(cells, notes, head, text, sink),
         None => Ok(()),
     }
 }
@@ -390,8 +402,8 @@ fn put_closing<W: Target>(
     ensures fault { IfErr result (λ f. f.written ≡ written_of sink.new) }
 {
     match form {
-        Form::Words => put_notes_if(notes, head, text, sink),
-        Form::Json => sink.put(b"]}\n"),
+        Form::Words(cells) => put_notes_if(cells, notes, head, text, sink),
+        Form::Json(_) => sink.put(b"]}\n"),
     }
 }
 
@@ -513,8 +525,8 @@ fn put_counts<W: Target>(
     ensures fault { IfErr result (λ f. f.written ≡ written_of sink.new) }
 {
     match form {
-        Form::Words => put_counts_line(answers, text, sink),
-        Form::Json => put_counts_object(file, answers, text, sink),
+        Form::Words(_) => put_counts_line(answers, text, sink),
+        Form::Json(_) => put_counts_object(file, answers, text, sink),
     }
 }
 

@@ -13,7 +13,7 @@ mod running;
 mod unanswered;
 
 pub use counts::Answers;
-pub use forms::{Form, Manner};
+pub use forms::{Cells, Form, Manner};
 pub use names::shown_name;
 pub use rest::put_rest;
 pub use running::acks;

@@ -1,19 +1,21 @@
 //! The text of a line for people, part by part.
 
-ghost use Rattle.std.specs.Prelude.{◌≡◌, ◌+◌, ◌≤◌, [], ◌++◌, decimal, length, true};
+ghost use Rattle.std.specs.Prelude.{◌≡◌, ◌+◌, ◌*◌, ◌≤◌, [], ◌++◌, decimal, length, true};
 ghost use Rattle.cwr_delivery.specs.Format.Acknowledgements.{is_ack, is_message};
-ghost use Rattle.cwr_acks.specs.Format.AckTexts.{ack_text, cell_part, level_part, marked_line, message_line, number_part, original_text, status_part};
+ghost use Rattle.cwr_acks.specs.Format.AckTexts.{ack_text, cell_part, level_part, marked_line, message_line, number_part, original_text, shown_as, status_part};
 ghost use Rattle.cwr_acks.specs.Format.AckTexts.{status_text, unanswered_text, value_part, words_of};
 ghost use Rattle.cwr_acks.specs.Steps.AckSteps.{counts_text};
 ghost use Rattle.cwr_fields.specs.Format.MessageCodes.{status_code};
 
 use crate::counts::{Answers, STATUSES};
+use crate::forms::Cells;
 use arrayvec::ArrayVec;
 use cwr_delivery::{
     GROUP, LEVEL, MESSAGE, MESSAGE_TYPE, ORIGINAL_TYPE, RECIPIENT_NUMBER, RECORD, RECORD_TYPE,
     SEQUENCE, STATUS, SUBMITTER_NUMBER, TITLE, VALIDATION, status_of,
 };
 use cwr_fields::{Coded, MessageLevel, TransactionStatus, is_spaces, letters, trimmed};
+use cwr_json::push_characters;
 use cwr_levels::{cell, number_of};
 use cwr_lines::RecordRef;
 use cwr_sent::SentFacts;
@@ -21,7 +23,7 @@ use itoa::Buffer;
 use std::marker::Model;
 
 /// The most bytes of a cell and its key in JSON: none comes near.
-pub(crate) const LONGEST_MEMBER: usize = 1500;
+pub(crate) const LONGEST_MEMBER: usize = 4400;
 
 /// The most bytes of a line.
 pub(crate) const LONGEST: usize = 10 * LONGEST_MEMBER;
@@ -30,8 +32,8 @@ pub(crate) const LONGEST: usize = 10 * LONGEST_MEMBER;
 pub(crate) type Text = ArrayVec<u8, LONGEST>;
 
 /// Appends bytes for which there is room.
-pub(crate) fn push(text: &mut Text, bytes: &[u8])
-    requires { length text.old.items + length bytes.now ≤ LONGEST }
+pub(crate) fn push<const N: usize>(text: &mut ArrayVec<u8, N>, bytes: &[u8])
+    requires { length text.old.items + length bytes.now ≤ N }
     ensures value { text.new.items ≡ text.old.items ++ bytes.now }
     ensures len { length text.new.items ≡ length text.old.items + length bytes.now }
 {
@@ -47,18 +49,30 @@ pub(crate) fn push_number(text: &mut Text, number: u64)
     push(text, Buffer::new().format(number).as_bytes());
 }
 
+/// Appends a cell without trailing spaces.
+pub(crate) fn push_cell<const N: usize>(text: &mut ArrayVec<u8, N>, cells: Cells, cell: &[u8])
+    requires { length text.old.items + 3 * length cell.now ≤ N }
+    ensures value { text.new.items ≡ text.old.items ++ shown_as cells cell.now }
+    ensures len { length text.new.items ≤ length text.old.items + 3 * length cell.now }
+{
+    match cells {
+        Cells::Bytes => push(text, trimmed(cell)),
+        Cells::Characters(encoding) => push_characters(text, encoding, trimmed(cell)),
+    }
+}
+
 /// Appends a cell after a word, unless it is blank.
-fn push_cell_part(text: &mut Text, word: &[u8], cell: &[u8])
-    requires { length text.old.items + length word.now + length cell.now ≤ LONGEST }
-    ensures value { text.new.items ≡ text.old.items ++ cell_part word.now cell.now }
+fn push_cell_part(text: &mut Text, cells: Cells, word: &[u8], cell: &[u8])
+    requires { length text.old.items + length word.now + 3 * length cell.now ≤ LONGEST }
+    ensures value { text.new.items ≡ text.old.items ++ cell_part cells word.now cell.now }
     ensures len { length text.new.items
-        ≤ length text.old.items + length word.now + length cell.now }
+        ≤ length text.old.items + length word.now + 3 * length cell.now }
 {
     if is_spaces(cell) {
         return;
     }
     push(text, word);
-    push(text, trimmed(cell));
+    push_cell(text, cells, cell);
 }
 
 /// Appends a number after a word, unless it is blank.
@@ -192,9 +206,14 @@ impl LineText {
     }
 
     /// Sets the text of an acknowledgement whose messages have that worst level.
-    pub(crate) fn set_ack(&mut self, shown: &RecordRef<'_>, worst: Option<MessageLevel>)
+    pub(crate) fn set_ack(
+        &mut self,
+        cells: Cells,
+        shown: &RecordRef<'_>,
+        worst: Option<MessageLevel>,
+    )
         requires { is_ack shown.now ≡ true }
-        ensures { self.new ≡ ack_text shown.now worst }
+        ensures { self.new ≡ ack_text cells shown.now worst }
     {
         let text = &mut self.text;
         text.clear();
@@ -202,15 +221,15 @@ impl LineText {
         push(text, b": ");
         push_original(text, shown);
         push_level(text, worst);
-        push_cell_part(text, b" submitter ", cell(shown, SUBMITTER_NUMBER));
-        push_cell_part(text, b" recipient ", cell(shown, RECIPIENT_NUMBER));
-        push_cell_part(text, b" title ", cell(shown, TITLE));
+        push_cell_part(text, cells, b" submitter ", cell(shown, SUBMITTER_NUMBER));
+        push_cell_part(text, cells, b" recipient ", cell(shown, RECIPIENT_NUMBER));
+        push_cell_part(text, cells, b" title ", cell(shown, TITLE));
     }
 
     /// Sets the line of a message.
-    pub(crate) fn set_message(&mut self, shown: &RecordRef<'_>)
+    pub(crate) fn set_message(&mut self, cells: Cells, shown: &RecordRef<'_>)
         requires { is_message shown.now ≡ true }
-        ensures { self.new ≡ message_line shown.now }
+        ensures { self.new ≡ message_line cells shown.now }
     {
         let text = &mut self.text;
         text.clear();
@@ -219,33 +238,45 @@ impl LineText {
         push(text, b" type ");
         push(text, cell(shown, MESSAGE_TYPE));
         push_number_part(text, b" record ", cell(shown, RECORD));
-        push_cell_part(text, b" ", cell(shown, RECORD_TYPE));
-        push_cell_part(text, b" validation ", cell(shown, VALIDATION));
+        push_cell_part(text, cells, b" ", cell(shown, RECORD_TYPE));
+        push_cell_part(text, cells, b" validation ", cell(shown, VALIDATION));
         push(text, b": ");
-        push(text, trimmed(cell(shown, MESSAGE)));
+        push_cell(text, cells, cell(shown, MESSAGE));
         push(text, b"\n");
     }
 
     /// Sets a line of a word on an acknowledgement, with what stands for it in what was sent.
-    pub(crate) fn set_marked(&mut self, word: &[u8], shown: &RecordRef<'_>, value: &[u8])
+    pub(crate) fn set_marked(
+        &mut self,
+        cells: Cells,
+        word: &[u8],
+        shown: &RecordRef<'_>,
+        value: &[u8],
+    )
         requires ack { is_ack shown.now ≡ true }
         requires short { length word.now ≤ 20 }
-        requires shorter { length value.now ≤ 20 }
-        ensures { self.new ≡ marked_line word.now shown.now value.now }
+        requires shorter { length value.now ≤ 50 }
+        ensures { self.new ≡ marked_line cells word.now shown.now value.now }
     {
         let text = &mut self.text;
         text.clear();
         push(text, word);
         push_original(text, shown);
-        push_cell_part(text, b" submitter ", cell(shown, SUBMITTER_NUMBER));
-        push_cell_part(text, b" title ", cell(shown, TITLE));
+        push_cell_part(text, cells, b" submitter ", cell(shown, SUBMITTER_NUMBER));
+        push_cell_part(text, cells, b" title ", cell(shown, TITLE));
         push_value(text, value);
         push(text, b"\n");
     }
 
     /// Sets the line of a transaction that isn't answered.
-    pub(crate) fn set_unanswered(&mut self, group: u64, sequence: u64, facts: &SentFacts)
-        ensures { self.new ≡ unanswered_text group sequence facts.now }
+    pub(crate) fn set_unanswered(
+        &mut self,
+        cells: Cells,
+        group: u64,
+        sequence: u64,
+        facts: &SentFacts,
+    )
+        ensures { self.new ≡ unanswered_text cells group sequence facts.now }
     {
         let text = &mut self.text;
         text.clear();
@@ -255,7 +286,7 @@ impl LineText {
         push_number(text, sequence);
         push(text, b" ");
         push(text, letters(facts.kind));
-        push_cell_part(text, b" submitter ", &facts.number);
+        push_cell_part(text, cells, b" submitter ", &facts.number);
         push(text, b"\n");
     }
 

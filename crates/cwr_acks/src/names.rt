@@ -1,6 +1,7 @@
 //! The names of files as they are told.
 
 ghost use Rattle.std.specs.Prelude.{◌≡◌, ◌++◌, IfErr, IfOk, false, option_map};
+ghost use Rattle.json.specs.Print.{quoted};
 ghost use Rattle.cwr_devices.specs.Steps.Sinks.{Puts, has_failed, written_of};
 ghost use Rattle.cwr_acks.specs.Format.AckLines.{name_of_notes, name_of_outcome, shown_name, telling_of};
 ghost use Rattle.cwr_acks.specs.Format.AckTexts.{name_before, sent_part};
@@ -14,7 +15,7 @@ use std::alloc::{AllocError, Global};
 
 /// A name between quotes, as it stands in JSON.
 fn quoted_name(alloc: Global, name: &str) -> Result<Vec<u8>, AllocError>
-    ensures { IfOk result (λ shown. shown.items ≡ shown_name Form.Json name.now) }
+    ensures { IfOk result (λ shown. shown.items ≡ quoted name.now) }
 {
     let mut writer = Writer::new(Vec::new(alloc));
     writer.string(name)?;
@@ -26,8 +27,8 @@ pub fn shown_name(alloc: Global, form: Form, name: &str) -> Result<Vec<u8>, Allo
     ensures { IfOk result (λ shown. shown.items ≡ shown_name form name.now) }
 {
     match form {
-        Form::Words => name.as_bytes().to_vec(alloc),
-        Form::Json => quoted_name(alloc, name),
+        Form::Words(_) => name.as_bytes().to_vec(alloc),
+        Form::Json(_) => quoted_name(alloc, name),
     }
 }
 

@@ -9,16 +9,18 @@ ghost use Rattle.cwr_acks.specs.Format.AckTexts.{name_before, unanswered_text};
 ghost use Rattle.cwr_acks.specs.Steps.DataTexts.{name_member, unanswered_members};
 ghost use Rattle.cwr_acks.specs.Steps.AckSteps.{group_lines, held_if, held_lines, held_lines_if, row_line, sent_lines, unanswered_parts};
 
-use crate::forms::{Form, Manner};
+use crate::forms::{Cells, Form, Manner};
 use crate::item_lines::put_text;
 use crate::line_texts::LineText;
 use crate::names::{put_bytes, put_name_before, put_name_member};
 use cwr_delivery::{Delivery, wants_answer};
 use cwr_devices::{Sink, SinkFault, Target};
+use cwr_json::Encoding;
 use cwr_sent::{Sent, SentFacts, SentGroup};
 
 /// Puts the line of a transaction that isn't answered, for people, but for a name.
 fn put_nameless_line<W: Target>(
+    cells: Cells,
     group: u64,
     sequence: u64,
     facts: &SentFacts,
@@ -26,15 +28,16 @@ fn put_nameless_line<W: Target>(
     sink: &mut Sink<W>,
 ) -> Result<(), SinkFault>
     requires { has_failed sink.old ≡ false }
-    ensures puts { Puts W.contents W.failures (unanswered_text group sequence facts.now) result sink.old sink.new }
+    ensures puts { Puts W.contents W.failures (unanswered_text cells group sequence facts.now) result sink.old sink.new }
     ensures fault { IfErr result (λ f. f.written ≡ written_of sink.new) }
 {
-    text.set_unanswered(group, sequence, facts);
+    text.set_unanswered(cells, group, sequence, facts);
     put_text(text, sink)
 }
 
 /// Puts the line of a transaction that isn't answered, for people.
 fn put_line<W: Target>(
+    cells: Cells,
     name: Option<&[u8]>,
     group: u64,
     sequence: u64,
@@ -43,15 +46,16 @@ fn put_line<W: Target>(
     sink: &mut Sink<W>,
 ) -> Result<(), SinkFault>
     requires { has_failed sink.old ≡ false }
-    ensures puts { Puts W.contents W.failures (name_before (option_map (λ n. n.now) name.entry) ++ unanswered_text group sequence facts.now) result sink.old sink.new }
+    ensures puts { Puts W.contents W.failures (name_before (option_map (λ n. n.now) name.entry) ++ unanswered_text cells group sequence facts.now) result sink.old sink.new }
     ensures fault { IfErr result (λ f. f.written ≡ written_of sink.new) }
 {
     put_name_before(name, sink)?;
-    put_nameless_line(group, sequence, facts, text, sink)
+    put_nameless_line(cells, group, sequence, facts, text, sink)
 }
 
 /// Puts what stands after the name in the object of a transaction that isn't answered.
 fn put_nameless_object<W: Target>(
+    encoding: Encoding,
     group: u64,
     sequence: u64,
     facts: &SentFacts,
@@ -59,10 +63,10 @@ fn put_nameless_object<W: Target>(
     sink: &mut Sink<W>,
 ) -> Result<(), SinkFault>
     requires { has_failed sink.old ≡ false }
-    ensures puts { Puts W.contents W.failures (unanswered_members group sequence facts.now) result sink.old sink.new }
+    ensures puts { Puts W.contents W.failures (unanswered_members encoding group sequence facts.now) result sink.old sink.new }
     ensures fault { IfErr result (λ f. f.written ≡ written_of sink.new) }
 {
-    text.set_unanswered_data(group, sequence, facts);
+    text.set_unanswered_data(encoding, group, sequence, facts);
     put_text(text, sink)
 }
 
@@ -78,6 +82,7 @@ fn put_object_opening<W: Target>(name: Option<&[u8]>, sink: &mut Sink<W>) -> Res
 
 /// Puts the object of a transaction that isn't answered.
 fn put_object<W: Target>(
+    encoding: Encoding,
     name: Option<&[u8]>,
     group: u64,
     sequence: u64,
@@ -86,11 +91,11 @@ fn put_object<W: Target>(
     sink: &mut Sink<W>,
 ) -> Result<(), SinkFault>
     requires { has_failed sink.old ≡ false }
-    ensures puts { Puts W.contents W.failures ((codes "{\"unanswered\":{" ++ name_member (codes "\"sent\":") (option_map (λ n. n.now) name.entry)) ++ unanswered_members group sequence facts.now) result sink.old sink.new }
+    ensures puts { Puts W.contents W.failures ((codes "{\"unanswered\":{" ++ name_member (codes "\"sent\":") (option_map (λ n. n.now) name.entry)) ++ unanswered_members encoding group sequence facts.now) result sink.old sink.new }
     ensures fault { IfErr result (λ f. f.written ≡ written_of sink.new) }
 {
     put_object_opening(name, sink)?;
-    put_nameless_object(group, sequence, facts, text, sink)
+    put_nameless_object(encoding, group, sequence, facts, text, sink)
 }
 
 /// Puts the line of a transaction that isn't answered.
@@ -109,8 +114,8 @@ fn put_entry<W: Target>(
     ensures fault { IfErr result (λ f. f.written ≡ written_of sink.new) }
 {
     match form {
-        Form::Words => put_line(name, group, sequence, facts, text, sink),
-        Form::Json => put_object(name, group, sequence, facts, text, sink),
+        Form::Words(cells) => put_line(cells, name, group, sequence, facts, text, sink),
+        Form::Json(encoding) => put_object(encoding, name, group, sequence, facts, text, sink),
     }
 }
 

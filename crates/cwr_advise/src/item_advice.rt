@@ -452,7 +452,5 @@ pub(crate) fn put_item<W: Target>(
         manner, alloc, said, counts, item, count, told, worst, text, sink,
     )?;
     worst.see_repeated(repeated);
-    put_repeated(
-        manner.all, limit, counts, item, repeated, told, text, sink,
-    )
+    put_repeated(manner.all, limit, counts, item, repeated, told, text, sink)
 }

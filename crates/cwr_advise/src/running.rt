@@ -24,9 +24,7 @@ use crate::worst::Worst;
 use cwr_advice::Said;
 use cwr_devices::{Sink, SinkFault, Source, Target};
 use cwr_shape::{Level, Limits};
-use cwr_tools::{
-    CheckedFront, Report, ToolFault, Totals, Verdict, put_verdict_line, write_report,
-};
+use cwr_tools::{CheckedFront, Report, ToolFault, Totals, Verdict, put_verdict_line, write_report};
 use cwr_values::Item;
 use std::alloc::Global;
 
@@ -139,13 +137,7 @@ impl Report for AdviceLines {
         verdict: &Verdict,
         sink: &mut Sink<W>,
     ) -> Result<(), SinkFault> {
-        put_last(
-            self.up_to_fault,
-            self.manner.all,
-            &self.told,
-            verdict,
-            sink,
-        )
+        put_last(self.up_to_fault, self.manner.all, &self.told, verdict, sink)
     }
 }
 
@@ -239,7 +231,13 @@ pub fn advise_up_to_fault<R: Source, W: Target + Drop>(
     manner: Manner,
     reader: &mut R,
     writer: W,
-) -> (W, Result<Verdict, ToolFault>, CheckedFront, Said, AdviceCounts)
+) -> (
+    W,
+    Result<Verdict, ToolFault>,
+    CheckedFront,
+    Said,
+    AdviceCounts,
+)
     ensures reported { Reports (lines_advised manner true 0) limits (R.remaining reader.old)
         (R.remaining reader.new) W.contents writer result.0 result.1 }
     ensures told { ReportsText (lines_advised manner true 0) limits (R.remaining reader.old)

@@ -7,13 +7,14 @@ use cwr_acks::{Answers, Form, Manner, acks, put_rest};
 use cwr_delivery::Delivery;
 use cwr_devices::{Counted, ReadAhead, Sink, Target};
 use cwr_endings::{
-    Judgement, Status, Sums, Wanted, judgement_of, look_after, tell_following, tell_unanswering,
-    tell_verdict,
+    Judgement, Status, Sums, Wanted, judgement_of, look_after, tell_characters, tell_following,
+    tell_unanswering, tell_verdict,
 };
 use cwr_files::{
     Fault, FileLines, Input, Name, Pace, Passing, Told, gathered, input_name, is_standard,
     open_input, shown_name, tell_fault, told_of,
 };
+use cwr_json::Encoding;
 use cwr_sent::{Sent, read_sent};
 use cwr_shape::Limits;
 use cwr_state_rows::{RowFault, count_rows, put_rows, put_state_line};
@@ -33,6 +34,8 @@ pub struct Answering<'t, 'a> {
     pub whole: bool,
     /// How it is told what they say.
     pub form: Form,
+    /// How cells are shown in a table and in JSON.
+    pub encoding: Encoding,
     /// The names of their transmissions' files; without one that on standard input is read.
     pub files: &'t [&'a str],
     /// The names of the files of what was sent; without one they are matched with nothing.
@@ -49,6 +52,19 @@ impl Answering<'_, '_> {
     /// Whether they are matched with what was sent.
     fn is_matched(&self) -> bool {
         !self.sent.is_empty()
+    }
+
+    /// Whether cells are shown as characters, and read as ISO 8859-1 for that.
+    fn reads_latin(&self) -> bool {
+        let shows = self.state || matches!(self.form, Form::Json(_));
+        shows && self.encoding == Encoding::Latin1
+    }
+}
+
+/// Tells on standard error where cells are read otherwise than as what the header of that input says.
+fn tell_misread<E: Write>(error: &mut E, answering: &Answering<'_, '_>, told: &Told<'_>) {
+    if answering.reads_latin() {
+        tell_characters(error, told);
     }
 }
 
@@ -74,7 +90,10 @@ fn sent_of<'a, R: Files + AllocGlobal, I: Read + Drop, P: Pace, E: Write>(
     let read = read_sent(answering.alloc, answering.limits, &mut reader);
     let told: Told<'a> = reader.into_inner().told();
     match read {
-        Ok(sent) => Ok(Ok(sent)),
+        Ok(sent) => {
+            tell_misread(error, answering, &told);
+            Ok(Ok(sent))
+        }
         Err(fault) => match verdict_of(fault) {
             Ok(verdict) => {
                 tell_named(error, told.name, &verdict);
@@ -112,8 +131,8 @@ fn delivery_of<'a, R: Files + AllocGlobal, I: Read + Drop, P: Pace, E: Write>(
 /// The name of an input as it is told in that form: as a line shows it, or as it is in JSON.
 fn told_name(alloc: Global, form: Form, word: &str) -> Result<Vec<u8>, Fault<'static>> {
     let told = match form {
-        Form::Words => shown_name(alloc, word).map(|shown| shown.into_bytes()),
-        Form::Json => cwr_acks::shown_name(alloc, form, input_name(word)),
+        Form::Words(_) => shown_name(alloc, word).map(|shown| shown.into_bytes()),
+        Form::Json(_) => cwr_acks::shown_name(alloc, form, input_name(word)),
     };
     told.map_err(|_| Fault::Memory)
 }
@@ -218,7 +237,14 @@ fn read_alone<'a, R: Files, I: Read + Drop, P: Pace, W: Target + Drop, E: Write>
     match judged {
         Ok(judgement) => {
             tell_verdict(&mut *error, told.name, &judgement);
-            tell_unanswering(error, told.name, &judgement, count, answering.is_matched());
+            tell_unanswering(
+                &mut *error,
+                told.name,
+                &judgement,
+                count,
+                answering.is_matched(),
+            );
+            tell_misread(error, answering, &told);
             (reading, Ok(judgement.status))
         }
         Err(fault) => (reading, Err(stop_of(fault, told))),
@@ -263,8 +289,8 @@ fn read_several<'a, R: Files, I: Read + Drop, P: Pace, W: Target + Drop, E: Writ
         };
         let manner = manner_among(answering.form, file.as_slice(), names);
         let before_each = match answering.form {
-            Form::Words => Some(shown.as_str()),
-            Form::Json => None,
+            Form::Words(_) => Some(shown.as_str()),
+            Form::Json(_) => None,
         };
         let (after, judged, told, count) = read_input(
             answering,
@@ -279,6 +305,7 @@ fn read_several<'a, R: Files, I: Read + Drop, P: Pace, W: Target + Drop, E: Writ
                 tell_named(error, told.name, &judgement.verdict);
                 tell_following(error, told.name, &judgement.look);
                 tell_unanswering(error, told.name, &judgement, count, answering.is_matched());
+                tell_misread(error, answering, &told);
                 sums.count(&judgement);
             }
             Err(ToolFault::Reader) => {
@@ -429,8 +456,8 @@ fn put_table<'a, O: Write + Drop, E: Write>(
     error: &mut E,
 ) -> Result<bool, Fault<'a>> {
     let form = match answering.form {
-        Form::Words => cwr_state_rows::Form::Csv,
-        Form::Json => cwr_state_rows::Form::Json,
+        Form::Words(_) => cwr_state_rows::Form::Csv(answering.encoding),
+        Form::Json(_) => cwr_state_rows::Form::Json(answering.encoding),
     };
     let names = names_of_rows(answering.alloc, form, answering.sent)?;
     let counts = count_rows(answering.alloc, delivery).map_err(|_| Fault::Memory)?;

@@ -8,6 +8,7 @@ ghost use Rattle.cwr_csv.specs.Steps.ItemRows.{place_at, rows_at, table_heading}
 
 use crate::tables::Table;
 use cwr_devices::{Sink, SinkFault, Target};
+use cwr_json::Encoding;
 use cwr_tables::{Place, RowText, put_heading, put_rows, put_work_heading, put_work_row};
 use cwr_tools::{NothingKept, Report, ToolFault, Totals, Verdict, writer_fault};
 use cwr_values::Item;
@@ -50,6 +51,7 @@ fn put_first<W: Target>(
 
 /// Puts the rows of an item that comes after items with these numbers. They are made in the buffer.
 fn put_item<W: Target>(
+    encoding: Encoding,
     table: Table,
     counts: &Totals,
     item: &Item,
@@ -58,15 +60,17 @@ fn put_item<W: Target>(
 ) -> Result<(), ToolFault>
     requires unfailed { has_failed sink.old ≡ false }
     requires few { counts.now.records + length (item_records item.now) ≤ 99999999 }
-    ensures { PutsLines W.contents W.failures false (rows_at table counts.now item.now) result
+    ensures { PutsLines W.contents W.failures false (rows_at encoding table counts.now item.now) result
         sink.old sink.new }
 {
     match table {
-        Table::Records(kind) => match put_rows(kind, place_at(counts, item), item, text, sink) {
-            Ok(()) => Ok(()),
-            Err(fault) => Err(writer_fault(fault)),
-        },
-        Table::Works => match put_work_row(place_at(counts, item), item, text, sink) {
+        Table::Records(kind) => {
+            match put_rows(encoding, kind, place_at(counts, item), item, text, sink) {
+                Ok(()) => Ok(()),
+                Err(fault) => Err(writer_fault(fault)),
+            }
+        }
+        Table::Works => match put_work_row(encoding, place_at(counts, item), item, text, sink) {
             Ok(()) => Ok(()),
             Err(fault) => Err(writer_fault(fault)),
         },
@@ -76,6 +80,7 @@ fn put_item<W: Target>(
 /// A table of the items, and nothing for the verdict.
 #[derive(Drop)]
 pub(crate) struct TableRows {
+    encoding: Encoding,
     table: Table,
     /// In which a row is made.
     text: RowText,
@@ -83,10 +88,12 @@ pub(crate) struct TableRows {
 
 impl TableRows {
     /// Before its heading.
-    pub(crate) fn new(table: Table) -> TableRows
-        ensures { result.table ≡ table }
+    pub(crate) fn new(encoding: Encoding, table: Table) -> TableRows
+        ensures encoding { result.encoding ≡ encoding }
+        ensures table { result.table ≡ table }
     {
         TableRows {
+            encoding,
             table,
             text: RowText::new(),
         }
@@ -99,7 +106,7 @@ impl Report for TableRows {
 
     type Works = NothingKept;
 
-    ghost stands = { λ report of given. of ≡ lines_of_table report.table };
+    ghost stands = { λ report of given. of ≡ lines_of_table report.encoding report.table };
 
     fn works(&self) -> NothingKept {
         NothingKept
@@ -120,7 +127,14 @@ impl Report for TableRows {
         item: &Item,
         sink: &mut Sink<W>,
     ) -> Result<(), ToolFault> {
-        put_item(self.table, counts, item, &mut self.text, sink)
+        put_item(
+            self.encoding,
+            self.table,
+            counts,
+            item,
+            &mut self.text,
+            sink,
+        )
     }
 
     fn put_verdict<W: Target>(&self, _: &Verdict, _: &mut Sink<W>) -> Result<(), SinkFault> {

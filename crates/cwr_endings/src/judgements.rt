@@ -5,8 +5,9 @@ ghost use Rattle.cwr_endings.specs.Steps.Looks.{CountsLook, LooksOnce, judgement
 
 use crate::endings::{Look, Status, Wanted, status_of};
 use crate::looks::{look_beyond, tell_following};
+use cwr_advice::Characters;
 use cwr_devices::{Counted, Sink, Source};
-use cwr_files::Name;
+use cwr_files::{Name, Told};
 use cwr_tools::{ToolFault, Verdict, put_verdict_line};
 use std::io::Write;
 
@@ -69,6 +70,18 @@ pub fn tell_unanswering<E: Write>(
             ""
         };
         let _ = writeln!(error, "cwr: {name}: it has no acknowledgement{swapped}");
+    }
+}
+
+/// Tells on standard error where the header of a transmission says that its characters are in UTF-8, and its cells are read otherwise. What
+/// standard error doesn't take is lost.
+pub fn tell_characters<E: Write>(error: &mut E, told: &Told<'_>) {
+    if Characters::in_cell(&told.character_set) == Characters::Utf8 {
+        let _ = writeln!(
+            error,
+            "cwr: {}: HDR's character set says UTF-8, and cells are read as ISO 8859-1 (--utf8 reads UTF-8)",
+            told.name
+        );
     }
 }
 

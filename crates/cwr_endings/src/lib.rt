@@ -14,7 +14,9 @@ pub use endings::{
 pub use finding_notes::{
     tell_findings, tell_profile, tell_unjoined, tell_unwritten, worse_level, worst_level,
 };
-pub use judgements::{Judgement, judgement_of, look_after, tell_unanswering, tell_verdict};
+pub use judgements::{
+    Judgement, judgement_of, look_after, tell_characters, tell_unanswering, tell_verdict,
+};
 pub use looks::{look_beyond, tell_following};
 pub use sums::Sums;
 pub use written::{hand_on, refuse_out};

@@ -2,6 +2,7 @@
 
 ghost use Rattle.std.specs.Prelude.{◌≡◌};
 
+use crate::fronts::CHARACTER_SET;
 use crate::shown_names::Shown;
 use std::fmt::{Display, Formatter};
 use std::{fmt, io};
@@ -77,6 +78,8 @@ pub struct Told<'a> {
     pub bytes: u64,
     /// Why it failed, where the system said so.
     pub reason: Option<Reason>,
+    /// Of an input that begins with HDR, the cell in which that names its character set; else blank.
+    pub character_set: [u8; CHARACTER_SET],
 }
 
 /// Why a run stopped before its end.

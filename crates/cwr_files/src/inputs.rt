@@ -6,6 +6,7 @@ ghost use Rattle.cwr_files.specs.Format.Inputs.{is_standard};
 ghost use Rattle.cwr_files.specs.Steps.Inputs.{HasLeft, remaining_of};
 
 use crate::faults::{Fault, Name, Reason, Told};
+use crate::fronts::Front;
 use crate::progress::Pace;
 use crate::same_files::size_of;
 use std::fs::File;
@@ -34,6 +35,8 @@ pub struct Input<'a, F, I, P> {
     bytes: u64,
     /// Why the last call failed, if it did.
     reason: Option<Reason>,
+    /// Its first bytes.
+    front: Front,
     /// What follows how far it is read.
     pace: P,
 }
@@ -46,6 +49,7 @@ impl<'a, F: Drop, I: Drop, P: Pace + Drop> Input<'a, F, I, P> {
             name: self.name,
             bytes: self.bytes,
             reason: self.reason,
+            character_set: self.front.character_set(),
         }
     }
 }
@@ -62,6 +66,7 @@ impl<F: Read + Drop, I: Read + Drop, P: Pace> Read for Input<'_, F, I, P> {
         match &answer {
             Ok(count) => {
                 self.bytes = self.bytes.saturating_add(*count as u64);
+                self.front.take(&buf[..*count]);
                 self.pace.advance(self.name, &buf[..*count], self.bytes);
             }
             Err(fault) => self.reason = Some(Reason::of(fault)),
@@ -106,6 +111,7 @@ pub fn open_input<'a, R: Files, I: Read, P: Pace + Drop>(
                     name: Name::File(word),
                     bytes: 0,
                     reason: None,
+                    front: Front::new(),
                     pace,
                 })
             }
@@ -120,6 +126,7 @@ pub fn open_input<'a, R: Files, I: Read, P: Pace + Drop>(
                     name: Name::StandardInput,
                     bytes: 0,
                     reason: None,
+                    front: Front::new(),
                     pace,
                 })
             }

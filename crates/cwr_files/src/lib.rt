@@ -4,6 +4,7 @@
 
 mod faults;
 mod file_lines;
+mod fronts;
 mod inputs;
 mod new_files;
 mod outputs;

@@ -4,6 +4,7 @@ ghost use Rattle.std.specs.Prelude.{◌≡◌, IfOk};
 ghost use Rattle.cwr_devices.specs.Steps.Counted.{failures_of};
 
 use crate::faults::{Name, Reason, Told};
+use crate::fronts::CHARACTER_SET;
 use cwr_devices::Counted;
 use std::alloc::{AllocError, Global};
 use std::io;
@@ -40,6 +41,7 @@ impl<'a, O> Output<'a, O> {
             name: self.name,
             bytes: self.bytes,
             reason: self.reason,
+            character_set: [b' '; CHARACTER_SET],
         }
     }
 }

@@ -414,7 +414,7 @@ const EXPORTED: [Word; 4] = [
 ];
 
 /// The words of tables.
-const TABULATED: [Word; 3] = [
+const TABULATED: [Word; 4] = [
     Word {
         id: KIND,
         form: Form::OneOf(&TABLES),
@@ -422,10 +422,11 @@ const TABULATED: [Word; 3] = [
     },
     ONE,
     WRITTEN,
+    TEXTS,
 ];
 
 /// The words of what acknowledgements say.
-const ANSWERED: [Word; 6] = [
+const ANSWERED: [Word; 7] = [
     Word {
         id: SENT,
         form: Form::Names("SENT"),
@@ -455,6 +456,7 @@ const ANSWERED: [Word; 6] = [
         help: "Status 1 where a row of the table of states has one of these, with commas between them \
             [possible values: accepted, pending, rejected, conflict, duplicate, claim-rejected, no-participation, unanswered]",
     },
+    TEXTS,
     MANY,
 ];
 

@@ -1,3 +1,5 @@
+-- Bytes as characters, one by one.
+pub mod Characters
 -- Characters stand for one text, and those that bytes are shown as stand for these.
 pub mod Encoded
 -- What is known of the field that a cell is shown under: it is carried, and its name and its cell are short.

@@ -1,6 +1,7 @@
 //! The JSON form of CWR 2.1 transmissions: a line for each item.
 #![tactic(auto)]
 
+mod characters;
 mod encodings;
 mod items;
 pub mod laws;
@@ -8,6 +9,7 @@ mod notes;
 mod records;
 mod spelling;
 
+pub use characters::{push_characters, push_escaped_characters};
 pub use encodings::Encoding;
 pub use items::put_data;
 pub use notes::Notes;

@@ -101,7 +101,7 @@ fn is_utf8(bytes: &[u8]) -> bool
 }
 
 /// Whether bytes are shown as they stand.
-fn are_shown_as_is(encoding: Encoding, cell: &[u8]) -> bool
+pub(crate) fn are_shown_as_is(encoding: Encoding, cell: &[u8]) -> bool
     ensures { result ≡ are_shown_as_is encoding cell.now }
 {
     match encoding {

@@ -526,7 +526,13 @@ fn check_front<R: Source, W: Target + Drop>(
     all: bool,
     reader: &mut R,
     writer: W,
-) -> (W, Result<Verdict, ToolFault>, CheckedFront, Option<Said>, AdviceCounts)
+) -> (
+    W,
+    Result<Verdict, ToolFault>,
+    CheckedFront,
+    Option<Said>,
+    AdviceCounts,
+)
     ensures reported { Reports (lines_before_fault advised explained all) limits
         (R.remaining reader.old) (R.remaining reader.new) W.contents writer result.0 result.1 }
     ensures judged { JudgesText limits (R.remaining reader.old) result.1 }

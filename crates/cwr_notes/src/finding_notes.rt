@@ -129,13 +129,7 @@ fn put_tail<W: Target>(
 }
 
 /// Sets the last lines under a finding.
-fn set_tail(
-    apart: bool,
-    rule: Rule,
-    count: usize,
-    transaction: &Transaction,
-    lines: &mut NoteLines,
-)
+fn set_tail(apart: bool, rule: Rule, count: usize, transaction: &Transaction, lines: &mut NoteLines)
     requires { length transaction.now ≤ 100000000 }
     ensures { lines.new ≡ tail_lines apart rule count transaction.now }
 {
@@ -197,14 +191,7 @@ fn put_notes_on<W: Target>(
         lines,
         sink,
     )?;
-    put_tail(
-        apart,
-        finding.rule,
-        found.count,
-        transaction,
-        lines,
-        sink,
-    )
+    put_tail(apart, finding.rule, found.count, transaction, lines, sink)
 }
 
 /// Puts the lines under a finding in a transaction, whose first record is on that line of the file. The line on its work is that.

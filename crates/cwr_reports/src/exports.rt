@@ -22,7 +22,7 @@ pub(crate) fn tell_cut<E: Write>(
 ) {
     let what = match telling {
         Telling::Data { .. } => "data",
-        Telling::Rows(_) => "table",
+        Telling::Rows { .. } => "table",
         _ => return,
     };
     let record = match verdict {
@@ -66,7 +66,7 @@ fn report_to_file<'a, R: Files + AllocGlobal, I: Read + Drop, P: Pace + Drop, E:
     settle(rt, made, out, is_wanted, &mut *error)?;
     match judged {
         Ok(judgement) => {
-            tell_aside(error, telling, told.name, &judgement, &count, false);
+            tell_aside(error, telling, &told, &judgement, &count, false);
             Ok(judgement.status)
         }
         Err(ToolFault::Reader) => Err(Fault::Read(told)),

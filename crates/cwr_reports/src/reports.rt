@@ -18,8 +18,8 @@ use cwr_causes::Trailing;
 use cwr_csv::{Table, csv};
 use cwr_devices::{ReadAhead, Sink, SinkFault, Source, Target};
 use cwr_endings::{
-    Judgement, Look, Status, Wanted, judgement_of, look_after, tell_findings, tell_following,
-    tell_profile, tell_unanswering, tell_verdict, worst_level,
+    Judgement, Look, Status, Wanted, judgement_of, look_after, tell_characters, tell_findings,
+    tell_following, tell_profile, tell_unanswering, tell_verdict, worst_level,
 };
 use cwr_explain::explain;
 use cwr_files::{Fault, FileLines, Gathered, Input, Name, Pace, Passing, Told, gathered, told_of};
@@ -56,7 +56,12 @@ pub enum Telling<'a> {
         numbers: bool,
     },
     /// A table, and the verdict to standard error.
-    Rows(Table),
+    Rows {
+        /// How cells are shown.
+        encoding: Encoding,
+        /// What it has rows of.
+        table: Table,
+    },
     /// What the acknowledgements say, in that form, and the verdict to standard error.
     Answers(Form),
     /// The findings with what explains them, the advice, and the verdict.
@@ -254,8 +259,8 @@ fn tell<R: Source, W: Target + Drop>(
             let look = look_after(reader, &outcome);
             (writer, outcome, look, Count::nothing())
         }
-        Telling::Rows(table) => {
-            let (writer, outcome) = csv(alloc, limits, table, reader, writer);
+        Telling::Rows { encoding, table } => {
+            let (writer, outcome) = csv(alloc, limits, encoding, table, reader, writer);
             let look = look_after(reader, &outcome);
             (writer, outcome, look, Count::nothing())
         }
@@ -340,39 +345,59 @@ pub(crate) fn rejected_level(verdict: &Verdict, count: &Count) -> Option<Level> 
     }
 }
 
+/// Whether cells of a transmission are shown as characters, and read as ISO 8859-1 for that.
+fn reads_latin(telling: Telling<'_>) -> bool {
+    matches!(
+        telling,
+        Telling::Data {
+            encoding: Encoding::Latin1,
+            ..
+        } | Telling::Rows {
+            encoding: Encoding::Latin1,
+            ..
+        } | Telling::Answers(Form::Json(Encoding::Latin1))
+    )
+}
+
 /// Tells on standard error what is not among the lines: what follows the transmission, what findings beside a good verdict mean, and the
-/// verdict beside data. Quiet lines have no findings.
+/// verdict beside data, with the characters that its header names. Quiet lines have no findings.
 pub(crate) fn tell_aside<E: Write>(
     error: &mut E,
     telling: Telling<'_>,
-    name: Name<'_>,
+    told: &Told<'_>,
     judgement: &Judgement,
     count: &Count,
     quiet: bool,
 ) {
+    let name = told.name;
     match telling {
         // What follows stands in the explanation, and so do findings.
         Telling::Explained(_) => {
             if let (true, Verdict::Good { .. }) = (quiet, judgement.verdict) {
-                tell_findings(error, name, &count.findings, judgement.status);
+                tell_findings(&mut *error, name, &count.findings, judgement.status);
             }
         }
         Telling::Findings | Telling::Records => {
-            tell_following(error, name, &judgement.look);
+            tell_following(&mut *error, name, &judgement.look);
             if let Verdict::Good { .. } = judgement.verdict {
-                tell_findings(error, name, &count.findings, judgement.status);
+                tell_findings(&mut *error, name, &count.findings, judgement.status);
             }
         }
         Telling::Faults { .. } | Telling::Advice { .. } => {
-            tell_following(error, name, &judgement.look);
+            tell_following(&mut *error, name, &judgement.look);
         }
-        Telling::Data { .. } | Telling::Rows(_) => tell_verdict(error, name, judgement),
+        Telling::Data { .. } | Telling::Rows { .. } => {
+            tell_verdict(&mut *error, name, judgement);
+        }
         Telling::Answers(_) => {
             tell_verdict(&mut *error, name, judgement);
             if let Some(answers) = count.answers {
-                tell_unanswering(error, name, judgement, answers, false);
+                tell_unanswering(&mut *error, name, judgement, answers, false);
             }
         }
+    }
+    if reads_latin(telling) {
+        tell_characters(error, told);
     }
 }
 
@@ -439,14 +464,7 @@ pub fn report_input<'a, F: Read + Drop, I: Read + Drop, P: Pace + Drop, O: Write
             if put.is_err() || lines.flush().is_err() {
                 return Err(Fault::Write(told_of(lines)));
             }
-            tell_aside(
-                &mut *error,
-                telling,
-                told.name,
-                &judgement,
-                &count,
-                asked.quiet,
-            );
+            tell_aside(&mut *error, telling, &told, &judgement, &count, asked.quiet);
             if let Telling::Explained(_) = telling {
                 tell_profile(&mut *error, rejected_level(&judgement.verdict, &count));
             }

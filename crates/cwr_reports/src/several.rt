@@ -60,7 +60,7 @@ pub fn report_several<'a, R: Files, I: Read + Drop, P: Pace, O: Write + Drop, E:
                 if put.is_err() || lines.flush().is_err() {
                     return Err(Fault::Write(told_of(lines)));
                 }
-                tell_aside(error, telling, told.name, &judgement, &count, asked.quiet);
+                tell_aside(error, telling, &told, &judgement, &count, asked.quiet);
                 worst = worse_level(worst, rejected_level(&judgement.verdict, &count));
             }
             Err(ToolFault::Writer { .. }) => {

@@ -4,6 +4,7 @@ use crate::devices::{Bounded, FailsAfter};
 use cwr_csv::{Table, csv};
 use cwr_devices::{Counted, ReadAhead};
 use cwr_fields::Kind;
+use cwr_json::Encoding;
 use cwr_shape::Limits;
 use cwr_tools::{ToolFault, Verdict};
 use cwr_worked::texts::{ONE_ACKNOWLEDGEMENT, TWO_GROUPS, canonical};
@@ -30,7 +31,14 @@ fn tabled(
         text: Vec::new(rt.alloc()),
         room,
     });
-    let (writer, answer) = csv(rt.alloc(), limits, table, &mut reader, writer);
+    let (writer, answer) = csv(
+        rt.alloc(),
+        limits,
+        Encoding::Latin1,
+        table,
+        &mut reader,
+        writer,
+    );
     (writer.into_inner().text, answer)
 }
 

@@ -2,8 +2,6 @@
 pub mod BytesInOrder
 -- The counts of what is kept are those of the rows.
 pub mod CountsKept
--- Bytes as they stand between quotes, one by one.
-pub mod EscapedBytes
 -- The acknowledgements in files that are read one after another are those of each, whatever came before it.
 pub mod FileOrder
 -- Parts of a text, one after another.

@@ -3,14 +3,14 @@
 ghost use Rattle.std.specs.Prelude.{◌≡◌, ◌+◌, ◌*◌, ◌≤◌, ◌++◌, decimal, length, true};
 ghost use Rattle.std.specs.List.{flat_map, list_any};
 ghost use Rattle.cwr_fields.specs.Format.Bytes.{trimmed};
-ghost use Rattle.cwr_json.specs.declared.encodings.Encoding.TheVariants.{Latin1};
-ghost use Rattle.cwr_json.specs.Format.Encodings.{byte_by_byte, character};
+ghost use Rattle.cwr_json.specs.Format.Encodings.{characters};
 ghost use Rattle.cwr_tables.specs.Format.Tables.{calls_for_quotes, cell_text, doubled};
 ghost use Rattle.cwr_state_rows.specs.Format.RowTexts.{next_cell, next_shown};
 
 use crate::forms::{doubled, needs_quotes};
 use arrayvec::ArrayVec;
 use cwr_fields::trimmed;
+use cwr_json::{Encoding, push_characters};
 use itoa::Buffer;
 
 /// The most bytes of what is made at once: none comes near.
@@ -20,7 +20,7 @@ pub(crate) const LONGEST: usize = 4000;
 pub(crate) type Text = ArrayVec<u8, LONGEST>;
 
 /// A cell in UTF-8.
-type Characters = ArrayVec<u8, 80>;
+type Characters = ArrayVec<u8, 120>;
 
 /// Appends bytes for which there is room.
 pub(crate) fn push(text: &mut Text, bytes: &[u8])
@@ -108,48 +108,33 @@ pub(crate) fn push_next_number(text: &mut Text, number: u64)
     push_next(text, Buffer::new().format(number).as_bytes());
 }
 
-/// Appends the character of a byte's number, in UTF-8.
-fn push_character(text: &mut Characters, b: u8)
-    requires { length text.old.items + 2 ≤ 80 }
-    ensures value { text.new.items ≡ text.old.items ++ character Latin1 b }
-    ensures len { length text.new.items ≤ length text.old.items + 2 }
-{
-    if b < 128 {
-        let _fits = text.try_extend_from_slice(&[b]);
-    } else {
-        let _fits = text.try_extend_from_slice(&[192 + b / 64, 128 + b % 64]);
-    }
-}
-
-/// Each byte as the character of its number, in UTF-8.
-fn characters(cell: &[u8]) -> Characters
+/// The characters that the bytes of a cell are shown as, in UTF-8.
+fn characters_of(encoding: Encoding, cell: &[u8]) -> Characters
     requires { length cell.now ≤ 40 }
-    ensures value { result.items ≡ byte_by_byte Latin1 cell.now }
-    ensures len { length result.items ≤ 2 * length cell.now }
+    ensures value { result.items ≡ characters encoding cell.now }
+    ensures len { length result.items ≤ 3 * length cell.now }
 {
     let mut text = ArrayVec::new();
-    for b in cell {
-        push_character(&mut text, *b);
-    }
+    push_characters(&mut text, encoding, cell);
     text
 }
 
-/// Appends bytes after other cells, each as the character of its number.
-pub(crate) fn push_next_shown(text: &mut Text, cell: &[u8])
-    requires room { length text.old.items + 163 ≤ LONGEST }
+/// Appends bytes after other cells, in the characters that they are shown as.
+pub(crate) fn push_next_shown(text: &mut Text, encoding: Encoding, cell: &[u8])
+    requires room { length text.old.items + 243 ≤ LONGEST }
     requires short { length cell.now ≤ 40 }
-    ensures value { text.new.items ≡ text.old.items ++ next_shown cell.now }
-    ensures len { length text.new.items ≤ length text.old.items + 163 }
+    ensures value { text.new.items ≡ text.old.items ++ next_shown encoding cell.now }
+    ensures len { length text.new.items ≤ length text.old.items + 243 }
 {
-    push_next(text, characters(cell).as_slice());
+    push_next(text, characters_of(encoding, cell).as_slice());
 }
 
 /// The same of a cell without trailing spaces.
-pub(crate) fn push_next_trimmed(text: &mut Text, cell: &[u8])
-    requires room { length text.old.items + 163 ≤ LONGEST }
+pub(crate) fn push_next_trimmed(text: &mut Text, encoding: Encoding, cell: &[u8])
+    requires room { length text.old.items + 243 ≤ LONGEST }
     requires short { length cell.now ≤ 40 }
-    ensures value { text.new.items ≡ text.old.items ++ next_shown (trimmed cell.now) }
-    ensures len { length text.new.items ≤ length text.old.items + 163 }
+    ensures value { text.new.items ≡ text.old.items ++ next_shown encoding (trimmed cell.now) }
+    ensures len { length text.new.items ≤ length text.old.items + 243 }
 {
-    push_next_shown(text, trimmed(cell));
+    push_next_shown(text, encoding, trimmed(cell));
 }

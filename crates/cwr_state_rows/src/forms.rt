@@ -2,19 +2,21 @@
 
 ghost use Rattle.std.specs.Prelude.{◌≡◌, ◌++◌, IfOk, OnOk, [], true};
 ghost use Rattle.std.specs.List.{flat_map, list_any};
+ghost use Rattle.json.specs.Print.{quoted};
 ghost use Rattle.cwr_tables.specs.Format.Tables.{calls_for_quotes, cell_text, doubled};
 ghost use Rattle.cwr_state_rows.specs.Format.RowTexts.{head_of, heading, shown_name};
 
+use cwr_json::Encoding;
 use json::Writer;
 use std::alloc::{AllocError, Global};
 
-/// How rows are put.
+/// How rows are put, with cells shown by the encoding.
 #[derive(Clone, Copy, Debug, PartialEq, Eq)]
 pub enum Form {
     /// A table as RFC 4180 has it, with a row of names before.
-    Csv,
+    Csv(Encoding),
     /// Lines of JSON: an object for each row.
-    Json,
+    Json(Encoding),
 }
 
 /// Whether a byte calls for quotes around its cell.
@@ -77,7 +79,7 @@ fn name_cell(alloc: Global, name: &[u8]) -> Result<Vec<u8>, AllocError>
 
 /// A name as it stands in JSON.
 fn name_string(alloc: Global, name: &str) -> Result<Vec<u8>, AllocError>
-    ensures { IfOk result (λ shown. shown.items ≡ shown_name Form.Json name.now) }
+    ensures { IfOk result (λ shown. shown.items ≡ quoted name.now) }
 {
     let mut writer = Writer::new(Vec::new(alloc));
     writer.string(name)?;
@@ -89,8 +91,8 @@ pub fn shown_name(alloc: Global, form: Form, name: &str) -> Result<Vec<u8>, Allo
     ensures { IfOk result (λ shown. shown.items ≡ shown_name form name.now) }
 {
     match form {
-        Form::Csv => name_cell(alloc, name.as_bytes()),
-        Form::Json => name_string(alloc, name),
+        Form::Csv(_) => name_cell(alloc, name.as_bytes()),
+        Form::Json(_) => name_string(alloc, name),
     }
 }
 
@@ -99,9 +101,9 @@ pub(crate) fn head(form: Form) -> &'static [u8]
     ensures { result.now ≡ head_of form }
 {
     match form {
-        Form::Csv => {
+        Form::Csv(_) => {
             b"sent,group,transaction,type,submitter,society,status,processed,recipient,level,state\r\n"
         }
-        Form::Json => b"",
+        Form::Json(_) => b"",
     }
 }

@@ -53,10 +53,10 @@ fn put_name<W: Target>(form: Form, name: Option<&[u8]>, sink: &mut Sink<W>) -> R
     ensures fault { IfErr result (λ f. f.written ≡ written_of sink.new) }
 {
     match (form, name) {
-        (Form::Csv, Some(name)) => put_bytes(name, sink),
-        (Form::Csv, None) => Ok(()),
-        (Form::Json, Some(name)) => put_json_name(name, sink),
-        (Form::Json, None) => put_bytes(b"{", sink),
+        (Form::Csv(_), Some(name)) => put_bytes(name, sink),
+        (Form::Csv(_), None) => Ok(()),
+        (Form::Json(_), Some(name)) => put_json_name(name, sink),
+        (Form::Json(_), None) => put_bytes(b"{", sink),
     }
 }
 

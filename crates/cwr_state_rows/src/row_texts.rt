@@ -15,6 +15,7 @@ use crate::forms::Form;
 use crate::members::{push_member, push_member_trimmed};
 use arrayvec::ArrayVec;
 use cwr_fields::{Coded, MessageLevel, letters};
+use cwr_json::Encoding;
 use cwr_sent::{AnsweringFile, KeptAnswer, SentFacts, file_of};
 use cwr_states::State;
 use std::marker::Model;
@@ -95,83 +96,126 @@ fn state_by(answer: Option<&KeptAnswer>) -> State
 }
 
 /// Appends the cells of what was sent.
-fn push_csv_sent(text: &mut Text, group: u64, transaction: u64, facts: &SentFacts)
-    requires { length text.old.items + 500 ≤ LONGEST }
-    ensures value { text.new.items ≡ text.old.items ++ csv_sent group transaction facts.now }
-    ensures len { length text.new.items ≤ length text.old.items + 500 }
+fn push_csv_sent(
+    text: &mut Text,
+    encoding: Encoding,
+    group: u64,
+    transaction: u64,
+    facts: &SentFacts,
+)
+    requires { length text.old.items + 600 ≤ LONGEST }
+    ensures value { text.new.items ≡ text.old.items ++ csv_sent encoding group transaction facts.now }
+    ensures len { length text.new.items ≤ length text.old.items + 600 }
 {
     push_next_number(text, group);
     push_next_number(text, transaction);
-    push_next_shown(text, letters(facts.kind));
-    push_next_trimmed(text, &facts.number);
+    push_next_shown(text, encoding, letters(facts.kind));
+    push_next_trimmed(text, encoding, &facts.number);
 }
 
 /// Appends the cells of an answer.
-fn push_csv_answer(text: &mut Text, files: &[AnsweringFile], answer: &KeptAnswer)
-    requires { length text.old.items + 900 ≤ LONGEST }
-    ensures value { text.new.items ≡ text.old.items ++ csv_answer (answer_in files.now answer.now) }
-    ensures len { length text.new.items ≤ length text.old.items + 900 }
+fn push_csv_answer(
+    text: &mut Text,
+    encoding: Encoding,
+    files: &[AnsweringFile],
+    answer: &KeptAnswer,
+)
+    requires { length text.old.items + 1300 ≤ LONGEST }
+    ensures value { text.new.items ≡ text.old.items ++ csv_answer encoding (answer_in files.now answer.now) }
+    ensures len { length text.new.items ≤ length text.old.items + 1300 }
 {
-    push_next_trimmed(text, &spaced(&file_of(files, answer).sender));
-    push_next_shown(text, answer.status.code().as_bytes());
-    push_next_shown(text, date(answer.processed).as_slice());
-    push_next_trimmed(text, &answer.recipient);
-    push_next_shown(text, level(answer.level));
+    push_next_trimmed(text, encoding, &spaced(&file_of(files, answer).sender));
+    push_next_shown(text, encoding, answer.status.code().as_bytes());
+    push_next_shown(text, encoding, date(answer.processed).as_slice());
+    push_next_trimmed(text, encoding, &answer.recipient);
+    push_next_shown(text, encoding, level(answer.level));
 }
 
 /// Appends the cells of an answer, where there is one.
-fn push_csv_answer_if(text: &mut Text, files: &[AnsweringFile], answer: Option<&KeptAnswer>)
-    requires { length text.old.items + 900 ≤ LONGEST }
+fn push_csv_answer_if(
+    text: &mut Text,
+    encoding: Encoding,
+    files: &[AnsweringFile],
+    answer: Option<&KeptAnswer>,
+)
+    requires { length text.old.items + 1300 ≤ LONGEST }
     ensures value { text.new.items ≡ text.old.items
-        ++ csv_answer_if (option_map (answer_in files.now) (option_map (λ a. a.now) answer.entry)) }
-    ensures len { length text.new.items ≤ length text.old.items + 900 }
+        ++ csv_answer_if encoding (option_map (answer_in files.now) (option_map (λ a. a.now) answer.entry)) }
+    ensures len { length text.new.items ≤ length text.old.items + 1300 }
 {
     match answer {
-        Some(answer) => push_csv_answer(text, files, answer),
+        Some(answer) => push_csv_answer(text, encoding, files, answer),
         None => push(text, b",,,,,"),
     }
 }
 
 /// Appends the members of what was sent.
-fn push_json_sent(text: &mut Text, group: u64, transaction: u64, facts: &SentFacts)
+fn push_json_sent(
+    text: &mut Text,
+    encoding: Encoding,
+    group: u64,
+    transaction: u64,
+    facts: &SentFacts,
+)
     requires { length text.old.items + 700 ≤ LONGEST }
-    ensures value { text.new.items ≡ text.old.items ++ json_sent group transaction facts.now }
+    ensures value { text.new.items ≡ text.old.items ++ json_sent encoding group transaction facts.now }
     ensures len { length text.new.items ≤ length text.old.items + 700 }
 {
     push(text, b"\"group\":");
     push_number(text, group);
     push(text, b",\"transaction\":");
     push_number(text, transaction);
-    push_member(text, b",\"type\":", letters(facts.kind));
-    push_member_trimmed(text, b",\"submitter\":", &facts.number);
+    push_member(text, encoding, b",\"type\":", letters(facts.kind));
+    push_member_trimmed(text, encoding, b",\"submitter\":", &facts.number);
 }
 
 /// Appends the members of an answer.
-fn push_json_answer(text: &mut Text, files: &[AnsweringFile], answer: &KeptAnswer)
+fn push_json_answer(
+    text: &mut Text,
+    encoding: Encoding,
+    files: &[AnsweringFile],
+    answer: &KeptAnswer,
+)
     requires { length text.old.items + 1400 ≤ LONGEST }
-    ensures value { text.new.items ≡ text.old.items ++ json_answer (answer_in files.now answer.now) }
+    ensures value { text.new.items ≡ text.old.items ++ json_answer encoding (answer_in files.now answer.now) }
     ensures len { length text.new.items ≤ length text.old.items + 1400 }
 {
     push_member_trimmed(
         text,
+        encoding,
         b",\"society\":",
         &spaced(&file_of(files, answer).sender),
     );
-    push_member(text, b",\"status\":", answer.status.code().as_bytes());
-    push_member(text, b",\"processed\":", date(answer.processed).as_slice());
-    push_member_trimmed(text, b",\"recipient\":", &answer.recipient);
-    push_member(text, b",\"level\":", level(answer.level));
+    push_member(
+        text,
+        encoding,
+        b",\"status\":",
+        answer.status.code().as_bytes(),
+    );
+    push_member(
+        text,
+        encoding,
+        b",\"processed\":",
+        date(answer.processed).as_slice(),
+    );
+    push_member_trimmed(text, encoding, b",\"recipient\":", &answer.recipient);
+    push_member(text, encoding, b",\"level\":", level(answer.level));
 }
 
 /// Appends the members of an answer, where there is one.
-fn push_json_answer_if(text: &mut Text, files: &[AnsweringFile], answer: Option<&KeptAnswer>)
+fn push_json_answer_if(
+    text: &mut Text,
+    encoding: Encoding,
+    files: &[AnsweringFile],
+    answer: Option<&KeptAnswer>,
+)
     requires { length text.old.items + 1400 ≤ LONGEST }
     ensures value { text.new.items ≡ text.old.items
-        ++ json_answer_if (option_map (answer_in files.now) (option_map (λ a. a.now) answer.entry)) }
+        ++ json_answer_if encoding (option_map (answer_in files.now) (option_map (λ a. a.now) answer.entry)) }
     ensures len { length text.new.items ≤ length text.old.items + 1400 }
 {
     if let Some(answer) = answer {
-        push_json_answer(text, files, answer);
+        push_json_answer(text, encoding, files, answer);
     }
 }
 
@@ -207,28 +251,45 @@ impl RowText {
     }
 
     /// Sets what stands after the name in a row of a table.
-    fn set_csv(&mut self, front: &Front<'_>, files: &[AnsweringFile], answer: Option<&KeptAnswer>)
-        ensures { self.new ≡ csv_rest (kept_row (shared_by front.now) files.now
+    fn set_csv(
+        &mut self,
+        encoding: Encoding,
+        front: &Front<'_>,
+        files: &[AnsweringFile],
+        answer: Option<&KeptAnswer>,
+    )
+        ensures { self.new ≡ csv_rest encoding (kept_row (shared_by front.now) files.now
             (option_map (λ a. a.now) answer.entry)) }
     {
         let text = &mut self.text;
         text.clear();
-        push_csv_sent(text, front.group, front.transaction, &front.facts);
-        push_csv_answer_if(text, files, answer);
-        push_next_shown(text, state_by(answer).name().as_bytes());
+        push_csv_sent(text, encoding, front.group, front.transaction, &front.facts);
+        push_csv_answer_if(text, encoding, files, answer);
+        push_next_shown(text, encoding, state_by(answer).name().as_bytes());
         push(text, b"\r\n");
     }
 
     /// Sets what stands after the name in an object.
-    fn set_json(&mut self, front: &Front<'_>, files: &[AnsweringFile], answer: Option<&KeptAnswer>)
-        ensures { self.new ≡ json_rest (kept_row (shared_by front.now) files.now
+    fn set_json(
+        &mut self,
+        encoding: Encoding,
+        front: &Front<'_>,
+        files: &[AnsweringFile],
+        answer: Option<&KeptAnswer>,
+    )
+        ensures { self.new ≡ json_rest encoding (kept_row (shared_by front.now) files.now
             (option_map (λ a. a.now) answer.entry)) }
     {
         let text = &mut self.text;
         text.clear();
-        push_json_sent(text, front.group, front.transaction, &front.facts);
-        push_json_answer_if(text, files, answer);
-        push_member(text, b",\"state\":", state_by(answer).name().as_bytes());
+        push_json_sent(text, encoding, front.group, front.transaction, &front.facts);
+        push_json_answer_if(text, encoding, files, answer);
+        push_member(
+            text,
+            encoding,
+            b",\"state\":",
+            state_by(answer).name().as_bytes(),
+        );
         push(text, b"}\n");
     }
 
@@ -243,8 +304,8 @@ impl RowText {
             (option_map (λ a. a.now) answer.entry)) }
     {
         match front.form {
-            Form::Csv => self.set_csv(front, files, answer),
-            Form::Json => self.set_json(front, files, answer),
+            Form::Csv(encoding) => self.set_csv(encoding, front, files, answer),
+            Form::Json(encoding) => self.set_json(encoding, front, files, answer),
         }
     }
 }

@@ -1,7 +1,5 @@
 -- What a cell stands as, with quotes and without.
 pub mod CellTexts
--- Bytes as characters, one by one.
-pub mod Characters
 -- The cells of a row, field by field.
 pub mod CellsOfRows
 -- The column of one field.

@@ -7,7 +7,7 @@ ghost use Rattle.cwr_tables.specs.Format.Tables.{calls_for_quotes, cell_text, do
 use arrayvec::ArrayVec;
 
 /// The most bytes of a cell.
-pub(crate) const LONGEST_CELL: usize = 1440;
+pub(crate) const LONGEST_CELL: usize = 2160;
 
 /// The most bytes of a row, of which none has more than 33 cells.
 pub(crate) const LONGEST: usize = 33 * (2 * LONGEST_CELL + 3) + 2;

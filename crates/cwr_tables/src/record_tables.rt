@@ -10,6 +10,7 @@ use crate::places::{Place, RowNumbers};
 use crate::rows::RowText;
 use cwr_devices::{Sink, SinkFault, Target};
 use cwr_fields::Kind;
+use cwr_json::Encoding;
 use cwr_levels::is_of;
 use cwr_lines::RecordRef;
 use cwr_values::{Item, Transaction};
@@ -39,6 +40,7 @@ pub fn put_heading<W: Target>(
 
 /// Puts the row of a record with these numbers, if it is of the kind.
 fn put_row<W: Target>(
+    encoding: Encoding,
     kind: Kind,
     numbers: RowNumbers,
     shown: &RecordRef<'_>,
@@ -46,19 +48,20 @@ fn put_row<W: Target>(
     sink: &mut Sink<W>,
 ) -> Result<(), SinkFault>
     requires { has_failed sink.old ≡ false }
-    ensures puts { Puts W.contents W.failures (row_of_kind kind numbers shown.now) result sink.old
+    ensures puts { Puts W.contents W.failures (row_of_kind encoding kind numbers shown.now) result sink.old
         sink.new }
     ensures fault { IfErr result (λ f. f.written ≡ written_of sink.new) }
 {
     if !is_of(shown, kind) {
         return Ok(());
     }
-    text.set_row(numbers, shown);
+    text.set_row(encoding, numbers, shown);
     put_text(text, sink)
 }
 
 /// Puts the row of a record with these numbers in the transaction of that header, if it is of the kind.
 fn put_inner_row<W: Target>(
+    encoding: Encoding,
     kind: Kind,
     head: &RecordRef<'_>,
     numbers: RowNumbers,
@@ -67,25 +70,26 @@ fn put_inner_row<W: Target>(
     sink: &mut Sink<W>,
 ) -> Result<(), SinkFault>
     requires { has_failed sink.old ≡ false }
-    ensures puts { Puts W.contents W.failures (inner_of_kind kind head.now numbers shown.now) result
+    ensures puts { Puts W.contents W.failures (inner_of_kind encoding kind head.now numbers shown.now) result
         sink.old sink.new }
     ensures fault { IfErr result (λ f. f.written ≡ written_of sink.new) }
 {
     if !is_of(shown, kind) {
         return Ok(());
     }
-    text.set_inner_row(head, numbers, shown);
+    text.set_inner_row(encoding, head, numbers, shown);
     put_text(text, sink)
 }
 
 /// Puts the row of TRL, if the kind is that.
 fn put_trailer<W: Target>(
+    encoding: Encoding,
     kind: Kind,
     text: &mut RowText,
     sink: &mut Sink<W>,
 ) -> Result<(), SinkFault>
     requires { has_failed sink.old ≡ false }
-    ensures puts { Puts W.contents W.failures (row_of_kind kind Outside trailer) result sink.old
+    ensures puts { Puts W.contents W.failures (row_of_kind encoding kind Outside trailer) result sink.old
         sink.new }
     ensures fault { IfErr result (λ f. f.written ≡ written_of sink.new) }
 {
@@ -98,6 +102,7 @@ fn put_trailer<W: Target>(
 
 /// Puts the rows of a transaction's records of the kind, by its header.
 fn put_records<W: Target>(
+    encoding: Encoding,
     kind: Kind,
     place: Place,
     head: &RecordRef<'_>,
@@ -106,7 +111,7 @@ fn put_records<W: Target>(
     sink: &mut Sink<W>,
 ) -> Result<(), SinkFault>
     requires { has_failed sink.old ≡ false }
-    ensures puts { Puts W.contents W.failures (rows_under head.now kind place transaction.now)
+    ensures puts { Puts W.contents W.failures (rows_under encoding head.now kind place transaction.now)
         result sink.old sink.new }
     ensures fault { IfErr result (λ f. f.written ≡ written_of sink.new) }
 {
@@ -118,7 +123,7 @@ fn put_records<W: Target>(
             transaction: place.transaction,
             sequence: i as u64,
         };
-        put_inner_row(kind, head, numbers, &shown, text, sink)?;
+        put_inner_row(encoding, kind, head, numbers, &shown, text, sink)?;
         prove!(i < count);
         i += 1;
     }
@@ -127,6 +132,7 @@ fn put_records<W: Target>(
 
 /// Puts the rows of a transaction's records of the kind.
 fn put_transaction<W: Target>(
+    encoding: Encoding,
     kind: Kind,
     place: Place,
     transaction: &Transaction,
@@ -134,18 +140,19 @@ fn put_transaction<W: Target>(
     sink: &mut Sink<W>,
 ) -> Result<(), SinkFault>
     requires { has_failed sink.old ≡ false }
-    ensures puts { Puts W.contents W.failures (transaction_rows kind place transaction.now) result
+    ensures puts { Puts W.contents W.failures (transaction_rows encoding kind place transaction.now) result
         sink.old sink.new }
     ensures fault { IfErr result (λ f. f.written ≡ written_of sink.new) }
 {
     let Some(head) = transaction.record(0) else {
         return Ok(());
     };
-    put_records(kind, place, &head, transaction, text, sink)
+    put_records(encoding, kind, place, &head, transaction, text, sink)
 }
 
-/// Puts the rows of an item's records of the kind. They are made in the buffer.
+/// Puts the rows of an item's records of the kind, their cells shown by the encoding. They are made in the buffer.
 pub fn put_rows<W: Target>(
+    encoding: Encoding,
     kind: Kind,
     place: Place,
     item: &Item,
@@ -153,14 +160,24 @@ pub fn put_rows<W: Target>(
     sink: &mut Sink<W>,
 ) -> Result<(), SinkFault>
     requires { has_failed sink.old ≡ false }
-    ensures puts { Puts W.contents W.failures (item_rows kind place item.now) result sink.old
+    ensures puts { Puts W.contents W.failures (item_rows encoding kind place item.now) result sink.old
         sink.new }
     ensures fault { IfErr result (λ f. f.written ≡ written_of sink.new) }
 {
     match item {
-        Item::Opened(record) => put_row(kind, RowNumbers::Outside, &record.view(), text, sink),
+        Item::Opened(record) => {
+            put_row(
+                encoding,
+                kind,
+                RowNumbers::Outside,
+                &record.view(),
+                text,
+                sink,
+            )
+        }
         Item::GroupOpened(record) => {
             put_row(
+                encoding,
                 kind,
                 RowNumbers::InGroup(place.group),
                 &record.view(),
@@ -170,6 +187,7 @@ pub fn put_rows<W: Target>(
         }
         Item::GroupClosed(record) => {
             put_row(
+                encoding,
                 kind,
                 RowNumbers::InGroup(place.group),
                 &record.view(),
@@ -177,7 +195,9 @@ pub fn put_rows<W: Target>(
                 sink,
             )
         }
-        Item::Transaction(transaction) => put_transaction(kind, place, transaction, text, sink),
-        Item::Ended => put_trailer(kind, text, sink),
+        Item::Transaction(transaction) => {
+            put_transaction(encoding, kind, place, transaction, text, sink)
+        }
+        Item::Ended => put_trailer(encoding, kind, text, sink),
     }
 }

@@ -1,8 +1,8 @@
 //! The text of a row.
 
 ghost use Rattle.std.specs.Prelude.{◌≡◌, ◌+◌, ◌*◌, ◌≤◌, [], ◌++◌, decimal, length, IsTrue};
-ghost use Rattle.cwr_json.specs.declared.encodings.Encoding.TheVariants.{Latin1};
-ghost use Rattle.cwr_json.specs.Format.Encodings.{byte_by_byte, character};
+ghost use Rattle.cwr_json.specs.declared.encodings.Encoding.{Encoding};
+ghost use Rattle.cwr_json.specs.Format.Encodings.{characters};
 ghost use Rattle.cwr_json.specs.Format.Forms.{key_byte, key_of};
 ghost use Rattle.cwr_values.specs.Format.Rows.{trailer};
 ghost use Rattle.cwr_tables.specs.declared.places.RowNumbers.TheVariants.{Outside};
@@ -14,6 +14,7 @@ use crate::cells::{LONGEST, LONGEST_CELL, Text, push, push_cell};
 use crate::places::RowNumbers;
 use arrayvec::ArrayVec;
 use cwr_fields::{Kind, field, fields, is_in_transaction, trimmed};
+use cwr_json::{Encoding, push_characters};
 use cwr_levels::{work_number, work_title};
 use cwr_lines::RecordRef;
 use itoa::Buffer;
@@ -28,46 +29,21 @@ pub(crate) const LONGEST_NEXT: usize = 2 * LONGEST_CELL + 3;
 /// A cell in UTF-8.
 pub(crate) type Characters = ArrayVec<u8, LONGEST_CELL>;
 
-/// Appends the character of a byte's number, in UTF-8.
-#[inline(always)]
-fn push_character(text: &mut Characters, b: u8)
-    requires { length text.old.items + 2 ≤ LONGEST_CELL }
-    ensures value { text.new.items ≡ text.old.items ++ character Latin1 b }
-    ensures len { length text.new.items ≤ length text.old.items + 2 }
-{
-    if b < 128 {
-        let _fits = text.try_extend_from_slice(&[b]);
-    } else {
-        let _fits = text.try_extend_from_slice(&[192 + b / 64, 128 + b % 64]);
-    }
-}
-
-/// Appends each byte as the character of its number, in UTF-8.
-pub(crate) fn push_characters(text: &mut Characters, cell: &[u8])
-    requires { length text.old.items + 2 * length cell.now ≤ LONGEST_CELL }
-    ensures value { text.new.items ≡ text.old.items ++ byte_by_byte Latin1 cell.now }
-    ensures len { length text.new.items ≤ length text.old.items + 2 * length cell.now }
-{
-    for b in cell {
-        push_character(text, *b);
-    }
-}
-
-/// Each byte as the character of its number, in UTF-8.
-pub(crate) fn characters(cell: &[u8]) -> Characters
+/// The characters that the bytes of a cell are shown as.
+pub(crate) fn characters_of(encoding: Encoding, cell: &[u8]) -> Characters
     requires { length cell.now ≤ 720 }
-    ensures value { result.items ≡ byte_by_byte Latin1 cell.now }
-    ensures len { length result.items ≤ 2 * length cell.now }
+    ensures value { result.items ≡ characters encoding cell.now }
+    ensures len { length result.items ≤ 3 * length cell.now }
 {
     let mut text = ArrayVec::new();
-    push_characters(&mut text, cell);
+    push_characters(&mut text, encoding, cell);
     text
 }
 
-/// Whether each byte is the character of its number in UTF-8.
+/// Whether each byte is the character of its number, whatever the encoding.
 #[inline(always)]
 fn is_ascii(cell: &[u8]) -> bool
-    ensures { IsTrue result → byte_by_byte Latin1 cell.now ≡ cell.now }
+    ensures { IsTrue result → (encoding : Encoding) → characters encoding cell.now ≡ cell.now }
 {
     let mut ascii = true;
     for b in cell {
@@ -110,42 +86,42 @@ pub(crate) fn push_next(text: &mut Text, cell: &[u8])
 
 /// Appends a record's cell after others.
 #[inline(always)]
-pub(crate) fn push_shown(text: &mut Text, cell: &[u8])
+pub(crate) fn push_shown(text: &mut Text, encoding: Encoding, cell: &[u8])
     requires room { length text.old.items + LONGEST_NEXT ≤ LONGEST }
     requires short { length cell.now ≤ 720 }
-    ensures value { text.new.items ≡ text.old.items ++ next_cell (shown_cell cell.now) }
+    ensures value { text.new.items ≡ text.old.items ++ next_cell (shown_cell encoding cell.now) }
     ensures len { length text.new.items ≤ length text.old.items + LONGEST_NEXT }
 {
     let shown = trimmed(cell);
     if is_ascii(shown) {
         push_next(text, shown);
     } else {
-        push_next(text, characters(shown).as_slice());
+        push_next(text, characters_of(encoding, shown).as_slice());
     }
 }
 
 /// Appends the cell of field `j`, if the record carries that.
 #[inline(always)]
-fn push_field(text: &mut Text, shown: &RecordRef<'_>, j: u8)
+fn push_field(text: &mut Text, encoding: Encoding, shown: &RecordRef<'_>, j: u8)
     requires { length text.old.items + LONGEST_NEXT ≤ LONGEST }
-    ensures value { text.new.items ≡ text.old.items ++ field_cell shown.now j }
+    ensures value { text.new.items ≡ text.old.items ++ field_cell encoding shown.now j }
     ensures len { length text.new.items ≤ length text.old.items + LONGEST_NEXT }
 {
     let Some(cell) = shown.cell(j) else {
         return;
     };
-    push_shown(text, cell);
+    push_shown(text, encoding, cell);
 }
 
 /// Appends the cells that the record carries.
 #[inline(always)]
-fn push_fields(text: &mut Text, shown: &RecordRef<'_>)
+fn push_fields(text: &mut Text, encoding: Encoding, shown: &RecordRef<'_>)
     requires { length text.old.items ≤ LONGEST_NUMBERS }
-    ensures value { text.new.items ≡ text.old.items ++ shown_cells shown.now }
+    ensures value { text.new.items ≡ text.old.items ++ shown_cells encoding shown.now }
     ensures len { length text.new.items + 2 * LONGEST_NEXT + 2 ≤ LONGEST }
 {
     for before in 0..fields(shown.kind()) {
-        push_field(text, shown, before + 1);
+        push_field(text, encoding, shown, before + 1);
     }
 }
 
@@ -187,13 +163,13 @@ fn push_header_columns(text: &mut Text, kind: Kind)
 }
 
 /// Appends what a row says of its transaction, by the header.
-fn push_header_cells(text: &mut Text, head: &RecordRef<'_>)
+fn push_header_cells(text: &mut Text, encoding: Encoding, head: &RecordRef<'_>)
     requires { length text.old.items + 2 * LONGEST_NEXT + 2 ≤ LONGEST }
-    ensures value { text.new.items ≡ text.old.items ++ header_text head.now }
+    ensures value { text.new.items ≡ text.old.items ++ header_text encoding head.now }
     ensures len { length text.new.items + 2 ≤ LONGEST }
 {
-    push_shown(text, work_number(head));
-    push_shown(text, work_title(head));
+    push_shown(text, encoding, work_number(head));
+    push_shown(text, encoding, work_title(head));
 }
 
 /// Appends a number as a cell before others.
@@ -281,34 +257,35 @@ impl RowText {
     }
 
     /// Sets the row of a record with these numbers.
-    pub(crate) fn set_row(&mut self, numbers: RowNumbers, shown: &RecordRef<'_>)
-        ensures { self.new ≡ record_row numbers shown.now }
+    pub(crate) fn set_row(&mut self, encoding: Encoding, numbers: RowNumbers, shown: &RecordRef<'_>)
+        ensures { self.new ≡ record_row encoding numbers shown.now }
     {
         self.text.clear();
         push_numbers(&mut self.text, numbers);
-        push_fields(&mut self.text, shown);
+        push_fields(&mut self.text, encoding, shown);
         push(&mut self.text, b"\r\n");
     }
 
     /// Sets the row of a record with these numbers, in the transaction of that header.
     pub(crate) fn set_inner_row(
         &mut self,
+        encoding: Encoding,
         head: &RecordRef<'_>,
         numbers: RowNumbers,
         shown: &RecordRef<'_>,
     )
-        ensures { self.new ≡ inner_row head.now numbers shown.now }
+        ensures { self.new ≡ inner_row encoding head.now numbers shown.now }
     {
         self.text.clear();
         push_numbers(&mut self.text, numbers);
-        push_fields(&mut self.text, shown);
-        push_header_cells(&mut self.text, head);
+        push_fields(&mut self.text, encoding, shown);
+        push_header_cells(&mut self.text, encoding, head);
         push(&mut self.text, b"\r\n");
     }
 
     /// Sets the row of TRL, which carries nothing.
     pub(crate) fn set_trailer(&mut self)
-        ensures { self.new ≡ record_row Outside trailer }
+        ensures { (encoding : Encoding) → self.new ≡ record_row encoding Outside trailer }
     {
         self.text.clear();
         push(&mut self.text, b",,\r\n");

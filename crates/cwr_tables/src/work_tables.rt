@@ -14,6 +14,7 @@ use crate::record_tables::put_text;
 use crate::rows::RowText;
 use crate::works::{Side, add_up, is_on, need_quotes};
 use cwr_devices::{Sink, SinkFault, Target};
+use cwr_json::Encoding;
 use cwr_lines::RecordRef;
 use cwr_values::{Item, Transaction};
 
@@ -29,6 +30,7 @@ pub fn put_work_heading<W: Target>(text: &mut RowText, sink: &mut Sink<W>) -> Re
 
 /// Puts the name of a record, if that is an owner of the side.
 fn put_name<W: Target>(
+    encoding: Encoding,
     side: Side,
     quoted: bool,
     later: bool,
@@ -37,19 +39,20 @@ fn put_name<W: Target>(
     sink: &mut Sink<W>,
 ) -> Result<(), SinkFault>
     requires { has_failed sink.old ≡ false }
-    ensures puts { Puts W.contents W.failures (owner_text side quoted later shown.now) result
+    ensures puts { Puts W.contents W.failures (owner_text encoding side quoted later shown.now) result
         sink.old sink.new }
     ensures fault { IfErr result (λ f. f.written ≡ written_of sink.new) }
 {
     if !is_on(side, shown) {
         return Ok(());
     }
-    text.set_name(side, quoted, later, shown);
+    text.set_name(encoding, side, quoted, later, shown);
     put_text(text, sink)
 }
 
 /// Puts the names of the owners, as they stand in a cell with quotes or without.
 fn put_names<W: Target>(
+    encoding: Encoding,
     side: Side,
     quoted: bool,
     transaction: &Transaction,
@@ -57,7 +60,7 @@ fn put_names<W: Target>(
     sink: &mut Sink<W>,
 ) -> Result<(), SinkFault>
     requires { has_failed sink.old ≡ false }
-    ensures puts { Puts W.contents W.failures (within quoted (names side transaction.now)) result
+    ensures puts { Puts W.contents W.failures (within quoted (names encoding side transaction.now)) result
         sink.old sink.new }
     ensures fault { IfErr result (λ f. f.written ≡ written_of sink.new) }
 {
@@ -65,7 +68,7 @@ fn put_names<W: Target>(
     let mut later = false;
     let mut i: usize = 0;
     while let Some(shown) = transaction.record(i) {
-        put_name(side, quoted, later, &shown, text, sink)?;
+        put_name(encoding, side, quoted, later, &shown, text, sink)?;
         prove!(i < count);
         later |= is_on(side, &shown);
         i += 1;
@@ -103,6 +106,7 @@ fn put_closing<W: Target>(
 
 /// Puts the names of the owners, and what stands before them.
 fn put_begun<W: Target>(
+    encoding: Encoding,
     side: Side,
     quoted: bool,
     transaction: &Transaction,
@@ -111,33 +115,35 @@ fn put_begun<W: Target>(
 ) -> Result<(), SinkFault>
     requires { has_failed sink.old ≡ false }
     ensures puts { Puts W.contents W.failures
-        ((codes "," ++ edge quoted) ++ within quoted (names side transaction.now)) result sink.old
+        ((codes "," ++ edge quoted) ++ within quoted (names encoding side transaction.now)) result sink.old
         sink.new }
     ensures fault { IfErr result (λ f. f.written ≡ written_of sink.new) }
 {
     put_opening(quoted, text, sink)?;
-    put_names(side, quoted, transaction, text, sink)
+    put_names(encoding, side, quoted, transaction, text, sink)
 }
 
 /// Puts the cell of the names of the owners, after other cells.
 fn put_owners<W: Target>(
+    encoding: Encoding,
     side: Side,
     transaction: &Transaction,
     text: &mut RowText,
     sink: &mut Sink<W>,
 ) -> Result<(), SinkFault>
     requires { has_failed sink.old ≡ false }
-    ensures puts { Puts W.contents W.failures (next_cell (names side transaction.now)) result
+    ensures puts { Puts W.contents W.failures (next_cell (names encoding side transaction.now)) result
         sink.old sink.new }
     ensures fault { IfErr result (λ f. f.written ≡ written_of sink.new) }
 {
-    let quoted = need_quotes(side, transaction);
-    put_begun(side, quoted, transaction, text, sink)?;
+    let quoted = need_quotes(encoding, side, transaction);
+    put_begun(encoding, side, quoted, transaction, text, sink)?;
     put_closing(quoted, text, sink)
 }
 
 /// Puts the first cells of a work.
 fn put_front<W: Target>(
+    encoding: Encoding,
     place: Place,
     head: &RecordRef<'_>,
     text: &mut RowText,
@@ -145,15 +151,16 @@ fn put_front<W: Target>(
 ) -> Result<(), SinkFault>
     requires unfailed { has_failed sink.old ≡ false }
     requires header { is_header head.now ≡ true }
-    ensures puts { Puts W.contents W.failures (front_text place head.now) result sink.old sink.new }
+    ensures puts { Puts W.contents W.failures (front_text encoding place head.now) result sink.old sink.new }
     ensures fault { IfErr result (λ f. f.written ≡ written_of sink.new) }
 {
-    text.set_front(place, head);
+    text.set_front(encoding, place, head);
     put_text(text, sink)
 }
 
 /// Puts the cells of a work up to its writers.
 fn put_to_writers<W: Target>(
+    encoding: Encoding,
     place: Place,
     head: &RecordRef<'_>,
     transaction: &Transaction,
@@ -163,16 +170,17 @@ fn put_to_writers<W: Target>(
     requires unfailed { has_failed sink.old ≡ false }
     requires header { is_header head.now ≡ true }
     ensures puts { Puts W.contents W.failures
-        (front_text place head.now ++ next_cell (names Writers transaction.now)) result sink.old
+        (front_text encoding place head.now ++ next_cell (names encoding Writers transaction.now)) result sink.old
         sink.new }
     ensures fault { IfErr result (λ f. f.written ≡ written_of sink.new) }
 {
-    put_front(place, head, text, sink)?;
-    put_owners(Side::Writers, transaction, text, sink)
+    put_front(encoding, place, head, text, sink)?;
+    put_owners(encoding, Side::Writers, transaction, text, sink)
 }
 
 /// Puts the cells of a work up to its publishers.
 fn put_to_publishers<W: Target>(
+    encoding: Encoding,
     place: Place,
     head: &RecordRef<'_>,
     transaction: &Transaction,
@@ -181,13 +189,13 @@ fn put_to_publishers<W: Target>(
 ) -> Result<(), SinkFault>
     requires unfailed { has_failed sink.old ≡ false }
     requires header { is_header head.now ≡ true }
-    ensures puts { Puts W.contents W.failures ((front_text place head.now ++ next_cell
-        (names Writers transaction.now)) ++ next_cell (names Publishers
+    ensures puts { Puts W.contents W.failures ((front_text encoding place head.now ++ next_cell
+        (names encoding Writers transaction.now)) ++ next_cell (names encoding Publishers
         transaction.now)) result sink.old sink.new }
     ensures fault { IfErr result (λ f. f.written ≡ written_of sink.new) }
 {
-    put_to_writers(place, head, transaction, text, sink)?;
-    put_owners(Side::Publishers, transaction, text, sink)
+    put_to_writers(encoding, place, head, transaction, text, sink)?;
+    put_owners(encoding, Side::Publishers, transaction, text, sink)
 }
 
 /// Puts the last cells of a work.
@@ -211,6 +219,7 @@ fn put_tail<W: Target>(
 
 /// Puts the row of a work.
 fn put_work<W: Target>(
+    encoding: Encoding,
     place: Place,
     head: &RecordRef<'_>,
     transaction: &Transaction,
@@ -221,16 +230,17 @@ fn put_work<W: Target>(
     requires few { length transaction.now ≤ 100000000 }
     requires header { is_header head.now ≡ true }
     requires first { Some head.now ≡ slice_get transaction.now 0 }
-    ensures puts { Puts W.contents W.failures (transaction_row place transaction.now) result
+    ensures puts { Puts W.contents W.failures (transaction_row encoding place transaction.now) result
         sink.old sink.new }
     ensures fault { IfErr result (λ f. f.written ≡ written_of sink.new) }
 {
-    put_to_publishers(place, head, transaction, text, sink)?;
+    put_to_publishers(encoding, place, head, transaction, text, sink)?;
     put_tail(transaction, text, sink)
 }
 
 /// Puts the row of a transaction, if that is a work.
 fn put_if_work<W: Target>(
+    encoding: Encoding,
     place: Place,
     transaction: &Transaction,
     text: &mut RowText,
@@ -238,7 +248,7 @@ fn put_if_work<W: Target>(
 ) -> Result<(), SinkFault>
     requires unfailed { has_failed sink.old ≡ false }
     requires few { length transaction.now ≤ 100000000 }
-    ensures puts { Puts W.contents W.failures (transaction_row place transaction.now) result
+    ensures puts { Puts W.contents W.failures (transaction_row encoding place transaction.now) result
         sink.old sink.new }
     ensures fault { IfErr result (λ f. f.written ≡ written_of sink.new) }
 {
@@ -248,11 +258,12 @@ fn put_if_work<W: Target>(
     if !is_header(&head) {
         return Ok(());
     }
-    put_work(place, &head, transaction, text, sink)
+    put_work(encoding, place, &head, transaction, text, sink)
 }
 
-/// Puts the row of an item, if that is a work. It is made in the buffer, piece by piece.
+/// Puts the row of an item, if that is a work, its cells shown by the encoding. It is made in the buffer, piece by piece.
 pub fn put_work_row<W: Target>(
+    encoding: Encoding,
     place: Place,
     item: &Item,
     text: &mut RowText,
@@ -260,11 +271,11 @@ pub fn put_work_row<W: Target>(
 ) -> Result<(), SinkFault>
     requires unfailed { has_failed sink.old ≡ false }
     requires few { length (item_records item.now) ≤ 100000000 }
-    ensures puts { Puts W.contents W.failures (work_row place item.now) result sink.old sink.new }
+    ensures puts { Puts W.contents W.failures (work_row encoding place item.now) result sink.old sink.new }
     ensures fault { IfErr result (λ f. f.written ≡ written_of sink.new) }
 {
     match item {
-        Item::Transaction(transaction) => put_if_work(place, transaction, text, sink),
+        Item::Transaction(transaction) => put_if_work(encoding, place, transaction, text, sink),
         _ => Ok(()),
     }
 }

@@ -12,6 +12,7 @@ use crate::rows::{RowText, push_first_number, push_next, push_next_number, push_
 use crate::works::{Side, Sums, name_of_owner};
 use arrayvec::ArrayVec;
 use cwr_fields::letters;
+use cwr_json::Encoding;
 use cwr_levels::cell;
 use cwr_lines::RecordRef;
 use itoa::Buffer;
@@ -111,17 +112,17 @@ impl RowText {
     }
 
     /// Sets the cells of a work before the names.
-    pub(crate) fn set_front(&mut self, place: Place, head: &RecordRef<'_>)
+    pub(crate) fn set_front(&mut self, encoding: Encoding, place: Place, head: &RecordRef<'_>)
         requires { is_header head.now ≡ true }
-        ensures { self.new ≡ front_text place head.now }
+        ensures { self.new ≡ front_text encoding place head.now }
     {
         self.text.clear();
         push_first_number(&mut self.text, place.group);
         push_next_number(&mut self.text, place.transaction);
         push_next(&mut self.text, letters(head.kind()));
-        push_shown(&mut self.text, cell(head, WORK_NUMBER));
-        push_shown(&mut self.text, cell(head, TITLE));
-        push_shown(&mut self.text, cell(head, ISWC));
+        push_shown(&mut self.text, encoding, cell(head, WORK_NUMBER));
+        push_shown(&mut self.text, encoding, cell(head, TITLE));
+        push_shown(&mut self.text, encoding, cell(head, ISWC));
     }
 
     /// Sets what stands before names.
@@ -142,16 +143,23 @@ impl RowText {
     }
 
     /// Sets a name, which comes after others or not.
-    pub(crate) fn set_name(&mut self, side: Side, quoted: bool, later: bool, shown: &RecordRef<'_>)
+    pub(crate) fn set_name(
+        &mut self,
+        encoding: Encoding,
+        side: Side,
+        quoted: bool,
+        later: bool,
+        shown: &RecordRef<'_>,
+    )
         requires { is_on side shown.now ≡ true }
-        ensures { self.new ≡ between later ++ within quoted (name_of_owner side shown.now) }
+        ensures { self.new ≡ between later ++ within quoted (name_of_owner encoding side shown.now) }
     {
         self.text.clear();
         push_between(&mut self.text, later);
         push_within(
             &mut self.text,
             quoted,
-            name_of_owner(side, shown).as_slice(),
+            name_of_owner(encoding, side, shown).as_slice(),
         );
     }
 

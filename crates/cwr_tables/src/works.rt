@@ -7,8 +7,9 @@ ghost use Rattle.cwr_tables.specs.Format.WorkTables.{is_on, name_of_owner, sums}
 ghost use Rattle.cwr_tables.specs.Steps.WorkTexts.{AddsShares, AreSharesOf, both, name_needs_quotes, quotes};
 
 use crate::cells::needs_quotes;
-use crate::rows::{Characters, characters, push_characters};
+use crate::rows::{Characters, characters_of};
 use cwr_fields::{Kind, is_spaces, trimmed};
+use cwr_json::{Encoding, push_characters};
 use cwr_levels::{PUBLISHER_SHARES, WRITER_SHARES, cell, is_of, number_of};
 use cwr_lines::RecordRef;
 use cwr_values::Transaction;
@@ -161,53 +162,53 @@ pub(crate) fn add_up(side: Side, transaction: &Transaction) -> Sums
 }
 
 /// The name of an owner.
-pub(crate) fn name_of_owner(side: Side, shown: &RecordRef<'_>) -> Characters
+pub(crate) fn name_of_owner(encoding: Encoding, side: Side, shown: &RecordRef<'_>) -> Characters
     requires { is_on side shown.now ≡ true }
-    ensures value { result.items ≡ name_of_owner side shown.now }
-    ensures len { length result.items ≤ 200 }
+    ensures value { result.items ≡ name_of_owner encoding side shown.now }
+    ensures len { length result.items ≤ 300 }
 {
     match side {
-        Side::Writers => writer_name(shown),
-        Side::Publishers => characters(trimmed(cell(shown, PUBLISHER_NAME))),
+        Side::Writers => writer_name(encoding, shown),
+        Side::Publishers => characters_of(encoding, trimmed(cell(shown, PUBLISHER_NAME))),
     }
 }
 
 /// The name of a writer, the last one first.
-fn writer_name(shown: &RecordRef<'_>) -> Characters
+fn writer_name(encoding: Encoding, shown: &RecordRef<'_>) -> Characters
     requires { is_on Side.Writers shown.now ≡ true }
-    ensures value { result.items ≡ name_of_owner Side.Writers shown.now }
-    ensures len { length result.items ≤ 200 }
+    ensures value { result.items ≡ name_of_owner encoding Side.Writers shown.now }
+    ensures len { length result.items ≤ 300 }
 {
-    let mut text = characters(trimmed(cell(shown, LAST_NAME)));
+    let mut text = characters_of(encoding, trimmed(cell(shown, LAST_NAME)));
     let first = cell(shown, FIRST_NAME);
     if is_spaces(first) {
         return text;
     }
-    push_characters(&mut text, b" ");
-    push_characters(&mut text, trimmed(first));
+    push_characters(&mut text, encoding, b" ");
+    push_characters(&mut text, encoding, trimmed(first));
     text
 }
 
 /// Whether a record is an owner of the side, in whose name a byte calls for quotes.
-fn name_needs_quotes(side: Side, shown: &RecordRef<'_>) -> bool
-    ensures { result ≡ name_needs_quotes side shown.now }
+fn name_needs_quotes(encoding: Encoding, side: Side, shown: &RecordRef<'_>) -> bool
+    ensures { result ≡ name_needs_quotes encoding side shown.now }
 {
     if !is_on(side, shown) {
         return false;
     }
-    needs_quotes(name_of_owner(side, shown).as_slice())
+    needs_quotes(name_of_owner(encoding, side, shown).as_slice())
 }
 
 /// Whether a byte of a name calls for quotes around the cell of all names.
-pub(crate) fn need_quotes(side: Side, transaction: &Transaction) -> bool
-    ensures { result ≡ quotes side transaction.now }
+pub(crate) fn need_quotes(encoding: Encoding, side: Side, transaction: &Transaction) -> bool
+    ensures { result ≡ quotes encoding side transaction.now }
 {
     let count = transaction.len();
     let mut found = false;
     let mut i: usize = 0;
     while let Some(shown) = transaction.record(i) {
         prove!(i < count);
-        found |= name_needs_quotes(side, &shown);
+        found |= name_needs_quotes(encoding, side, &shown);
         i += 1;
     }
     found

@@ -10,10 +10,10 @@ use clap::error::ErrorKind;
 use clap::{ArgMatches, Error};
 use cwr_fields::Kind;
 use cwr_grammar::{
-    ACKS, ADVICE, ADVISE, ALL, ANYWAY, AS_JSON, BY_PLACE, CREATED, CSV, EXPLAIN, EXPLAINED, FAIL_ON,
-    FILE, GROUPS, INTO, JOIN, JSON, KIND, LINE, LINT, MANUAL, NEW, NO_PROGRESS, NUMBER, NUMBERS,
-    OUT, PREFIX, PROGRESS, QUIET, RECORDS, RENUMBER, REPEATED, SAME_SENDER, SENT, SHOW, SPLIT,
-    STATE, TRANSACTION, UTF8, WHOLE, WORKS, WRITE, command,
+    ACKS, ADVICE, ADVISE, ALL, ANYWAY, AS_JSON, BY_PLACE, CREATED, CSV, EXPLAIN, EXPLAINED,
+    FAIL_ON, FILE, GROUPS, INTO, JOIN, JSON, KIND, LINE, LINT, MANUAL, NEW, NO_PROGRESS, NUMBER,
+    NUMBERS, OUT, PREFIX, PROGRESS, QUIET, RECORDS, RENUMBER, REPEATED, SAME_SENDER, SENT, SHOW,
+    SPLIT, STATE, TRANSACTION, UTF8, WHOLE, WORKS, WRITE, command,
 };
 use cwr_moments::Moment;
 use cwr_shape::{Level, Limits};
@@ -97,6 +97,8 @@ pub enum Work<'a> {
         file: Option<&'a str>,
         /// The name of the file that is written, or none for standard output.
         out: Option<&'a str>,
+        /// Cells in UTF-8 are shown as their texts.
+        utf8: bool,
     },
     /// What the acknowledgements of transmissions say is told.
     Acks {
@@ -112,6 +114,8 @@ pub enum Work<'a> {
         state: bool,
         /// A row of that table with one of these states ends the run as a refusal does.
         fail_on: States,
+        /// Cells in UTF-8 are shown as their texts.
+        utf8: bool,
     },
     /// A transmission is written from lines of JSON.
     Write {
@@ -348,6 +352,7 @@ fn table_in<'a>(given: &ArgMatches<'a>) -> Option<Work<'a>>
         rows: rows_of(given.get_str(KIND)?)?,
         file: given.get_str(FILE),
         out: named_out(given.get_str(OUT)),
+        utf8: given.get_flag(UTF8),
     })
 }
 
@@ -375,6 +380,7 @@ fn acks_in<'a>(alloc: Global, given: &ArgMatches<'a>) -> Result<Option<Work<'a>>
         by_place: given.get_flag(BY_PLACE),
         state: given.get_flag(STATE),
         fail_on,
+        utf8: given.get_flag(UTF8),
     }))
 }
 

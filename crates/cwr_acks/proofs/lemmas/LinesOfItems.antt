@@ -16,6 +16,7 @@ use Rattle.cwr_lines.specs.Format.Records.{RecordValue}
 use Rattle.cwr_values.specs.declared.items.Item.{Item}
 use Rattle.cwr_values.specs.declared.items.Item.TheVariants as items
 use Rattle.cwr_judge.specs.Format.Items.{is_transaction}
+use Rattle.cwr_json.specs.declared.encodings.Encoding.{Encoding}
 use Rattle.cwr_encode.proofs.lemmas.Numbered.{numbered}
 use Rattle.cwr_tools.specs.declared.totals.Totals.{Totals}
 use Rattle.cwr_tools.specs.Steps.Counts.{HasRoomToCount, IsCount}
@@ -36,6 +37,7 @@ use Rattle.cwr_delivery.specs.Steps.Keeping.{Keeps, group_at}
 use Rattle.cwr_delivery.proofs.lemmas.Keeping.{answered_kept, keeps_opened, keeps_told, notes_told}
 use Rattle.cwr_delivery.proofs.lemmas.NamedCells.{or_false}
 use Rattle.cwr_acks.specs.declared.counts.Answers.{Answers}
+use Rattle.cwr_acks.specs.declared.forms.Cells.{Cells}
 use Rattle.cwr_acks.specs.declared.forms.Form.{Form}
 use Rattle.cwr_acks.specs.declared.forms.Form.TheVariants as forms
 use Rattle.cwr_acks.specs.Format.AckLines.{Matched, Telling, ack_lines, answer_as, counts_after, counts_as, lines_after}
@@ -145,22 +147,22 @@ any_snoc front r =
     list_any-append is_message front (r ∷ []) ∙ ap (λ (b : Bool). list_any is_message front || b) (or_false (is_message r))
 
 -- the messages of a list, each told whether one came before
-messages_after : (front rest : List RecordValue)
-    → numbered (λ n r. message_in forms.Json (list_any is_message (take n (front ++ rest))) r) (length front) rest
-    ≡ messages_from (list_any is_message front) rest
-messages_after front [] = refl
-messages_after front (r ∷ rest) =
+messages_after : (enc : Encoding) (front rest : List RecordValue)
+    → numbered (λ n r. message_in (forms.Json enc) (list_any is_message (take n (front ++ rest))) r) (length front) rest
+    ≡ messages_from enc (list_any is_message front) rest
+messages_after enc front [] = refl
+messages_after enc front (r ∷ rest) =
     let all : List RecordValue = front ++ r ∷ rest in
-    let part : List RecordValue → ℕ → RecordValue → List ℕ = λ l n x. message_in forms.Json (list_any is_message (take n l)) x in
+    let part : List RecordValue → ℕ → RecordValue → List ℕ = λ l n x. message_in (forms.Json enc) (list_any is_message (take n l)) x in
     let next : List RecordValue = front ++ r ∷ [] in
     let number : length front + 1 ≡ length next = omega (arith, length-append front (r ∷ [])) in
     let same : all ≡ next ++ rest = sym (append_assoc front (r ∷ []) rest) in
-    let more : numbered (part all) (length front + 1) rest ≡ messages_from (list_any is_message front || is_message r) rest
-    = ap₂ (λ (l : List RecordValue) (n : ℕ). numbered (part l) n rest) same number ∙ messages_after next rest
-    ∙ ap (λ (b : Bool). messages_from b rest)
+    let more : numbered (part all) (length front + 1) rest ≡ messages_from enc (list_any is_message front || is_message r) rest
+    = ap₂ (λ (l : List RecordValue) (n : ℕ). numbered (part l) n rest) same number ∙ messages_after enc next rest
+    ∙ ap (λ (b : Bool). messages_from enc b rest)
     (any_snoc front r) in
     ap₂ (λ (l m : List ℕ). l ++ m)
-    (ap (λ (l : List RecordValue). message_in forms.Json (list_any is_message l) r) (take-append_seam front (r ∷ rest))) more
+    (ap (λ (l : List RecordValue). message_in (forms.Json enc) (list_any is_message l) r) (take-append_seam front (r ∷ rest))) more
 
 name_of : (f : List ℕ → List ℕ) (names : List (List ℕ)) (o : Outcome)
     → name_of_outcome (map f names) o ≡ option_map f (name_of_outcome names o)
@@ -175,36 +177,36 @@ name_told : (f : List ℕ → List ℕ) (names : List (List ℕ)) (notes : Optio
 name_told f names None = refl
 name_told f names (Some notes) = name_of f names notes.outcome
 
-plain_name : (o : Option (List ℕ)) → option_map (shown_name forms.Words) o ≡ o
-plain_name None = refl
-plain_name (Some n) = refl
+plain_name : (cells : Cells) (o : Option (List ℕ)) → option_map (shown_name (forms.Words cells)) o ≡ o
+plain_name cells None = refl
+plain_name cells (Some n) = refl
 
-quoted_name : (o : Option (List ℕ)) → option_map (shown_name forms.Json) o ≡ option_map quoted o
-quoted_name None = refl
-quoted_name (Some n) = refl
+quoted_name : (enc : Encoding) (o : Option (List ℕ)) → option_map (shown_name (forms.Json enc)) o ≡ option_map quoted o
+quoted_name enc None = refl
+quoted_name enc (Some n) = refl
 
 answer_at : (form : Form) (file : Option (List ℕ)) (names : List (List ℕ)) (notes : Option Notes) (a : RecordValue)
     (t : List RecordValue)
     → answer_parts (shown_telling (record { form = form; file = file; names = names })) notes a t
     ≡ answer_as form (record { form = form; file = file; names = names }) notes a t
-answer_at forms.Words file names notes a t =
-    let text : List ℕ = ack_text a (worst_level t) in
-    let name : Option (List ℕ) = name_of_notes (map (shown_name forms.Words) names) notes in
-    ap (λ (l : List ℕ). ((text ++ (sent_part name ++ codes "\n")) ++ l) ++ note_lines_if notes a) (numbered_alike message_text 0 t)
-    ∙ ap (λ (l : List ℕ). (l ++ flat_map message_text t) ++ note_lines_if notes a)
+answer_at (forms.Words cells) file names notes a t =
+    let text : List ℕ = ack_text cells a (worst_level t) in
+    let name : Option (List ℕ) = name_of_notes (map (shown_name (forms.Words cells)) names) notes in
+    ap (λ (l : List ℕ). ((text ++ (sent_part name ++ codes "\n")) ++ l) ++ note_lines_if cells notes a) (numbered_alike (message_text cells) 0 t)
+    ∙ ap (λ (l : List ℕ). (l ++ flat_map (message_text cells) t) ++ note_lines_if cells notes a)
     (sym (append_assoc text (sent_part name) (codes "\n")))
-    ∙ ap (λ (o : Option (List ℕ)). (((text ++ sent_part o) ++ codes "\n") ++ flat_map message_text t) ++ note_lines_if notes a)
-    (name_told (shown_name forms.Words) names notes ∙ plain_name (name_of_notes names notes))
-answer_at forms.Json file names notes a t =
+    ∙ ap (λ (o : Option (List ℕ)). (((text ++ sent_part o) ++ codes "\n") ++ flat_map (message_text cells) t) ++ note_lines_if cells notes a)
+    (name_told (shown_name (forms.Words cells)) names notes ∙ plain_name cells (name_of_notes names notes))
+answer_at (forms.Json enc) file names notes a t =
     let name : Option (List ℕ) = name_of_notes names notes in
     let parts : Option (List ℕ) → Option (List ℕ) → List ℕ → List ℕ =
     λ f n l. (((((codes "{" ++ name_member (codes "\"file\":") f) ++ name_member (codes "\"sent\":") n)
-    ++ ack_members notes a (worst_level t)) ++ []) ++ l) ++ codes "]}\n" in
-    ap (parts (option_map (shown_name forms.Json) file) (name_of_notes (map (shown_name forms.Json) names) notes))
-    (messages_after [] t)
-    ∙ ap₂ (λ (f n : Option (List ℕ)). parts f n (messages_from false t)) (quoted_name file)
-    (name_told (shown_name forms.Json) names notes ∙ quoted_name name)
-    ∙ ack_shown file name notes a t
+    ++ ack_members enc notes a (worst_level t)) ++ []) ++ l) ++ codes "]}\n" in
+    ap (parts (option_map (shown_name (forms.Json enc)) file) (name_of_notes (map (shown_name (forms.Json enc)) names) notes))
+    (messages_after enc [] t)
+    ∙ ap₂ (λ (f n : Option (List ℕ)). parts f n (messages_from enc false t)) (quoted_name enc file)
+    (name_told (shown_name (forms.Json enc)) names notes ∙ quoted_name enc name)
+    ∙ ack_shown enc file name notes a t
 
 answer_is_told : (telling : Telling) (notes : Option Notes) (a : RecordValue) (t : List RecordValue)
     → answer_parts (shown_telling telling) notes a t ≡ answer_as telling.form telling notes a t
@@ -221,16 +223,16 @@ parts_are f (s ∷ ss) = ap (λ (l : List ℕ). status_part (status_code s) (f s
 counts_at : (form : Form) (file : Option (List ℕ)) (answers : Answers) (n : ℕ) (f : TransactionStatus → ℕ) → answers.all ≡ n
     → answers.by_status ≡ map f transaction_statuses
     → counts_parts form (option_map (shown_name form) file) answers ≡ counts_as form file n f
-counts_at forms.Words file answers n f all each =
+counts_at (forms.Words cells) file answers n f all each =
     ap₂ (λ (m : ℕ) (ns : List ℕ). codes "ACKS " ++ decimal m
     ++ flat_map (λ (p : TransactionStatus × ℕ). status_part (status_code p.0) p.1)
     (zip transaction_statuses ns) ++ codes "\n") all each
     ∙ ap (λ (l : List ℕ). codes "ACKS " ++ decimal n ++ l ++ codes "\n") (parts_are f transaction_statuses)
-counts_at forms.Json file answers n f all each =
-    ap₂ (λ (m : ℕ) (ns : List ℕ). (codes "{" ++ name_member (codes "\"file\":") (option_map (shown_name forms.Json) file))
+counts_at (forms.Json enc) file answers n f all each =
+    ap₂ (λ (m : ℕ) (ns : List ℕ). (codes "{" ++ name_member (codes "\"file\":") (option_map (shown_name (forms.Json enc)) file))
     ++ counts_data_text m ns) all each
     ∙ ap (λ (o : Option (List ℕ)). (codes "{" ++ name_member (codes "\"file\":") o)
-    ++ counts_data_text n (map f transaction_statuses)) (quoted_name file)
+    ++ counts_data_text n (map f transaction_statuses)) (quoted_name enc file)
     ∙ counts_shown file n f
 
 counts_are : (telling : Telling) (answers : Answers) (given : List Item) → IsAnswers answers given
@@ -246,12 +248,12 @@ same_none f (Some n) = refl
 
 unanswered_are : (form : Form) (name : Option (List ℕ)) (g t : ℕ) (f : SentFacts)
     → unanswered_parts form (option_map (shown_name form) name) g t f ≡ unanswered_as form name g t f
-unanswered_are forms.Words name g t f =
-    ap (λ (o : Option (List ℕ)). name_before o ++ unanswered_text g t f) (plain_name name)
-unanswered_are forms.Json name g t f =
-    ap (λ (o : Option (List ℕ)). (codes "{\"unanswered\":{" ++ name_member (codes "\"sent\":") o) ++ unanswered_members g t f)
-    (quoted_name name)
-    ∙ unanswered_shown name g t f
+unanswered_are (forms.Words cells) name g t f =
+    ap (λ (o : Option (List ℕ)). name_before o ++ unanswered_text cells g t f) (plain_name cells name)
+unanswered_are (forms.Json enc) name g t f =
+    ap (λ (o : Option (List ℕ)). (codes "{\"unanswered\":{" ++ name_member (codes "\"sent\":") o) ++ unanswered_members enc g t f)
+    (quoted_name enc name)
+    ∙ unanswered_shown enc name g t f
 
 row_is : (telling : Telling) (name : Option (List ℕ)) (g t : ℕ) (f : SentFacts) (kept told : Bool) → kept ≡ told
     → cond (wants_answer f && not kept) (unanswered_parts telling.form (option_map (shown_name telling.form) name) g t f) []

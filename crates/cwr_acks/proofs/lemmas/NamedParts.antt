@@ -13,9 +13,7 @@ use Rattle.cwr_fields.proofs.lemmas.FieldStarts.{field_at-start}
 use Rattle.cwr_encode.proofs.lemmas.Numbered.{numbered}
 use Rattle.cwr_levels.specs.Format.Fields.{IsField}
 use Rattle.cwr_delivery.proofs.lemmas.NamedCells.{cell_long}
-use Rattle.cwr_json.specs.Steps.FormTexts.{NoLow}
 use Rattle.cwr_json.proofs.lemmas.FieldsShown.{length-trimmed-le, short_line}
-use Rattle.cwr_json.proofs.lemmas.MembersOfFields.{high_cell}
 
 -- without trailing spaces it is no longer
 pub trimmed_long : (name : String) (r : RecordValue) (j wide : ℕ) (cell shown : List ℕ) → cell ≡ unwrap_or (record_cell r j) []
@@ -26,17 +24,12 @@ trimmed_long name r j wide cell shown e field fits same =
 
 -- ---- any cell
 
--- a record's cell has no low byte, and is short
-record SmallCell (cell : List ℕ) : Type 0 where
-  pub high : NoLow cell
-  pub short : length cell ≤ 720
-
+-- a record's cell is short
 small_cell : (r : RecordValue) (j : ℕ) → IsRecord r → (o : Option (List ℕ)) → o ≡ record_cell r j
     → (place : Option (ℕ × FieldLayout))
-    → place ≡ field_with_start r.kind j → SmallCell (unwrap_or o [])
-small_cell r j fits None e place h = record { high = refl; short = omega arith }
-small_cell r j fits (Some cell) e (Some p) h =
-    record { high = high_cell r j p cell fits e h; short = omega (arith, short_line r j p cell fits e h) }
+    → place ≡ field_with_start r.kind j → length (unwrap_or o []) ≤ 720
+small_cell r j fits None e place h = omega arith
+small_cell r j fits (Some cell) e (Some p) h = omega (arith, short_line r j p cell fits e h)
 small_cell r j fits (Some cell) e None h =
     let none : field_at r.kind j ≡ None =
     sym (field_at-start r.kind j) ∙ ap (option_map (λ (q : ℕ × FieldLayout). q.1)) (sym h) in
@@ -46,14 +39,11 @@ small_cell r j fits (Some cell) e None h =
     let wrong : Some cell ≡ None = e ∙ gone in
     absurd (cc wrong)
 
-pub cell_high : (r : RecordValue) (j : ℕ) (cell : List ℕ) → cell ≡ unwrap_or (record_cell r j) [] → IsRecord r → NoLow cell
-cell_high r j cell e fits = subst NoLow (sym e) (small_cell r j fits (record_cell r j) refl (field_with_start r.kind j) refl).high
-
 pub cell_short : (r : RecordValue) (j : ℕ) (cell : List ℕ) → cell ≡ unwrap_or (record_cell r j) [] → IsRecord r
     → length cell ≤ 720
 cell_short r j cell e fits =
     subst (λ (l : List ℕ). length l ≤ 720) (sym e)
-    (small_cell r j fits (record_cell r j) refl (field_with_start r.kind j) refl).short
+    (small_cell r j fits (record_cell r j) refl (field_with_start r.kind j) refl)
 
 -- ---- parts, one after another
 

@@ -14,7 +14,7 @@ use Rattle.cwr_fields.specs.declared.kinds.Kind.{Kind}
 use Rattle.cwr_fields.specs.declared.kinds.Kind.TheVariants.{Hdr}
 use Rattle.cwr_fields.specs.Format.Kinds.{letters}
 use Rattle.cwr_lines.specs.Format.Records.{RecordValue, cell_named}
-use Rattle.cwr_json.specs.declared.encodings.Encoding.TheVariants.{Latin1}
+use Rattle.cwr_json.specs.declared.encodings.Encoding.{Encoding}
 use Rattle.cwr_json.specs.Format.Encodings.{characters}
 use Rattle.cwr_sent.specs.declared.facts.SentFacts.{SentFacts}
 use Rattle.cwr_delivery.specs.declared.outcomes.Notes.{Notes}
@@ -63,57 +63,57 @@ regroup_message : (k o p a b c d e f rest : List ℕ)
 regroup_message k o p a b c d e f rest = simp append_assoc
 
 -- one, wherever a value may stand
-message_shown : (later : Bool) (m : RecordValue) (rest : List Token)
-    → print_from later (json_tokens (message_data m) ++ rest) ≡ message_part later m ++ print_from true rest
+message_shown : (enc : Encoding) (later : Bool) (m : RecordValue) (rest : List Token)
+    → print_from later (json_tokens (message_data enc m) ++ rest) ≡ message_part enc later m ++ print_from true rest
 unfolding escape_byte
-message_shown later m rest =
+message_shown enc later m rest =
     let first : List ℕ = cell_named "message level" m in
     let last : List ℕ = cell_named "message text" m in
     let parts =
-    begins_member (codes "level") (codes "\"level\":") (shown_cell first) (string (characters Latin1 (trimmed first))) _ _
-    refl (cell_shown first)
-    (cell_follows (codes "type") (codes ",\"type\":") (cell_named "message type" m) _ _ refl
+    begins_member (codes "level") (codes "\"level\":") (shown_cell enc first) (string (characters enc (trimmed first))) _ _
+    refl (cell_shown enc first)
+    (cell_follows enc (codes "type") (codes ",\"type\":") (cell_named "message type" m) _ _ refl
     (number_follows_if (codes "record") (codes ",\"record\":") (cell_named "original record sequence" m) _ _ refl
-    (cell_follows_if (codes "record_type") (codes ",\"record_type\":") (cell_named "message record type" m) _ _ refl
-    (cell_follows_if (codes "validation") (codes ",\"validation\":") (cell_named "validation number" m) _ _ refl
-    (follows_last (codes "text") (codes ",\"text\":") (shown_cell last) (string (characters Latin1 (trimmed last))) refl
-    (cell_shown last)))))) in
+    (cell_follows_if enc (codes "record_type") (codes ",\"record_type\":") (cell_named "message record type" m) _ _ refl
+    (cell_follows_if enc (codes "validation") (codes ",\"validation\":") (cell_named "validation number" m) _ _ refl
+    (follows_last (codes "text") (codes ",\"text\":") (shown_cell enc last) (string (characters enc (trimmed last))) refl
+    (cell_shown enc last)))))) in
     object_listed _ _ parts later rest
-    ∙ regroup_message (comma_if later) (123 ∷ []) (codes "\"level\":" ++ shown_cell first)
-    (cell_member (codes ",\"type\":") (cell_named "message type" m))
+    ∙ regroup_message (comma_if later) (123 ∷ []) (codes "\"level\":" ++ shown_cell enc first)
+    (cell_member enc (codes ",\"type\":") (cell_named "message type" m))
     (number_part (codes ",\"record\":") (cell_named "original record sequence" m))
-    (cell_member_if (codes ",\"record_type\":") (cell_named "message record type" m))
-    (cell_member_if (codes ",\"validation\":") (cell_named "validation number" m)) (cell_member (codes ",\"text\":") last)
+    (cell_member_if enc (codes ",\"record_type\":") (cell_named "message record type" m))
+    (cell_member_if enc (codes ",\"validation\":") (cell_named "validation number" m)) (cell_member enc (codes ",\"text\":") last)
     (125 ∷ []) (print_from true rest)
 
 -- those of records, each told whether one came before
-abbrev pub messages_from : Bool → List RecordValue → List ℕ
-messages_from later [] = []
-messages_from later (r ∷ rest) = message_in forms.Json later r ++ messages_from (later || is_message r) rest
+abbrev pub messages_from : Encoding → Bool → List RecordValue → List ℕ
+messages_from enc later [] = []
+messages_from enc later (r ∷ rest) = message_in (forms.Json enc) later r ++ messages_from enc (later || is_message r) rest
 
 ending : (later : Bool) (rest : List Token) → print_from later (Token.end_array ∷ rest) ≡ 93 ∷ print_from true rest
 unfolding print_from
 ending true rest = refl
 ending false rest = refl
 
-one_listed : (later : Bool) (r : RecordValue) (t : List RecordValue) (rest : List Token) (b : Bool)
-    → print_from true (items_tokens (message_items t) ++ rest) ≡ messages_from true t ++ 93 ∷ print_from true rest
-    → print_from later (items_tokens (message_items t) ++ rest) ≡ messages_from later t ++ 93 ∷ print_from true rest
-    → print_from later (items_tokens (cond b (item (message_data r) (message_items t)) (message_items t)) ++ rest)
-    ≡ (cond b (message_part later r) [] ++ messages_from (later || b) t) ++ 93 ∷ print_from true rest
-one_listed later r t rest true after same =
-    ap (print_from later) (append_assoc (json_tokens (message_data r)) (items_tokens (message_items t)) rest)
-    ∙ message_shown later r (items_tokens (message_items t) ++ rest)
-    ∙ ap (λ (l : List ℕ). message_part later r ++ l) after
-    ∙ sym (append_assoc (message_part later r) (messages_from true t) (93 ∷ print_from true rest))
-    ∙ ap (λ (b : Bool). (message_part later r ++ messages_from b t) ++ 93 ∷ print_from true rest) (sym (or_true later))
-one_listed later r t rest false after same =
-    same ∙ ap (λ (b : Bool). messages_from b t ++ 93 ∷ print_from true rest) (sym (or_false later))
+one_listed : (enc : Encoding) (later : Bool) (r : RecordValue) (t : List RecordValue) (rest : List Token) (b : Bool)
+    → print_from true (items_tokens (message_items enc t) ++ rest) ≡ messages_from enc true t ++ 93 ∷ print_from true rest
+    → print_from later (items_tokens (message_items enc t) ++ rest) ≡ messages_from enc later t ++ 93 ∷ print_from true rest
+    → print_from later (items_tokens (cond b (item (message_data enc r) (message_items enc t)) (message_items enc t)) ++ rest)
+    ≡ (cond b (message_part enc later r) [] ++ messages_from enc (later || b) t) ++ 93 ∷ print_from true rest
+one_listed enc later r t rest true after same =
+    ap (print_from later) (append_assoc (json_tokens (message_data enc r)) (items_tokens (message_items enc t)) rest)
+    ∙ message_shown enc later r (items_tokens (message_items enc t) ++ rest)
+    ∙ ap (λ (l : List ℕ). message_part enc later r ++ l) after
+    ∙ sym (append_assoc (message_part enc later r) (messages_from enc true t) (93 ∷ print_from true rest))
+    ∙ ap (λ (b : Bool). (message_part enc later r ++ messages_from enc b t) ++ 93 ∷ print_from true rest) (sym (or_true later))
+one_listed enc later r t rest false after same =
+    same ∙ ap (λ (b : Bool). messages_from enc b t ++ 93 ∷ print_from true rest) (sym (or_false later))
 
-items_listed : (later : Bool) (t : List RecordValue) (rest : List Token)
-    → print_from later (items_tokens (message_items t) ++ rest) ≡ messages_from later t ++ 93 ∷ print_from true rest
-items_listed later [] rest = ending later rest
-items_listed later (r ∷ t) rest = one_listed later r t rest (is_message r) (items_listed true t rest) (items_listed later t rest)
+items_listed : (enc : Encoding) (later : Bool) (t : List RecordValue) (rest : List Token)
+    → print_from later (items_tokens (message_items enc t) ++ rest) ≡ messages_from enc later t ++ 93 ∷ print_from true rest
+items_listed enc later [] rest = ending later rest
+items_listed enc later (r ∷ t) rest = one_listed enc later r t rest (is_message r) (items_listed enc true t rest) (items_listed enc later t rest)
 
 -- ---- an acknowledgement
 
@@ -124,41 +124,41 @@ regroup_ack : (o fi se p w1 w q g1 g t1 t y l s r ti nt m1 m b c e : List ℕ)
     ++ m1))) ++ []) ++ m) ++ (b ++ (c ++ e))
 regroup_ack o fi se p w1 w q g1 g t1 t y l s r ti nt m1 m b c e = simp (append_assoc, append-nil)
 
-pub ack_shown : (file sent : Option (List ℕ)) (notes : Option Notes) (a : RecordValue) (t : List RecordValue)
+pub ack_shown : (enc : Encoding) (file sent : Option (List ℕ)) (notes : Option Notes) (a : RecordValue) (t : List RecordValue)
     → ((((codes "{" ++ name_member (codes "\"file\":") (option_map quoted file))
-    ++ name_member (codes "\"sent\":") (option_map quoted sent)) ++ ack_members notes a (worst_level t)) ++ []
-    ++ messages_from false t) ++ codes "]}\n" ≡ data_line (ack_data file sent notes a t)
+    ++ name_member (codes "\"sent\":") (option_map quoted sent)) ++ ack_members enc notes a (worst_level t)) ++ []
+    ++ messages_from enc false t) ++ codes "]}\n" ≡ data_line (ack_data enc file sent notes a t)
 unfolding escape_byte
-ack_shown file sent notes a t =
+ack_shown enc file sent notes a t =
     let first : List ℕ = cell_named "transaction status" a in
     let words : List ℕ = status_words (status_in a) in
-    let texts : List ℕ = messages_from false t in
+    let texts : List ℕ = messages_from enc false t in
     let parts =
-    begins_member (codes "status") (codes "\"status\":") (shown_cell first) (string (characters Latin1 (trimmed first))) _ _
-    refl (cell_shown first)
+    begins_member (codes "status") (codes "\"status\":") (shown_cell enc first) (string (characters enc (trimmed first))) _ _
+    refl (cell_shown enc first)
     (text_follows (codes "words") (codes ",\"words\":") words _ _ refl (plain_status (status_in a))
     (number_follows (codes "group") (codes ",\"group\":") (group_of a) _ _ refl
     (number_follows (codes "transaction") (codes ",\"transaction\":") (sequence_of a) _ _ refl
-    (cell_follows (codes "type") (codes ",\"type\":") (cell_named "original transaction type" a) _ _ refl
+    (cell_follows enc (codes "type") (codes ",\"type\":") (cell_named "original transaction type" a) _ _ refl
     (level_follows (worst_level t) _ _
-    (cell_follows_if (codes "submitter") (codes ",\"submitter\":") (cell_named "submitter creation number" a) _ _ refl
-    (cell_follows_if (codes "recipient") (codes ",\"recipient\":") (cell_named "recipient creation number" a) _ _ refl
-    (cell_follows_if (codes "title") (codes ",\"title\":") (cell_named "creation title" a) _ _ refl
-    (notes_follow notes _ _
-    (follows_last (codes "messages") (codes ",\"messages\":") (91 ∷ (texts ++ 93 ∷ [])) (array (message_items t)) refl
-    (array_shown (message_items t) texts (λ rest. items_listed false t rest)))))))))))) in
+    (cell_follows_if enc (codes "submitter") (codes ",\"submitter\":") (cell_named "submitter creation number" a) _ _ refl
+    (cell_follows_if enc (codes "recipient") (codes ",\"recipient\":") (cell_named "recipient creation number" a) _ _ refl
+    (cell_follows_if enc (codes "title") (codes ",\"title\":") (cell_named "creation title" a) _ _ refl
+    (notes_follow enc notes _ _
+    (follows_last (codes "messages") (codes ",\"messages\":") (91 ∷ (texts ++ 93 ∷ [])) (array (message_items enc t)) refl
+    (array_shown (message_items enc t) texts (λ rest. items_listed enc false t rest)))))))))))) in
     let whole =
     opens_name (codes "file") (codes "\"file\":") file _ _ refl
     (opens_name (codes "sent") (codes "\"sent\":") sent _ _ refl (opens_member (codes "status") _ _ _ parts)) in
-    sym (line_shown (ack_data file sent notes a t) _ (object_shown _ _ whole.first)
+    sym (line_shown (ack_data enc file sent notes a t) _ (object_shown _ _ whole.first)
     ∙ regroup_ack (123 ∷ []) (name_member (codes "\"file\":") (option_map quoted file))
-    (name_member (codes "\"sent\":") (option_map quoted sent)) (codes "\"status\":" ++ shown_cell first) (codes ",\"words\":\"") words
+    (name_member (codes "\"sent\":") (option_map quoted sent)) (codes "\"status\":" ++ shown_cell enc first) (codes ",\"words\":\"") words
     (34 ∷ []) (codes ",\"group\":") (decimal (group_of a))
     (codes ",\"transaction\":") (decimal (sequence_of a))
-    (cell_member (codes ",\"type\":") (cell_named "original transaction type" a)) (level_member (worst_level t))
-    (cell_member_if (codes ",\"submitter\":") (cell_named "submitter creation number" a))
-    (cell_member_if (codes ",\"recipient\":") (cell_named "recipient creation number" a))
-    (cell_member_if (codes ",\"title\":") (cell_named "creation title" a)) (notes_members_if notes)
+    (cell_member enc (codes ",\"type\":") (cell_named "original transaction type" a)) (level_member (worst_level t))
+    (cell_member_if enc (codes ",\"submitter\":") (cell_named "submitter creation number" a))
+    (cell_member_if enc (codes ",\"recipient\":") (cell_named "recipient creation number" a))
+    (cell_member_if enc (codes ",\"title\":") (cell_named "creation title" a)) (notes_members_if enc notes)
     (codes ",\"messages\":[") texts (93 ∷ []) (125 ∷ []) (10 ∷ []))
 
 -- ---- the end
@@ -168,30 +168,30 @@ regroup_unanswered : (o p se g1 g t1 t y1 y q su c e : List ℕ)
     ≡ ((o ++ (p ++ o)) ++ se) ++ ((((((((g1 ++ g) ++ t1) ++ t) ++ y1) ++ y) ++ q) ++ su) ++ (c ++ (c ++ e)))
 regroup_unanswered o p se g1 g t1 t y1 y q su c e = simp append_assoc
 
-submitter_follows : (own : List ℕ)
-    → Follows (with_cell_if (codes "submitter") own no_members) (cell_member_if (codes ",\"submitter\":") own)
+submitter_follows : (enc : Encoding) (own : List ℕ)
+    → Follows (with_cell_if enc (codes "submitter") own no_members) (cell_member_if enc (codes ",\"submitter\":") own)
 unfolding escape_byte
-submitter_follows own =
-    subst (λ (l : List ℕ). Follows (with_cell_if (codes "submitter") own no_members) l)
-    (append-nil (cell_member_if (codes ",\"submitter\":") own))
-    (cell_follows_if (codes "submitter") (codes ",\"submitter\":") own no_members [] refl follows_none)
+submitter_follows enc own =
+    subst (λ (l : List ℕ). Follows (with_cell_if enc (codes "submitter") own no_members) l)
+    (append-nil (cell_member_if enc (codes ",\"submitter\":") own))
+    (cell_follows_if enc (codes "submitter") (codes ",\"submitter\":") own no_members [] refl follows_none)
 
-pub unanswered_shown : (sent : Option (List ℕ)) (g t : ℕ) (f : SentFacts)
-    → (codes "{\"unanswered\":{" ++ name_member (codes "\"sent\":") (option_map quoted sent)) ++ unanswered_members g t f
-    ≡ data_line (unanswered_data sent g t f)
+pub unanswered_shown : (enc : Encoding) (sent : Option (List ℕ)) (g t : ℕ) (f : SentFacts)
+    → (codes "{\"unanswered\":{" ++ name_member (codes "\"sent\":") (option_map quoted sent)) ++ unanswered_members enc g t f
+    ≡ data_line (unanswered_data enc sent g t f)
 unfolding escape_byte
-unanswered_shown sent g t f =
+unanswered_shown enc sent g t f =
     let parts =
     begins_member (codes "group") (codes "\"group\":") (decimal g) (number (decimal g)) _ _ refl (number_shown (decimal g))
     (number_follows (codes "transaction") (codes ",\"transaction\":") t _ _ refl
-    (text_follows (codes "type") (codes ",\"type\":") (letters f.kind) _ _ refl (plain_letters f.kind) (submitter_follows f.number))) in
+    (text_follows (codes "type") (codes ",\"type\":") (letters f.kind) _ _ refl (plain_letters f.kind) (submitter_follows enc f.number))) in
     let place = opens_name (codes "sent") (codes "\"sent\":") sent _ _ refl (opens_member (codes "group") _ _ _ parts) in
     let whole =
-    begins_alone (codes "unanswered") (codes "\"unanswered\":") _ (place_data sent g t f) refl (object_shown _ _ place.first) in
-    sym (line_shown (unanswered_data sent g t f) _ (object_shown _ _ whole)
+    begins_alone (codes "unanswered") (codes "\"unanswered\":") _ (place_data enc sent g t f) refl (object_shown _ _ place.first) in
+    sym (line_shown (unanswered_data enc sent g t f) _ (object_shown _ _ whole)
     ∙ regroup_unanswered (123 ∷ []) (codes "\"unanswered\":") (name_member (codes "\"sent\":") (option_map quoted sent))
     (codes "\"group\":") (decimal g) (codes ",\"transaction\":") (decimal t) (codes ",\"type\":\"")
-    (letters f.kind) (34 ∷ []) (cell_member_if (codes ",\"submitter\":") f.number) (125 ∷ []) (10 ∷ []))
+    (letters f.kind) (34 ∷ []) (cell_member_if enc (codes ",\"submitter\":") f.number) (125 ∷ []) (10 ∷ []))
 
 counts_follow : (f : TransactionStatus → ℕ) (ss : List TransactionStatus)
     → Follows (with_counts f ss) (count_members true (zip ss (map f ss)))

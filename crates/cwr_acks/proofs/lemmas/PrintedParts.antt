@@ -10,10 +10,8 @@ use Rattle.cwr_fields.specs.declared.message_codes.MessageLevel.{MessageLevel}
 use Rattle.cwr_fields.specs.declared.message_codes.MessageLevel.TheVariants as level
 use Rattle.cwr_fields.specs.Format.Bytes.{is_spaces, number_of, trimmed}
 use Rattle.cwr_fields.specs.Format.MessageCodes.{level_code}
-use Rattle.cwr_json.specs.declared.encodings.Encoding.TheVariants.{Latin1}
+use Rattle.cwr_json.specs.declared.encodings.Encoding.{Encoding}
 use Rattle.cwr_json.specs.Format.Encodings.{characters}
-use Rattle.cwr_json.specs.Steps.FormTexts.{spelled_bytes}
-use Rattle.cwr_json.proofs.lemmas.Spelled.{spelled_each}
 use Rattle.cwr_acks.specs.Format.AckTexts.{number_part}
 use Rattle.cwr_acks.specs.Format.AckData.{data_line, with_cell, with_cell_if, with_level, with_mark, with_number, with_number_if}
 use Rattle.cwr_acks.specs.Format.AckData.{with_name, with_notes_if, with_outcome, with_text}
@@ -52,10 +50,9 @@ true_shown : IsShownAs (boolean true) (codes "true")
 unfolding print_from
 true_shown = record { shown = λ rest. refl }
 
-pub cell_shown : (cell : List ℕ) → IsShownAs (string (characters Latin1 (trimmed cell))) (shown_cell cell)
-cell_shown cell =
-    string_shown (characters Latin1 (trimmed cell)) (spelled_bytes Latin1 (trimmed cell))
-    (spelled_each Latin1 (trimmed cell) refl)
+pub cell_shown : (enc : Encoding) (cell : List ℕ) → IsShownAs (string (characters enc (trimmed cell))) (shown_cell enc cell)
+cell_shown enc cell =
+    string_shown (characters enc (trimmed cell)) (escape (characters enc (trimmed cell))) refl
 
 pub array_shown : (js : Items) (text : List ℕ)
     → ((rest : List Token) → print_from false (items_tokens js ++ rest) ≡ text ++ 93 ∷ print_from true rest)
@@ -155,20 +152,20 @@ number_follows_if key name cell more text e m = by (is_spaces cell)
     by true = m
     by false = number_follows key name (number_of cell) more text e m
 
-pub cell_follows : (key name cell : List ℕ) (more : Members) (text : List ℕ) → 44 ∷ (quoted key ++ 58 ∷ []) ≡ name
+pub cell_follows : (enc : Encoding) (key name cell : List ℕ) (more : Members) (text : List ℕ) → 44 ∷ (quoted key ++ 58 ∷ []) ≡ name
     → Follows more text
-    → Follows (with_cell key cell more) (cell_member name cell ++ text)
-cell_follows key name cell more text e m =
-    follows_member key name (shown_cell cell) (string (characters Latin1 (trimmed cell))) more text e (cell_shown cell) m
+    → Follows (with_cell enc key cell more) (cell_member enc name cell ++ text)
+cell_follows enc key name cell more text e m =
+    follows_member key name (shown_cell enc cell) (string (characters enc (trimmed cell))) more text e (cell_shown enc cell) m
 
-pub cell_follows_if : (key name cell : List ℕ) (more : Members) (text : List ℕ) → 44 ∷ (quoted key ++ 58 ∷ []) ≡ name
+pub cell_follows_if : (enc : Encoding) (key name cell : List ℕ) (more : Members) (text : List ℕ) → 44 ∷ (quoted key ++ 58 ∷ []) ≡ name
     → Follows more text
-    → Follows (with_cell_if key cell more) (cell_member_if name cell ++ text)
-cell_follows_if key name cell more text e m = by (is_spaces cell)
+    → Follows (with_cell_if enc key cell more) (cell_member_if enc name cell ++ text)
+cell_follows_if enc key name cell more text e m = by (is_spaces cell)
   where
-    by : (b : Bool) → Follows (cond b more (with_cell key cell more)) (cond b [] (cell_member name cell) ++ text)
+    by : (b : Bool) → Follows (cond b more (with_cell enc key cell more)) (cond b [] (cell_member enc name cell) ++ text)
     by true = m
-    by false = cell_follows key name cell more text e m
+    by false = cell_follows enc key name cell more text e m
 
 pub mark_follows : (key mark : List ℕ) (there : Bool) (more : Members) (text : List ℕ)
     → (44 ∷ (quoted key ++ 58 ∷ [])) ++ codes "true" ≡ mark
@@ -221,29 +218,29 @@ unfolding escape_byte
 plain_letters Hdr = refl
 plain_letters this_kind = refl
 
-pub outcome_follows : (o : Outcome) (more : Members) (text : List ℕ) → Follows more text
-    → Follows (with_outcome o more) (outcome_member o ++ text)
+pub outcome_follows : (enc : Encoding) (o : Outcome) (more : Members) (text : List ℕ) → Follows more text
+    → Follows (with_outcome enc o more) (outcome_member enc o ++ text)
 unfolding escape_byte
-outcome_follows (outcomes.Answers sent facts) more text m = m
-outcome_follows outcomes.Unsent more text m = mark_follows (codes "unsent") (codes ",\"unsent\":true") true more text refl m
-outcome_follows outcomes.Unclear more text m = mark_follows (codes "unclear") (codes ",\"unclear\":true") true more text refl m
-outcome_follows (outcomes.Retyped this_kind) more text m =
+outcome_follows enc (outcomes.Answers sent facts) more text m = m
+outcome_follows enc outcomes.Unsent more text m = mark_follows (codes "unsent") (codes ",\"unsent\":true") true more text refl m
+outcome_follows enc outcomes.Unclear more text m = mark_follows (codes "unclear") (codes ",\"unclear\":true") true more text refl m
+outcome_follows enc (outcomes.Retyped this_kind) more text m =
     text_follows (codes "retyped") (codes ",\"retyped\":") (letters this_kind) more text refl (plain_letters this_kind) m
-outcome_follows (outcomes.Renumbered own) more text m =
-    cell_follows (codes "renumbered") (codes ",\"renumbered\":") own more text refl m
+outcome_follows enc (outcomes.Renumbered own) more text m =
+    cell_follows enc (codes "renumbered") (codes ",\"renumbered\":") own more text refl m
 
 regroup_notes : (u o r a text : List ℕ) → u ++ (o ++ (r ++ (a ++ text))) ≡ (((u ++ o) ++ r) ++ a) ++ text
 regroup_notes u o r a text = simp append_assoc
 
-pub notes_follow : (notes : Option Notes) (more : Members) (text : List ℕ) → Follows more text
-    → Follows (with_notes_if notes more) (notes_members_if notes ++ text)
+pub notes_follow : (enc : Encoding) (notes : Option Notes) (more : Members) (text : List ℕ) → Follows more text
+    → Follows (with_notes_if enc notes more) (notes_members_if enc notes ++ text)
 unfolding escape_byte
-notes_follow None more text m = m
-notes_follow (Some notes) more text m =
-    subst (λ (l : List ℕ). Follows (with_notes_if (Some notes) more) l)
-    (regroup_notes (mark_part (codes ",\"unkeyed\":true") notes.unkeyed) (outcome_member notes.outcome)
+notes_follow enc None more text m = m
+notes_follow enc (Some notes) more text m =
+    subst (λ (l : List ℕ). Follows (with_notes_if enc (Some notes) more) l)
+    (regroup_notes (mark_part (codes ",\"unkeyed\":true") notes.unkeyed) (outcome_member enc notes.outcome)
     (mark_part (codes ",\"retitled\":true") notes.retitled) (mark_part (codes ",\"again\":true") notes.again) text)
     (mark_follows (codes "unkeyed") (codes ",\"unkeyed\":true") notes.unkeyed _ _ refl
-    (outcome_follows notes.outcome _ _
+    (outcome_follows enc notes.outcome _ _
     (mark_follows (codes "retitled") (codes ",\"retitled\":true") notes.retitled _ _ refl
     (mark_follows (codes "again") (codes ",\"again\":true") notes.again more text refl m))))

@@ -9,7 +9,7 @@ use Rattle.cwr_fields.specs.Format.Bytes.{is_spaces, number_of, trimmed}
 use Rattle.cwr_fields.specs.Format.MessageCodes.{level_code, status_code, transaction_statuses}
 use Rattle.cwr_fields.specs.Format.Kinds.{letters}
 use Rattle.cwr_lines.specs.Format.Records.{RecordValue, cell_named}
-use Rattle.cwr_json.specs.declared.encodings.Encoding.TheVariants.{Latin1}
+use Rattle.cwr_json.specs.declared.encodings.Encoding.{Encoding}
 use Rattle.cwr_json.specs.Format.Encodings.{characters}
 use Rattle.cwr_sent.specs.declared.facts.SentFacts.{SentFacts}
 use Rattle.cwr_delivery.specs.declared.outcomes.Notes.{Notes}
@@ -29,13 +29,13 @@ with_text key text more = member key (string text) more
 abbrev pub with_number : List ℕ → ℕ → Members → Members
 with_number key n more = member key (number (decimal n)) more
 
--- a cell without trailing spaces, each byte from 128 on as one character
-abbrev pub with_cell : List ℕ → List ℕ → Members → Members
-with_cell key cell more = with_text key (characters Latin1 (trimmed cell)) more
+-- a cell without trailing spaces, in the characters that its bytes are shown as
+abbrev pub with_cell : Encoding → List ℕ → List ℕ → Members → Members
+with_cell enc key cell more = with_text key (characters enc (trimmed cell)) more
 
 -- a blank one is left out
-abbrev pub with_cell_if : List ℕ → List ℕ → Members → Members
-with_cell_if key cell more = if is_spaces cell then more else with_cell key cell more
+abbrev pub with_cell_if : Encoding → List ℕ → List ℕ → Members → Members
+with_cell_if enc key cell more = if is_spaces cell then more else with_cell enc key cell more
 
 -- so is the number of one
 abbrev pub with_number_if : List ℕ → List ℕ → Members → Members
@@ -56,72 +56,72 @@ with_name key None more = more
 with_name key (Some name) more = with_text key name more
 
 -- why an acknowledgement answers nothing
-abbrev pub with_outcome : Outcome → Members → Members
-with_outcome (outcomes.Answers sent facts) more = more
-with_outcome outcomes.Unsent more = with_mark (codes "unsent") true more
-with_outcome outcomes.Unclear more = with_mark (codes "unclear") true more
-with_outcome (outcomes.Retyped this_kind) more = with_text (codes "retyped") (letters this_kind) more
-with_outcome (outcomes.Renumbered own) more = with_cell (codes "renumbered") own more
+abbrev pub with_outcome : Encoding → Outcome → Members → Members
+with_outcome enc (outcomes.Answers sent facts) more = more
+with_outcome enc outcomes.Unsent more = with_mark (codes "unsent") true more
+with_outcome enc outcomes.Unclear more = with_mark (codes "unclear") true more
+with_outcome enc (outcomes.Retyped this_kind) more = with_text (codes "retyped") (letters this_kind) more
+with_outcome enc (outcomes.Renumbered own) more = with_cell enc (codes "renumbered") own more
 
 -- what is told of it beside what it says
-abbrev pub with_notes : Notes → Members → Members
-with_notes notes more =
+abbrev pub with_notes : Encoding → Notes → Members → Members
+with_notes enc notes more =
     with_mark (codes "unkeyed") notes.unkeyed
-    (with_outcome notes.outcome
+    (with_outcome enc notes.outcome
     (with_mark (codes "retitled") notes.retitled (with_mark (codes "again") notes.again more)))
 
-abbrev pub with_notes_if : Option Notes → Members → Members
-with_notes_if None more = more
-with_notes_if (Some notes) more = with_notes notes more
+abbrev pub with_notes_if : Encoding → Option Notes → Members → Members
+with_notes_if enc None more = more
+with_notes_if enc (Some notes) more = with_notes enc notes more
 
 -- ---- an acknowledgement
 
 -- a message
-abbrev pub message_data : RecordValue → Json
-message_data m =
-    object (with_cell (codes "level") (cell_named "message level" m)
-    (with_cell (codes "type") (cell_named "message type" m)
+abbrev pub message_data : Encoding → RecordValue → Json
+message_data enc m =
+    object (with_cell enc (codes "level") (cell_named "message level" m)
+    (with_cell enc (codes "type") (cell_named "message type" m)
     (with_number_if (codes "record") (cell_named "original record sequence" m)
-    (with_cell_if (codes "record_type") (cell_named "message record type" m)
-    (with_cell_if (codes "validation") (cell_named "validation number" m)
-    (with_cell (codes "text") (cell_named "message text" m) no_members))))))
+    (with_cell_if enc (codes "record_type") (cell_named "message record type" m)
+    (with_cell_if enc (codes "validation") (cell_named "validation number" m)
+    (with_cell enc (codes "text") (cell_named "message text" m) no_members))))))
 
 -- the messages among records
-abbrev pub with_message : RecordValue → Items → Items
-with_message r more = if is_message r then item (message_data r) more else more
+abbrev pub with_message : Encoding → RecordValue → Items → Items
+with_message enc r more = if is_message r then item (message_data enc r) more else more
 
-abbrev pub message_items : List RecordValue → Items
-message_items [] = no_items
-message_items (r ∷ rs) = with_message r (message_items rs)
+abbrev pub message_items : Encoding → List RecordValue → Items
+message_items enc [] = no_items
+message_items enc (r ∷ rs) = with_message enc r (message_items enc rs)
 
 -- an acknowledgement by its header and its records
-abbrev pub ack_data : Option (List ℕ) → Option (List ℕ) → Option Notes → RecordValue → List RecordValue → Json
-ack_data file sent notes a t =
+abbrev pub ack_data : Encoding → Option (List ℕ) → Option (List ℕ) → Option Notes → RecordValue → List RecordValue → Json
+ack_data enc file sent notes a t =
     object (with_name (codes "file") file (with_name (codes "sent") sent
-    (with_cell (codes "status") (cell_named "transaction status" a)
+    (with_cell enc (codes "status") (cell_named "transaction status" a)
     (with_text (codes "words") (status_words (status_in a))
     (with_number (codes "group") (group_of a)
     (with_number (codes "transaction") (sequence_of a)
-    (with_cell (codes "type") (cell_named "original transaction type" a)
+    (with_cell enc (codes "type") (cell_named "original transaction type" a)
     (with_level (worst_level t)
-    (with_cell_if (codes "submitter") (cell_named "submitter creation number" a)
-    (with_cell_if (codes "recipient") (cell_named "recipient creation number" a)
-    (with_cell_if (codes "title") (cell_named "creation title" a)
-    (with_notes_if notes
-    (member (codes "messages") (array (message_items t)) no_members)))))))))))))
+    (with_cell_if enc (codes "submitter") (cell_named "submitter creation number" a)
+    (with_cell_if enc (codes "recipient") (cell_named "recipient creation number" a)
+    (with_cell_if enc (codes "title") (cell_named "creation title" a)
+    (with_notes_if enc notes
+    (member (codes "messages") (array (message_items enc t)) no_members)))))))))))))
 
 -- ---- the end
 
 -- transaction t, from 0, of group g, from 1, isn't answered
-abbrev pub place_data : Option (List ℕ) → ℕ → ℕ → SentFacts → Json
-place_data sent g t f =
+abbrev pub place_data : Encoding → Option (List ℕ) → ℕ → ℕ → SentFacts → Json
+place_data enc sent g t f =
     object (with_name (codes "sent") sent
     (with_number (codes "group") g
     (with_number (codes "transaction") t
-    (with_text (codes "type") (letters f.kind) (with_cell_if (codes "submitter") f.number no_members)))))
+    (with_text (codes "type") (letters f.kind) (with_cell_if enc (codes "submitter") f.number no_members)))))
 
-abbrev pub unanswered_data : Option (List ℕ) → ℕ → ℕ → SentFacts → Json
-unanswered_data sent g t f = object (member (codes "unanswered") (place_data sent g t f) no_members)
+abbrev pub unanswered_data : Encoding → Option (List ℕ) → ℕ → ℕ → SentFacts → Json
+unanswered_data enc sent g t f = object (member (codes "unanswered") (place_data enc sent g t f) no_members)
 
 -- a number for each status
 abbrev pub with_counts : (TransactionStatus → ℕ) → List TransactionStatus → Members

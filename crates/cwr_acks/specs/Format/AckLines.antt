@@ -17,6 +17,7 @@ use Rattle.cwr_delivery.specs.declared.outcomes.Outcome.TheVariants as outcomes
 use Rattle.cwr_delivery.specs.Format.Acknowledgements.{has_status, is_ack, is_answer, worst_level}
 use Rattle.cwr_delivery.specs.Format.Answering.{wants_answer}
 use Rattle.cwr_delivery.specs.Format.Told.{Delivered, History, Told, is_answered, notes_on, read_after}
+use Rattle.cwr_acks.specs.declared.forms.Cells.{Cells}
 use Rattle.cwr_acks.specs.declared.forms.Form.{Form}
 use Rattle.cwr_acks.specs.declared.forms.Form.TheVariants as forms
 use Rattle.cwr_acks.specs.declared.forms.Manner.{Manner}
@@ -33,8 +34,8 @@ pub record Telling : Type 0 where
 
 -- a name as it is told: between quotes in JSON
 abbrev pub shown_name : Form → List ℕ → List ℕ
-shown_name forms.Words name = name
-shown_name forms.Json name = quoted name
+shown_name (forms.Words cells) name = name
+shown_name (forms.Json enc) name = quoted name
 
 abbrev pub shown_telling : Telling → Telling
 shown_telling telling = record {
@@ -74,15 +75,15 @@ name_of_outcome names outcome = None
 abbrev pub name_of_notes : List (List ℕ) → Option Notes → Option (List ℕ)
 name_of_notes names notes = option_and_then (λ (n : Notes). name_of_outcome names n.outcome) notes
 
-abbrev pub note_lines_if : Option Notes → RecordValue → List ℕ
-note_lines_if None a = []
-note_lines_if (Some notes) a = note_lines notes a
+abbrev pub note_lines_if : Cells → Option Notes → RecordValue → List ℕ
+note_lines_if cells None a = []
+note_lines_if cells (Some notes) a = note_lines cells notes a
 
 -- by its header and its records
 abbrev pub answer_as : Form → Telling → Option Notes → RecordValue → List RecordValue → List ℕ
-answer_as forms.Words telling notes a t =
-    ack_line (name_of_notes telling.names notes) a (worst_level t) ++ message_lines t ++ note_lines_if notes a
-answer_as forms.Json telling notes a t = data_line (ack_data telling.file (name_of_notes telling.names notes) notes a t)
+answer_as (forms.Words cells) telling notes a t =
+    ack_line cells (name_of_notes telling.names notes) a (worst_level t) ++ message_lines cells t ++ note_lines_if cells notes a
+answer_as (forms.Json enc) telling notes a t = data_line (ack_data enc telling.file (name_of_notes telling.names notes) notes a t)
 
 -- what is told of it beside what it says
 abbrev pub notes_after : Option Matched → List Item → RecordValue → List RecordValue → Option Notes
@@ -101,8 +102,8 @@ transaction_after telling matched before (a ∷ rest) =
 
 -- transaction t, from 0, of group g, from 1, of what was sent under that name isn't answered
 abbrev pub unanswered_as : Form → Option (List ℕ) → ℕ → ℕ → SentFacts → List ℕ
-unanswered_as forms.Words name g t f = name_before name ++ unanswered_text g t f
-unanswered_as forms.Json name g t f = data_line (unanswered_data name g t f)
+unanswered_as (forms.Words cells) name g t f = name_before name ++ unanswered_text cells g t f
+unanswered_as (forms.Json enc) name g t f = data_line (unanswered_data enc name g t f)
 
 abbrev pub unanswered_if : Bool → Form → Option (List ℕ) → ℕ → ℕ → SentFacts → List ℕ
 unanswered_if answered form name g t f = if wants_answer f && not answered then unanswered_as form name g t f else []
@@ -129,8 +130,8 @@ unanswered_after telling (Some matched) before =
 
 -- how many acknowledgements there are, and how many of each status
 abbrev pub counts_as : Form → Option (List ℕ) → ℕ → (TransactionStatus → ℕ) → List ℕ
-counts_as forms.Words file all count = counts_line all count
-counts_as forms.Json file all count = data_line (counts_data file all count)
+counts_as (forms.Words cells) file all count = counts_line all count
+counts_as (forms.Json enc) file all count = data_line (counts_data file all count)
 
 abbrev pub counts_after : Telling → List Item → List ℕ
 counts_after telling before =

@@ -9,17 +9,25 @@ use Rattle.cwr_fields.specs.Format.Bytes.{is_spaces, number_of, trimmed}
 use Rattle.cwr_fields.specs.Format.MessageCodes.{level_code, status_code, transaction_statuses}
 use Rattle.cwr_fields.specs.Format.Kinds.{letters}
 use Rattle.cwr_lines.specs.Format.Records.{RecordValue, cell_named}
+use Rattle.cwr_json.specs.Format.Encodings.{characters}
 use Rattle.cwr_sent.specs.declared.facts.SentFacts.{SentFacts}
 use Rattle.cwr_delivery.specs.declared.outcomes.Notes.{Notes}
 use Rattle.cwr_delivery.specs.declared.outcomes.Outcome.{Outcome}
 use Rattle.cwr_delivery.specs.declared.outcomes.Outcome.TheVariants as outcomes
 use Rattle.cwr_delivery.specs.Format.Acknowledgements.{is_message, status_in}
+use Rattle.cwr_acks.specs.declared.forms.Cells.{Cells}
+use Rattle.cwr_acks.specs.declared.forms.Cells.TheVariants.{Bytes, Characters}
 
 -- ---- parts of lines
 
--- a cell without trailing spaces after a word; a blank one is left out, and so is the word
-abbrev pub cell_part : List ℕ → List ℕ → List ℕ
-cell_part word cell = if is_spaces cell then [] else word ++ trimmed cell
+-- a cell without trailing spaces: byte for byte, or in the characters that its bytes are shown as in data
+abbrev pub shown_as : Cells → List ℕ → List ℕ
+shown_as Bytes cell = trimmed cell
+shown_as (Characters enc) cell = characters enc (trimmed cell)
+
+-- it stands after a word; a blank one is left out, and so is the word
+abbrev pub cell_part : Cells → List ℕ → List ℕ → List ℕ
+cell_part cells word cell = if is_spaces cell then [] else word ++ shown_as cells cell
 
 -- a number after a word; a blank one is left out, and so is the word
 abbrev pub number_part : List ℕ → List ℕ → List ℕ
@@ -60,12 +68,12 @@ abbrev pub status_text : RecordValue → List ℕ
 status_text a = cell_named "transaction status" a ++ codes " " ++ status_words (status_in a)
 
 -- the text of an acknowledgement, by its header and the worst level of its messages
-abbrev pub ack_text : RecordValue → Option MessageLevel → List ℕ
-ack_text a worst =
+abbrev pub ack_text : Cells → RecordValue → Option MessageLevel → List ℕ
+ack_text cells a worst =
     status_text a ++ codes ": " ++ original_text a ++ level_part worst
-    ++ cell_part (codes " submitter ") (cell_named "submitter creation number" a)
-    ++ cell_part (codes " recipient ") (cell_named "recipient creation number" a)
-    ++ cell_part (codes " title ") (cell_named "creation title" a)
+    ++ cell_part cells (codes " submitter ") (cell_named "submitter creation number" a)
+    ++ cell_part cells (codes " recipient ") (cell_named "recipient creation number" a)
+    ++ cell_part cells (codes " title ") (cell_named "creation title" a)
 
 -- the name of the file of what it answers, where that is told
 abbrev pub sent_part : Option (List ℕ) → List ℕ
@@ -73,61 +81,61 @@ sent_part None = []
 sent_part (Some name) = codes " sent " ++ name
 
 -- its line
-abbrev pub ack_line : Option (List ℕ) → RecordValue → Option MessageLevel → List ℕ
-ack_line name a worst = ack_text a worst ++ sent_part name ++ codes "\n"
+abbrev pub ack_line : Cells → Option (List ℕ) → RecordValue → Option MessageLevel → List ℕ
+ack_line cells name a worst = ack_text cells a worst ++ sent_part name ++ codes "\n"
 
 -- the line of a message
-abbrev pub message_line : RecordValue → List ℕ
-message_line m =
+abbrev pub message_line : Cells → RecordValue → List ℕ
+message_line cells m =
     codes "  level " ++ cell_named "message level" m ++ codes " type " ++ cell_named "message type" m
     ++ number_part (codes " record ") (cell_named "original record sequence" m)
-    ++ cell_part (codes " ") (cell_named "message record type" m)
-    ++ cell_part (codes " validation ") (cell_named "validation number" m)
-    ++ codes ": " ++ trimmed (cell_named "message text" m) ++ codes "\n"
+    ++ cell_part cells (codes " ") (cell_named "message record type" m)
+    ++ cell_part cells (codes " validation ") (cell_named "validation number" m)
+    ++ codes ": " ++ shown_as cells (cell_named "message text" m) ++ codes "\n"
 
 -- the lines of the messages among records
-abbrev pub message_text : RecordValue → List ℕ
-message_text r = if is_message r then message_line r else []
+abbrev pub message_text : Cells → RecordValue → List ℕ
+message_text cells r = if is_message r then message_line cells r else []
 
-abbrev pub message_lines : List RecordValue → List ℕ
-message_lines t = flat_map message_text t
+abbrev pub message_lines : Cells → List RecordValue → List ℕ
+message_lines cells t = flat_map (message_text cells) t
 
 -- a word on an acknowledgement, and what stands for it in what was sent
 abbrev pub value_part : List ℕ → List ℕ
 value_part [] = []
 value_part value = codes " sent " ++ value
 
-abbrev pub marked_line : List ℕ → RecordValue → List ℕ → List ℕ
-marked_line word a value =
-    word ++ original_text a ++ cell_part (codes " submitter ") (cell_named "submitter creation number" a)
-    ++ cell_part (codes " title ") (cell_named "creation title" a) ++ value_part value ++ codes "\n"
+abbrev pub marked_line : Cells → List ℕ → RecordValue → List ℕ → List ℕ
+marked_line cells word a value =
+    word ++ original_text a ++ cell_part cells (codes " submitter ") (cell_named "submitter creation number" a)
+    ++ cell_part cells (codes " title ") (cell_named "creation title" a) ++ value_part value ++ codes "\n"
 
-abbrev pub marked_if : Bool → List ℕ → RecordValue → List ℕ
-marked_if told word a = if told then marked_line word a [] else []
+abbrev pub marked_if : Cells → Bool → List ℕ → RecordValue → List ℕ
+marked_if cells told word a = if told then marked_line cells word a [] else []
 
 -- why it answers nothing
-abbrev pub outcome_line : Outcome → RecordValue → List ℕ
-outcome_line (outcomes.Answers sent facts) a = []
-outcome_line outcomes.Unsent a = marked_line (codes "UNSENT ") a []
-outcome_line outcomes.Unclear a = marked_line (codes "UNCLEAR ") a []
-outcome_line (outcomes.Retyped this_kind) a = marked_line (codes "RETYPED ") a (letters this_kind)
-outcome_line (outcomes.Renumbered number) a = marked_line (codes "RENUMBERED ") a (trimmed number)
+abbrev pub outcome_line : Cells → Outcome → RecordValue → List ℕ
+outcome_line cells (outcomes.Answers sent facts) a = []
+outcome_line cells outcomes.Unsent a = marked_line cells (codes "UNSENT ") a []
+outcome_line cells outcomes.Unclear a = marked_line cells (codes "UNCLEAR ") a []
+outcome_line cells (outcomes.Retyped this_kind) a = marked_line cells (codes "RETYPED ") a (letters this_kind)
+outcome_line cells (outcomes.Renumbered number) a = marked_line cells (codes "RENUMBERED ") a (shown_as cells number)
 
 -- what is told of it beside what it says
-abbrev pub note_lines : Notes → RecordValue → List ℕ
-note_lines notes a =
-    marked_if notes.unkeyed (codes "UNKEYED ") a ++ outcome_line notes.outcome a
-    ++ marked_if notes.retitled (codes "RETITLED ") a ++ marked_if notes.again (codes "AGAIN ") a
+abbrev pub note_lines : Cells → Notes → RecordValue → List ℕ
+note_lines cells notes a =
+    marked_if cells notes.unkeyed (codes "UNKEYED ") a ++ outcome_line cells notes.outcome a
+    ++ marked_if cells notes.retitled (codes "RETITLED ") a ++ marked_if cells notes.again (codes "AGAIN ") a
 
 -- transaction t, from 0, of group g, from 1, isn't answered
 abbrev pub name_before : Option (List ℕ) → List ℕ
 name_before None = []
 name_before (Some name) = name ++ codes ": "
 
-abbrev pub unanswered_text : ℕ → ℕ → SentFacts → List ℕ
-unanswered_text g t f =
+abbrev pub unanswered_text : Cells → ℕ → ℕ → SentFacts → List ℕ
+unanswered_text cells g t f =
     codes "UNANSWERED group " ++ decimal g ++ codes " transaction " ++ decimal t ++ codes " " ++ letters f.kind
-    ++ cell_part (codes " submitter ") f.number ++ codes "\n"
+    ++ cell_part cells (codes " submitter ") f.number ++ codes "\n"
 
 -- a status, and how many acknowledgements have it
 abbrev pub status_part : List ℕ → ℕ → List ℕ

@@ -63,8 +63,8 @@ counts_text answers =
     ++ flat_map (λ p. status_part (status_code p.0) p.1) (zip transaction_statuses answers.by_status) ++ codes "\n"
 
 abbrev pub counts_parts : Form → Option (List ℕ) → Answers → List ℕ
-counts_parts forms.Words file answers = counts_text answers
-counts_parts forms.Json file answers =
+counts_parts (forms.Words cells) file answers = counts_text answers
+counts_parts (forms.Json enc) file answers =
     codes "{" ++ name_member (codes "\"file\":") file ++ counts_data_text answers.all answers.by_status
 
 abbrev pub counts_in : Telling → Answers → List ℕ
@@ -110,9 +110,9 @@ held_after held items = fold kept_if held items
 -- ---- what isn't answered
 
 abbrev pub unanswered_parts : Form → Option (List ℕ) → ℕ → ℕ → SentFacts → List ℕ
-unanswered_parts forms.Words name g t f = name_before name ++ unanswered_text g t f
-unanswered_parts forms.Json name g t f =
-    codes "{\"unanswered\":{" ++ name_member (codes "\"sent\":") name ++ unanswered_members g t f
+unanswered_parts (forms.Words cells) name g t f = name_before name ++ unanswered_text cells g t f
+unanswered_parts (forms.Json enc) name g t f =
+    codes "{\"unanswered\":{" ++ name_member (codes "\"sent\":") name ++ unanswered_members enc g t f
 
 abbrev pub row_line : Telling → Option (List ℕ) → ℕ → List KeptFor → ℕ → SentFacts → List ℕ
 row_line telling name g answers t f =
@@ -135,17 +135,17 @@ held_lines_if telling (Some h) = held_lines telling h
 
 -- the text of an acknowledgement whose messages have that worst level, but for names
 abbrev pub ack_in : Form → Option Notes → RecordValue → Option MessageLevel → List ℕ
-ack_in forms.Words notes a worst = ack_text a worst
-ack_in forms.Json notes a worst = ack_members notes a worst
+ack_in (forms.Words cells) notes a worst = ack_text cells a worst
+ack_in (forms.Json enc) notes a worst = ack_members enc notes a worst
 
 -- what stands before it, and after it
 abbrev pub before_ack : Form → Option (List ℕ) → Option (List ℕ) → List ℕ
-before_ack forms.Words file name = []
-before_ack forms.Json file name = codes "{" ++ name_member (codes "\"file\":") file ++ name_member (codes "\"sent\":") name
+before_ack (forms.Words cells) file name = []
+before_ack (forms.Json enc) file name = codes "{" ++ name_member (codes "\"file\":") file ++ name_member (codes "\"sent\":") name
 
 abbrev pub after_ack : Form → Option (List ℕ) → List ℕ
-after_ack forms.Words name = sent_part name ++ codes "\n"
-after_ack forms.Json name = []
+after_ack (forms.Words cells) name = sent_part name ++ codes "\n"
+after_ack (forms.Json enc) name = []
 
 abbrev pub opening_in : Telling → Option Notes → RecordValue → Option MessageLevel → List ℕ
 opening_in telling notes a worst =
@@ -154,8 +154,8 @@ opening_in telling notes a worst =
 
 -- a message that comes after others, or is the first
 abbrev pub message_as : Form → Bool → RecordValue → List ℕ
-message_as forms.Words later m = message_line m
-message_as forms.Json later m = message_part later m
+message_as (forms.Words cells) later m = message_line cells m
+message_as (forms.Json enc) later m = message_part enc later m
 
 abbrev pub message_in : Form → Bool → RecordValue → List ℕ
 message_in form later r = if is_message r then message_as form later r else []
@@ -166,8 +166,8 @@ messages_in form t = numbered (λ n r. message_in form (list_any is_message (tak
 
 -- what stands after them
 abbrev pub closing_as : Form → Option Notes → RecordValue → List ℕ
-closing_as forms.Words notes a = note_lines_if notes a
-closing_as forms.Json notes a = codes "]}\n"
+closing_as (forms.Words cells) notes a = note_lines_if cells notes a
+closing_as (forms.Json enc) notes a = codes "]}\n"
 
 -- the lines of an acknowledgement
 abbrev pub answer_parts : Telling → Option Notes → RecordValue → List RecordValue → List ℕ

@@ -46,8 +46,8 @@ TellsUpTo tellings.Records limits before after contents old new outcome =
     Reports lines_of_counted limits before after contents old new outcome
 TellsUpTo (tellings.Data encoding numbers) limits before after contents old new outcome =
     Reports (lines_of_data encoding numbers) limits before after contents old new outcome
-TellsUpTo (tellings.Rows table) limits before after contents old new outcome =
-    Reports (lines_of_table table) limits before after contents old new outcome
+TellsUpTo (tellings.Rows encoding table) limits before after contents old new outcome =
+    Reports (lines_of_table encoding table) limits before after contents old new outcome
 TellsUpTo (tellings.Answers form) limits before after contents old new outcome =
     Reports (lines_of_acks (telling_alone form) None) limits before after contents old new outcome
 TellsUpTo (tellings.Advice all repeated) limits before after contents old new outcome =

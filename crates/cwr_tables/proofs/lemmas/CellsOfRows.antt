@@ -13,6 +13,7 @@ use Rattle.cwr_fields.specs.Format.Layouts.{FieldLayout, layout, record_type}
 use Rattle.cwr_lines.specs.Format.Records.{RecordValue, IsCellOf, IsRecord, carried_fields}
 use Rattle.cwr_lines.specs.Format.Carried.{carried_at}
 use Rattle.cwr_lines.proofs.lemmas.CarriedCells.{carried_count}
+use Rattle.cwr_json.specs.declared.encodings.Encoding.{Encoding}
 use Rattle.cwr_json.specs.Format.Forms.{key_of}
 use Rattle.cwr_tables.specs.Format.RecordTables.{shown_cell}
 use Rattle.cwr_tables.specs.Steps.RowTexts.{column_of, field_cell, name_of, named_columns, next_cell, next_cells, shown_cells}
@@ -62,8 +63,8 @@ columns_whole this_kind i h =
 -- ---- the cells of a record
 
 -- the cells of its first fields
-abbrev pub cells_before : RecordValue → ℕ → List ℕ
-cells_before r i = next_cells (map shown_cell (take (carried_count (take i (layout r.kind))) r.cells))
+abbrev pub cells_before : Encoding → RecordValue → ℕ → List ℕ
+cells_before enc r i = next_cells (map (shown_cell enc) (take (carried_count (take i (layout r.kind))) r.cells))
 
 abbrev found_cell : Option (List ℕ) → List (List ℕ)
 found_cell None = []
@@ -75,29 +76,29 @@ take_next [] (suc n) = refl
 take_next (c ∷ cells) zero = refl
 take_next (c ∷ cells) (suc n) = ap (λ (l : List (List ℕ)). c ∷ l) (take_next cells n)
 
-shown_found : (o : Option (List ℕ)) → next_cells (map shown_cell (found_cell o)) ≡ shown_of o
-shown_found None = refl
-shown_found (Some cell) = append-nil (next_cell (shown_cell cell))
+shown_found : (enc : Encoding) (o : Option (List ℕ)) → next_cells (map (shown_cell enc) (found_cell o)) ≡ shown_of enc o
+shown_found enc None = refl
+shown_found enc (Some cell) = append-nil (next_cell (shown_cell enc cell))
 
 -- the cells of some fields, and then that of one field more
-cells_one : (b : Bool) (f : FieldLayout) (n : ℕ) (cells : List (List ℕ))
-    → next_cells (map shown_cell (take (n + length (cond (not b) (f ∷ []) [])) cells))
-    ≡ next_cells (map shown_cell (take n cells)) ++ shown_of (option_and_then (λ _. slice_get cells n) (cond b None (Some f)))
-cells_one true f n cells =
+cells_one : (enc : Encoding) (b : Bool) (f : FieldLayout) (n : ℕ) (cells : List (List ℕ))
+    → next_cells (map (shown_cell enc) (take (n + length (cond (not b) (f ∷ []) [])) cells))
+    ≡ next_cells (map (shown_cell enc) (take n cells)) ++ shown_of enc (option_and_then (λ _. slice_get cells n) (cond b None (Some f)))
+cells_one enc true f n cells =
     let same : n + 0 ≡ n = omega arith in
-    ap (λ (m : ℕ). next_cells (map shown_cell (take m cells))) same
-    ∙ sym (append-nil (next_cells (map shown_cell (take n cells))))
-cells_one false f n cells =
-    ap (λ (m : ℕ). next_cells (map shown_cell (take m cells))) (sym (suc_is n))
-    ∙ ap (λ (l : List (List ℕ)). next_cells (map shown_cell l)) (take_next cells n)
-    ∙ ap next_cells (map-append shown_cell (take n cells) (found_cell (slice_get cells n)))
-    ∙ flat_map-append next_cell (map shown_cell (take n cells)) (map shown_cell (found_cell (slice_get cells n)))
-    ∙ ap (λ (l : List ℕ). next_cells (map shown_cell (take n cells)) ++ l) (shown_found (slice_get cells n))
+    ap (λ (m : ℕ). next_cells (map (shown_cell enc) (take m cells))) same
+    ∙ sym (append-nil (next_cells (map (shown_cell enc) (take n cells))))
+cells_one enc false f n cells =
+    ap (λ (m : ℕ). next_cells (map (shown_cell enc) (take m cells))) (sym (suc_is n))
+    ∙ ap (λ (l : List (List ℕ)). next_cells (map (shown_cell enc) l)) (take_next cells n)
+    ∙ ap next_cells (map-append (shown_cell enc) (take n cells) (found_cell (slice_get cells n)))
+    ∙ flat_map-append next_cell (map (shown_cell enc) (take n cells)) (map (shown_cell enc) (found_cell (slice_get cells n)))
+    ∙ ap (λ (l : List ℕ). next_cells (map (shown_cell enc) (take n cells)) ++ l) (shown_found enc (slice_get cells n))
 
 -- with one field more
-pub cells_more : (r : RecordValue) (i : ℕ) → i < length (layout r.kind)
-    → cells_before r (i + 1) ≡ cells_before r i ++ field_cell r (i + 1)
-cells_more r i h =
+pub cells_more : (enc : Encoding) (r : RecordValue) (i : ℕ) → i < length (layout r.kind)
+    → cells_before enc r (i + 1) ≡ cells_before enc r i ++ field_cell enc r (i + 1)
+cells_more enc r i h =
     let fields : List FieldLayout = layout r.kind in
     let f : FieldLayout = get_or fields i record_type in
     let n : ℕ = carried_count (take i fields) in
@@ -107,14 +108,14 @@ cells_more r i h =
     ∙ ap length (filter-append (λ (g : FieldLayout). not g.derived) (take i fields) (f ∷ []))
     ∙ length-append (carried (take i fields)) (carried (f ∷ [])) in
     let before : suc i - 1 ≡ i = omega arith in
-    let cell : shown_of (option_and_then (λ _. slice_get r.cells n) (cond f.derived None (Some f))) ≡ field_cell r (suc i)
-    = ap (λ (o : Option FieldLayout). shown_of (option_and_then (λ _. slice_get r.cells n)
+    let cell : shown_of enc (option_and_then (λ _. slice_get r.cells n) (cond f.derived None (Some f))) ≡ field_cell enc r (suc i)
+    = ap (λ (o : Option FieldLayout). shown_of enc (option_and_then (λ _. slice_get r.cells n)
     (option_and_then (λ (g : FieldLayout). cond g.derived None (Some g)) o))) found
-    ∙ ap (λ (m : ℕ). shown_of
+    ∙ ap (λ (m : ℕ). shown_of enc
     (option_and_then (λ _. slice_get r.cells (carried_count (take m fields))) (carried_at r.kind (suc i)))) (sym before) in
-    ap (λ (m : ℕ). next_cells (map shown_cell (take m r.cells))) count
-    ∙ cells_one f.derived f n r.cells
-    ∙ ap (λ (l : List ℕ). cells_before r i ++ l) (cell ∙ ap (field_cell r) (suc_is i))
+    ap (λ (m : ℕ). next_cells (map (shown_cell enc) (take m r.cells))) count
+    ∙ cells_one enc f.derived f n r.cells
+    ∙ ap (λ (l : List ℕ). cells_before enc r i ++ l) (cell ∙ ap (field_cell enc r) (suc_is i))
 
 cells_many : (fields : List FieldLayout) (cells : List (List ℕ)) → AllZip IsCellOf fields cells → length cells ≡ length fields
 cells_many [] [] h = refl
@@ -123,11 +124,11 @@ cells_many (f ∷ fields) [] h = absurd h
 cells_many (f ∷ fields) (c ∷ cells) h = ap suc (cells_many fields cells h.1)
 
 -- with all of them
-pub cells_whole : (r : RecordValue) (i : ℕ) → IsRecord r → length (layout r.kind) ≤ i → cells_before r i ≡ shown_cells r
+pub cells_whole : (enc : Encoding) (r : RecordValue) (i : ℕ) → IsRecord r → length (layout r.kind) ≤ i → cells_before enc r i ≡ shown_cells enc r
 unfolding shown_cells
-cells_whole r i fits h =
+cells_whole enc r i fits h =
     let many : length r.cells ≡ length (carried_fields r.kind) = cells_many (carried_fields r.kind) r.cells fits in
-    ap (λ (fields : List FieldLayout). next_cells (map shown_cell (take (carried_count fields) r.cells)))
+    ap (λ (fields : List FieldLayout). next_cells (map (shown_cell enc) (take (carried_count fields) r.cells)))
     (take_all i (layout r.kind) h)
-    ∙ ap (λ (l : List (List ℕ)). next_cells (map shown_cell l))
+    ∙ ap (λ (l : List (List ℕ)). next_cells (map (shown_cell enc) l))
     (take_all (length (carried_fields r.kind)) r.cells (omega (arith, many)))

@@ -9,6 +9,7 @@ use Rattle.std.proofs.lemmas.List.Elements.{filter-append}
 use Rattle.std.proofs.lemmas.List.Folds.{list_any-append}
 use Rattle.cwr_lines.specs.Format.Records.{RecordValue}
 use Rattle.cwr_levels.proofs.lemmas.OneMore.{take_more}
+use Rattle.cwr_json.specs.declared.encodings.Encoding.{Encoding}
 use Rattle.cwr_tables.specs.declared.works.Side.{Side}
 use Rattle.cwr_tables.specs.Format.Tables.{doubled}
 use Rattle.cwr_tables.specs.Format.WorkTables.{is_on, name_of_owner, names, owners}
@@ -59,26 +60,26 @@ some_owners side (r ∷ t) = some_if (is_on side r) r (owners side t) (has_owner
 
 -- ---- with one record more
 
-text_more : (side : Side) (quoted : Bool) (r : RecordValue) (before : List RecordValue) (later b : Bool) → has_some before ≡ later
-    → within quoted (join_by (name_of_owner side) semicolon (before ++ cond b (r ∷ []) []))
-    ≡ within quoted (join_by (name_of_owner side) semicolon before)
-    ++ cond b (between later ++ within quoted (name_of_owner side r)) []
-text_more side quoted r before later true h =
-    ap (within quoted) (join_more (name_of_owner side) before r)
-    ∙ within-append quoted (join_by (name_of_owner side) semicolon before) (between (has_some before) ++ name_of_owner side r)
-    ∙ ap (λ (l : List ℕ). within quoted (join_by (name_of_owner side) semicolon before) ++ l)
-    (within-append quoted (between (has_some before)) (name_of_owner side r)
-    ∙ ap (λ (l : List ℕ). l ++ within quoted (name_of_owner side r)) (within_between quoted (has_some before) ∙ ap between h))
-text_more side quoted r before later false h =
-    ap (λ (l : List RecordValue). within quoted (join_by (name_of_owner side) semicolon l)) (append-nil before)
-    ∙ sym (append-nil (within quoted (join_by (name_of_owner side) semicolon before)))
+text_more : (enc : Encoding) (side : Side) (quoted : Bool) (r : RecordValue) (before : List RecordValue) (later b : Bool) → has_some before ≡ later
+    → within quoted (join_by (name_of_owner enc side) semicolon (before ++ cond b (r ∷ []) []))
+    ≡ within quoted (join_by (name_of_owner enc side) semicolon before)
+    ++ cond b (between later ++ within quoted (name_of_owner enc side r)) []
+text_more enc side quoted r before later true h =
+    ap (within quoted) (join_more (name_of_owner enc side) before r)
+    ∙ within-append quoted (join_by (name_of_owner enc side) semicolon before) (between (has_some before) ++ name_of_owner enc side r)
+    ∙ ap (λ (l : List ℕ). within quoted (join_by (name_of_owner enc side) semicolon before) ++ l)
+    (within-append quoted (between (has_some before)) (name_of_owner enc side r)
+    ∙ ap (λ (l : List ℕ). l ++ within quoted (name_of_owner enc side r)) (within_between quoted (has_some before) ∙ ap between h))
+text_more enc side quoted r before later false h =
+    ap (λ (l : List RecordValue). within quoted (join_by (name_of_owner enc side) semicolon l)) (append-nil before)
+    ∙ sym (append-nil (within quoted (join_by (name_of_owner enc side) semicolon before)))
 
-pub names_more : (side : Side) (quoted later : Bool) (t : List RecordValue) (i : ℕ) (r : RecordValue) → Some r ≡ slice_get t i
+pub names_more : (enc : Encoding) (side : Side) (quoted later : Bool) (t : List RecordValue) (i : ℕ) (r : RecordValue) → Some r ≡ slice_get t i
     → later ≡ has_owners side (take i t)
-    → within quoted (names side (take (i + 1) t)) ≡ within quoted (names side (take i t)) ++ owner_text side quoted later r
-names_more side quoted later t i r e h =
-    ap (λ (l : List RecordValue). within quoted (join_by (name_of_owner side) semicolon l)) (owners_more side t i r e)
-    ∙ text_more side quoted r (owners side (take i t)) later (is_on side r) (some_owners side (take i t) ∙ sym h)
+    → within quoted (names enc side (take (i + 1) t)) ≡ within quoted (names enc side (take i t)) ++ owner_text enc side quoted later r
+names_more enc side quoted later t i r e h =
+    ap (λ (l : List RecordValue). within quoted (join_by (name_of_owner enc side) semicolon l)) (owners_more side t i r e)
+    ∙ text_more enc side quoted r (owners side (take i t)) later (is_on side r) (some_owners side (take i t) ∙ sym h)
 
 or_false : (a : Bool) → (a || false) ≡ a
 or_false true = refl
@@ -91,19 +92,19 @@ has_owners_more side t i r e =
     ∙ ap (λ (b : Bool). has_owners side (take i t) || b) (or_false (is_on side r))
 
 -- and with those of all records
-pub names_longer : (side : Side) (quoted : Bool) (t : List RecordValue) (n : ℕ)
-    → (rest : List ℕ) × (within quoted (names side t) ≡ within quoted (names side (take n t)) ++ rest)
-names_longer side quoted t n =
+pub names_longer : (enc : Encoding) (side : Side) (quoted : Bool) (t : List RecordValue) (n : ℕ)
+    → (rest : List ℕ) × (within quoted (names enc side t) ≡ within quoted (names enc side (take n t)) ++ rest)
+names_longer enc side quoted t n =
     let split : owners side t ≡ owners side (take n t) ++ owners side (drop n t)
     = ap (owners side) (sym (take-append-drop n t)) ∙ filter-append (is_on side) (take n t) (drop n t) in
-    let longer = join_longer (name_of_owner side) (owners side (take n t)) (owners side (drop n t)) in (
+    let longer = join_longer (name_of_owner enc side) (owners side (take n t)) (owners side (drop n t)) in (
       within quoted longer.0,
-      ap (λ (l : List RecordValue). within quoted (join_by (name_of_owner side) semicolon l)) split
+      ap (λ (l : List RecordValue). within quoted (join_by (name_of_owner enc side) semicolon l)) split
           ∙ ap (within quoted) longer.1
-          ∙ within-append quoted (names side (take n t)) longer.0,
+          ∙ within-append quoted (names enc side (take n t)) longer.0,
     )
 
 -- no records have no names
-pub names_none : (side : Side) (quoted : Bool) → within quoted (names side []) ≡ []
-names_none side true = refl
-names_none side false = refl
+pub names_none : (enc : Encoding) (side : Side) (quoted : Bool) → within quoted (names enc side []) ≡ []
+names_none enc side true = refl
+names_none enc side false = refl

@@ -13,6 +13,7 @@ use Rattle.cwr_lines.specs.Format.Records.{RecordValue, cell_named}
 use Rattle.cwr_levels.specs.Format.Findings.{is_blank, share_of}
 use Rattle.cwr_levels.proofs.lemmas.NumberCells.{share_is_number}
 use Rattle.cwr_levels.proofs.lemmas.OneMore.{take_more}
+use Rattle.cwr_json.specs.declared.encodings.Encoding.{Encoding}
 use Rattle.cwr_tables.specs.declared.works.Side.{Side}
 use Rattle.cwr_tables.specs.declared.works.Sums.{Sums}
 use Rattle.cwr_tables.specs.Format.Tables.{calls_for_quotes}
@@ -92,8 +93,8 @@ any_joined f (x ∷ xs) =
     list_any-append calls_for_quotes (f x) (flat_map (λ y. codes "; " ++ f y) xs)
     ∙ ap (λ (b : Bool). list_any calls_for_quotes (f x) || b) (any_flat f xs)
 
-abbrev name_quotes : Side → RecordValue → Bool
-name_quotes side r = list_any calls_for_quotes (name_of_owner side r)
+abbrev name_quotes : Encoding → Side → RecordValue → Bool
+name_quotes enc side r = list_any calls_for_quotes (name_of_owner enc side r)
 
 or_false : (a : Bool) → (a || false) ≡ a
 or_false true = refl
@@ -104,10 +105,10 @@ any_if : (p : RecordValue → Bool) (rs : List RecordValue) (r : RecordValue) (b
 any_if p rs r true = list_any-append p rs (r ∷ []) ∙ ap (λ (b : Bool). list_any p rs || b) (or_false (p r))
 any_if p rs r false = ap (list_any p) (append-nil rs) ∙ sym (or_false (list_any p rs))
 
-pub quotes_more : (side : Side) (t : List RecordValue) (i : ℕ) (r : RecordValue) → Some r ≡ slice_get t i
-    → quotes side (take (i + 1) t) ≡ (quotes side (take i t) || name_needs_quotes side r)
-quotes_more side t i r e =
-    any_joined (name_of_owner side) (owners side (take (i + 1) t))
-    ∙ ap (list_any (name_quotes side)) (owners_more side t i r e)
-    ∙ any_if (name_quotes side) (owners side (take i t)) r (is_on side r)
-    ∙ ap (λ (b : Bool). b || name_needs_quotes side r) (sym (any_joined (name_of_owner side) (owners side (take i t))))
+pub quotes_more : (enc : Encoding) (side : Side) (t : List RecordValue) (i : ℕ) (r : RecordValue) → Some r ≡ slice_get t i
+    → quotes enc side (take (i + 1) t) ≡ (quotes enc side (take i t) || name_needs_quotes enc side r)
+quotes_more enc side t i r e =
+    any_joined (name_of_owner enc side) (owners side (take (i + 1) t))
+    ∙ ap (list_any (name_quotes enc side)) (owners_more side t i r e)
+    ∙ any_if (name_quotes enc side) (owners side (take i t)) r (is_on side r)
+    ∙ ap (λ (b : Bool). b || name_needs_quotes enc side r) (sym (any_joined (name_of_owner enc side) (owners side (take i t))))

@@ -7,6 +7,7 @@ use Rattle.cwr_fields.specs.Format.Kinds.{is_in_transaction}
 use Rattle.cwr_json.specs.Format.Forms.{key_of}
 use Rattle.cwr_lines.specs.Format.Records.{RecordValue, carried_fields}
 use Rattle.cwr_values.specs.Format.Rows.{trailer}
+use Rattle.cwr_json.specs.declared.encodings.Encoding.{Encoding}
 use Rattle.cwr_tables.specs.declared.places.RowNumbers.{RowNumbers}
 use Rattle.cwr_tables.specs.declared.places.RowNumbers.TheVariants.{Outside, InGroup, InTransaction}
 use Rattle.cwr_tables.specs.Format.Headers.{header_columns, work_number, work_title}
@@ -28,31 +29,31 @@ ends (InTransaction group transaction sequence) cells =
     ap (λ (l : List ℕ). l ++ codes "\r\n")
     (sym (append_assoc one two (three ++ next_cells cells)) ∙ sym (append_assoc (one ++ two) three (next_cells cells)))
 
-pub row_is : (numbers : RowNumbers) (r : RecordValue)
-    → (numbers_text numbers ++ shown_cells r) ++ codes "\r\n" ≡ record_row numbers r
+pub row_is : (enc : Encoding) (numbers : RowNumbers) (r : RecordValue)
+    → (numbers_text numbers ++ shown_cells enc r) ++ codes "\r\n" ≡ record_row enc numbers r
 unfolding shown_cells
-row_is numbers r = sym (ends numbers (map shown_cell r.cells))
+row_is enc numbers r = sym (ends numbers (map (shown_cell enc) r.cells))
 
-pub trailer_is : codes ",,\r\n" ≡ record_row Outside trailer
+pub trailer_is : (enc : Encoding) → codes ",,\r\n" ≡ record_row enc Outside trailer
 unfolding row_text cell_text
-trailer_is = refl
+trailer_is enc = refl
 
 -- with what the row says of its transaction
-header_is : (head : RecordValue) → next_cells (header_cells head) ≡ header_text head
-header_is head =
-    ap (λ (l : List ℕ). next_cell (shown_cell (work_number head)) ++ l) (append-nil (next_cell (shown_cell (work_title head))))
+header_is : (enc : Encoding) (head : RecordValue) → next_cells (header_cells enc head) ≡ header_text enc head
+header_is enc head =
+    ap (λ (l : List ℕ). next_cell (shown_cell enc (work_number head)) ++ l) (append-nil (next_cell (shown_cell enc (work_title head))))
 
-pub inner_row_is : (head : RecordValue) (numbers : RowNumbers) (r : RecordValue)
-    → ((numbers_text numbers ++ shown_cells r) ++ header_text head) ++ codes "\r\n" ≡ inner_row head numbers r
+pub inner_row_is : (enc : Encoding) (head : RecordValue) (numbers : RowNumbers) (r : RecordValue)
+    → ((numbers_text numbers ++ shown_cells enc r) ++ header_text enc head) ++ codes "\r\n" ≡ inner_row enc head numbers r
 unfolding shown_cells
-inner_row_is head numbers r =
-    let own : List (List ℕ) = map shown_cell r.cells in
+inner_row_is enc head numbers r =
+    let own : List (List ℕ) = map (shown_cell enc) r.cells in
     ap (λ (l : List ℕ). l ++ codes "\r\n")
-    (append_assoc (numbers_text numbers) (next_cells own) (header_text head)
+    (append_assoc (numbers_text numbers) (next_cells own) (header_text enc head)
     ∙ ap (λ (l : List ℕ). numbers_text numbers ++ l)
-    (ap (λ (l : List ℕ). next_cells own ++ l) (sym (header_is head))
-    ∙ sym (flat_map-append next_cell own (header_cells head))))
-    ∙ sym (ends numbers (own ++ header_cells head))
+    (ap (λ (l : List ℕ). next_cells own ++ l) (sym (header_is enc head))
+    ∙ sym (flat_map-append next_cell own (header_cells enc head))))
+    ∙ sym (ends numbers (own ++ header_cells enc head))
 
 -- ---- headings
 

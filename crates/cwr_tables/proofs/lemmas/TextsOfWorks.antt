@@ -4,6 +4,7 @@ use Rattle.std.specs.Prelude.{codes, decimal, Some, None, slice_get}
 use Rattle.std.specs.List.{list_any}
 use Rattle.cwr_fields.specs.Format.Kinds.{letters}
 use Rattle.cwr_lines.specs.Format.Records.{RecordValue, cell_named}
+use Rattle.cwr_json.specs.declared.encodings.Encoding.{Encoding}
 use Rattle.cwr_tables.specs.declared.places.Place.{Place}
 use Rattle.cwr_tables.specs.declared.works.Side.{Side}
 use Rattle.cwr_tables.specs.declared.works.Side.TheVariants.{Publishers, Writers}
@@ -27,10 +28,10 @@ names_by : (cell : List ℕ) (b : Bool) → list_any calls_for_quotes cell ≡ b
 names_by cell true h = sym (ap (λ (l : List ℕ). codes "," ++ l) (cell_quoted cell h))
 names_by cell false h = append-nil (codes "," ++ cell) ∙ sym (ap (λ (l : List ℕ). codes "," ++ l) (cell_plain cell h))
 
-pub names_cell : (side : Side) (t : List RecordValue)
-    → ((codes "," ++ edge (quotes side t)) ++ within (quotes side t) (names side t)) ++ edge (quotes side t)
-    ≡ next_cell (names side t)
-names_cell side t = names_by (names side t) (quotes side t) refl
+pub names_cell : (enc : Encoding) (side : Side) (t : List RecordValue)
+    → ((codes "," ++ edge (quotes enc side t)) ++ within (quotes enc side t) (names enc side t)) ++ edge (quotes enc side t)
+    ≡ next_cell (names enc side t)
+names_cell enc side t = names_by (names enc side t) (quotes enc side t) refl
 
 in_turn : (a b c d e f w p k l m n o q z : List ℕ)
     → (((((((a ++ b) ++ c) ++ d) ++ e) ++ f) ++ w) ++ p) ++ ((((k ++ l) ++ m) ++ ((n ++ o) ++ q)) ++ z)
@@ -47,30 +48,30 @@ joined a b c d e f w p k l m n o q =
     in_turn (cell_text a) (next_cell b) (next_cell c) (next_cell d) (next_cell e) (next_cell f) (next_cell w) (next_cell p)
     (next_cell k) (next_cell l) (next_cell m) (next_cell n) (next_cell o) (next_cell q) (codes "\r\n")
 
-pub row_is : (place : Place) (head : RecordValue) (t : List RecordValue) → is_header head ≡ true → Some head ≡ slice_get t 0
-    → ((front_text place head ++ next_cell (names Writers t)) ++ next_cell (names Publishers t))
-    ++ tail_text (sums Writers t) (sums Publishers t) ≡ transaction_row place t
-row_is place head [] h e = absurd (cc e)
-row_is place head (x ∷ rest) h e =
+pub row_is : (enc : Encoding) (place : Place) (head : RecordValue) (t : List RecordValue) → is_header head ≡ true → Some head ≡ slice_get t 0
+    → ((front_text enc place head ++ next_cell (names enc Writers t)) ++ next_cell (names enc Publishers t))
+    ++ tail_text (sums Writers t) (sums Publishers t) ≡ transaction_row enc place t
+row_is enc place head [] h e = absurd (cc e)
+row_is enc place head (x ∷ rest) h e =
     let same : x ≡ head = cc e in
     let t : List RecordValue = x ∷ rest in
     let s : Sums = sums Writers t in
     let o : Sums = sums Publishers t in
     joined (decimal place.group) (decimal place.transaction) (letters head.kind)
-    (shown_cell (cell_named "submitter work number" head)) (shown_cell (cell_named "title" head))
-    (shown_cell (cell_named "iswc" head))
-    (names Writers t) (names Publishers t) (percent s.performing) (percent s.mechanical) (percent s.synchronization)
+    (shown_cell enc (cell_named "submitter work number" head)) (shown_cell enc (cell_named "title" head))
+    (shown_cell enc (cell_named "iswc" head))
+    (names enc Writers t) (names enc Publishers t) (percent s.performing) (percent s.mechanical) (percent s.synchronization)
     (percent o.performing) (percent o.mechanical) (percent o.synchronization)
-    ∙ ap (λ (r : RecordValue). row_text (work_cells place r t)) (sym same)
-    ∙ sym (ap (λ (b : Bool). cond b (row_text (work_cells place x t)) []) (ap is_header same ∙ h))
+    ∙ ap (λ (r : RecordValue). row_text (work_cells enc place r t)) (sym same)
+    ∙ sym (ap (λ (b : Bool). cond b (row_text (work_cells enc place x t)) []) (ap is_header same ∙ h))
 
-pub no_row : (place : Place) (head : RecordValue) (t : List RecordValue) → is_header head ≡ false → Some head ≡ slice_get t 0
-    → transaction_row place t ≡ []
-no_row place head [] h e = refl
-no_row place head (x ∷ rest) h e =
+pub no_row : (enc : Encoding) (place : Place) (head : RecordValue) (t : List RecordValue) → is_header head ≡ false → Some head ≡ slice_get t 0
+    → transaction_row enc place t ≡ []
+no_row enc place head [] h e = refl
+no_row enc place head (x ∷ rest) h e =
     let same : x ≡ head = cc e in
-    ap (λ (b : Bool). cond b (row_text (work_cells place x (x ∷ rest))) []) (ap is_header same ∙ h)
+    ap (λ (b : Bool). cond b (row_text (work_cells enc place x (x ∷ rest))) []) (ap is_header same ∙ h)
 
-pub no_records : (place : Place) (t : List RecordValue) → None ≡ slice_get t 0 → transaction_row place t ≡ []
-no_records place [] e = refl
-no_records place (x ∷ rest) e = absurd (cc e)
+pub no_records : (enc : Encoding) (place : Place) (t : List RecordValue) → None ≡ slice_get t 0 → transaction_row enc place t ≡ []
+no_records enc place [] e = refl
+no_records enc place (x ∷ rest) e = absurd (cc e)

@@ -8,8 +8,8 @@ use Rattle.cwr_values.specs.declared.items.Item.{Item}
 use Rattle.cwr_values.specs.declared.items.Item.TheVariants.{Opened, GroupOpened, Transaction, GroupClosed, Ended}
 use Rattle.cwr_values.specs.Format.Rows.{trailer}
 use Rattle.cwr_judge.specs.Format.Items.{is_transaction, opens_group}
-use Rattle.cwr_json.specs.declared.encodings.Encoding.TheVariants.{Latin1}
-use Rattle.cwr_json.specs.Format.Encodings.{byte_by_byte}
+use Rattle.cwr_json.specs.declared.encodings.Encoding.{Encoding}
+use Rattle.cwr_json.specs.Format.Encodings.{characters}
 use Rattle.cwr_json.specs.Format.Forms.{key_of}
 use Rattle.cwr_levels.specs.Format.Findings.{is_a}
 use Rattle.cwr_tables.specs.declared.places.Place.{Place}
@@ -39,47 +39,47 @@ number_cells Outside = [] ∷ [] ∷ [] ∷ []
 number_cells (InGroup group) = decimal group ∷ [] ∷ [] ∷ []
 number_cells (InTransaction group transaction sequence) = decimal group ∷ decimal transaction ∷ decimal sequence ∷ []
 
--- a cell without trailing spaces; each byte is the character of that number, U+0020 to U+00FF, in UTF-8
-abbrev pub shown_cell : List ℕ → List ℕ
-shown_cell cell = byte_by_byte Latin1 (trimmed cell)
+-- a cell without trailing spaces, in the characters that its bytes are shown as in data, in UTF-8
+abbrev pub shown_cell : Encoding → List ℕ → List ℕ
+shown_cell enc cell = characters enc (trimmed cell)
 
 -- the row of a record with these numbers
-abbrev pub record_row : RowNumbers → RecordValue → List ℕ
-record_row numbers r = row_text (number_cells numbers ++ map shown_cell r.cells)
+abbrev pub record_row : Encoding → RowNumbers → RecordValue → List ℕ
+record_row enc numbers r = row_text (number_cells numbers ++ map (shown_cell enc) r.cells)
 
 -- the same where the record is of the kind, and else nothing
-abbrev pub row_of_kind : Kind → RowNumbers → RecordValue → List ℕ
-row_of_kind this_kind numbers r = if is_a this_kind r then record_row numbers r else []
+abbrev pub row_of_kind : Encoding → Kind → RowNumbers → RecordValue → List ℕ
+row_of_kind enc this_kind numbers r = if is_a this_kind r then record_row enc numbers r else []
 
 -- what a row says of its transaction, by the header
-abbrev pub header_cells : RecordValue → List (List ℕ)
-header_cells head = shown_cell (work_number head) ∷ shown_cell (work_title head) ∷ []
+abbrev pub header_cells : Encoding → RecordValue → List (List ℕ)
+header_cells enc head = shown_cell enc (work_number head) ∷ shown_cell enc (work_title head) ∷ []
 
 -- the row of a record with these numbers, in the transaction of that header
-abbrev pub inner_row : RecordValue → RowNumbers → RecordValue → List ℕ
-inner_row head numbers r = row_text (number_cells numbers ++ (map shown_cell r.cells ++ header_cells head))
+abbrev pub inner_row : Encoding → RecordValue → RowNumbers → RecordValue → List ℕ
+inner_row enc head numbers r = row_text (number_cells numbers ++ (map (shown_cell enc) r.cells ++ header_cells enc head))
 
 -- the same where the record is of the kind, and else nothing
-abbrev pub inner_of_kind : Kind → RecordValue → RowNumbers → RecordValue → List ℕ
-inner_of_kind this_kind head numbers r = if is_a this_kind r then inner_row head numbers r else []
+abbrev pub inner_of_kind : Encoding → Kind → RecordValue → RowNumbers → RecordValue → List ℕ
+inner_of_kind enc this_kind head numbers r = if is_a this_kind r then inner_row enc head numbers r else []
 
 -- the rows of the records of the kind, in the transaction of that header
-abbrev pub rows_under : RecordValue → Kind → Place → List RecordValue → List ℕ
-rows_under head this_kind p t =
-    flat_map (λ q. inner_of_kind this_kind head (InTransaction p.group p.transaction q.0) q.1) (enumerate_from 0 t)
+abbrev pub rows_under : Encoding → RecordValue → Kind → Place → List RecordValue → List ℕ
+rows_under enc head this_kind p t =
+    flat_map (λ q. inner_of_kind enc this_kind head (InTransaction p.group p.transaction q.0) q.1) (enumerate_from 0 t)
 
 -- the rows of a transaction's records of the kind
-abbrev pub transaction_rows : Kind → Place → List RecordValue → List ℕ
-transaction_rows this_kind p [] = []
-transaction_rows this_kind p (head ∷ rest) = rows_under head this_kind p (head ∷ rest)
+abbrev pub transaction_rows : Encoding → Kind → Place → List RecordValue → List ℕ
+transaction_rows enc this_kind p [] = []
+transaction_rows enc this_kind p (head ∷ rest) = rows_under enc head this_kind p (head ∷ rest)
 
 -- the rows of an item's records of the kind
-abbrev pub item_rows : Kind → Place → Item → List ℕ
-item_rows this_kind p (Opened r) = row_of_kind this_kind Outside r
-item_rows this_kind p (GroupOpened r) = row_of_kind this_kind (InGroup p.group) r
-item_rows this_kind p (Transaction t) = transaction_rows this_kind p t
-item_rows this_kind p (GroupClosed r) = row_of_kind this_kind (InGroup p.group) r
-item_rows this_kind p Ended = row_of_kind this_kind Outside trailer
+abbrev pub item_rows : Encoding → Kind → Place → Item → List ℕ
+item_rows enc this_kind p (Opened r) = row_of_kind enc this_kind Outside r
+item_rows enc this_kind p (GroupOpened r) = row_of_kind enc this_kind (InGroup p.group) r
+item_rows enc this_kind p (Transaction t) = transaction_rows enc this_kind p t
+item_rows enc this_kind p (GroupClosed r) = row_of_kind enc this_kind (InGroup p.group) r
+item_rows enc this_kind p Ended = row_of_kind enc this_kind Outside trailer
 
 -- ---- the table
 
@@ -92,9 +92,9 @@ place_after before item =
     }
 
 -- the rows of items
-unfoldable pub rows_of : Kind → List Item → List ℕ
-rows_of this_kind items = flat_map (λ q. item_rows this_kind (place_after (take q.0 items) q.1) q.1) (enumerate_from 0 items)
+unfoldable pub rows_of : Encoding → Kind → List Item → List ℕ
+rows_of enc this_kind items = flat_map (λ q. item_rows enc this_kind (place_after (take q.0 items) q.1) q.1) (enumerate_from 0 items)
 
 -- the table of items
-abbrev pub table_of : Kind → List Item → List ℕ
-table_of this_kind items = heading this_kind ++ rows_of this_kind items
+abbrev pub table_of : Encoding → Kind → List Item → List ℕ
+table_of enc this_kind items = heading this_kind ++ rows_of enc this_kind items

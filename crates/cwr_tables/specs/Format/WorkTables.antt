@@ -8,6 +8,7 @@ use Rattle.cwr_fields.specs.Format.Kinds.{letters}
 use Rattle.cwr_lines.specs.Format.Records.{RecordValue, cell_named}
 use Rattle.cwr_values.specs.declared.items.Item.{Item}
 use Rattle.cwr_values.specs.declared.items.Item.TheVariants.{Transaction}
+use Rattle.cwr_json.specs.declared.encodings.Encoding.{Encoding}
 use Rattle.cwr_levels.specs.Format.Findings.{is_a, is_blank, share_of}
 use Rattle.cwr_tables.specs.declared.places.Place.{Place}
 use Rattle.cwr_tables.specs.declared.works.Side.{Side}
@@ -40,15 +41,15 @@ abbrev pub owners : Side → List RecordValue → List RecordValue
 owners side t = filter (is_on side) t
 
 -- a writer's name, the last one first, or a publisher's
-abbrev pub name_of_owner : Side → RecordValue → List ℕ
-name_of_owner Writers r =
-    shown_cell (cell_named "last name" r)
-    ++ (if is_blank "first name" r then [] else codes " " ++ shown_cell (cell_named "first name" r))
-name_of_owner Publishers r = shown_cell (cell_named "publisher name" r)
+abbrev pub name_of_owner : Encoding → Side → RecordValue → List ℕ
+name_of_owner enc Writers r =
+    shown_cell enc (cell_named "last name" r)
+    ++ (if is_blank "first name" r then [] else codes " " ++ shown_cell enc (cell_named "first name" r))
+name_of_owner enc Publishers r = shown_cell enc (cell_named "publisher name" r)
 
 -- the names, joined by semicolons
-abbrev pub names : Side → List RecordValue → List ℕ
-names side t = join_by (name_of_owner side) (codes "; ") (owners side t)
+abbrev pub names : Encoding → Side → List RecordValue → List ℕ
+names enc side t = join_by (name_of_owner enc side) (codes "; ") (owners side t)
 
 -- the shares of the records in a right, added up, in hundredths of a percent: none where each of them is blank
 abbrev pub total : String → List RecordValue → Option ℕ
@@ -72,29 +73,29 @@ percent (Some n) = decimal (n / 100) ++ codes "." ++ (48 + n / 10 % 10) ∷ (48 
 abbrev pub share_cells : Sums → List (List ℕ)
 share_cells s = percent s.performing ∷ percent s.mechanical ∷ percent s.synchronization ∷ []
 
-abbrev pub work_cells : Place → RecordValue → List RecordValue → List (List ℕ)
-work_cells p head t =
-    decimal p.group ∷ decimal p.transaction ∷ letters head.kind ∷ shown_cell (cell_named "submitter work number" head)
-    ∷ shown_cell (cell_named "title" head) ∷ shown_cell (cell_named "iswc" head)
-    ∷ names Writers t ∷ names Publishers t ∷ share_cells (sums Writers t) ++ share_cells (sums Publishers t)
+abbrev pub work_cells : Encoding → Place → RecordValue → List RecordValue → List (List ℕ)
+work_cells enc p head t =
+    decimal p.group ∷ decimal p.transaction ∷ letters head.kind ∷ shown_cell enc (cell_named "submitter work number" head)
+    ∷ shown_cell enc (cell_named "title" head) ∷ shown_cell enc (cell_named "iswc" head)
+    ∷ names enc Writers t ∷ names enc Publishers t ∷ share_cells (sums Writers t) ++ share_cells (sums Publishers t)
 
 -- the record is the header of a work
 abbrev pub is_header : RecordValue → Bool
 is_header r = is_a kinds.Nwr r || is_a kinds.Rev r
 
 -- the row of a transaction that is a work
-abbrev pub transaction_row : Place → List RecordValue → List ℕ
-transaction_row p [] = []
-transaction_row p (head ∷ rest) = if is_header head then row_text (work_cells p head (head ∷ rest)) else []
+abbrev pub transaction_row : Encoding → Place → List RecordValue → List ℕ
+transaction_row enc p [] = []
+transaction_row enc p (head ∷ rest) = if is_header head then row_text (work_cells enc p head (head ∷ rest)) else []
 
-abbrev pub work_row : Place → Item → List ℕ
-work_row p (Transaction t) = transaction_row p t
-work_row p item = []
+abbrev pub work_row : Encoding → Place → Item → List ℕ
+work_row enc p (Transaction t) = transaction_row enc p t
+work_row enc p item = []
 
 -- ---- the table
 
-unfoldable pub work_rows : List Item → List ℕ
-work_rows items = flat_map (λ q. work_row (place_after (take q.0 items) q.1) q.1) (enumerate_from 0 items)
+unfoldable pub work_rows : Encoding → List Item → List ℕ
+work_rows enc items = flat_map (λ q. work_row enc (place_after (take q.0 items) q.1) q.1) (enumerate_from 0 items)
 
-abbrev pub work_table : List Item → List ℕ
-work_table items = work_heading ++ work_rows items
+abbrev pub work_table : Encoding → List Item → List ℕ
+work_table enc items = work_heading ++ work_rows enc items

@@ -6,6 +6,7 @@ use Rattle.cwr_fields.specs.Format.Kinds.{is_in_transaction}
 use Rattle.cwr_fields.specs.Format.Layouts.{FieldLayout}
 use Rattle.cwr_lines.specs.Format.Records.{RecordValue, carried_fields}
 use Rattle.cwr_lines.specs.Format.Carried.{carried_at, record_cell}
+use Rattle.cwr_json.specs.declared.encodings.Encoding.{Encoding}
 use Rattle.cwr_json.specs.Format.Forms.{key_of}
 use Rattle.cwr_tables.specs.declared.places.RowNumbers.{RowNumbers}
 use Rattle.cwr_tables.specs.declared.places.RowNumbers.TheVariants.{Outside, InGroup, InTransaction}
@@ -32,16 +33,16 @@ abbrev pub numbers_heading : List ℕ
 numbers_heading = codes "group,transaction,record"
 
 -- the cells of the fields that a record carries
-unfoldable pub shown_cells : RecordValue → List ℕ
-shown_cells r = next_cells (map shown_cell r.cells)
+unfoldable pub shown_cells : Encoding → RecordValue → List ℕ
+shown_cells enc r = next_cells (map (shown_cell enc) r.cells)
 
 -- that of one field, where the record carries it
-abbrev pub shown_of : Option (List ℕ) → List ℕ
-shown_of None = []
-shown_of (Some cell) = next_cell (shown_cell cell)
+abbrev pub shown_of : Encoding → Option (List ℕ) → List ℕ
+shown_of enc None = []
+shown_of enc (Some cell) = next_cell (shown_cell enc cell)
 
-abbrev pub field_cell : RecordValue → ℕ → List ℕ
-field_cell r j = shown_of (record_cell r j)
+abbrev pub field_cell : Encoding → RecordValue → ℕ → List ℕ
+field_cell enc r j = shown_of enc (record_cell r j)
 
 -- the names of the fields that records of a kind carry
 unfoldable pub named_columns : Kind → List ℕ
@@ -59,5 +60,5 @@ abbrev pub header_heading : Kind → List ℕ
 header_heading this_kind = if is_in_transaction this_kind then codes ",_work,_title" else []
 
 -- what a row says of its transaction
-abbrev pub header_text : RecordValue → List ℕ
-header_text head = next_cell (shown_cell (work_number head)) ++ next_cell (shown_cell (work_title head))
+abbrev pub header_text : Encoding → RecordValue → List ℕ
+header_text enc head = next_cell (shown_cell enc (work_number head)) ++ next_cell (shown_cell enc (work_title head))

@@ -5,6 +5,7 @@ use Rattle.std.specs.Prelude.{Option, None, Some, unwrap_or}
 use Rattle.std.specs.List.{flat_map, list_any}
 use Rattle.cwr_fields.specs.Format.Kinds.{letters}
 use Rattle.cwr_lines.specs.Format.Records.{RecordValue, cell_named}
+use Rattle.cwr_json.specs.declared.encodings.Encoding.{Encoding}
 use Rattle.cwr_levels.specs.Format.Findings.{is_blank, share_of}
 use Rattle.cwr_tables.specs.declared.places.Place.{Place}
 use Rattle.cwr_tables.specs.declared.works.Side.{Side}
@@ -30,15 +31,15 @@ between true = codes "; "
 between false = []
 
 -- the names call for quotes
-abbrev pub quotes : Side → List RecordValue → Bool
-quotes side t = list_any calls_for_quotes (names side t)
+abbrev pub quotes : Encoding → Side → List RecordValue → Bool
+quotes enc side t = list_any calls_for_quotes (names enc side t)
 
 -- the cells before the names
-abbrev pub front_text : Place → RecordValue → List ℕ
-front_text p head =
+abbrev pub front_text : Encoding → Place → RecordValue → List ℕ
+front_text enc p head =
     cell_text (decimal p.group) ++ next_cell (decimal p.transaction) ++ next_cell (letters head.kind)
-    ++ next_cell (shown_cell (cell_named "submitter work number" head))
-    ++ next_cell (shown_cell (cell_named "title" head)) ++ next_cell (shown_cell (cell_named "iswc" head))
+    ++ next_cell (shown_cell enc (cell_named "submitter work number" head))
+    ++ next_cell (shown_cell enc (cell_named "title" head)) ++ next_cell (shown_cell enc (cell_named "iswc" head))
 
 -- three shares
 abbrev pub shares_text : Sums → List ℕ
@@ -70,8 +71,8 @@ pub record AreSharesOf (r : RecordValue) (s : Sums) : Type 0 where
   pub synchronization : IsShareOf "sr share" r s.synchronization
 
 -- what an owner's name adds to the names before it, where there are some or not; other records add nothing
-abbrev pub owner_text : Side → Bool → Bool → RecordValue → List ℕ
-owner_text side quoted later r = if is_on side r then between later ++ within quoted (name_of_owner side r) else []
+abbrev pub owner_text : Encoding → Side → Bool → Bool → RecordValue → List ℕ
+owner_text enc side quoted later r = if is_on side r then between later ++ within quoted (name_of_owner enc side r) else []
 
 -- some of the records are owners
 abbrev pub has_owners : Side → List RecordValue → Bool
@@ -89,5 +90,5 @@ pub record AddsShares (side : Side) (r : RecordValue) (old new : Sums) : Type 0 
   pub synchronization : AddsShare "sr share" side r old.synchronization new.synchronization
 
 -- the record is an owner of the side, in whose name a byte calls for quotes
-abbrev pub name_needs_quotes : Side → RecordValue → Bool
-name_needs_quotes side r = if is_on side r then list_any calls_for_quotes (name_of_owner side r) else false
+abbrev pub name_needs_quotes : Encoding → Side → RecordValue → Bool
+name_needs_quotes enc side r = if is_on side r then list_any calls_for_quotes (name_of_owner enc side r) else false

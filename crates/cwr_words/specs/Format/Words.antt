@@ -84,8 +84,8 @@ IsSplitOf found (Explain judging) = ⊥
 IsSplitOf found (Lint files quiet explained advised all) = ⊥
 IsSplitOf found (Advise judging all repeated) = ⊥
 IsSplitOf found (Json file out numbers utf8) = ⊥
-IsSplitOf found (Csv rows file out) = ⊥
-IsSplitOf found (Acks files sent as_json by_place state fail_on) = ⊥
+IsSplitOf found (Csv rows file out utf8) = ⊥
+IsSplitOf found (Acks files sent as_json by_place state fail_on utf8) = ⊥
 IsSplitOf found (Write file out line utf8) = ⊥
 IsSplitOf found (Split transactions file prefix created only_new fail_on) =
     ((text : List ℕ) → one_text found (codes "N") ≡ Some text
@@ -124,12 +124,12 @@ IsExportOf found work = ⊥
 abbrev pub rows_named : List ℕ → Option Rows
 rows_named word = if bytes_eq word (codes "works") then Some Works else option_map Records (kind_of word)
 
--- the table that KIND names, of the file FILE to the file OUT
+-- the table that KIND names, of the file FILE to the file OUT, in UTF-8 where that flag is given
 abbrev pub IsTableOf : Found → Work → Type 0
-IsTableOf found (Csv rows file out) =
+IsTableOf found (Csv rows file out utf8) =
     (option_and_then rows_named (first_value found (codes "KIND")) ≡ Some rows)
     × (option_map (λ f. f.now) file ≡ first_value found (codes "FILE"))
-    × (option_map (λ f. f.now) out ≡ named_out (first_value found (codes "OUT")))
+    × (option_map (λ f. f.now) out ≡ named_out (first_value found (codes "OUT"))) × IsFlagOf found (codes "utf8") utf8
 IsTableOf found work = ⊥
 
 -- the states whose names the option's text has, with commas between them, or no states without the option
@@ -137,13 +137,13 @@ abbrev pub states_given : Option (List ℕ) → Option States
 states_given None = Some no_states
 states_given (Some text) = states_in text
 
--- what the acknowledgements of the files FILE say, matched with the transmissions of the files that SENT names, in their order: as JSON, by place alone and as
--- a table of states where those flags are given; a row of that table ends the run as a refusal does where it has one of the states that are named
+-- what the acknowledgements of the files FILE say, matched with the transmissions of the files that SENT names, in their order: as JSON, by place alone, as
+-- a table of states and in UTF-8 where those flags are given; a row of that table ends the run as a refusal does where it has one of the states that are named
 abbrev pub IsAcksOf : Found → Work → Type 0
-IsAcksOf found (Acks files sent as_json by_place state fail_on) =
+IsAcksOf found (Acks files sent as_json by_place state fail_on utf8) =
     AreNamesOf found (map (λ name. name.now) files.items) × AreValuesOf found (codes "sent") (map (λ name. name.now) sent.items)
     × IsFlagOf found (codes "json") as_json × IsFlagOf found (codes "by-place") by_place × IsFlagOf found (codes "state") state
-    × (states_given (first_value found (codes "fail-on")) ≡ Some fail_on)
+    × (states_given (first_value found (codes "fail-on")) ≡ Some fail_on) × IsFlagOf found (codes "utf8") utf8
 IsAcksOf found work = ⊥
 
 -- a transmission from the lines of the file FILE to the file OUT, where lines may have so many bytes as that option says, in UTF-8 where that flag
@@ -195,9 +195,9 @@ IsWorkOf name found (Advise judging all repeated) =
     (bytes_eq name (codes "advise") ≡ true) × IsAdviceOf found (Advise judging all repeated)
 IsWorkOf name found (Json file out numbers utf8) =
     (bytes_eq name (codes "json") ≡ true) × IsExportOf found (Json file out numbers utf8)
-IsWorkOf name found (Csv rows file out) = (bytes_eq name (codes "csv") ≡ true) × IsTableOf found (Csv rows file out)
-IsWorkOf name found (Acks files sent as_json by_place state fail_on) =
-    (bytes_eq name (codes "acks") ≡ true) × IsAcksOf found (Acks files sent as_json by_place state fail_on)
+IsWorkOf name found (Csv rows file out utf8) = (bytes_eq name (codes "csv") ≡ true) × IsTableOf found (Csv rows file out utf8)
+IsWorkOf name found (Acks files sent as_json by_place state fail_on utf8) =
+    (bytes_eq name (codes "acks") ≡ true) × IsAcksOf found (Acks files sent as_json by_place state fail_on utf8)
 IsWorkOf name found (Write file out line utf8) =
     (bytes_eq name (codes "write") ≡ true) × IsImportOf found (Write file out line utf8)
 IsWorkOf name found (Split transactions file prefix created only_new fail_on) =

@@ -8,7 +8,7 @@ returns-then-is_spaces-clause-value c =
     let text : List ℕ = c.args.text.now.items in
     let blank : is_spaces (cell_at c.args.shown.now c.args.j) ≡ true
     = ap is_spaces (sym c.cell.ensures.value) ∙ sym c.is_spaces.ensures ∙ c.if-is_spaces.true in
-    sym (ap (λ (b : Bool). text ++ cond b [] (cell_member c.args.key.now (cell_at c.args.shown.now c.args.j))) blank
+    sym (ap (λ (b : Bool). text ++ cond b [] (cell_member c.args.encoding c.args.key.now (cell_at c.args.shown.now c.args.j))) blank
     ∙ append-nil text)
 
 pub returns-clause-value : goal.returns-clause-value
@@ -17,4 +17,4 @@ returns-clause-value c =
     let some : is_spaces (cell_at c.args.shown.now c.args.j) ≡ false
     = ap is_spaces (sym c.cell.ensures.value) ∙ sym c.is_spaces.ensures ∙ c.if-is_spaces.false in
     c.push_member.ensures.value
-    ∙ sym (ap (λ (b : Bool). text ++ cond b [] (cell_member c.args.key.now (cell_at c.args.shown.now c.args.j))) some)
+    ∙ sym (ap (λ (b : Bool). text ++ cond b [] (cell_member c.args.encoding c.args.key.now (cell_at c.args.shown.now c.args.j))) some)

@@ -13,7 +13,7 @@ returns-clause-value c =
     let notes : Notes = c.in-Some.notes in
     c.push_mark_if-3.ensures.value ∙ ap (λ (l : List ℕ). l ++ mark_part (codes ",\"again\":true") notes.again)
     (c.push_mark_if-2.ensures.value ∙ ap (λ (l : List ℕ). l ++ mark_part (codes ",\"retitled\":true") notes.retitled)
-    (c.push_outcome.ensures.value ∙ ap (λ (l : List ℕ). l ++ outcome_member notes.outcome) c.push_mark_if.ensures.value))
-    ∙ four_parts text (mark_part (codes ",\"unkeyed\":true") notes.unkeyed) (outcome_member notes.outcome)
+    (c.push_outcome.ensures.value ∙ ap (λ (l : List ℕ). l ++ outcome_member c.args.encoding notes.outcome) c.push_mark_if.ensures.value))
+    ∙ four_parts text (mark_part (codes ",\"unkeyed\":true") notes.unkeyed) (outcome_member c.args.encoding notes.outcome)
     (mark_part (codes ",\"retitled\":true") notes.retitled) (mark_part (codes ",\"again\":true") notes.again)
-    ∙ ap (λ (o : Option Notes). text ++ notes_members_if o) (sym c.in-Some.is)
+    ∙ ap (λ (o : Option Notes). text ++ notes_members_if c.args.encoding o) (sym c.in-Some.is)

@@ -1,15 +1,12 @@
-use Rattle.std.proofs.Common.{length, ap, sym, subst, arith}
-use Rattle.cwr_json.specs.Steps.FormTexts.{NoLow}
+use Rattle.std.proofs.Common.{◌++◌, List, ℕ, length, ap, ◌∙◌, arith, append_assoc}
+use Rattle.std.specs.Prelude.{codes}
+use Rattle.cwr_json.specs.Steps.FormTexts.{spelled}
 use Rattle.cwr_json.proofs.lemmas.FieldsShown.{length-trimmed-le}
-use Rattle.cwr_json.proofs.lemmas.Spelled.{NoLow-trimmed}
 use Rattle.cwr_acks.proofs.data_texts.push_shown.Goals as goal
 
-pub push_spelled-requires-clause-room : goal.push_spelled-requires-clause-room
-push_spelled-requires-clause-room c =
-    omega (arith, length-trimmed-le c.args.cell.now, ap length c.trimmed.ensures, c.requires.room, c.push.ensures.len)
-
-pub push_spelled-requires-clause-high : goal.push_spelled-requires-clause-high
-push_spelled-requires-clause-high c = subst NoLow (sym c.trimmed.ensures) (NoLow-trimmed c.args.cell.now c.requires.high)
+pub push_escaped_characters-requires : goal.push_escaped_characters-requires
+push_escaped_characters-requires c =
+    omega (arith, length-trimmed-le c.args.cell.now, ap length c.trimmed.ensures, c.requires, c.push.ensures.len)
 
 pub push-requires-2 : goal.push-requires-2
 push-requires-2 c =
@@ -17,9 +14,9 @@ push-requires-2 c =
       arith,
       length-trimmed-le c.args.cell.now,
       ap length c.trimmed.ensures,
-      c.requires.room,
+      c.requires,
       c.push.ensures.len,
-      c.push_spelled.ensures.len,
+      c.push_escaped_characters.ensures.len,
     )
 
 pub returns-clause-len : goal.returns-clause-len
@@ -29,6 +26,6 @@ returns-clause-len c =
       length-trimmed-le c.args.cell.now,
       ap length c.trimmed.ensures,
       c.push.ensures.len,
-      c.push_spelled.ensures.len,
+      c.push_escaped_characters.ensures.len,
       c.push-2.ensures.len,
     )

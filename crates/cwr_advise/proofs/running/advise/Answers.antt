@@ -16,8 +16,8 @@ write_report-writer-requires g c = (
 pub returns-clause-reported : goal.returns-clause-reported
 returns-clause-reported g c =
     c.write_report-writer.ensures.reported (lines_of_advice c.args.all c.args.repeated) (begun_lines c.new-lines.result (advising c.args.all) false c.args.repeated c.new-lines.ensures.manner
-      c.new-lines.ensures.up_to_fault c.new-lines.ensures.repeated c.new-lines.ensures.before c.new-lines.ensures.works
-      c.new-lines.ensures.none c.new-lines.ensures.uncounted c.new-lines.ensures.untold (λ up. absurd (cc up)))
+    c.new-lines.ensures.up_to_fault c.new-lines.ensures.repeated c.new-lines.ensures.before c.new-lines.ensures.works
+    c.new-lines.ensures.none c.new-lines.ensures.uncounted c.new-lines.ensures.untold (λ up. absurd (cc up)))
 
 pub returns-clause-told : goal.returns-clause-told
 returns-clause-told g c =
@@ -36,5 +36,5 @@ returns-clause-seen g c =
       here.5,
     ))
     (c.write_report-writer.ensures.stands (lines_of_advice c.args.all c.args.repeated) (begun_lines c.new-lines.result (advising c.args.all) false c.args.repeated c.new-lines.ensures.manner
-      c.new-lines.ensures.up_to_fault c.new-lines.ensures.repeated c.new-lines.ensures.before c.new-lines.ensures.works
-      c.new-lines.ensures.none c.new-lines.ensures.uncounted c.new-lines.ensures.untold (λ up. absurd (cc up))))
+    c.new-lines.ensures.up_to_fault c.new-lines.ensures.repeated c.new-lines.ensures.before c.new-lines.ensures.works
+    c.new-lines.ensures.none c.new-lines.ensures.uncounted c.new-lines.ensures.untold (λ up. absurd (cc up))))

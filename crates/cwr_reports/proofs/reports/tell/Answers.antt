@@ -62,7 +62,7 @@ returns-in-Rows-clause-seen g c =
 
 pub returns-in-Rows-clause-looks : goal.returns-in-Rows-clause-looks
 returns-in-Rows-clause-looks g c =
-    looks_told (lines_of_table c.in-Rows.table) c.args.limits (g.R.Source.remaining c.args.reader.now)
+    looks_told (lines_of_table c.in-Rows.encoding c.in-Rows.table) c.args.limits (g.R.Source.remaining c.args.reader.now)
     (g.R.Source.remaining c.csv-writer.new.reader) (g.R.Source.remaining c.look_after-look-in-Rows.new.reader)
     g.W.Target.contents
     c.args.writer c.csv-writer.result.0 c.csv-writer.result.1 c.look_after-look-in-Rows.result c.csv-writer.ensures.told
@@ -230,7 +230,7 @@ returns-in-Data-clause-judged g c =
 
 pub returns-in-Rows-clause-judged : goal.returns-in-Rows-clause-judged
 returns-in-Rows-clause-judged g c =
-    judged_text (lines_of_table c.in-Rows.table) c.args.limits _ _ g.W.Target.contents c.args.writer c.csv-writer.result.0
+    judged_text (lines_of_table c.in-Rows.encoding c.in-Rows.table) c.args.limits _ _ g.W.Target.contents c.args.writer c.csv-writer.result.0
     c.csv-writer.result.1 c.csv-writer.ensures.told
 
 pub returns-in-Answers-clause-judged : goal.returns-in-Answers-clause-judged

@@ -9,11 +9,11 @@ use Rattle.cwr_state_rows.proofs.row_texts.push_json_answer.Goals as goal
 pub returns-clause-value : goal.returns-clause-value
 returns-clause-value c =
     let join : List ℕ → List ℕ → List ℕ = λ l m. l ++ m in
-    let society : List ℕ → List ℕ = member (codes ",\"society\":") in
-    let status : List ℕ → List ℕ = member (codes ",\"status\":") in
-    let processed : List ℕ → List ℕ = member (codes ",\"processed\":") in
-    let recipient : List ℕ → List ℕ = member (codes ",\"recipient\":") in
-    let level : List ℕ → List ℕ = member (codes ",\"level\":") in
+    let society : List ℕ → List ℕ = member c.args.encoding (codes ",\"society\":") in
+    let status : List ℕ → List ℕ = member c.args.encoding (codes ",\"status\":") in
+    let processed : List ℕ → List ℕ = member c.args.encoding (codes ",\"processed\":") in
+    let recipient : List ℕ → List ℕ = member c.args.encoding (codes ",\"recipient\":") in
+    let level : List ℕ → List ℕ = member c.args.encoding (codes ",\"level\":") in
     c.push_member-3.ensures.value ∙ ap₂ join
     (c.push_member_trimmed-2.ensures.value
     ∙ ap (λ (l : List ℕ). l ++ recipient (trimmed c.args.answer.now.recipient))

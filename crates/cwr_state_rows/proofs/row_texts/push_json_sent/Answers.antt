@@ -9,8 +9,8 @@ use Rattle.cwr_state_rows.proofs.row_texts.push_json_sent.Goals as goal
 pub returns-clause-value : goal.returns-clause-value
 returns-clause-value c =
     let join : List ℕ → List ℕ → List ℕ = λ l m. l ++ m in
-    let kind : List ℕ → List ℕ = member (codes ",\"type\":") in
-    let number : List ℕ = member (codes ",\"submitter\":") (trimmed c.args.facts.now.number) in
+    let kind : List ℕ → List ℕ = member c.args.encoding (codes ",\"type\":") in
+    let number : List ℕ = member c.args.encoding (codes ",\"submitter\":") (trimmed c.args.facts.now.number) in
     let group : List ℕ = codes "\"group\":" in
     let transaction : List ℕ = codes ",\"transaction\":" in
     c.push_member_trimmed.ensures.value

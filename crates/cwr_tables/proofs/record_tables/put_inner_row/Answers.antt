@@ -7,12 +7,12 @@ use Rattle.cwr_tables.proofs.record_tables.put_inner_row.Goals as goal
 pub returns-then-not-is_of-clause-puts : goal.returns-then-not-is_of-clause-puts
 returns-then-not-is_of-clause-puts g c =
     puts_nothing g.W.Target.contents g.W.Target.failures c.args.sink.now _
-    (inner_of_other c.args.kind c.args.head.now c.args.numbers c.args.shown.now (sym c.is_of.ensures ∙ c.if-not-is_of.true))
+    (inner_of_other c.args.encoding c.args.kind c.args.head.now c.args.numbers c.args.shown.now (sym c.is_of.ensures ∙ c.if-not-is_of.true))
     c.requires
 
 pub returns-clause-puts : goal.returns-clause-puts
 returns-clause-puts g c =
     puts_as g.W.Target.contents g.W.Target.failures _ _ _ _ _
     (c.set_inner_row.ensures
-    ∙ inner_of_it c.args.kind c.args.head.now c.args.numbers c.args.shown.now (sym c.is_of.ensures ∙ c.if-not-is_of.false))
+    ∙ inner_of_it c.args.encoding c.args.kind c.args.head.now c.args.numbers c.args.shown.now (sym c.is_of.ensures ∙ c.if-not-is_of.false))
     c.put_text.ensures.puts

@@ -9,7 +9,7 @@ use Rattle.cwr_tables.proofs.record_tables.put_records.Goals as goal
 pub returns-in_err-put_inner_row-clause-puts : goal.returns-in_err-put_inner_row-clause-puts
 returns-in_err-put_inner_row-clause-puts g c =
     let row : ℕ → RecordValue → List ℕ =
-    λ n r. inner_of_kind c.args.kind c.args.head.now (InTransaction c.args.place.group c.args.place.transaction n) r in
+    λ n r. inner_of_kind c.args.encoding c.args.kind c.args.head.now (InTransaction c.args.place.group c.args.place.transaction n) r in
     steps_refused g.W.Target.contents g.W.Target.failures row 0 c.loop-shown.i c.loop-shown.i c.args.transaction.now
     c.in-Some.shown c.args.sink.now c.loop-shown.sink c.put_inner_row.new.sink
     c.in_err-put_inner_row.field-0.0 c.from_residual.result c.in-Some.ensures.value (omega arith) c.from_residual.ensures.0
@@ -22,7 +22,7 @@ loop-shown-smaller g c =
 pub loop-shown-preserved : goal.loop-shown-preserved
 loop-shown-preserved g c =
     let row : ℕ → RecordValue → List ℕ =
-    λ n r. inner_of_kind c.args.kind c.args.head.now (InTransaction c.args.place.group c.args.place.transaction n) r in
+    λ n r. inner_of_kind c.args.encoding c.args.kind c.args.head.now (InTransaction c.args.place.group c.args.place.transaction n) r in
     record {
       within =
           let h = found_within c.args.transaction.now c.loop-shown.i c.in-Some.shown c.in-Some.ensures.value in omega (arith, h);
@@ -38,7 +38,7 @@ loop-shown-preserved g c =
 pub returns-clause-puts : goal.returns-clause-puts
 returns-clause-puts g c =
     let row : ℕ → RecordValue → List ℕ =
-    λ n r. inner_of_kind c.args.kind c.args.head.now (InTransaction c.args.place.group c.args.place.transaction n) r in
+    λ n r. inner_of_kind c.args.encoding c.args.kind c.args.head.now (InTransaction c.args.place.group c.args.place.transaction n) r in
     record {
       written =
           λ start before h. steps_whole g.W.Target.contents start before row 0 c.loop-shown.i c.args.transaction.now

@@ -9,7 +9,7 @@ invariant-loop-shown g l = record {
   unfailed : has_failed l.sink ≡ false;
   counts : g.W.Target.failures (writer_of l.sink) ≡ g.W.Target.failures (writer_of l.initial.sink);
   written : (start : Option (List ℕ)) (before : List ℕ) → HasWritten g.W.Target.contents start before l.initial.sink
-      → HasWritten g.W.Target.contents start (before ++ rows_under l.fn.head l.fn.kind l.fn.place (take l.i l.transaction)) l.sink;
+      → HasWritten g.W.Target.contents start (before ++ rows_under l.fn.encoding l.fn.head l.fn.kind l.fn.place (take l.i l.transaction)) l.sink;
 }
 
 abbrev pub decreases-loop-shown : goal.decreases-loop-shown

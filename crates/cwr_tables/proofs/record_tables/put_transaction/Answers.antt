@@ -6,9 +6,9 @@ use Rattle.cwr_tables.proofs.record_tables.put_transaction.Goals as goal
 pub returns-in_default-clause-puts : goal.returns-in_default-clause-puts
 returns-in_default-clause-puts g c =
     puts_nothing g.W.Target.contents g.W.Target.failures c.args.sink.now _
-    (no_rows c.args.kind c.args.place c.args.transaction.now c.in_default.ensures.value) c.requires
+    (no_rows c.args.encoding c.args.kind c.args.place c.args.transaction.now c.in_default.ensures.value) c.requires
 
 pub returns-clause-puts : goal.returns-clause-puts
 returns-clause-puts g c =
     puts_as g.W.Target.contents g.W.Target.failures _ _ _ _ _
-    (rows_by c.args.kind c.args.place c.in-Some.head c.args.transaction.now c.in-Some.ensures.value) c.put_records.ensures.puts
+    (rows_by c.args.encoding c.args.kind c.args.place c.in-Some.head c.args.transaction.now c.in-Some.ensures.value) c.put_records.ensures.puts

@@ -19,10 +19,10 @@ loop-before-preserved c =
     record {
       value =
           c.push_field.ensures.value
-          ∙ ap (λ (l : List ℕ). l ++ field_cell c.args.shown.now (c.loop-before.before + 1)) c.loop-before.invariant.value
-          ∙ append_assoc c.args.text.now.items (cells_before c.args.shown.now c.loop-before.before)
-          (field_cell c.args.shown.now (c.loop-before.before + 1))
-          ∙ ap (λ (l : List ℕ). c.args.text.now.items ++ l) (sym (cells_more c.args.shown.now c.loop-before.before within));
+          ∙ ap (λ (l : List ℕ). l ++ field_cell c.args.encoding c.args.shown.now (c.loop-before.before + 1)) c.loop-before.invariant.value
+          ∙ append_assoc c.args.text.now.items (cells_before c.args.encoding c.args.shown.now c.loop-before.before)
+          (field_cell c.args.encoding c.args.shown.now (c.loop-before.before + 1))
+          ∙ ap (λ (l : List ℕ). c.args.text.now.items ++ l) (sym (cells_more c.args.encoding c.args.shown.now c.loop-before.before within));
       len = omega (arith, c.push_field.ensures.len, c.loop-before.invariant.len);
     }
 
@@ -32,7 +32,7 @@ returns-clause-value c =
     c.fields-before-end.ensures ∙ ap (λ (kind : Kind). length (layout kind)) c.kind.ensures.value in
     let all : length (layout c.args.shown.now.kind) ≤ c.loop-before.before = omega (arith, c.loop-before-test.false, fields) in
     c.loop-before.invariant.value ∙ ap (λ (l : List ℕ). c.args.text.now.items ++ l)
-    (cells_whole c.args.shown.now c.loop-before.before c.kind.ensures.fits all)
+    (cells_whole c.args.encoding c.args.shown.now c.loop-before.before c.kind.ensures.fits all)
 
 pub returns-clause-len : goal.returns-clause-len
 returns-clause-len c =

@@ -4,6 +4,6 @@ use Rattle.cwr_tables.proofs.rows.push_fields.Given as goal
 
 abbrev pub invariant-loop-before : goal.invariant-loop-before
 invariant-loop-before l = record {
-  value : l.text.items ≡ l.fn.text.items ++ cells_before l.shown l.before;
-  len : length l.text.items ≤ 150 + 2883 * l.before;
+  value : l.text.items ≡ l.fn.text.items ++ cells_before l.encoding l.shown l.before;
+  len : length l.text.items ≤ 150 + 4323 * l.before;
 }

@@ -6,7 +6,7 @@ use Rattle.cwr_tables.proofs.rows.push_header_cells.Goals as goal
 
 pub returns-clause-value : goal.returns-clause-value
 returns-clause-value c =
-    let shown : List ℕ → List ℕ = λ cell. next_cell (shown_cell cell) in
+    let shown : List ℕ → List ℕ = λ cell. next_cell (shown_cell c.args.encoding cell) in
     c.push_shown-2.ensures.value
     ∙ ap₂ (λ (l m : List ℕ). l ++ m)
     (c.push_shown.ensures.value ∙ ap (λ (cell : List ℕ). c.args.text.now.items ++ shown cell) c.work_number.ensures.value)

@@ -6,8 +6,8 @@ pub push_next-requires : goal.push_next-requires
 push_next-requires c =
     omega (arith, c.requires.room, c.requires.short, length-trimmed-le c.args.cell.now, ap length c.trimmed-shown.ensures)
 
-pub characters-requires : goal.characters-requires
-characters-requires c = omega (arith, c.requires.short, length-trimmed-le c.args.cell.now, ap length c.trimmed-shown.ensures)
+pub characters_of-requires : goal.characters_of-requires
+characters_of-requires c = omega (arith, c.requires.short, length-trimmed-le c.args.cell.now, ap length c.trimmed-shown.ensures)
 
 pub returns-then-is_ascii-clause-len : goal.returns-then-is_ascii-clause-len
 returns-then-is_ascii-clause-len c =

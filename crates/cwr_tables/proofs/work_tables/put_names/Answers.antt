@@ -18,19 +18,19 @@ loop-shown-init g c = record {
   counts = refl;
   written =
       λ start before h. subst (λ (l : List ℕ). HasWritten g.W.Target.contents start l c.args.sink.now)
-      (sym (ap (λ (l : List ℕ). before ++ l) (names_none c.args.side c.args.quoted) ∙ append-nil before)) h;
+      (sym (ap (λ (l : List ℕ). before ++ l) (names_none c.args.encoding c.args.side c.args.quoted) ∙ append-nil before)) h;
 }
 
 pub returns-in_err-put_name-clause-puts : goal.returns-in_err-put_name-clause-puts
 returns-in_err-put_name-clause-puts g c =
     let t : List RecordValue = c.args.transaction.now in
     let i : ℕ = c.loop-shown.i in
-    let longer = names_longer c.args.side c.args.quoted t (i + 1) in
-    turn_refused g.W.Target.contents g.W.Target.failures (within c.args.quoted (names c.args.side (take i t)))
-    (owner_text c.args.side c.args.quoted c.loop-shown.later c.in-Some.shown)
-    (within c.args.quoted (names c.args.side (take (i + 1) t))) longer.0 (within c.args.quoted (names c.args.side t))
+    let longer = names_longer c.args.encoding c.args.side c.args.quoted t (i + 1) in
+    turn_refused g.W.Target.contents g.W.Target.failures (within c.args.quoted (names c.args.encoding c.args.side (take i t)))
+    (owner_text c.args.encoding c.args.side c.args.quoted c.loop-shown.later c.in-Some.shown)
+    (within c.args.quoted (names c.args.encoding c.args.side (take (i + 1) t))) longer.0 (within c.args.quoted (names c.args.encoding c.args.side t))
     c.args.sink.now c.loop-shown.sink c.put_name.new.sink
-    c.in_err-put_name.field-0.0 c.from_residual.result (names_more c.args.side c.args.quoted c.loop-shown.later t i
+    c.in_err-put_name.field-0.0 c.from_residual.result (names_more c.args.encoding c.args.side c.args.quoted c.loop-shown.later t i
     c.in-Some.shown c.in-Some.ensures.value c.loop-shown.invariant.later) longer.1
     c.from_residual.ensures.0 c.loop-shown.invariant.counts c.loop-shown.invariant.written c.in_err-put_name.ensures.puts
 
@@ -51,10 +51,10 @@ loop-shown-preserved g c =
       unfailed = c.in_ok-put_name.ensures.puts.failed;
       counts = c.in_ok-put_name.ensures.puts.counts ∙ c.loop-shown.invariant.counts;
       written =
-          λ start before h. turn_put g.W.Target.contents start before (within c.args.quoted (names c.args.side (take i t)))
-          (owner_text c.args.side c.args.quoted c.loop-shown.later c.in-Some.shown)
-          (within c.args.quoted (names c.args.side (take (i + 1) t))) c.put_name.new.sink
-          (names_more c.args.side c.args.quoted c.loop-shown.later t i c.in-Some.shown c.in-Some.ensures.value
+          λ start before h. turn_put g.W.Target.contents start before (within c.args.quoted (names c.args.encoding c.args.side (take i t)))
+          (owner_text c.args.encoding c.args.side c.args.quoted c.loop-shown.later c.in-Some.shown)
+          (within c.args.quoted (names c.args.encoding c.args.side (take (i + 1) t))) c.put_name.new.sink
+          (names_more c.args.encoding c.args.side c.args.quoted c.loop-shown.later t i c.in-Some.shown c.in-Some.ensures.value
           c.loop-shown.invariant.later)
           (c.in_ok-put_name.ensures.puts.written start _ (c.loop-shown.invariant.written start before h));
     }
@@ -66,7 +66,7 @@ returns-clause-puts g c =
     record {
       written =
           λ start before h. subst (λ (l : List RecordValue). HasWritten g.W.Target.contents start
-          (before ++ within c.args.quoted (names c.args.side l)) c.loop-shown.sink) all (c.loop-shown.invariant.written start
+          (before ++ within c.args.quoted (names c.args.encoding c.args.side l)) c.loop-shown.sink) all (c.loop-shown.invariant.written start
           before h);
       failed = c.loop-shown.invariant.unfailed;
       counts = c.loop-shown.invariant.counts;

@@ -1,7 +1,6 @@
 use Rattle.std.proofs.Common.{◌≡◌, true, sym, ap, ◌∙◌, arith}
 use Rattle.cwr_fields.specs.Format.Bytes.{trimmed}
-use Rattle.cwr_json.specs.declared.encodings.Encoding.TheVariants.{Latin1}
-use Rattle.cwr_json.specs.Format.Encodings.{byte_by_byte}
+use Rattle.cwr_json.specs.Format.Encodings.{characters}
 use Rattle.cwr_tables.specs.declared.works.Side.{Side}
 use Rattle.cwr_tables.specs.declared.works.Side.TheVariants.{Publishers}
 use Rattle.cwr_tables.specs.Format.WorkTables.{is_on, name_of_owner}
@@ -14,10 +13,10 @@ writer_name-requires c = sym (ap (λ (side : Side). is_on side c.args.shown.now)
 
 pub returns-in-Writers-clause-value : goal.returns-in-Writers-clause-value
 returns-in-Writers-clause-value c =
-    c.writer_name.ensures.value ∙ sym (ap (λ (side : Side). name_of_owner side c.args.shown.now) c.in-Writers.is)
+    c.writer_name.ensures.value ∙ sym (ap (λ (side : Side). name_of_owner c.args.encoding side c.args.shown.now) c.in-Writers.is)
 
-pub characters-requires : goal.characters-requires
-characters-requires c =
+pub characters_of-requires : goal.characters_of-requires
+characters_of-requires c =
     let on : is_on Publishers c.args.shown.now ≡ true =
     sym (ap (λ (side : Side). is_on side c.args.shown.now) c.in-Publishers.is) ∙ c.requires in
     let h =
@@ -29,9 +28,9 @@ pub returns-in-Publishers-clause-value : goal.returns-in-Publishers-clause-value
 returns-in-Publishers-clause-value c =
     let on : is_on Publishers c.args.shown.now ≡ true =
     sym (ap (λ (side : Side). is_on side c.args.shown.now) c.in-Publishers.is) ∙ c.requires in
-    c.characters.ensures.value ∙ ap (byte_by_byte Latin1) (c.trimmed.ensures ∙ ap trimmed (cell_is "publisher name"
+    c.characters_of.ensures.value ∙ ap (characters c.args.encoding) (c.trimmed.ensures ∙ ap trimmed (cell_is "publisher name"
     c.args.shown.now 6 45 c.cell.result.now c.cell.ensures.value (publisher_name c.args.shown.now on) c.cell.ensures.fits))
-    ∙ sym (ap (λ (side : Side). name_of_owner side c.args.shown.now) c.in-Publishers.is)
+    ∙ sym (ap (λ (side : Side). name_of_owner c.args.encoding side c.args.shown.now) c.in-Publishers.is)
 
 pub returns-in-Publishers-clause-len : goal.returns-in-Publishers-clause-len
 returns-in-Publishers-clause-len c =
@@ -40,4 +39,4 @@ returns-in-Publishers-clause-len c =
     let h =
     trimmed_long "publisher name" c.args.shown.now 6 45 c.cell.result.now c.trimmed.result.now c.cell.ensures.value
     (publisher_name c.args.shown.now on) c.cell.ensures.fits c.trimmed.ensures in
-    omega (arith, h, c.characters.ensures.len)
+    omega (arith, h, c.characters_of.ensures.len)

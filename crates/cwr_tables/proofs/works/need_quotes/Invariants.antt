@@ -5,7 +5,7 @@ use Rattle.cwr_tables.proofs.works.need_quotes.Given as goal
 abbrev pub invariant-loop-shown : goal.invariant-loop-shown
 invariant-loop-shown l = record {
   within : l.i ≤ length l.transaction;
-  value : l.found ≡ quotes l.side (take l.i l.transaction);
+  value : l.found ≡ quotes l.encoding l.side (take l.i l.transaction);
 }
 
 abbrev pub decreases-loop-shown : goal.decreases-loop-shown

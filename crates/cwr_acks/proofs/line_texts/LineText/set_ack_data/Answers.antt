@@ -18,13 +18,13 @@ returns c =
     let three : cell_at c.args.shown.now 9 ≡ cell_named "creation title" c.args.shown.now
     = cell_is "creation title" c.args.shown.now 9 60 _ refl (title c.args.shown.now c.requires) c.push_member_if.ensures.fits in
     c.push.ensures.value ∙ ap (λ (l : List ℕ). l ++ codes ",\"messages\":[")
-    (c.push_notes.ensures.value ∙ ap (λ (l : List ℕ). l ++ notes_members_if c.args.notes.now)
+    (c.push_notes.ensures.value ∙ ap (λ (l : List ℕ). l ++ notes_members_if c.args.encoding c.args.notes.now)
     (c.push_member_if-3.ensures.value ∙ ap₂ join
     (c.push_member_if-2.ensures.value ∙ ap₂ join
     (c.push_member_if.ensures.value ∙ ap₂ join
     (c.push_level_data.ensures.value ∙ ap (λ (l : List ℕ). l ++ level_member c.args.worst)
-    (c.push_original_data.ensures.value ∙ ap (λ (l : List ℕ). l ++ original_members c.args.shown.now)
-    (c.push_status_data.ensures.value ∙ ap (λ (l : List ℕ). l ++ status_members c.args.shown.now) c.clear.ensures)))
-    (ap (cell_member_if (codes ",\"submitter\":")) one))
-    (ap (cell_member_if (codes ",\"recipient\":")) two))
-    (ap (cell_member_if (codes ",\"title\":")) three)))
+    (c.push_original_data.ensures.value ∙ ap (λ (l : List ℕ). l ++ original_members c.args.encoding c.args.shown.now)
+    (c.push_status_data.ensures.value ∙ ap (λ (l : List ℕ). l ++ status_members c.args.encoding c.args.shown.now) c.clear.ensures)))
+    (ap (cell_member_if c.args.encoding (codes ",\"submitter\":")) one))
+    (ap (cell_member_if c.args.encoding (codes ",\"recipient\":")) two))
+    (ap (cell_member_if c.args.encoding (codes ",\"title\":")) three)))

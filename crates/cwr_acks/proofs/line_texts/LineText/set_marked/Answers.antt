@@ -90,5 +90,5 @@ returns c =
     (c.push_cell_part.ensures.value ∙ ap₂ join
     (c.push_original.ensures.value ∙ ap (λ (l : List ℕ). l ++ original_text c.args.shown.now)
     (c.push.ensures.value ∙ ap (λ (l : List ℕ). l ++ c.args.word.now) c.clear.ensures))
-    (ap (cell_part (codes " submitter ")) one))
-    (ap (cell_part (codes " title ")) two)))
+    (ap (cell_part c.args.cells (codes " submitter ")) one))
+    (ap (cell_part c.args.cells (codes " title ")) two)))

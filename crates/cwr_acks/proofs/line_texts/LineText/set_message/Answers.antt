@@ -1,10 +1,8 @@
 use Rattle.std.proofs.Common.{◌≡◌, ℕ, List, ◌++◌, length, ap, ap₂, ◌∙◌, arith}
 use Rattle.std.specs.Prelude.{codes}
-use Rattle.cwr_fields.specs.Format.Bytes.{trimmed}
 use Rattle.cwr_lines.specs.Format.Records.{cell_named}
-use Rattle.cwr_acks.specs.Format.AckTexts.{cell_part, number_part}
+use Rattle.cwr_acks.specs.Format.AckTexts.{cell_part, number_part, shown_as}
 use Rattle.cwr_delivery.proofs.lemmas.AckFields.{level, message_text, message_type, record_number, record_type, validation}
-use Rattle.cwr_acks.proofs.lemmas.NamedParts.{trimmed_long}
 use Rattle.cwr_delivery.proofs.lemmas.NamedCells.{cell_is, cell_long}
 use Rattle.cwr_acks.proofs.line_texts.LineText.set_message.Goals as goal
 
@@ -116,8 +114,8 @@ push-requires-5 c =
       c.push_cell_part-2.ensures.len,
     )
 
-pub push-requires-6 : goal.push-requires-6
-push-requires-6 c =
+pub push_cell-requires : goal.push_cell-requires
+push_cell-requires c =
     let h =
     cell_long "message level" c.args.shown.now 7 1 c.cell.result.now c.cell.ensures.value (level c.args.shown.now c.requires)
     c.cell.ensures.fits in
@@ -131,8 +129,8 @@ push-requires-6 c =
     cell_long "validation number" c.args.shown.now 8 3 c.cell-5.result.now c.cell-5.ensures.value
     (validation c.args.shown.now c.requires) c.cell-5.ensures.fits in
     let n =
-    trimmed_long "message text" c.args.shown.now 9 150 c.cell-6.result.now c.trimmed.result.now c.cell-6.ensures.value
-    (message_text c.args.shown.now c.requires) c.cell-6.ensures.fits c.trimmed.ensures in
+    cell_long "message text" c.args.shown.now 9 150 c.cell-6.result.now c.cell-6.ensures.value
+    (message_text c.args.shown.now c.requires) c.cell-6.ensures.fits in
     omega (
       arith,
       h,
@@ -151,8 +149,8 @@ push-requires-6 c =
       c.push-5.ensures.len,
     )
 
-pub push-requires-7 : goal.push-requires-7
-push-requires-7 c =
+pub push-requires-6 : goal.push-requires-6
+push-requires-6 c =
     let h =
     cell_long "message level" c.args.shown.now 7 1 c.cell.result.now c.cell.ensures.value (level c.args.shown.now c.requires)
     c.cell.ensures.fits in
@@ -166,8 +164,8 @@ push-requires-7 c =
     cell_long "validation number" c.args.shown.now 8 3 c.cell-5.result.now c.cell-5.ensures.value
     (validation c.args.shown.now c.requires) c.cell-5.ensures.fits in
     let n =
-    trimmed_long "message text" c.args.shown.now 9 150 c.cell-6.result.now c.trimmed.result.now c.cell-6.ensures.value
-    (message_text c.args.shown.now c.requires) c.cell-6.ensures.fits c.trimmed.ensures in
+    cell_long "message text" c.args.shown.now 9 150 c.cell-6.result.now c.cell-6.ensures.value
+    (message_text c.args.shown.now c.requires) c.cell-6.ensures.fits in
     omega (
       arith,
       h,
@@ -184,7 +182,7 @@ push-requires-7 c =
       c.push_cell_part.ensures.len,
       c.push_cell_part-2.ensures.len,
       c.push-5.ensures.len,
-      c.push-6.ensures.len,
+      c.push_cell.ensures.len,
     )
 
 pub returns : goal.returns
@@ -208,8 +206,8 @@ returns c =
     let six : c.cell-6.result.now ≡ cell_named "message text" c.args.shown.now =
     cell_is "message text" c.args.shown.now 9 150 c.cell-6.result.now c.cell-6.ensures.value
     (message_text c.args.shown.now c.requires) c.cell-6.ensures.fits in
-    c.push-7.ensures.value ∙ ap (λ (l : List ℕ). l ++ codes "\n")
-    (c.push-6.ensures.value ∙ ap₂ join
+    c.push-6.ensures.value ∙ ap (λ (l : List ℕ). l ++ codes "\n")
+    (c.push_cell.ensures.value ∙ ap₂ join
     (c.push-5.ensures.value ∙ ap (λ (l : List ℕ). l ++ codes ": ")
     (c.push_cell_part-2.ensures.value ∙ ap₂ join
     (c.push_cell_part.ensures.value ∙ ap₂ join
@@ -221,6 +219,6 @@ returns c =
     one))
     two)
     (ap (number_part (codes " record ")) three))
-    (ap (cell_part (codes " ")) four))
-    (ap (cell_part (codes " validation ")) five)))
-    (c.trimmed.ensures ∙ ap trimmed six))
+    (ap (cell_part c.args.cells (codes " ")) four))
+    (ap (cell_part c.args.cells (codes " validation ")) five)))
+    (ap (shown_as c.args.cells) six))

@@ -39,9 +39,9 @@ returns c =
     (c.push_member-2.ensures.value ∙ ap₂ join
     (c.push_member.ensures.value ∙ ap₂ join
     (c.push_comma_if.ensures.value ∙ ap (λ (l : List ℕ). l ++ comma_if c.args.later) c.clear.ensures)
-    (ap (cell_member (codes "{\"level\":")) one))
-    (ap (cell_member (codes ",\"type\":")) two))
+    (ap (cell_member c.args.encoding (codes "{\"level\":")) one))
+    (ap (cell_member c.args.encoding (codes ",\"type\":")) two))
     (ap (number_part (codes ",\"record\":")) three))
-    (ap (cell_member_if (codes ",\"record_type\":")) four))
-    (ap (cell_member_if (codes ",\"validation\":")) five))
-    (ap (cell_member (codes ",\"text\":")) six))
+    (ap (cell_member_if c.args.encoding (codes ",\"record_type\":")) four))
+    (ap (cell_member_if c.args.encoding (codes ",\"validation\":")) five))
+    (ap (cell_member c.args.encoding (codes ",\"text\":")) six))

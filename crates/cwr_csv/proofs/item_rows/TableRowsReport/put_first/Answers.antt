@@ -6,5 +6,5 @@ use Rattle.cwr_csv.proofs.item_rows.TableRowsReport.put_first.Goals as goal
 
 pub returns-clause-puts : goal.returns-clause-puts
 returns-clause-puts g c =
-    λ of e. first_lines g.W.Target.contents g.W.Target.failures of (lines_of_table c.args.self.now.table)
-    (table_heading c.args.self.now.table) _ _ _ e (table_none c.args.self.now.table) c.put_first.ensures
+    λ of e. first_lines g.W.Target.contents g.W.Target.failures of (lines_of_table c.args.self.now.encoding c.args.self.now.table)
+    (table_heading c.args.self.now.table) _ _ _ e (table_none c.args.self.now.encoding c.args.self.now.table) c.put_first.ensures

@@ -6,6 +6,6 @@ use Rattle.cwr_csv.proofs.item_rows.TableRowsReport.put_item.Goals as goal
 
 pub returns-clause-puts : goal.returns-clause-puts
 returns-clause-puts g c =
-    λ of given counted e. next_lines g.W.Target.contents g.W.Target.failures of (lines_of_table c.args.self.now.table) given
-    c.args.item.now (rows_at c.args.self.now.table c.args.counts.now c.args.item.now) _ _ _ e
-    (table_more c.args.self.now.table c.args.counts.now given c.args.item.now counted) c.put_item.ensures
+    λ of given counted e. next_lines g.W.Target.contents g.W.Target.failures of (lines_of_table c.args.self.now.encoding c.args.self.now.table) given
+    c.args.item.now (rows_at c.args.self.now.encoding c.args.self.now.table c.args.counts.now c.args.item.now) _ _ _ e
+    (table_more c.args.self.now.encoding c.args.self.now.table c.args.counts.now given c.args.item.now counted) c.put_item.ensures

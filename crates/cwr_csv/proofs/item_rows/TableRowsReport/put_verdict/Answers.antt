@@ -4,5 +4,5 @@ use Rattle.cwr_csv.proofs.item_rows.TableRowsReport.put_verdict.Goals as goal
 
 pub returns : goal.returns
 returns g c =
-    λ of given e. last_lines g.W.Target.contents g.W.Target.failures of (lines_of_table c.args.self.now.table) given _ _ _ _ e
+    λ of given e. last_lines g.W.Target.contents g.W.Target.failures of (lines_of_table c.args.self.now.encoding c.args.self.now.table) given _ _ _ _ e
     (no_verdict g.W.Target.contents g.W.Target.failures tt _ c.requires)

@@ -30,7 +30,7 @@ push_shown-requires-3-clause-short c =
 pub returns : goal.returns
 returns c =
     let join : List ℕ → List ℕ → List ℕ = λ l m. l ++ m in
-    let shown : List ℕ → List ℕ = λ cell. next_cell (shown_cell cell) in
+    let shown : List ℕ → List ℕ = λ cell. next_cell (shown_cell c.args.encoding cell) in
     let number : c.cell.result.now ≡ cell_named "submitter work number" c.args.head.now =
     cell_is "submitter work number" c.args.head.now 6 14 c.cell.result.now c.cell.ensures.value
     (work_number c.args.head.now c.requires) c.cell.ensures.fits in

@@ -7,7 +7,7 @@ use Rattle.cwr_tables.proofs.rows.RowText.set_inner_row.Goals as goal
 pub returns : goal.returns
 returns c =
     c.push.ensures.value ∙ ap (λ (l : List ℕ). l ++ codes "\r\n")
-    (c.push_header_cells.ensures.value ∙ ap (λ (l : List ℕ). l ++ header_text c.args.head.now)
-    (c.push_fields.ensures.value ∙ ap (λ (l : List ℕ). l ++ shown_cells c.args.shown.now)
+    (c.push_header_cells.ensures.value ∙ ap (λ (l : List ℕ). l ++ header_text c.args.encoding c.args.head.now)
+    (c.push_fields.ensures.value ∙ ap (λ (l : List ℕ). l ++ shown_cells c.args.encoding c.args.shown.now)
     (c.push_numbers.ensures.value ∙ ap (λ (l : List ℕ). l ++ numbers_text c.args.numbers) c.clear.ensures)))
-    ∙ inner_row_is c.args.head.now c.args.numbers c.args.shown.now
+    ∙ inner_row_is c.args.encoding c.args.head.now c.args.numbers c.args.shown.now

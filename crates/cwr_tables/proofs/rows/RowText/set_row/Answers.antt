@@ -7,6 +7,6 @@ use Rattle.cwr_tables.proofs.rows.RowText.set_row.Goals as goal
 pub returns : goal.returns
 returns c =
     c.push.ensures.value ∙ ap (λ (l : List ℕ). l ++ codes "\r\n")
-    (c.push_fields.ensures.value ∙ ap (λ (l : List ℕ). l ++ shown_cells c.args.shown.now)
+    (c.push_fields.ensures.value ∙ ap (λ (l : List ℕ). l ++ shown_cells c.args.encoding c.args.shown.now)
     (c.push_numbers.ensures.value ∙ ap (λ (l : List ℕ). l ++ numbers_text c.args.numbers) c.clear.ensures))
-    ∙ row_is c.args.numbers c.args.shown.now
+    ∙ row_is c.args.encoding c.args.numbers c.args.shown.now
