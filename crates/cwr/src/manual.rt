@@ -59,14 +59,14 @@ COMMANDS
 
    cwr explain [OPTIONS] [FILE]...
        Prints what `cwr check` prints, with its options. Under each line
-       stands, indented, where it is, what was found, what may stand there,
-       and how much is rejected. Of a wrong number it says what that points
-       to: a record that is missing or stands twice, or a count that wasn't
-       changed. Of a line that can't stand there it says by its numbers what
-       is missing before it, or that it was moved, and after which records it
-       may stand. Levels are those of this profile, and societies differ.
-       Where something is rejected, a line on standard error says that, once a
-       run.
+       stands, indented, where it is, which work it is by its number and
+       title, what was found, what may stand there, and how much is rejected.
+       Of a wrong number it says what that points to: a record that is missing
+       or stands twice, or a count that wasn't changed. Of a line that can't
+       stand there it says by its numbers what is missing before it, or that
+       it was moved, and after which records it may stand. Levels are those of
+       this profile, and societies differ. Where something is rejected, a line
+       on standard error says that, once a run.
 
        --quiet
               Prints only what isn't good, and the sums.
@@ -84,12 +84,16 @@ COMMANDS
        as `cwr check` tells them.
 
        --explain
-              Explains each fault and each finding.
+              Explains each fault and each finding as `cwr explain` does, with
+              an empty line after each.
 
        --advice
               Tells what a society may send back, too: after the findings of a
               transaction without a fault it prints the advice on it, as `cwr
               advise` does.
+
+       --all  Tells all advice, as `cwr advise --all` does. It stands beside
+              `--advice`.
 
        --quiet
               Prints only what isn't good, and the sums.
@@ -99,10 +103,11 @@ COMMANDS
        same: numbers whose check digits are wrong, chains of publishers
        without an original one, writers without territories, and more. Of each
        transaction it prints the findings as `cwr explain` does, and then the
-       advice, each with what to do. The verdict is last. Advice doesn't
-       change it, nor the status without `--fail-on`. Several files are told
-       as `cwr check` tells them. The rules are in docs/ADVICE.md of the
-       repository.
+       advice, each with what to do. Of each rule the first three places are
+       told, and before the verdict how many there are. The verdict is last.
+       Advice doesn't change it, nor the status without `--fail-on`. Several
+       files are told as `cwr check` tells them. The rules are in
+       docs/ADVICE.md of the repository.
 
        --quiet
               Leaves out the verdict on what is good. Findings and advice are
@@ -113,7 +118,10 @@ COMMANDS
        --fail-on LEVEL
               Status 1 where a finding or advice has that level or a worse
               one: F, R, T, G or E. With `--repeated` work numbers that stand
-              twice count, too.
+              twice count, too. Places that aren't told count.
+
+       --all  Tells each place of each rule. A script that reads the lines of
+              advice wants it.
 
        --repeated NUMBER
               Tells work numbers that stand in two works of a transmission,
@@ -468,6 +476,10 @@ OUTPUT
               A society may reject that record. Numbers are as those of a
               finding. L says what is usually rejected.
 
+       ADVICE rule A at N places, M of them not shown (--all tells each)
+              Of the rule A the first three places were told, and M more are
+              in the file. It stands before the last line.
+
        LIMIT repeated N group G transaction T
               The numbers of N works are kept, and not that of this one. It
               and the works after it are compared with those N alone.
@@ -667,6 +679,7 @@ EXAMPLES
            $ cwr advise advised_work.cwr
            ADVICE group 1 transaction 0 record 3 field 10 level F rule A4a
              where     line 6, SWR
+             work      W0001 BLUE RIVER
              cell      line 6, SWR ipi name number: 00014107383
              advice    this is no IPI name number: it has eleven digits, of which the last two check the others; look it up again
            GOOD groups 1 transactions 1 records 10
