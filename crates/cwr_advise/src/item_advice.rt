@@ -15,7 +15,7 @@ ghost use Rattle.cwr_advise.specs.Format.AdviceLevels.{own_reaches};
 ghost use Rattle.cwr_advise.specs.Format.AdviceLines.{has_advice, has_advised, own_advice};
 ghost use Rattle.cwr_advise.specs.Format.AdviceTexts.{noted_advice};
 ghost use Rattle.cwr_advise.specs.Steps.AdviceCounts.{counts_after, counts_with, lines_by, told_by};
-ghost use Rattle.cwr_advise.specs.Steps.AdvisedItems.{advised_after, advised_at, told_with};
+ghost use Rattle.cwr_advise.specs.Steps.AdvisedItems.{PutsAdvised, advised_after, advised_at, told_with};
 ghost use Rattle.cwr_advise.specs.Steps.KeptWorks.{counts_with_repeated, reaches_at, repeated_at, shown_repeated};
 
 use crate::advice_texts::AdviceText;
@@ -306,9 +306,8 @@ pub fn put_advised<W: Target>(
 ) -> Result<(), ToolFault>
     requires unfailed { has_failed sink.old ≡ false }
     requires few { first + length transaction.now ≤ 100000000 }
-    ensures puts { PutsLines W.contents W.failures (has_advice transaction.now)
-        (advised_after manner told.old said group sequence first transaction.now) result sink.old
-        sink.new }
+    ensures puts { PutsAdvised W.contents W.failures manner told.old said group sequence first
+        transaction.now result sink.old sink.new }
     ensures counted { OnOk result (count.new ≡ told_with count.old (Item.Transaction transaction.now)) }
     ensures told { OnOk result (told.new ≡ counts_after told.old (advice_of said transaction.now)) }
 {

@@ -6,12 +6,12 @@ ghost use Rattle.cwr_devices.specs.Steps.Sinks.{Puts, has_failed, written_of};
 ghost use Rattle.cwr_tools.specs.Format.Reports.{CountsReaderFault, CountsWriterFault, ReportsText};
 ghost use Rattle.cwr_tools.specs.Format.Texts.{verdict_line};
 ghost use Rattle.cwr_tools.specs.Format.Watching.{findings_with};
-ghost use Rattle.cwr_tools.specs.Steps.Reports.{Reports, StandsAfter};
+ghost use Rattle.cwr_tools.specs.Steps.Reports.{Reports};
 ghost use Rattle.cwr_tools.specs.Steps.Verdicts.{IsReadLast};
 ghost use Rattle.cwr_advise.specs.Format.AdviceLevels.{SeesTold};
-ghost use Rattle.cwr_advise.specs.Format.AdviceLines.{advice_on, lines_advised, lines_of_advice, said_in};
+ghost use Rattle.cwr_advise.specs.Format.AdviceLines.{advice_on, lines_advised, lines_of_advice};
 ghost use Rattle.cwr_advise.specs.Steps.AdviceCounts.{counts_of, summary_by};
-ghost use Rattle.cwr_advise.specs.Steps.AdvisedItems.{IsBefore, last_by};
+ghost use Rattle.cwr_advise.specs.Steps.AdvisedItems.{IsBefore, LeavesAdvised, last_by};
 ghost use Rattle.cwr_advise.specs.Steps.KeptWorks.{AreKeptOf};
 
 use crate::advice_texts::AdviceText;
@@ -244,10 +244,8 @@ pub fn advise_up_to_fault<R: Source, W: Target + Drop>(
         (R.remaining reader.new) W.contents writer result.0 result.1 }
     ensures counted { GrowsBy (W.contents writer) (W.contents result.0) result.2.written }
     // What the items before the verdict say, how many findings they have, and how much advice there is on them.
-    ensures said { IfOk result.1 (StandsAfter
-        (λ given. (result.3 ≡ said_in given) × (result.2.findings ≡ findings_with 0 given)
-        × (result.4 ≡ counts_of (advice_on 0 given))) limits
-        (R.remaining reader.old) (R.remaining reader.new)) }
+    ensures said { IfOk result.1 (LeavesAdvised limits (R.remaining reader.old)
+        (R.remaining reader.new) result.3 result.2.findings result.4) }
     ensures reader_failures { CountsReaderFault result.1 (R.failures reader.old)
         (R.failures reader.new) }
     ensures writer_failures { CountsWriterFault result.1 (W.failures writer) (W.failures result.0) }

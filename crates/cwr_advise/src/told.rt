@@ -4,7 +4,7 @@ ghost use Rattle.std.specs.Prelude.{◌≡◌, [], false, slice_index, IfErr};
 ghost use Rattle.cwr_devices.specs.Steps.Sinks.{Puts, has_failed, written_of};
 ghost use Rattle.cwr_advice.specs.Format.RuleOrder.{place_of_rule};
 ghost use Rattle.cwr_advise.specs.Format.ToldAdvice.{summary_line};
-ghost use Rattle.cwr_advise.specs.Steps.AdviceCounts.{counts_of, counts_with, is_told_by, summary_by};
+ghost use Rattle.cwr_advise.specs.Steps.AdviceCounts.{PutsSummary, counts_of, counts_with, is_told_by};
 ghost use Rattle.cwr_advise.specs.Steps.KeptWorks.{counts_with_repeated, shown_repeated};
 
 use crate::advice_texts::{AdviceText, MOST_TOLD};
@@ -119,7 +119,7 @@ impl AdviceCounts {
     /// Puts how many pieces came from each rule, where not all of them were told.
     pub fn put_summary<W: Target>(&self, all: bool, sink: &mut Sink<W>) -> Result<(), SinkFault>
         requires { has_failed sink.old ≡ false }
-        ensures puts { Puts W.contents W.failures (summary_by all self.now) result sink.old sink.new }
+        ensures puts { PutsSummary W.contents W.failures all self.now result sink.old sink.new }
         ensures fault { IfErr result (λ f. f.written ≡ written_of sink.new) }
     {
         let mut text = AdviceText::new();

@@ -1,21 +1,26 @@
 -- What is written of an item, by what is kept of the items before it.
-use Rattle.std.specs.Prelude.{◌≡◌, ℕ, ◌+◌, ◌-◌, ◌^◌, min, Bool, true, List, [], ◌++◌, length, flat_map}
+use Rattle.std.specs.Prelude.{◌≡◌, ℕ, ◌+◌, ◌-◌, ◌^◌, min, Bool, true, List, [], ◌++◌, length, flat_map, Option, Result}
 use Rattle.cwr_values.specs.declared.items.Item.{Item}
 use Rattle.cwr_values.specs.declared.items.Item.TheVariants.{Transaction}
 use Rattle.cwr_levels.specs.Format.Findings.{findings}
 use Rattle.cwr_lines.specs.Format.Records.{RecordValue}
 use Rattle.cwr_tools.specs.declared.totals.Totals.{Totals}
+use Rattle.cwr_devices.specs.declared.sinks.Sink.{Sink}
+use Rattle.cwr_shape.specs.declared.limits.Limits.{Limits}
+use Rattle.cwr_tools.specs.declared.verdicts.ToolFault.{ToolFault}
 use Rattle.cwr_tools.specs.declared.verdicts.Verdict.{Verdict}
 use Rattle.cwr_tools.specs.declared.verdicts.Verdict.TheVariants.{Refused}
 use Rattle.cwr_tools.specs.Format.Reports.{transaction_lines}
 use Rattle.cwr_tools.specs.Format.Texts.{verdict_line}
+use Rattle.cwr_tools.specs.Format.Watching.{findings_with}
+use Rattle.cwr_tools.specs.Steps.Reports.{PutsLines, StandsAfter}
 use Rattle.cwr_advice.specs.declared.said.Said.{Said}
 use Rattle.cwr_advice.specs.Format.Rules.{advice_of}
 use Rattle.cwr_advise.specs.declared.before.Before.{Before}
 use Rattle.cwr_advise.specs.declared.item_advice.Manner.{Manner}
-use Rattle.cwr_advise.specs.Format.AdviceLines.{said_in}
+use Rattle.cwr_advise.specs.Format.AdviceLines.{advice_on, has_advice, said_in}
 use Rattle.cwr_advise.specs.Format.AdviceTexts.{noted_advice}
-use Rattle.cwr_advise.specs.Steps.AdviceCounts.{summary_by, told_by}
+use Rattle.cwr_advise.specs.Steps.AdviceCounts.{counts_of, summary_by, told_by}
 
 -- it is what the items so far leave behind
 abbrev pub IsBefore : Before → List Item → Type 0
@@ -32,6 +37,12 @@ advised_after manner told said group sequence n t =
     transaction_lines manner.explained manner.apart group sequence n t
     ++ flat_map (noted_advice manner.apart group sequence n t) (told_by manner.all told (advice_of said t))
 
+-- these are put, or memory for them is refused
+abbrev pub PutsAdvised : {W : Type 0} → (W → Option (List ℕ)) → (W → ℕ) → Manner → List ℕ → Said → ℕ → ℕ → ℕ → List RecordValue
+    → Result (Unit {0}) ToolFault → Sink W → Sink W → Type 0
+PutsAdvised contents failures manner told said group sequence n t result old new =
+    PutsLines contents failures (has_advice t) (advised_after manner told said group sequence n t) result old new
+
 -- the lines of one item more, after items with these numbers, and after so much advice of each rule
 abbrev pub advised_at : Manner → List ℕ → Said → Totals → Item → List ℕ
 advised_at manner told said counts (Transaction t) =
@@ -42,3 +53,9 @@ advised_at manner told said counts item = []
 abbrev pub last_by : Bool → Bool → List ℕ → Verdict → List ℕ
 last_by true all told (Refused refusal) = []
 last_by up_to_fault all told verdict = summary_by all told ++ verdict_line verdict
+
+-- what the items before the verdict say, how many findings they have, and how much advice of each rule there is on them
+abbrev pub LeavesAdvised : Limits → Option (List ℕ) → Option (List ℕ) → Said → ℕ → List ℕ → Verdict → Type 0
+LeavesAdvised limits before after said found told verdict =
+    StandsAfter (λ given. (said ≡ said_in given) × (found ≡ findings_with 0 given) × (told ≡ counts_of (advice_on 0 given))) limits before
+    after verdict
