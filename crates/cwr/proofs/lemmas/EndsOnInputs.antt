@@ -1,5 +1,5 @@
 -- A run over standard input ends as its bytes do.
-use Rattle.std.proofs.Common.{◌≡◌, ℕ, ◌<◌, true, List, [], ◌∷◌, length, Option, Some, None, sym, subst, arith, true≢false}
+use Rattle.std.proofs.Common.{◌≡◌, ℕ, ◌<◌, Bool, true, List, [], ◌∷◌, length, Option, Some, None, sym, subst, arith, true≢false}
 use Rattle.std.specs.Prelude.{Result, Ok, Err}
 use Rattle.cwr_shape.specs.declared.limits.Limits.{Limits}
 use Rattle.cwr_files.specs.declared.faults.Fault.{Fault}
@@ -12,14 +12,14 @@ use Rattle.cwr_reports.specs.Format.Endings.{EndsOnInput}
 use Rattle.cwr.specs.Format.Endings.{StatusOnInput, fault_status}
 
 -- the status of a run that ended well, or as refused
-pub status_ends : (advice : Option ℕ) (limits : Limits) (wanted : Wanted) (before : Option (List ℕ)) (status : Status)
+pub status_ends : (advice : Option (Bool × ℕ)) (limits : Limits) (wanted : Wanted) (before : Option (List ℕ)) (status : Status)
     → EndsOnInput advice limits wanted before (Ok status) → StatusOnInput advice limits wanted before status
 status_ends advice limits wanted before statuses.Good h = h
 status_ends advice limits wanted before statuses.Refused h = h
 status_ends advice limits wanted before statuses.CommandLine h = h
 status_ends advice limits wanted before statuses.Fault h = tt
 
-status_failed : (advice : Option ℕ) (limits : Limits) (wanted : Wanted) (before : Option (List ℕ)) (fault : Fault)
+status_failed : (advice : Option (Bool × ℕ)) (limits : Limits) (wanted : Wanted) (before : Option (List ℕ)) (fault : Fault)
     → EndsOnInput advice limits wanted before (Err fault) → StatusOnInput advice limits wanted before (fault_status fault)
 status_failed advice limits wanted None (faults.IsInput name) h = tt
 status_failed advice limits wanted None (faults.IsThere name) h = tt
@@ -37,7 +37,7 @@ status_failed advice limits wanted before (faults.Write told) h = tt
 status_failed advice limits wanted before (faults.Output name reason) h = tt
 status_failed advice limits wanted before faults.Memory h = tt
 
-pub fault_ends : (advice : Option ℕ) (limits : Limits) (wanted : Wanted) (before : Option (List ℕ)) (fault : Fault) (status : Status)
+pub fault_ends : (advice : Option (Bool × ℕ)) (limits : Limits) (wanted : Wanted) (before : Option (List ℕ)) (fault : Fault) (status : Status)
     → EndsOnInput advice limits wanted before (Err fault) → status ≡ fault_status fault → StatusOnInput advice limits wanted before status
 fault_ends advice limits wanted before fault status h e =
     subst (StatusOnInput advice limits wanted before) (sym e) (status_failed advice limits wanted before fault h)
