@@ -779,6 +779,7 @@ Before it `cwr check` writes a line for each finding in a transaction, and `cwr 
 
 `cwr advise` and `cwr lint --advice` write such lines too, and after those of a transaction the advice on it:
   ADVICE group G transaction T record S field F level L rule A
+  ADVICE rule A at N places, M of them not shown (--all tells each)
   LIMIT repeated N group G transaction T     the numbers of N works are kept, and not that of this one
 
 Indented, `cwr explain` and `cwr advise` write under each what it says in words, and the cells that it speaks of. After the
