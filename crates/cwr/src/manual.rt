@@ -190,16 +190,16 @@ COMMANDS
        transmissions answer. The verdict goes to standard error, and where a
        good transmission has no acknowledgement, a line says that, too.
 
-       Each acknowledgement has a line. It begins with the status, so that
-       `grep` and `sort` find what is rejected, and goes on with the group and
-       the sequence of the transaction that was sent, its type, the worst
-       level of the messages, the numbers of the submitter and of the
-       recipient, and the title. What is blank is left out, and cells are as
-       they stand, without trailing spaces, but with `--utf8`. Under it each
-       message has a line that begins with two spaces: what it rejects, what
-       it is about, the record in the transaction that was sent, counted from
-       0, and the text. Other transactions are passed over, and so is the copy
-       in an acknowledgement. What each status means stands below, under
+       Each acknowledgement has a line, or with `--status` those of some
+       statuses. It begins with the status, and goes on with the group and the
+       sequence of the transaction that was sent, its type, the worst level of
+       the messages, the numbers of the submitter and of the recipient, and
+       the title. What is blank is left out, and cells are as they stand,
+       without trailing spaces, but with `--utf8`. Under it each message has a
+       line that begins with two spaces: what it rejects, what it is about,
+       the record in the transaction that was sent, counted from 0, and the
+       text. Other transactions are passed over, and so is the copy in an
+       acknowledgement. What each status means stands below, under
        Acknowledgements.
 
        Of several files each line has the file's name and a colon before it,
@@ -251,6 +251,14 @@ COMMANDS
               The lines of `--sent` and of counts stand under Output. With
               `--state` each row is an object. All keys are in docs/ACKS.md of
               the repository.
+
+       --status STATUS
+              Tells acknowledgements of these statuses alone, with what stands
+              under each. Commas stand between them, as in `--status RJ,CO`,
+              or the option comes again: CO, DU, RA, AS, AC, SR, CR, RJ, NP or
+              RC. Counts, what isn't answered and standard error are those of
+              all acknowledgements. It doesn't stand beside `--state`, which
+              has `--fail-on`.
 
        --utf8
               Shows cells as `cwr json --utf8` does. Without it they stand in
@@ -418,6 +426,18 @@ OPTIONS
 
        --no-progress
               Doesn't show it.
+
+       --color WHEN
+              When verdicts, faults, findings and advice of `check`,
+              `explain`, `lint` and `advise` begin with a word in its colour.
+              `always` and `never` say it for good. With `auto`, as without
+              the option, it is so where standard output is a terminal and
+              NO_COLOR isn't set, or empty. Red is what stops, yellow what may
+              be sent back, green what is good.
+
+       On a terminal the explanations of these four, and all help, are broken
+       between words, at 80 columns, or at as many as COLUMNS says where that
+       is a number of 40 or more. In a pipe or a file no line is broken.
 
        These print to standard error, and the status is 2.
 
@@ -660,6 +680,7 @@ EXAMPLES
            $ cwr explain wrong_code.cwr
            REFUSED record 5 field 10 level T cell not a code
              where     wrong_code.cwr, line 5, bytes 127 to 129 of the line, byte 704 of the file
+             work      W0001 BLUE RIVER
              field     NWR distribution category
              found     \"ROC\"
              expected  a code, one of: JAZ POP SER UNC, or spaces
@@ -703,14 +724,16 @@ EXAMPLES
            cwr: findings.cwr: 2 findings, the worst of level T: such a transaction is usually rejected (cwr explain findings.cwr)
            1
 
-       What a file of acknowledgements rejects, and why:
+       What a file of acknowledgements rejects, or finds in conflict, and why:
 
-           $ cwr acks acks_2_991.cwr 2> /dev/null | sed -n '/^RJ/,/^[^R ]/p' | sed '$d'
+           $ cwr acks --status RJ,CO acks_2_991.cwr
            RJ rejected: group 2 transaction 1 NWR level T submitter AV-000002 title THE SALT ROAD
              level T type T record 3 SWR validation 061: WRITER SHARES DIFFER FROM THOSE OF AN EARLIER CLAIM
              level R type R record 6 SWR validation 017: SHARE OF THIS WRITER IS NOT THE ONE THAT WAS AGREED ON
-           $ cwr acks acks_2_991.cwr 2> /dev/null | tail -n 1
+           CO conflict: group 2 transaction 3 NWR level T submitter AV-000004 recipient 991-7000043 title PAPER BIRDS
+             level T type T record 0 NWR: SHARES OF 125 PERCENT ARE CLAIMED: ANOTHER PUBLISHER CLAIMS 50 PERCENT
            ACKS 6 CO 1 DU 0 RA 0 AS 3 AC 1 SR 0 CR 0 RJ 1 NP 0 RC 0
+           GOOD groups 1 transactions 6 records 14
 
        Two months, two societies: which acknowledgements have no key or
        another number, and what nobody answered?

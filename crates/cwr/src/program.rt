@@ -11,6 +11,7 @@ ghost use Rattle.cwr.specs.Format.Tables.{encoding_of, form_of, table_of};
 ghost use Rattle.cwr_reports.specs.Steps.Looks.{tells_findings};
 
 use crate::manual::MANUAL;
+use crate::styles::{help_style, style_of};
 use crate::terminal::{Cleared, Shown, Terminals};
 use clap::error::ErrorKind;
 use cwr_acks::{Cells, Form};
@@ -24,6 +25,7 @@ use cwr_files::{
 use cwr_json::Encoding;
 use cwr_reports::{Asked, Telling, export, report_input, report_several, telling_of};
 use cwr_shape::Limits;
+use cwr_terminal::{Style, Styled};
 use cwr_transform::{
     Cut, Import, Repair, Union, import_file, import_input, join_files, repair_numbers, split_file,
 };
@@ -52,11 +54,18 @@ pub fn run<
             let is_shown = Cell::new(false);
             let terminal = Shown::new(terminal, &is_shown);
             let output = Cleared::new(output, terminals.output, &is_shown);
+            let style = style_of(&task.work, task.colouring, &terminals);
+            let output = Styled::new(output, style);
             let wanted = task.progress.unwrap_or(terminals.error);
             let mut progress = Progress::new(rt, terminal, wanted, terminals.input);
             carry_out(rt, &task, input, &mut progress, output, &mut error)
         }
-        Err(answer) => answer_words(error, &answer, file_in_place(rt, words, &answer)),
+        Err(answer) => answer_words(
+            error,
+            &answer,
+            file_in_place(rt, words, &answer),
+            help_style(&terminals),
+        ),
     };
     status as u8
 }
@@ -95,18 +104,25 @@ fn file_in_place<'a, R: Files, S: AsStr>(
 }
 
 /// Writes what `clap` answers in place of a task, help included, and how to check the file that a word names.
-fn answer_words<E: Write + Drop>(mut error: E, answer: &clap::Error, file: Option<&str>) -> Status
+fn answer_words<E: Write + Drop>(
+    mut error: E,
+    answer: &clap::Error,
+    file: Option<&str>,
+    style: Option<Style>,
+) -> Status
     ensures memory { kind_of answer.now ≡ ErrorKind.OutOfMemory → result ≡ Status.Fault }
     ensures words { kind_of answer.now ≢ ErrorKind.OutOfMemory → result ≡ Status.CommandLine }
 {
     if matches!(answer.kind(), ErrorKind::OutOfMemory) {
         return report(&mut error, &Fault::Memory);
     }
+    let mut shown = Styled::new(error, style);
     // What standard error doesn't take is lost.
-    let _ = write!(error, "{answer}");
+    let _ = write!(shown, "{answer}");
     if let Some(name) = file {
-        let _ = writeln!(error, "\nTo check that file: cwr check {}", ShellWord(name));
+        let _ = writeln!(shown, "\nTo check that file: cwr check {}", ShellWord(name));
     }
+    let _ = shown.flush();
     Status::CommandLine
 }
 
@@ -281,7 +297,10 @@ fn tell_acks<'a, R: Files + AllocGlobal, I: Read + Drop, P: Pace, O: Write + Dro
         → EndsOnInput None asked.now.limits asked.now.wanted (I.remaining standard) result }
 {
     if answering.sent.is_empty() && answering.files.len() < 2 {
-        let telling = Telling::Answers(answering.form);
+        let telling = Telling::Answers {
+            form: answering.form,
+            statuses: answering.statuses,
+        };
         let file = answering.files.first().copied();
         return report_file(rt, asked, telling, file, standard, pace, output, error);
     }
@@ -421,6 +440,7 @@ fn perform<'a, R: Files + AllocGlobal, I: Read + Drop, P: Pace, O: Write + Drop,
             by_place,
             state,
             fail_on,
+            statuses,
             utf8,
         } => {
             let answering = Answering {
@@ -428,6 +448,7 @@ fn perform<'a, R: Files + AllocGlobal, I: Read + Drop, P: Pace, O: Write + Drop,
                 limits: task.limits,
                 whole: task.whole,
                 form: form_of(*as_json, *utf8),
+                statuses: statuses.as_slice(),
                 encoding: encoding_of(*utf8),
                 files: files.as_slice(),
                 sent: sent.as_slice(),

@@ -1,15 +1,21 @@
 //! A terminal on which it is shown how far a run is, while lines are written to it too.
 
+ghost use Rattle.cwr.specs.Steps.Cleared.{plain_unless};
+
 use std::cell::Cell;
 use std::io;
 use std::io::Write;
 
-/// Which of the standard streams are terminals.
+/// Which of the standard streams are terminals, and what the environment says of them.
 #[derive(Clone, Copy, Debug)]
 pub struct Terminals {
     pub input: bool,
     pub output: bool,
     pub error: bool,
+    /// How many columns lines have there at most.
+    pub columns: usize,
+    /// Whether words have colours there.
+    pub colours: bool,
 }
 
 /// What clears the line on which it is shown.
@@ -61,6 +67,9 @@ impl<'s, O> Cleared<'s, O> {
 }
 
 impl<O: Write> Write for Cleared<'_, O> {
+    // Where nothing is cleared, what is written is what was given.
+    ghost contents = { λ it. plain_unless it.is_terminal (O.contents it.output) };
+
     fn write(&mut self, text: &[u8]) -> io::Result<usize> {
         if self.is_terminal && self.is_shown.get() {
             self.is_shown.set(false);

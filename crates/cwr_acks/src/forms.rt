@@ -7,7 +7,7 @@ ghost use Rattle.cwr_acks.specs.Steps.AckSteps.{ack_in, message_as};
 
 use crate::line_texts::LineText;
 use cwr_delivery::Notes;
-use cwr_fields::MessageLevel;
+use cwr_fields::{MessageLevel, TransactionStatus};
 use cwr_json::Encoding;
 use cwr_lines::RecordRef;
 
@@ -29,11 +29,13 @@ pub enum Form {
     Json(Encoding),
 }
 
-/// How it is told what acknowledgements say: in what form, and under which names of files, each as `shown_name` has it.
+/// How it is told what acknowledgements say: in what form, of which statuses, and under which names of files, each as `shown_name` has it.
 #[derive(Clone, Copy, Debug)]
 pub struct Manner<'a> {
     /// In what form.
     pub form: Form,
+    /// Those with one of these statuses are told; without one all are.
+    pub statuses: &'a [TransactionStatus],
     /// The name of their transmission's file, where there are several files; none where there is one.
     pub file: Option<&'a [u8]>,
     /// The names of the files of what was sent, where there are several; else none.

@@ -6,7 +6,7 @@ ghost use Rattle.cwr_tools.specs.Steps.Reports.{PutsLines};
 ghost use Rattle.cwr_delivery.specs.Format.Acknowledgements.{is_ack, worst_level};
 ghost use Rattle.cwr_acks.specs.Format.AckTexts.{marked_if, marked_line, note_lines, outcome_line, sent_part, shown_as};
 ghost use Rattle.cwr_acks.specs.Steps.DataTexts.{counts_data_text, name_member};
-ghost use Rattle.cwr_acks.specs.Format.AckLines.{name_of_notes, note_lines_if, telling_of};
+ghost use Rattle.cwr_acks.specs.Format.AckLines.{has_one_of, is_told, name_of_notes, note_lines_if, telling_of};
 ghost use Rattle.cwr_acks.specs.Steps.AckSteps.{ack_in, after_ack, answer_parts, before_ack, closing_as, counts_in, counts_parts, counts_text, end_at, held_if, held_lines_if};
 ghost use Rattle.cwr_acks.specs.Steps.AckSteps.{lines_at, message_in, messages_in, opening_in, transaction_at};
 
@@ -16,9 +16,9 @@ use crate::line_texts::{LineText, push_cell};
 use crate::names::{name_of_notes, put_bytes, put_name_member, put_sent_part};
 use crate::unanswered::put_unanswered;
 use arrayvec::ArrayVec;
-use cwr_delivery::{Delivery, Notes, Outcome, is_ack, is_message, worst_level};
+use cwr_delivery::{Delivery, Notes, Outcome, has_status, is_ack, is_message, worst_level};
 use cwr_devices::{Sink, SinkFault, Target};
-use cwr_fields::letters;
+use cwr_fields::{TransactionStatus, letters};
 use cwr_lines::RecordRef;
 use cwr_tools::{ToolFault, writer_fault};
 use cwr_values::{Item, Transaction};
@@ -443,7 +443,23 @@ fn put_answer<W: Target>(
     put_closing(manner.form, notes, head, text, sink)
 }
 
-/// Puts the lines of a transaction, if that is an acknowledgement.
+/// Whether a transaction has one of these statuses.
+fn has_one_of(statuses: &[TransactionStatus], transaction: &Transaction) -> bool
+    ensures { result ≡ has_one_of statuses.now transaction.now }
+{
+    statuses
+        .iter()
+        .any(|status| has_status(*status, transaction))
+}
+
+/// Whether a transaction has one of these statuses, where there are any.
+fn is_told(statuses: &[TransactionStatus], transaction: &Transaction) -> bool
+    ensures { result ≡ is_told statuses.now transaction.now }
+{
+    statuses.is_empty() || has_one_of(statuses, transaction)
+}
+
+/// Puts the lines of a transaction, if that is an acknowledgement that is told.
 fn put_transaction<W: Target>(
     manner: &Manner<'_>,
     notes: &Option<Notes>,
@@ -459,7 +475,7 @@ fn put_transaction<W: Target>(
     let Some(head) = transaction.record(0) else {
         return Ok(());
     };
-    if !is_ack(&head) {
+    if !is_ack(&head) || !is_told(manner.statuses, transaction) {
         return Ok(());
     }
     put_answer(manner, notes, &head, transaction, text, sink)

@@ -27,6 +27,7 @@ pub fn put_rest<W: Target>(
 {
     let alone = Manner {
         form: manner.form,
+        statuses: manner.statuses,
         file: None,
         names: manner.names,
     };

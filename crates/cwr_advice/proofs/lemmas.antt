@@ -22,6 +22,10 @@ pub mod OwnedShares
 pub mod OwingWriters
 -- What stands before a record, with one record more.
 pub mod CalmRecords
+-- The last writer among records, with one more of them, and publishers that name it.
+pub mod LastWriters
+-- Texts without an ampersand have no character as HTML writes it.
+pub mod Ampersands
 -- Texts of ASCII alone, and UTF-8.
 pub mod AsciiTexts
 -- Days to come, whenever a transmission is sent.

@@ -2,7 +2,7 @@
 
 ghost use Rattle.std.specs.Prelude.{◌≡◌};
 ghost use Rattle.cwr_fields.specs.declared.kinds.Kind.TheVariants as kinds;
-ghost use Rattle.cwr_advice.specs.Steps.Kept.{may_break_alone, may_break_some};
+ghost use Rattle.cwr_advice.specs.Steps.Kept.{asked_of_names, may_break_alone, may_break_one, may_break_some};
 
 use crate::asking::asked_of;
 use crate::characters::is_ascii;
@@ -21,7 +21,7 @@ fn may_break_alone(rule: AdviceRule, shown: &RecordRef<'_>, field: u8) -> bool
 {
     match rule {
         AdviceRule::A8e => names_day(cell(shown, field)),
-        AdviceRule::A9a => !is_ascii(cell(shown, field)),
+        AdviceRule::A9a | AdviceRule::A9b => !is_ascii(cell(shown, field)),
         _ => breaks_alone(Said::nothing(), rule, shown, field),
     }
 }
@@ -39,6 +39,10 @@ fn may_break_as_work(shown: &RecordRef<'_>) -> bool
         || may_break_alone(AdviceRule::A8e, shown, 8)
         || may_break_alone(AdviceRule::A9a, shown, 4)
         || may_break_alone(AdviceRule::A9a, shown, 19)
+        || may_break_alone(AdviceRule::A9b, shown, 4)
+        || may_break_alone(AdviceRule::A9b, shown, 19)
+        || may_break_alone(AdviceRule::A9c, shown, 4)
+        || may_break_alone(AdviceRule::A9c, shown, 19)
 }
 
 /// Whether an SPU may.
@@ -59,6 +63,21 @@ fn may_break_as_publisher(shown: &RecordRef<'_>) -> bool
         || may_break_alone(AdviceRule::A8a, shown, 14)
         || may_break_alone(AdviceRule::A8a, shown, 16)
         || may_break_alone(AdviceRule::A9a, shown, 6)
+        || may_break_alone(AdviceRule::A9b, shown, 6)
+        || may_break_alone(AdviceRule::A9c, shown, 6)
+}
+
+/// Whether the names of a writer may.
+#[inline(always)]
+fn may_break_as_names(shown: &RecordRef<'_>) -> bool
+    ensures { result ≡ may_break_one asked_of_names shown.now }
+{
+    may_break_alone(AdviceRule::A9a, shown, 5)
+        || may_break_alone(AdviceRule::A9a, shown, 6)
+        || may_break_alone(AdviceRule::A9b, shown, 5)
+        || may_break_alone(AdviceRule::A9b, shown, 6)
+        || may_break_alone(AdviceRule::A9c, shown, 5)
+        || may_break_alone(AdviceRule::A9c, shown, 6)
 }
 
 /// Whether an SWR may.
@@ -78,8 +97,7 @@ fn may_break_as_controlled_writer(shown: &RecordRef<'_>) -> bool
         || may_break_alone(AdviceRule::A8a, shown, 11)
         || may_break_alone(AdviceRule::A8a, shown, 13)
         || may_break_alone(AdviceRule::A8a, shown, 15)
-        || may_break_alone(AdviceRule::A9a, shown, 5)
-        || may_break_alone(AdviceRule::A9a, shown, 6)
+        || may_break_as_names(shown)
 }
 
 /// Whether an OWR may.
@@ -97,6 +115,10 @@ fn may_break_as_other_writer(shown: &RecordRef<'_>) -> bool
         || may_break_alone(AdviceRule::A8a, shown, 15)
         || may_break_alone(AdviceRule::A9a, shown, 5)
         || may_break_alone(AdviceRule::A9a, shown, 6)
+        || may_break_alone(AdviceRule::A9b, shown, 5)
+        || may_break_alone(AdviceRule::A9b, shown, 6)
+        || may_break_alone(AdviceRule::A9c, shown, 5)
+        || may_break_alone(AdviceRule::A9c, shown, 6)
 }
 
 /// Whether an SPT may.
@@ -126,6 +148,8 @@ fn may_break_as_publisher_of_writer(shown: &RecordRef<'_>) -> bool
     may_break_alone(AdviceRule::A7a, shown, 4)
         || may_break_alone(AdviceRule::A7a, shown, 5)
         || may_break_alone(AdviceRule::A9a, shown, 5)
+        || may_break_alone(AdviceRule::A9b, shown, 5)
+        || may_break_alone(AdviceRule::A9c, shown, 5)
 }
 
 /// Whether an ALT may.
@@ -134,7 +158,10 @@ fn may_break_as_title(shown: &RecordRef<'_>) -> bool
     requires { shown.now.kind ≡ kinds.Alt }
     ensures { result ≡ may_break_some shown.now }
 {
-    may_break_alone(AdviceRule::A8c, shown, 6) || may_break_alone(AdviceRule::A9a, shown, 4)
+    may_break_alone(AdviceRule::A8c, shown, 6)
+        || may_break_alone(AdviceRule::A9a, shown, 4)
+        || may_break_alone(AdviceRule::A9b, shown, 4)
+        || may_break_alone(AdviceRule::A9c, shown, 4)
 }
 
 /// Whether an OPU may.
@@ -151,6 +178,8 @@ fn may_break_as_other_publisher(shown: &RecordRef<'_>) -> bool
         || may_break_alone(AdviceRule::A8a, shown, 14)
         || may_break_alone(AdviceRule::A8a, shown, 16)
         || may_break_alone(AdviceRule::A9a, shown, 6)
+        || may_break_alone(AdviceRule::A9b, shown, 6)
+        || may_break_alone(AdviceRule::A9c, shown, 6)
 }
 
 /// Whether a PER may.
@@ -165,6 +194,10 @@ fn may_break_as_performer(shown: &RecordRef<'_>) -> bool
         || may_break_alone(AdviceRule::A7a, shown, 5)
         || may_break_alone(AdviceRule::A9a, shown, 4)
         || may_break_alone(AdviceRule::A9a, shown, 5)
+        || may_break_alone(AdviceRule::A9b, shown, 4)
+        || may_break_alone(AdviceRule::A9b, shown, 5)
+        || may_break_alone(AdviceRule::A9c, shown, 4)
+        || may_break_alone(AdviceRule::A9c, shown, 5)
 }
 
 /// Whether a REC may.
@@ -180,6 +213,10 @@ fn may_break_as_recording(shown: &RecordRef<'_>) -> bool
         || may_break_alone(AdviceRule::A8d, shown, 6)
         || may_break_alone(AdviceRule::A9a, shown, 8)
         || may_break_alone(AdviceRule::A9a, shown, 9)
+        || may_break_alone(AdviceRule::A9b, shown, 8)
+        || may_break_alone(AdviceRule::A9b, shown, 9)
+        || may_break_alone(AdviceRule::A9c, shown, 8)
+        || may_break_alone(AdviceRule::A9c, shown, 9)
 }
 
 /// Whether the record may. What is asked of the kinds that stand in most works is written out: so their cells are found where this is

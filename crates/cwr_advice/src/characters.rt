@@ -1,10 +1,12 @@
-//! What the header of a transmission says of its characters, and texts that don't go with that.
+//! What the header of a transmission says of its characters, texts that don't go with that, and what conversions leave in texts.
 
 ghost use Rattle.std.specs.Prelude.{◌≡◌};
-ghost use Rattle.cwr_advice.specs.Format.Characters.{characters_in, is_ascii, is_unlike, names_utf8};
+ghost use Rattle.cwr_advice.specs.Format.Characters.{begins_with_name, characters_in, has_html, has_lost_letter, is_ampersand, is_ascii, is_unlike, names_utf8};
+ghost use Rattle.std.specs.List.{list_any};
 ghost use Rattle.std.specs.Str.{is_utf8};
 
 use cwr_fields::{is_spaces, trimmed};
+use memchr::memchr;
 
 /// What the header of a transmission says of its characters.
 #[derive(Clone, Copy, Debug, PartialEq, Eq)]
@@ -65,4 +67,53 @@ pub(crate) fn is_unlike(said: Characters, cell: &[u8]) -> bool
         Characters::Utf8 => !is_utf8(cell),
         Characters::Other => false,
     }
+}
+
+/// Whether U+FFFD stands in the text, in UTF-8.
+pub(crate) fn has_lost_letter(cell: &[u8]) -> bool
+    ensures { result ≡ has_lost_letter cell.now }
+{
+    let mut rest = cell;
+    while let Some((byte, after)) = rest.split_first() {
+        if *byte == 0xEF && after.starts_with(b"\xBF\xBD") {
+            return true;
+        }
+        rest = after;
+    }
+    false
+}
+
+/// Whether the text behind `&` begins with the name or the number by which HTML writes a character.
+fn begins_with_name(text: &[u8]) -> bool
+    ensures { result ≡ begins_with_name text.now }
+{
+    text.starts_with(b"amp;")
+        || text.starts_with(b"lt;")
+        || text.starts_with(b"gt;")
+        || text.starts_with(b"quot;")
+        || text.starts_with(b"#39;")
+}
+
+/// Whether the text has an ampersand.
+fn has_ampersand(cell: &[u8]) -> bool
+    ensures { result ≡ list_any is_ampersand cell.now }
+{
+    memchr(b'&', cell).is_some()
+}
+
+/// Whether a character stands in the text as HTML writes it. Few texts have an ampersand.
+pub(crate) fn has_html(cell: &[u8]) -> bool
+    ensures { result ≡ has_html cell.now }
+{
+    if !has_ampersand(cell) {
+        return false;
+    }
+    let mut rest = cell;
+    while let Some((byte, after)) = rest.split_first() {
+        if *byte == b'&' && begins_with_name(after) {
+            return true;
+        }
+        rest = after;
+    }
+    false
 }

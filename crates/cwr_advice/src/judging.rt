@@ -7,7 +7,7 @@ ghost use Rattle.cwr_advice.specs.Format.Rules.{begins_with_agent, breaks, break
 ghost use Rattle.cwr_advice.specs.Format.Rules.{is_agent, is_header, is_stray_component, is_version, lacks_components, lacks_original, names_agent};
 ghost use Rattle.cwr_advice.specs.Steps.Facts.{AreFacts};
 
-use crate::characters::is_unlike;
+use crate::characters::{has_html, has_lost_letter, is_unlike};
 use crate::checked_cells::is_wrong;
 use crate::days::is_to_come;
 use crate::facts::Facts;
@@ -17,7 +17,7 @@ use crate::said::Said;
 use crate::shifts::is_shifted;
 use crate::societies::lacks_society;
 use crate::territories::{goes_over, stands_twice};
-use crate::writers::{has_no_publisher, has_no_territory, has_nothing};
+use crate::writers::{has_no_publisher, has_no_territory, has_nothing, names_other_writer};
 use cwr_fields::{Kind, is_spaces};
 use cwr_levels::{cell, is_of};
 use cwr_lines::RecordRef;
@@ -183,6 +183,8 @@ pub(crate) fn breaks_alone(said: Said, rule: AdviceRule, shown: &RecordRef<'_>, 
         | AdviceRule::A8d => is_wrong(rule, cell(shown, field)),
         AdviceRule::A8e => is_to_come(said.sent, cell(shown, field)),
         AdviceRule::A9a => is_unlike(said.characters, cell(shown, field)),
+        AdviceRule::A9b => has_lost_letter(cell(shown, field)),
+        AdviceRule::A9c => has_html(cell(shown, field)),
         _ => false,
     }
 }
@@ -209,6 +211,7 @@ pub(crate) fn breaks(
         AdviceRule::A2c => has_no_publisher(transaction, facts, sequence, shown),
         AdviceRule::A2d => has_no_territory(transaction, sequence, shown),
         AdviceRule::A2e => has_nothing(transaction, sequence, shown),
+        AdviceRule::A2h => names_other_writer(transaction, sequence, shown),
         AdviceRule::A3b => facts.writers_own_less(),
         AdviceRule::A3c => facts.state_no_performing(),
         AdviceRule::A3d => facts.state_no_mechanical(),

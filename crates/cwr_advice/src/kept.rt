@@ -12,6 +12,7 @@ use crate::alone::may_break_some;
 use crate::facts::Facts;
 use crate::judging::{CHAIN, collects_nowhere, is_agent};
 use crate::kept_headers::Headers;
+use crate::kept_writers::{Number, may_name_other, writer_with};
 use crate::owing::Owing;
 use crate::owners::{Owned, is_publisher, is_writer, owned_by};
 use crate::said::Said;
@@ -42,6 +43,8 @@ pub struct AdviceSums {
     collected: Owned,
     /// The publisher sequence of the last publisher.
     chain: Option<Chain>,
+    /// The number of the last writer.
+    writer: Option<Number>,
     /// The numbers of the territories after the last publisher or writer.
     territories: ArrayVec<Code, MOST_TERRITORIES>,
     /// Writers without a publisher.
@@ -233,6 +236,7 @@ impl AdviceSums {
             headers: Headers::none(),
             collected: Owned::nothing(),
             chain: None,
+            writer: None,
             territories: ArrayVec::new(),
             publishers: Owing::nobody(),
             collections: Owing::nobody(),
@@ -249,24 +253,32 @@ impl AdviceSums {
         if stands_again(self.territories.as_slice(), shown) {
             return true;
         }
+        if may_name_other(&self.writer, shown) {
+            return true;
+        }
         may_begin_chain(&self.chain, shown)
     }
 
-    /// Adds one record more of a work, which breaks no rule by itself, and is neither a publisher, nor a writer, nor a territory.
+    /// Adds one record more of a work, which breaks no rule by itself, and is neither a publisher, nor a writer, nor a territory. Says
+    /// whether it does: a no says nothing.
     #[inline(always)]
-    fn add_other(&mut self, shown: &RecordRef<'_>)
+    fn add_other(&mut self, shown: &RecordRef<'_>) -> bool
         requires unbroken { may_break_some shown.now ≡ false }
         requires owner { is_owner shown.now ≡ false }
         requires territory { is_territory shown.now ≡ false }
-        ensures kept { (rs : List RecordValue) → AreKept self.old rs
+        ensures kept { (rs : List RecordValue) → AreKept self.old rs → IsTrue result
             → AreKept self.new (rs ++ shown.now ∷ []) }
         ensures same { self.new.is_acknowledgement ≡ self.old.is_acknowledgement }
     {
+        if may_name_other(&self.writer, shown) {
+            return false;
+        }
         let publisher = is_of(shown, Kind::Pwr);
         self.publishers = self.publishers.with(false, false, publisher);
         self.collections = self.collections.with(false, false, false);
         self.facts = self.facts.with_other(shown);
         self.headers = self.headers.with(shown);
+        true
     }
 
     /// Adds one record more of a work, and says whether it does: a no says nothing.
@@ -279,8 +291,7 @@ impl AdviceSums {
             return false;
         }
         if !is_owner(shown) && !is_territory(shown) {
-            self.add_other(shown);
-            return true;
+            return self.add_other(shown);
         }
         if self.may_break(shown) {
             return false;
@@ -299,6 +310,7 @@ impl AdviceSums {
         self.headers = self.headers.with(shown);
         self.collected = self.collected.with_any_collected(shown);
         self.chain = chain_with(self.chain, shown);
+        self.writer = writer_with(self.writer, shown);
         true
     }
 

@@ -10,6 +10,7 @@ mod facts;
 mod judging;
 mod kept;
 mod kept_headers;
+mod kept_writers;
 mod numbers;
 mod owing;
 mod owners;

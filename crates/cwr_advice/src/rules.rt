@@ -28,6 +28,8 @@ pub enum AdviceRule {
     A2f,
     /// Such a one has a society for each right in which it owns a share.
     A2g,
+    /// A publisher of a writer names the writer whom it stands after.
+    A2h,
     /// No publisher owns more than half of the performing right.
     A3a,
     /// The writers own half of the performing right or more.
@@ -68,10 +70,14 @@ pub enum AdviceRule {
     A8e,
     /// The characters of a text are those that the header says.
     A9a,
+    /// A text has no sign that stands for a letter that was lost.
+    A9b,
+    /// A text has no character that is written as in HTML.
+    A9c,
 }
 
 /// How many rules there are.
-pub const RULE_COUNT: usize = 29;
+pub const RULE_COUNT: usize = 32;
 
 /// All rules, in their order.
 const RULES: [AdviceRule; RULE_COUNT] = [
@@ -84,6 +90,7 @@ const RULES: [AdviceRule; RULE_COUNT] = [
     AdviceRule::A2e,
     AdviceRule::A2f,
     AdviceRule::A2g,
+    AdviceRule::A2h,
     AdviceRule::A3a,
     AdviceRule::A3b,
     AdviceRule::A3c,
@@ -104,6 +111,8 @@ const RULES: [AdviceRule; RULE_COUNT] = [
     AdviceRule::A8d,
     AdviceRule::A8e,
     AdviceRule::A9a,
+    AdviceRule::A9b,
+    AdviceRule::A9c,
 ];
 
 /// All rules, in their order.
@@ -132,7 +141,7 @@ impl AdviceRule {
     /// Its place among all rules, from 0.
     pub fn place(self) -> usize
         ensures value { result ≡ place_of_rule self }
-        ensures within { result < 29 }
+        ensures within { result < 32 }
     {
         self as usize
     }
@@ -152,6 +161,7 @@ impl AdviceRule {
             AdviceRule::A2e => "A2e",
             AdviceRule::A2f => "A2f",
             AdviceRule::A2g => "A2g",
+            AdviceRule::A2h => "A2h",
             AdviceRule::A3a => "A3a",
             AdviceRule::A3b => "A3b",
             AdviceRule::A3c => "A3c",
@@ -172,6 +182,8 @@ impl AdviceRule {
             AdviceRule::A8d => "A8d",
             AdviceRule::A8e => "A8e",
             AdviceRule::A9a => "A9a",
+            AdviceRule::A9b => "A9b",
+            AdviceRule::A9c => "A9c",
         }
     }
 
@@ -196,6 +208,7 @@ impl AdviceRule {
             AdviceRule::A1b
             | AdviceRule::A2e
             | AdviceRule::A2g
+            | AdviceRule::A2h
             | AdviceRule::A6b
             | AdviceRule::A6c
             | AdviceRule::A7a => Level::R,
@@ -227,6 +240,8 @@ impl AdviceRule {
                 "this one owns shares and has no IPI name number, by which societies know whom they pay: look it up and fill it in",
             AdviceRule::A2g =>
                 "a share in this right is owned, and no society is named for it: fill in its number, as 010",
+            AdviceRule::A2h =>
+                "this one names another writer than the SWR or OWR before it: mend the number, or put the record after its writer",
             AdviceRule::A3a =>
                 "a publisher owns more than half of the performing right: most societies take at most 50 %",
             AdviceRule::A3b =>
@@ -264,6 +279,10 @@ impl AdviceRule {
                 "this date is after the transmission date in HDR, and what it tells of has happened: mend it, or leave it blank",
             AdviceRule::A9a =>
                 "this text is in UTF-8, and HDR does not say so, or the other way: write UTF-8 in the character set of HDR, or mend the text",
+            AdviceRule::A9b =>
+                "letters of this text were lost in a conversion: take it from an older file",
+            AdviceRule::A9c =>
+                "HTML stands in the text: write the character itself, and look whether the cells behind were moved",
         }
     }
 }

@@ -27,7 +27,7 @@ impl Model for AdviceCounts {
 
     ghost view = { λ c. c.counts };
 
-    ghost invariant = { λ c. length c.counts ≡ 29 };
+    ghost invariant = { λ c. length c.counts ≡ 32 };
 }
 
 impl AdviceCounts {

@@ -10,6 +10,7 @@ use cwr_endings::{
     Judgement, Status, Sums, Wanted, judgement_of, look_after, tell_characters, tell_following,
     tell_unanswering, tell_verdict,
 };
+use cwr_fields::TransactionStatus;
 use cwr_files::{
     Fault, FileLines, Input, Name, Pace, Passing, Told, gathered, input_name, is_standard,
     open_input, shown_name, tell_fault, told_of,
@@ -34,6 +35,8 @@ pub struct Answering<'t, 'a> {
     pub whole: bool,
     /// How it is told what they say.
     pub form: Form,
+    /// Those with one of these statuses are told; without one all are.
+    pub statuses: &'t [TransactionStatus],
     /// How cells are shown in a table and in JSON.
     pub encoding: Encoding,
     /// The names of their transmissions' files; without one that on standard input is read.
@@ -149,6 +152,38 @@ fn names_told(answering: &Answering<'_, '_>) -> Result<Vec<Vec<u8>>, Fault<'stat
     Ok(names)
 }
 
+/// Of what lines are told.
+#[derive(Drop)]
+struct Subjects {
+    /// The statuses of the acknowledgements; without one those of all.
+    statuses: Vec<TransactionStatus>,
+    /// The names of the files of what was sent, where there are several; else none.
+    names: Vec<Vec<u8>>,
+}
+
+impl Subjects {
+    /// How it is told of them what the transmission of the file of that name says, or without it the one transmission.
+    fn manner<'n>(&'n self, form: Form, file: Option<&'n [u8]>) -> Manner<'n> {
+        Manner {
+            form,
+            statuses: self.statuses.as_slice(),
+            file,
+            names: self.names.as_slice(),
+        }
+    }
+}
+
+/// Of what lines are told, by what is asked for.
+fn subjects_of(answering: &Answering<'_, '_>) -> Result<Subjects, Fault<'static>> {
+    let Ok(statuses) = answering.statuses.to_vec(answering.alloc) else {
+        return Err(Fault::Memory);
+    };
+    Ok(Subjects {
+        statuses,
+        names: names_told(answering)?,
+    })
+}
+
 /// What is there while transmissions of acknowledgements are read: where their lines go, what was sent with what answers it, and how
 /// many acknowledgements there were.
 #[derive(Drop)]
@@ -217,7 +252,7 @@ fn read_input<'a, F: Read + Drop, I: Read + Drop, P: Pace + Drop, W: Target + Dr
 fn read_alone<'a, R: Files, I: Read + Drop, P: Pace, W: Target + Drop, E: Write>(
     rt: &R,
     answering: &Answering<'_, 'a>,
-    names: &[Vec<u8>],
+    subjects: &Subjects,
     standard: &mut Option<I>,
     pace: &mut P,
     reading: Reading<W>,
@@ -228,11 +263,7 @@ fn read_alone<'a, R: Files, I: Read + Drop, P: Pace, W: Target + Drop, E: Write>
         Ok(input) => input,
         Err(fault) => return (reading, Err(Stop::Fault(fault))),
     };
-    let manner = Manner {
-        form: answering.form,
-        file: None,
-        names,
-    };
+    let manner = subjects.manner(answering.form, None);
     let (reading, judged, told, count) = read_input(answering, manner, None, input, reading);
     match judged {
         Ok(judgement) => {
@@ -251,20 +282,11 @@ fn read_alone<'a, R: Files, I: Read + Drop, P: Pace, W: Target + Drop, E: Write>
     }
 }
 
-/// How it is told what the transmission of one of several files says.
-fn manner_among<'n>(form: Form, file: &'n [u8], names: &'n [Vec<u8>]) -> Manner<'n> {
-    Manner {
-        form,
-        file: Some(file),
-        names,
-    }
-}
-
 /// Reads the transmissions of several files one after another. A file that fails is told of on standard error, and the next one follows.
 fn read_several<'a, R: Files, I: Read + Drop, P: Pace, W: Target + Drop, E: Write>(
     rt: &R,
     answering: &Answering<'_, 'a>,
-    names: &[Vec<u8>],
+    subjects: &Subjects,
     standard: &mut Option<I>,
     pace: &mut P,
     reading: Reading<W>,
@@ -287,7 +309,7 @@ fn read_several<'a, R: Files, I: Read + Drop, P: Pace, W: Target + Drop, E: Writ
         ) else {
             return (reading, Err(Stop::Fault(Fault::Memory)));
         };
-        let manner = manner_among(answering.form, file.as_slice(), names);
+        let manner = subjects.manner(answering.form, Some(file.as_slice()));
         let before_each = match answering.form {
             Form::Words(_) => Some(shown.as_str()),
             Form::Json(_) => None,
@@ -321,7 +343,7 @@ fn read_several<'a, R: Files, I: Read + Drop, P: Pace, W: Target + Drop, E: Writ
 /// Writes what stands after the last of several transmissions.
 fn end_lines<W: Target + Drop>(
     form: Form,
-    names: &[Vec<u8>],
+    subjects: &Subjects,
     reading: Reading<W>,
 ) -> (Reading<W>, bool) {
     let Reading {
@@ -329,11 +351,7 @@ fn end_lines<W: Target + Drop>(
         delivery,
         answers,
     } = reading;
-    let manner = Manner {
-        form,
-        file: None,
-        names,
-    };
+    let manner = subjects.manner(form, None);
     let mut sink = Sink::new(lines);
     let put = put_rest(&manner, &delivery, &Answers::new().add(&answers), &mut sink);
     let mut lines = sink.into_inner();
@@ -350,21 +368,21 @@ fn end_lines<W: Target + Drop>(
 fn read_all<'a, R: Files, I: Read + Drop, P: Pace, W: Target + Drop, E: Write>(
     rt: &R,
     answering: &Answering<'_, 'a>,
-    names: &[Vec<u8>],
+    subjects: &Subjects,
     standard: &mut Option<I>,
     pace: &mut P,
     reading: Reading<W>,
     error: &mut E,
 ) -> (Reading<W>, Result<Status, Stop<'a>>) {
     if answering.files.len() < 2 {
-        return read_alone(rt, answering, names, standard, pace, reading, error);
+        return read_alone(rt, answering, subjects, standard, pace, reading, error);
     }
-    let (reading, read) = read_several(rt, answering, names, standard, pace, reading, error);
+    let (reading, read) = read_several(rt, answering, subjects, standard, pace, reading, error);
     let sums = match read {
         Ok(sums) => sums,
         Err(stop) => return (reading, Err(stop)),
     };
-    let (reading, written) = end_lines(answering.form, names, reading);
+    let (reading, written) = end_lines(answering.form, subjects, reading);
     if !written {
         return (reading, Err(Stop::Lines));
     }
@@ -409,22 +427,14 @@ fn tell_lines<'a, R: Files, I: Read + Drop, P: Pace, O: Write + Drop, E: Write>(
     output: O,
     error: &mut E,
 ) -> Result<Status, Fault<'a>> {
-    let names = names_told(answering)?;
+    let subjects = subjects_of(answering)?;
     let lines = gathered(answering.alloc, output, Name::StandardOutput).map_err(|_| Fault::Memory)?;
     let reading = Reading {
         lines,
         delivery,
         answers: Answers::new(),
     };
-    let (reading, read) = read_all(
-        rt,
-        answering,
-        names.as_slice(),
-        standard,
-        pace,
-        reading,
-        error,
-    );
+    let (reading, read) = read_all(rt, answering, &subjects, standard, pace, reading, error);
     match read {
         Ok(status) => status_by(answering, &reading.delivery, status),
         Err(Stop::Lines) => Err(Fault::Write(told_of(reading.lines))),
@@ -497,16 +507,11 @@ fn tell_table<'a, R: Files, I: Read + Drop, P: Pace, O: Write + Drop, E: Write>(
         delivery,
         answers: Answers::new(),
     };
-    let none = Vec::new(answering.alloc);
-    let (reading, read) = read_all(
-        rt,
-        answering,
-        none.as_slice(),
-        standard,
-        pace,
-        reading,
-        error,
-    );
+    let nothing = Subjects {
+        statuses: Vec::new(answering.alloc),
+        names: Vec::new(answering.alloc),
+    };
+    let (reading, read) = read_all(rt, answering, &nothing, standard, pace, reading, error);
     let status = match read {
         Ok(status) => status,
         // What nobody reads is always taken.

@@ -9,6 +9,7 @@ pub mod MisplacedTexts
 pub mod Misplacements
 pub mod NumbersAfter
 pub mod Openings
+pub mod RefusedWorks
 pub mod Refusals
 pub mod Sequences
 pub mod Shifts

@@ -7,3 +7,4 @@ pub mod Refused
 pub mod Shifts
 pub mod Trailing
 pub mod Walks
+pub mod Works

@@ -1,8 +1,9 @@
 //! How the numbers go on after a wrong one.
 
 ghost use Rattle.std.specs.Prelude.{◌≡◌, ◌≤◌, [], false, IfOk, IfSome, OnErr, option_map};
+ghost use Rattle.std.specs.Io.KnownBytes.{Keeps};
 ghost use Rattle.cwr_causes.specs.Format.Lookings.{number_at, sequence_start};
-ghost use Rattle.cwr_causes.specs.Format.NumbersAfter.{IsAhead, begins_other, ends_numbers, followed_at, is_outside};
+ghost use Rattle.cwr_causes.specs.Format.NumbersAfter.{IsAhead, IsSeenAhead, begins_other, ends_numbers, followed_at, is_outside};
 ghost use Rattle.cwr_causes.specs.Format.Trailing.{CountsRead, TakesMore};
 ghost use Rattle.cwr_causes.specs.Steps.Walks.{Walks, WalksOver, WalksPiece, with_byte, with_end, with_front, with_line, with_number};
 
@@ -243,5 +244,21 @@ pub(crate) fn look_ahead<R: Source>(
             return Ok(walk.ahead);
         }
     }
+    Ok(walk.ahead)
+}
+
+/// How the numbers of a sequence go on after that number, on what the reader shows next of the lines after the one in hand. Nothing is
+/// taken.
+pub(crate) fn peek_ahead<R: Source>(
+    reader: &mut R,
+    sequence: Sequence,
+    number: u64,
+) -> Result<Ahead, DeviceFault>
+    ensures sees { IfOk result (IsSeenAhead sequence number (R.remaining reader.old)) }
+    ensures kept { Keeps (R.remaining reader.old) (R.remaining reader.new) }
+    ensures failures { CountsRead result (R.failures reader.old) (R.failures reader.new) }
+{
+    let mut walk = Walk::new(sequence, number);
+    walk.take_piece(reader.fill()?);
     Ok(walk.ahead)
 }

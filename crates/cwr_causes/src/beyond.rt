@@ -1,22 +1,25 @@
 //! What a reader has after the line in hand, and a refused line explained.
 
 ghost use Rattle.std.specs.Prelude.{◌≡◌, ◌↔◌, ◌<◌, [], length, IsTrue, IfOk, IfSome, OnOk, option_map, string_bytes};
+ghost use Rattle.std.specs.Io.KnownBytes.{Keeps};
 ghost use Rattle.std.specs.Option.{is_some};
 ghost use Rattle.cwr_causes.specs.Format.Lookings.{LooksAfterLine, asks_numbers, is_open, number_at};
-ghost use Rattle.cwr_causes.specs.Format.NumbersAfter.{FindsAfterLine, followed_at};
+ghost use Rattle.cwr_causes.specs.Format.NumbersAfter.{FindsAfterLine, SeesNumbers, followed_at};
 ghost use Rattle.cwr_causes.specs.Format.Refusals.{first_kind};
 ghost use Rattle.cwr_causes.specs.Format.Trailing.{CountsRead, TakesMore};
 ghost use Rattle.cwr_causes.specs.Steps.Refused.{ExplainsLine, ExplainsRefusal, IsLineBefore, ahead_in, fault_line, goes_on};
 ghost use Rattle.cwr_causes.specs.Steps.Trailing.{found_in};
 
-use crate::ahead::{Ahead, Sequence, look_ahead, sequence_at};
+use crate::ahead::{Ahead, Sequence, look_ahead, peek_ahead, sequence_at};
 use crate::causes::Refused;
-use crate::lines_at_end::{LineAtEnd, line_at_end, line_before};
+use crate::lines_at_end::{LineAtEnd, line_again, line_at_end, line_before};
 use crate::trailing::Trailing;
 use crate::truncated_words::kind_of;
+use crate::works::refused_work;
 use cwr_decode::{LastBytes, LastRead, Refusal};
 use cwr_devices::{DeviceFault, Source};
 use cwr_lines::LONGEST_LINE;
+use cwr_notes::WorkLine;
 use cwr_shape::{Limits, Reason, Stage};
 use std::alloc::{AllocError, Global};
 
@@ -123,6 +126,24 @@ pub fn look_after_line<R: Source>(
     }
 }
 
+/// How the numbers go on after the refused line, where one of it is wrong, on what the reader shows next of the lines after it. Nothing is
+/// taken.
+pub fn peek_numbers<R: Source>(
+    reader: &mut R,
+    refusal: &Refusal,
+    line: &LineAtEnd<'_>,
+) -> Result<Option<Ahead>, DeviceFault>
+    ensures kept { Keeps (R.remaining reader.old) (R.remaining reader.new) }
+    ensures failures { CountsRead result (R.failures reader.old) (R.failures reader.new) }
+    ensures asked { IfOk result (λ found. is_some found ≡ asks_numbers refusal.now line.now) }
+    ensures finds { IfOk result (λ found. IfSome found (SeesNumbers refusal.now line.now (R.remaining reader.old))) }
+{
+    match wrong_sequence(refusal, line) {
+        Some((sequence, number)) => Ok(Some(peek_ahead(reader, sequence, number)?)),
+        None => Ok(None),
+    }
+}
+
 /// The line before the one with which the bytes end that were read, where all of it is still held.
 pub fn before_last(last: &LastBytes) -> Option<&[u8]>
     ensures { IsLineBefore last.now (option_map (λ b. b.now) result) }
@@ -144,6 +165,8 @@ pub fn add_refused(
         (string_bytes text.old) (string_bytes text.new)) }
 {
     let line = line_at_end(&last.bytes);
+    let again = line_again(line.bytes);
+    let work = refused_work(&last.header, &refusal.reason, &again.cut());
     let refused = Refused {
         name,
         refusal,
@@ -153,38 +176,57 @@ pub fn add_refused(
         is_too_long: beyond.goes_on(),
         ahead: beyond.ahead(),
         is_first: true,
+        is_later: false,
+        work: &work,
     };
     refused.add(alloc, text, limits, Some(last.stage))
 }
 
-/// The lines that explain a fault of a line, where the records before have come to that stage, if that is known. Beside it stand the
-/// line before, where it is held, whether the line has more bytes than are shown, and whether this is the first fault of the line that
-/// is explained: what is to be said of the whole line is said with that one.
+/// A line with a fault, and what is known beside it.
+#[derive(Clone, Copy)]
+pub struct FaultyLine<'a> {
+    /// The line.
+    pub line: LineAtEnd<'a>,
+    /// The line before it, where that is held.
+    pub before: Option<&'a [u8]>,
+    /// The line on its work.
+    pub work: &'a WorkLine,
+    /// How far the records before it have come, if that is known.
+    pub stage: Option<Stage>,
+    /// Whether it has more bytes than are shown.
+    pub is_too_long: bool,
+    /// How the numbers after a wrong one go on, where they were looked at.
+    pub ahead: Option<Ahead>,
+    /// Whether this is the first fault of the line that is explained: what is to be said of the whole line is said with that one.
+    pub is_first: bool,
+    /// Whether there are faults in the lines before it, so that what is counted may be too little.
+    pub is_later: bool,
+}
+
+/// The lines that explain a fault of a line.
 pub fn explain_fault(
     alloc: Global,
     limits: &Limits,
     name: &str,
     fault: &Refusal,
-    line: LineAtEnd<'_>,
-    before: Option<&[u8]>,
-    is_too_long: bool,
-    is_first: bool,
-    stage: Option<Stage>,
+    line: FaultyLine<'_>,
 ) -> Result<String, AllocError>
-    ensures { IfOk result (λ text. ExplainsLine limits.now stage (fault_line name.now fault.now line.entry
-        (option_map (λ b. b.now) before.entry) is_too_long is_first) [] (string_bytes text)) }
+    ensures { IfOk result (λ text. ExplainsLine limits.now line.entry.stage (fault_line name.now fault.now line.entry)
+        [] (string_bytes text)) }
 {
     let mut text = String::new(alloc);
     let refused = Refused {
         name,
         refusal: fault,
-        line,
-        before,
-        kind: kind_of(line.bytes),
-        is_too_long,
-        is_first,
-        ahead: None,
+        line: line.line,
+        before: line.before,
+        kind: kind_of(line.line.bytes),
+        is_too_long: line.is_too_long,
+        ahead: line.ahead,
+        is_first: line.is_first,
+        is_later: line.is_later,
+        work: line.work,
     };
-    refused.add(alloc, &mut text, limits, stage)?;
+    refused.add(alloc, &mut text, limits, line.stage)?;
     Ok(text)
 }

@@ -3,12 +3,12 @@
 ghost use Rattle.std.specs.Prelude.{◌≡◌, ◌≤◌, ◌<◌, ◌==◌, ◌++◌, not, true, codes, position, length, option_map, string_bytes, Some, IfSome, OnOk};
 ghost use Rattle.cwr_fields.specs.Steps.Views.{field_view};
 ghost use Rattle.cwr_causes.specs.Format.Refusals.{byte_of_file_words, content_words, end_byte_words, end_of_fields, excess_at, field_name, field_words};
-ghost use Rattle.cwr_causes.specs.Format.Refusals.{found_words, head_words, named_field, number_points_words, place_words, range_beyond_words, refused_field};
+ghost use Rattle.cwr_causes.specs.Format.Refusals.{found_words, head_words, is_beyond, named_field, number_points_words, place_words, range_beyond_words, refused_field, rest_words};
 ghost use Rattle.cwr_causes.specs.Format.Refusals.{range_words, range_of_file_words, refused_level_words, shown, where_words, without_return};
 ghost use Rattle.cwr_causes.specs.Format.Handling.{handling_of, handling_words};
-ghost use Rattle.cwr_causes.specs.Format.Openings.{note_line, note_words, opening_words};
+ghost use Rattle.cwr_causes.specs.Format.Openings.{note_line, note_words, opening_words, repeats_before};
 ghost use Rattle.cwr_causes.specs.Format.GluedLines.{glued_text, glued_words, has_return};
-ghost use Rattle.cwr_causes.specs.Format.Signs.{cells_signs, end_signs, first_signs, is_packed_by, return_line, return_words, returns_in, shift_signs};
+ghost use Rattle.cwr_causes.specs.Format.Signs.{cells_signs, end_signs, first_signs, follows_line, further_signs, is_packed_by, return_line, return_words, returns_in, shift_signs};
 ghost use Rattle.cwr_causes.specs.Format.Signs.{signs_words, whole_line_signs};
 ghost use Rattle.cwr_causes.specs.Format.Misplacements.{belongs, numbers_before, numbers_in};
 ghost use Rattle.cwr_causes.specs.Format.Wanted.{cell_expected_words, end_expected_words, number_expected_words, number_of_field, stands_twice};
@@ -20,16 +20,16 @@ ghost use Rattle.cwr_causes.specs.Steps.Refused.{ExplainsLine, expected_words, r
 use crate::ahead::Ahead;
 use crate::coming_words::add_coming;
 use crate::expected::{add_cell_type, letters_of};
-use crate::glued_lines::{add_glued, first_record, head_in};
-use crate::handling::{has_hard_space, is_separated, is_societies_group};
+use crate::glued_lines::{add_glued, add_hidden, first_record, head_in, hidden};
+use crate::handling::{converted_words, has_hard_space, is_separated, is_societies_group};
 use crate::lines_at_end::{LineAtEnd, line_again};
 use crate::long_lines::add_long_id;
-use crate::misplaced_words::{add_misplacement, add_mistyped};
+use crate::misplaced_words::{LinePlace, add_misplacement, add_mistyped};
 use crate::misplacements::{Misplacement, belongs, misplacement_of, numbers_before, numbers_of};
 use crate::next_symbols::closes_at;
 use crate::openings::{is_of_societies, opening_of, societies_words};
 use crate::sequences::{number_in, numbers_in};
-use crate::shifts::add_shift;
+use crate::shifts::{add_shift, is_moved};
 use crate::texts::{add_beginning, add_cell, add_label};
 use crate::truncated_words::{add_cut_off, kind_of};
 use crate::versions::{add_version, from_byte};
@@ -37,12 +37,13 @@ use crate::wanted::{
     add_another_type, add_counted, add_end_of_line, add_fault, add_limit, add_rule_of, add_twice,
     is_other_header,
 };
+use crate::works::add_work;
 use crate::wrapped_lines::{add_broken_before, add_broken_here, may_go_on, without_cr};
 use crate::wrong_numbers::WrongNumber;
 use cwr_decode::Refusal;
 use cwr_fields::{CellFault, Field, Kind, field, width};
 use cwr_lines::LONGEST_LINE;
-use cwr_notes::level_words;
+use cwr_notes::{WorkLine, level_words};
 use cwr_shape::{Limits, Reason, Stage};
 use std::alloc::{AllocError, Global};
 use std::fmt::Write;
@@ -66,6 +67,10 @@ pub(crate) struct Refused<'a> {
     pub ahead: Option<Ahead>,
     /// Whether the fault is the first that is explained of the line.
     pub is_first: bool,
+    /// Whether there are faults in the lines before it.
+    pub is_later: bool,
+    /// The line on its work.
+    pub work: &'a WorkLine,
 }
 
 /// The first byte that isn't a space, from 0.
@@ -252,6 +257,25 @@ impl Refused<'_> {
         add_field_name(text, self.kind, self.refused_field())
     }
 
+    /// Whether what is shown isn't held, as the line is too long.
+    fn is_beyond(&self) -> bool
+        ensures { result ≡ is_beyond (refused_line self.now) }
+    {
+        self.is_too_long && self.without_return().len() <= self.shown().0
+    }
+
+    /// Adds what stands in the place of a cell.
+    fn add_rest(&self, text: &mut String) -> Result<(), AllocError>
+        ensures { OnOk result (string_bytes text.new ≡ string_bytes text.old ++ rest_words (refused_line self.now)) }
+    {
+        if self.is_beyond() {
+            return text.push_str("more than 1024 bytes before a line end");
+        }
+        let bytes = self.without_return();
+        let from = self.shown().0.min(bytes.len());
+        add_beginning(text, &bytes[from..])
+    }
+
     /// Adds what stands in the field's cell, or in its place.
     fn add_content(&self, text: &mut String, cell: Option<&[u8]>) -> Result<(), AllocError>
         ensures { OnOk result (string_bytes text.new ≡ string_bytes text.old
@@ -259,11 +283,7 @@ impl Refused<'_> {
     {
         match cell {
             Some(cell) => add_cell(text, cell),
-            None => {
-                let bytes = self.without_return();
-                let from = self.shown().0.min(bytes.len());
-                add_beginning(text, &bytes[from..])
-            }
+            None => self.add_rest(text),
         }
     }
 
@@ -296,7 +316,7 @@ impl Refused<'_> {
         add_label(text, "expected")?;
         add_cell_type(text, place)?;
         add_rule_of(text, place.derived, self.kind, self.refusal.field)?;
-        add_fault(text, fault, cell)?;
+        add_fault(text, place.derived, fault, cell)?;
         text.push_str("\n")
     }
 
@@ -344,6 +364,7 @@ impl Refused<'_> {
                 line: self.line.bytes,
                 before: self.before,
                 ahead: self.ahead,
+                is_later: self.is_later,
             }
             .add(text),
             _ => Ok(()),
@@ -395,7 +416,11 @@ impl Refused<'_> {
             add_another_type(text, stage, kind)
         } else {
             let shown = self.shown_by_numbers(stage, kind);
-            add_misplacement(alloc, text, stage, kind, self.line.offset, shown)
+            let place = LinePlace {
+                offset: self.line.offset,
+                is_later: self.is_later,
+            };
+            add_misplacement(alloc, text, stage, kind, place, shown)
         }
     }
 
@@ -480,7 +505,7 @@ impl Refused<'_> {
                 "the cell has a byte A0, a space that may not be broken, as web pages and word processors have them: put spaces (20) in their place",
             )
         } else {
-            None
+            converted_words(self.line.bytes)
         }
     }
 
@@ -505,13 +530,14 @@ impl Refused<'_> {
         writeln!(text, "{words}")
     }
 
-    /// Adds where and in which field the line is refused, what stands there, and what a wrong number points to.
+    /// Adds where, in which work and in which field the line is refused, what stands there, and what a wrong number points to.
     #[tactic(auto, unfolding(crate::specs::Format::Refusals::head_words))]
     fn add_head(&self, text: &mut String, cell: Option<&[u8]>) -> Result<(), AllocError>
         ensures { OnOk result (string_bytes text.new ≡ string_bytes text.old
             ++ head_words (refused_line self.now) (option_map (λ c. c.now) cell.entry)) }
     {
         self.add_where(text)?;
+        add_work(text, self.work)?;
         self.add_field(text)?;
         self.add_found(text, cell)?;
         self.add_points(text, cell)
@@ -556,12 +582,13 @@ impl Refused<'_> {
     fn glued(&self) -> Option<&[u8]>
         ensures { option_map (λ found. found.now) result ≡ glued_text (refused_line self.now) }
     {
-        if self.kind.is_none() || has_return(self.line.bytes) {
-            return None;
-        }
-        match first_record(from_byte(self.line.bytes, 3)) {
-            Some(found) => Some(found),
-            None => head_in(from_byte(self.line.bytes, self.excess())),
+        match self.kind {
+            None => hidden(self.line.bytes),
+            Some(_) if has_return(self.line.bytes) => None,
+            Some(_) => match first_record(from_byte(self.line.bytes, 3)) {
+                Some(found) => Some(found),
+                None => head_in(from_byte(self.line.bytes, self.excess())),
+            },
         }
     }
 
@@ -571,7 +598,10 @@ impl Refused<'_> {
             ++ glued_words (refused_line self.now) found.now) }
     {
         let at = self.line.bytes.len().saturating_sub(found.len());
-        add_glued(text, kind_of(found), at as u64, self.line.offset)
+        match self.kind {
+            None => add_hidden(text, kind_of(found), at as u64),
+            Some(_) => add_glued(text, kind_of(found), at as u64, self.line.offset),
+        }
     }
 
     /// Adds why the cells may stand elsewhere, and that the line may have been broken.
@@ -582,7 +612,8 @@ impl Refused<'_> {
         if self.is_too_long {
             return Ok(());
         }
-        add_shift(text, self.kind, self.refusal.field, self.without_return())?;
+        let line = self.without_return();
+        add_shift(text, self.kind, self.refusal.field, self.before, line)?;
         self.add_broken(text)
     }
 
@@ -598,7 +629,19 @@ impl Refused<'_> {
         }
     }
 
-    /// Adds both, where they are said with this fault.
+    /// Adds that a further fault of a line of which the cells may stand elsewhere may come of that.
+    fn add_further(&self, text: &mut String) -> Result<(), AllocError>
+        ensures { OnOk result (string_bytes text.new ≡ string_bytes text.old
+            ++ further_signs (refused_line self.now)) }
+    {
+        if is_moved(self.kind, self.before, self.without_return()) {
+            add_follows(text)
+        } else {
+            Ok(())
+        }
+    }
+
+    /// Adds both, where they are said with this fault, and with a further one that it may come of it.
     fn add_first(&self, text: &mut String) -> Result<(), AllocError>
         ensures { OnOk result (string_bytes text.new ≡ string_bytes text.old
             ++ shift_signs (refused_line self.now)) }
@@ -606,7 +649,7 @@ impl Refused<'_> {
         if self.is_first {
             self.add_whole_line(text)
         } else {
-            Ok(())
+            self.add_further(text)
         }
     }
 
@@ -664,7 +707,18 @@ impl Refused<'_> {
         }
     }
 
-    /// Adds all that is said of the refusal, where the records before have come to that stage.
+    /// Whether it names no record, and looks as the line before it does.
+    fn repeats(&self) -> bool
+        ensures { result ≡ repeats_before self.now.refusal.now.reason (refused_line self.now).before self.now.line.bytes.now }
+    {
+        match self.refusal.reason {
+            Reason::UnknownKind => opening_of(self.line.bytes).is_as_before(self.before),
+            _ => false,
+        }
+    }
+
+    /// Adds all that is said of the refusal, where the records before have come to that stage. What was done to each line of a file is
+    /// told in full of the first.
     pub(crate) fn add(
         &self,
         alloc: Global,
@@ -678,6 +732,9 @@ impl Refused<'_> {
         let again = line_again(self.line.bytes);
         let cut = again.cut();
         let cell = cut.cell(self.refusal.field);
+        if self.repeats() {
+            return add_note(text, "the same as in the line before it");
+        }
         self.add_head(text, cell)?;
         self.add_wanted(alloc, text, limits, stage, cell)?;
         self.add_level(text)?;
@@ -714,6 +771,17 @@ pub(crate) fn add_note_if(text: &mut String, words: Option<&'static str>) -> Res
         Some(words) => add_note(text, words),
         None => Ok(()),
     }
+}
+
+/// Adds that a fault may come of the one before it in its line.
+#[tactic(auto, unfolding(crate::specs::Format::Signs::follows_line))]
+fn add_follows(text: &mut String) -> Result<(), AllocError>
+    ensures { OnOk result (string_bytes text.new ≡ string_bytes text.old ++ follows_line) }
+{
+    add_label(text, "note")?;
+    text.push_str(
+        "this may come of the fault before it in this line: mend that first, and look again\n",
+    )
 }
 
 /// Adds that a byte of a line is a carriage return, from 1.

@@ -102,7 +102,7 @@ pub(crate) fn add_cell_type(text: &mut String, place: &Field) -> Result<(), Allo
             "a duration, HHMMSS, from 000000 to 995959, or spaces",
         ),
         CellType::Share => text.push_str(
-            "a share in hundredths of a percent, five digits from 00000 to 10000, or spaces",
+            "a share in hundredths of a percent, five digits from 00000 to 10000 (05000 is half), or spaces",
         ),
         CellType::Flag => text.push_str("Y, N, U or a space"),
         CellType::Code(table) => add_table(text, table),

@@ -24,13 +24,17 @@ mod trailing_words;
 mod truncated_words;
 mod versions;
 mod wanted;
+mod works;
 mod wrapped_lines;
 mod wrong_numbers;
 
 pub use ahead::Ahead;
-pub use beyond::{Beyond, add_refused, before_last, explain_fault, look_after_line};
+pub use beyond::{
+    Beyond, FaultyLine, add_refused, before_last, explain_fault, look_after_line, peek_numbers,
+};
 pub use lines_at_end::{LineAtEnd, line_at_end};
 pub use next_symbols::{coming, may_come};
 pub use trailing::{Trailing, read_trailing};
 pub use trailing_words::add_trailing;
 pub use truncated_words::add_truncated;
+pub use works::{open_work, own_work, refused_work};

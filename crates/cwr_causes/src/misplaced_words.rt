@@ -1,8 +1,8 @@
 //! What a misplaced line points to, in words.
 
 ghost use Rattle.std.specs.Prelude.{◌≡◌, ◌++◌, option_map, string_bytes, OnOk};
-ghost use Rattle.cwr_causes.specs.Format.MisplacedTexts.{alternatives, front_gap, gap_words, goes_on_line, goes_on_words, header_gap, header_number_line, here_after, here_start};
-ghost use Rattle.cwr_causes.specs.Format.MisplacedTexts.{here_words, missing_line, missing_words, mistyped_line, mistyped_words, moved_line, numbers_words, one_alternative, place_start};
+ghost use Rattle.cwr_causes.specs.Format.MisplacedTexts.{alternatives, first_head_line, front_gap, gap_words, goes_on_line, goes_on_words, header_gap, header_number_line, here_after, here_start};
+ghost use Rattle.cwr_causes.specs.Format.MisplacedTexts.{here_words, later_head_line, missing_line, missing_words, mistyped_line, mistyped_words, moved_line, numbers_words, one_alternative, place_start};
 ghost use Rattle.cwr_causes.specs.Format.MisplacedTexts.{or_separator, record_gap, records_gap, second_file_line};
 ghost use Rattle.cwr_causes.specs.Steps.Coming.{letting_at, preceding_at};
 ghost use Rattle.cwr_causes.specs.Steps.Misplaced.{misplaced_text};
@@ -112,7 +112,7 @@ fn add_gap(text: &mut String, gap: Gap) -> Result<(), AllocError>
     match gap {
         Gap::FileHead => {
             text.push_str(
-                "HDR, with which a file begins, is missing before this line, or stands after it",
+                "HDR, with which a file begins, is missing before this line, or stands after it where lines were sorted or moved",
             )
         }
         Gap::Groups => text.push_str(
@@ -257,16 +257,48 @@ fn add_moved_line(
     text.push_str(": one of the two was moved or stands twice, or two files were put together\n")
 }
 
+/// Adds the line on an HDR after other faults, after so many bytes.
+#[tactic(auto, unfolding(crate::specs::Format::MisplacedTexts::later_head_line))]
+fn add_later_head(text: &mut String, offset: u64) -> Result<(), AllocError>
+    ensures { OnOk result (string_bytes text.new ≡ string_bytes text.old ++ later_head_line offset) }
+{
+    add_label(text, "points to")?;
+    writeln!(
+        text,
+        "HDR stands in the first line alone: if what stands before this one is no transmission, remove that; if a second file begins here, cut them apart after byte {offset}, mend each, and then put them together: cwr join -o OUT --new A B; if lines were sorted or moved, take the file as it was before that"
+    )
+}
+
 /// Adds the line that says that a second file begins, after so many bytes.
-#[tactic(auto, unfolding(crate::specs::Format::MisplacedTexts::second_file_line))]
-fn add_second_file(text: &mut String, offset: u64) -> Result<(), AllocError>
-    ensures { OnOk result (string_bytes text.new ≡ string_bytes text.old ++ second_file_line offset) }
+#[tactic(auto, unfolding(crate::specs::Format::MisplacedTexts::first_head_line))]
+fn add_first_head(text: &mut String, offset: u64) -> Result<(), AllocError>
+    ensures { OnOk result (string_bytes text.new ≡ string_bytes text.old ++ first_head_line offset) }
 {
     add_label(text, "points to")?;
     writeln!(
         text,
         "a second file begins with this line, and the end of the first one is missing: cut them apart after byte {offset}, mend each, and then put them together: cwr join -o OUT --new A B"
     )
+}
+
+/// Where a line stands.
+#[derive(Clone, Copy, Debug)]
+pub(crate) struct LinePlace {
+    /// How many bytes of the file stand before it.
+    pub offset: u64,
+    /// Whether there are faults in the lines before it.
+    pub is_later: bool,
+}
+
+/// Adds the line on an HDR in that place.
+fn add_second_file(text: &mut String, place: LinePlace) -> Result<(), AllocError>
+    ensures { OnOk result (string_bytes text.new ≡ string_bytes text.old ++ second_file_line place) }
+{
+    if place.is_later {
+        add_later_head(text, place.offset)
+    } else {
+        add_first_head(text, place.offset)
+    }
 }
 
 /// Adds the line that says that a line has the number of a header, and is none.
@@ -302,18 +334,18 @@ pub(crate) fn add_mistyped(text: &mut String, belongs: bool) -> Result<(), Alloc
     }
 }
 
-/// Adds what a misplaced line of the kind shows, where the records before have come to that stage, and after so many bytes of the file.
+/// Adds what a misplaced line of the kind in that place shows, where the records before have come to that stage.
 #[tactic(auto, unfolding(crate::specs::Steps::Misplaced::misplaced_text))]
 pub(crate) fn add_misplacement(
     alloc: Global,
     text: &mut String,
     stage: Option<Stage>,
     kind: Kind,
-    offset: u64,
+    place: LinePlace,
     shown: Misplacement,
 ) -> Result<(), AllocError>
     ensures { OnOk result (string_bytes text.new ≡ string_bytes text.old
-        ++ misplaced_text stage kind offset shown) }
+        ++ misplaced_text stage kind place shown) }
 {
     let letters = letters_of(kind);
     match shown {
@@ -325,7 +357,7 @@ pub(crate) fn add_misplacement(
             let preceding = preceding_at(alloc, stage, kind)?;
             add_goes_on_line(text, letters, preceding.as_slice())
         }
-        Misplacement::SecondFile => add_second_file(text, offset),
+        Misplacement::SecondFile => add_second_file(text, place),
         Misplacement::Moved { before, here } => add_moved_line(text, before, here),
         Misplacement::HeaderNumber => add_header_number(text),
         Misplacement::Unknown => Ok(()),

@@ -5,7 +5,7 @@ ghost use Rattle.std.specs.Char.{is_ascii_lowercase};
 ghost use Rattle.std.specs.List.{list_all, list_any};
 ghost use Rattle.cwr_causes.specs.Format.Openings.{begins_blank, begins_tag, is_base64, is_base64_byte, is_blank, is_conflict, is_ebcdic, is_empty_line};
 ghost use Rattle.cwr_causes.specs.Format.Openings.{is_indented, is_white, is_white_line};
-ghost use Rattle.cwr_causes.specs.Format.Openings.{is_lower_case, is_mail_head, is_of_societies, is_other, is_packed, is_utf16, opening_at, opening_of, opening_said};
+ghost use Rattle.cwr_causes.specs.Format.Openings.{is_as_before, is_lower_case, is_mail_head, is_of_societies, is_other, is_packed, is_same_opening, is_utf16, opening_at, opening_of, opening_said};
 ghost use Rattle.cwr_causes.specs.Format.Openings.{societies_said, text_opening, without_blanks};
 
 use crate::truncated_words::kind_of;
@@ -315,6 +315,32 @@ impl Opening {
         }
     }
 
+    /// Whether both lines look alike, by something that is done to a whole file.
+    fn is_same(self, other: Opening) -> bool
+        ensures { result ≡ is_same_opening self other }
+    {
+        matches!(
+            (self, other),
+            (Opening::LowerCase, Opening::LowerCase)
+                | (Opening::Markup, Opening::Markup)
+                | (Opening::Quoted, Opening::Quoted)
+                | (Opening::InQuotes, Opening::InQuotes)
+                | (Opening::Indented, Opening::Indented)
+                | (Opening::OfSocieties, Opening::OfSocieties)
+                | (Opening::Base64, Opening::Base64)
+        )
+    }
+
+    /// Whether the line looks as the one before it does, where that is held and names no record either.
+    pub(crate) fn is_as_before(self, before: Option<&[u8]>) -> bool
+        ensures { result ≡ is_as_before (option_map (λ b. b.now) before.entry) self }
+    {
+        match before {
+            Some(before) => kind_of(before).is_none() && opening_of(before).is_same(self),
+            None => false,
+        }
+    }
+
     /// What to say of it.
     pub(crate) fn words(self) -> Option<&'static str>
         ensures { option_map (λ words. words.now) result ≡ opening_said self }
@@ -322,7 +348,9 @@ impl Opening {
         match self {
             Opening::Empty => Some("the line is empty: remove it"),
             Opening::White => {
-                Some("the line has nothing but blanks and control bytes: remove it")
+                Some(
+                    "the line has nothing but blanks and control bytes: remove it, unless the line before it was broken and goes on with it",
+                )
             }
             Opening::Ebcdic => Some(
                 "this looks like EBCDIC, as mainframes write texts: have the file converted to ASCII",
@@ -335,7 +363,9 @@ impl Opening {
             ),
             Opening::Gzip => Some("this is a gzip file: unpack it"),
             Opening::Zip => Some("this is a zip file: unpack it"),
-            Opening::LowerCase => Some("record types are in capital letters"),
+            Opening::LowerCase => Some(
+                "record types are in capital letters: where the whole file is in small ones, turn all of it",
+            ),
             Opening::Pdf => Some("this is a PDF file: the transmission itself is wanted"),
             Opening::Rtf => Some("this is a text of a word processor (RTF): save it as plain text"),
             Opening::Markup => Some(
@@ -359,7 +389,7 @@ impl Opening {
                 "this looks like base64, in which mails carry files: unpack it",
             ),
             Opening::BeforeHeader => Some(
-                "a file begins with HDR: what stands before that line, if it comes, is no part of the transmission, so remove it",
+                "a file begins with HDR: if that line comes, what stands before it is no part of the transmission, so remove it; if it doesn't, the beginning of the file is missing; if each line has a number in front, remove that",
             ),
             Opening::Other => None,
         }

@@ -31,7 +31,7 @@ fn add_byte(text: &mut String, byte: u8) -> Result<(), AllocError>
 }
 
 /// Adds bytes, one by one.
-fn add_bytes(text: &mut String, bytes: &[u8]) -> Result<(), AllocError>
+pub(crate) fn add_bytes(text: &mut String, bytes: &[u8]) -> Result<(), AllocError>
     ensures { OnOk result (string_bytes text.new ≡ string_bytes text.old ++ flat_map byte_words bytes.now) }
 {
     for byte in bytes {

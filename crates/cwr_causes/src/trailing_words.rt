@@ -6,6 +6,7 @@ ghost use Rattle.cwr_causes.specs.Format.TrailingTexts.{after_words, count_words
 use crate::causes::add_note_if;
 use crate::texts::add_label;
 use crate::trailing::Trailing;
+use cwr_fields::Kind;
 use std::alloc::AllocError;
 use std::fmt::Write;
 
@@ -40,7 +41,7 @@ fn add_second_line(text: &mut String, count: u64) -> Result<(), AllocError>
     add_label(text, "note")?;
     writeln!(
         text,
-        "it begins with HDR, as a second transmission does: put the last {count} bytes into a file of their own, check both, and put them together: cwr join -o OUT --new A B"
+        "it begins with HDR, as a second transmission does: put the last {count} bytes into a file of their own, check both, and put them together: cwr join -o OUT --new A B; but if it is the same one again, remove it, as each work would be sent twice"
     )
 }
 
@@ -62,6 +63,8 @@ pub(crate) enum Remainder {
     Filler,
     /// The signature of a mail.
     Signature,
+    /// Records.
+    Records,
     /// Nothing of these.
     Unknown,
 }
@@ -84,6 +87,8 @@ fn remainder_of(found: &Trailing) -> Remainder
         Remainder::Filler
     } else if is_signature(&found.begins[..]) {
         Remainder::Signature
+    } else if Kind::of(&found.begins[..]).is_some() {
+        Remainder::Records
     } else {
         Remainder::Unknown
     }
@@ -99,6 +104,9 @@ impl Remainder {
                 "only blanks, line ends, zeros or end marks of DOS (byte 26) stand there: nothing is lost without them",
             ),
             Remainder::Signature => Some("it begins as the signature of a mail does"),
+            Remainder::Records => Some(
+                "it begins as a record does: if it belongs to the transmission, put it before TRL, and mend the counts",
+            ),
             Remainder::Unknown => None,
         }
     }

@@ -1,12 +1,14 @@
 //! What may stand in the place of what was found, and what a misplaced line points to, in words.
 
 ghost use Rattle.std.specs.Prelude.{◌≡◌, ◌++◌, true, codes, option_map, string_bytes, Some, OnOk};
+ghost use Rattle.std.specs.List.{list_all, list_any};
 ghost use Rattle.cwr_fields.specs.Format.Layouts.{line_width};
 ghost use Rattle.cwr_shape.specs.declared.symbols.Symbol.{Symbol};
 ghost use Rattle.cwr_shape.specs.Format.NextSymbols.{header_kind, is_header_of};
 ghost use Rattle.cwr_causes.specs.Format.Texts.{hex_words};
-ghost use Rattle.cwr_causes.specs.Format.Wanted.{another_type_line, another_type_words, control_line, control_place, control_words, counted_number};
-ghost use Rattle.cwr_causes.specs.Format.Wanted.{end_of_line_words, fault_words, is_of_another_type, is_other_header, last_byte_words, limit_words, may_be_copy};
+ghost use Rattle.cwr_causes.specs.Format.Wanted.{another_type_line, another_type_words, begins_early, constant_words, control_line, control_place, control_words, counted_number};
+ghost use Rattle.cwr_causes.specs.Format.Wanted.{date_said, date_words, ends_letter, has_letters_o, is_date_mark, is_digit_or_o, time_words, version_said};
+ghost use Rattle.cwr_causes.specs.Format.Wanted.{digit_said, digit_words, end_of_line_words, fault_words, is_digit_or_space, is_letter_o, is_of_another_type, is_other_header, last_byte_words, limit_words, may_be_copy};
 ghost use Rattle.cwr_causes.specs.Format.Wanted.{most_words, number_in_width, raised_words, rule_words, twice_words};
 
 use crate::expected::{letters_of, number_rule};
@@ -70,17 +72,187 @@ fn add_control(text: &mut String, cell: Option<&[u8]>) -> Result<(), AllocError>
     }
 }
 
-/// Adds the same where a control byte is the cell's fault.
+/// Whether the byte is the letter O.
+fn is_letter_o(byte: u8) -> bool
+    ensures { result ≡ is_letter_o byte }
+{
+    byte == b'O' || byte == b'o'
+}
+
+/// Whether the byte is a digit or a space.
+fn is_digit_or_space(byte: u8) -> bool
+    ensures { result ≡ is_digit_or_space byte }
+{
+    byte == b' ' || (b'0' <= byte && byte <= b'9')
+}
+
+/// Whether some byte is the letter O.
+fn have_letter_o(bytes: &[u8]) -> bool
+    ensures { result ≡ list_any is_letter_o bytes.now }
+{
+    bytes.iter().any(|byte| is_letter_o(*byte))
+}
+
+/// Whether all bytes are digits or spaces.
+fn are_digits_or_spaces(bytes: &[u8]) -> bool
+    ensures { result ≡ list_all is_digit_or_space bytes.now }
+{
+    bytes.iter().all(|byte| is_digit_or_space(*byte))
+}
+
+/// Whether its last byte is a letter.
+fn ends_letter(cell: &[u8]) -> bool
+    ensures { result ≡ ends_letter cell.now }
+{
+    cell[cell.len().saturating_sub(1)..]
+        .iter()
+        .any(|byte| byte.is_ascii_alphabetic())
+}
+
+/// Whether the cell begins with a digit that is no zero, or with a zero, and ends with a letter, as where what stands behind it has moved
+/// in.
+fn begins_early(cell: &[u8]) -> bool
+    ensures { result ≡ begins_early cell.now }
+{
+    match cell {
+        [first, ..] => {
+            (b'1' <= *first && *first <= b'9') || (*first == b'0' && ends_letter(cell))
+        }
+        [] => false,
+    }
+}
+
+/// Why a cell isn't all digits, as far as it shows.
+fn digits_said(derived: bool, cell: &[u8]) -> &'static str
+    ensures { result.now ≡ digit_said derived cell.now }
+{
+    if have_letter_o(cell) {
+        "; the letter O isn't the digit 0"
+    } else if derived && are_digits_or_spaces(cell) {
+        "; cwr renumber --new FILE OUT writes such numbers in full"
+    } else if begins_early(cell) {
+        "; such a number has zeros in front: where some were lost, what stands behind it has moved to the left"
+    } else {
+        ""
+    }
+}
+
+/// Adds that.
+fn add_digits(text: &mut String, derived: bool, cell: Option<&[u8]>) -> Result<(), AllocError>
+    ensures { OnOk result (string_bytes text.new ≡ string_bytes text.old
+        ++ digit_words derived (option_map (λ c. c.now) cell.entry)) }
+{
+    match cell {
+        Some(cell) => text.push_str(digits_said(derived, cell)),
+        None => Ok(()),
+    }
+}
+
+/// Whether the byte is a digit or the letter O.
+fn is_digit_or_o(byte: u8) -> bool
+    ensures { result ≡ is_digit_or_o byte }
+{
+    is_letter_o(byte) || (b'0' <= byte && byte <= b'9')
+}
+
+/// Whether all bytes are digits or letters O.
+fn are_digits_or_o(bytes: &[u8]) -> bool
+    ensures { result ≡ list_all is_digit_or_o bytes.now }
+{
+    bytes.iter().all(|byte| is_digit_or_o(*byte))
+}
+
+/// Whether the cell has digits alone, but for letters O.
+fn has_letters_o(cell: &[u8]) -> bool
+    ensures { result ≡ has_letters_o cell.now }
+{
+    have_letter_o(cell) && are_digits_or_o(cell)
+}
+
+/// Whether the byte is a mark between the parts of a date.
+fn is_date_mark(byte: u8) -> bool
+    ensures { result ≡ is_date_mark byte }
+{
+    byte == b'.' || byte == b'-' || byte == b'/'
+}
+
+/// Whether some byte is one.
+fn have_date_mark(bytes: &[u8]) -> bool
+    ensures { result ≡ list_any is_date_mark bytes.now }
+{
+    bytes.iter().any(|byte| is_date_mark(*byte))
+}
+
+/// Adds why a cell isn't a time, as far as it shows.
+fn add_time(text: &mut String, cell: Option<&[u8]>) -> Result<(), AllocError>
+    ensures { OnOk result (string_bytes text.new ≡ string_bytes text.old ++ time_words (option_map (λ c. c.now) cell.entry)) }
+{
+    match cell {
+        Some(cell) if has_letters_o(cell) => text.push_str("; the letter O isn't the digit 0"),
+        _ => Ok(()),
+    }
+}
+
+/// Why a cell isn't a day, as far as it shows.
+fn date_said(cell: &[u8]) -> &'static str
+    ensures { result.now ≡ date_said cell.now }
+{
+    if has_letters_o(cell) {
+        "; the letter O isn't the digit 0"
+    } else if have_date_mark(cell) {
+        "; a date has no marks: where it was written in ten bytes, what stands behind it has moved to the right"
+    } else {
+        ""
+    }
+}
+
+/// Adds that.
+fn add_date(text: &mut String, cell: Option<&[u8]>) -> Result<(), AllocError>
+    ensures { OnOk result (string_bytes text.new ≡ string_bytes text.old ++ date_words (option_map (λ c. c.now) cell.entry)) }
+{
+    match cell {
+        Some(cell) => text.push_str(date_said(cell)),
+        None => Ok(()),
+    }
+}
+
+/// Why a cell isn't the version that belongs there, as far as it shows.
+fn version_said(cell: &[u8]) -> &'static str
+    ensures { result.now ≡ version_said cell.now }
+{
+    if cell.starts_with(b"01.1") || cell.starts_with(b"02.1") {
+        "; where its last 0 was lost, what stands behind it has moved to the left"
+    } else {
+        ""
+    }
+}
+
+/// Adds that.
+fn add_constant(text: &mut String, cell: Option<&[u8]>) -> Result<(), AllocError>
+    ensures { OnOk result (string_bytes text.new ≡ string_bytes text.old ++ constant_words (option_map (λ c. c.now) cell.entry)) }
+{
+    match cell {
+        Some(cell) => text.push_str(version_said(cell)),
+        None => Ok(()),
+    }
+}
+
+/// Adds what shows of a cell's fault: its control byte, or what stands in the place of digits.
 pub(crate) fn add_fault(
     text: &mut String,
+    derived: bool,
     fault: CellFault,
     cell: Option<&[u8]>,
 ) -> Result<(), AllocError>
     ensures { OnOk result (string_bytes text.new ≡ string_bytes text.old
-        ++ fault_words fault (option_map (λ c. c.now) cell.entry)) }
+        ++ fault_words derived fault (option_map (λ c. c.now) cell.entry)) }
 {
     match fault {
         CellFault::Control => add_control(text, cell),
+        CellFault::NotDigits => add_digits(text, derived, cell),
+        CellFault::NotADate => add_date(text, cell),
+        CellFault::NotATime => add_time(text, cell),
+        CellFault::NotConstant => add_constant(text, cell),
         _ => Ok(()),
     }
 }
@@ -134,7 +306,10 @@ pub(crate) fn add_counted(
 {
     let rule = number_rule(kind, j);
     add_number(text, width, number)?;
-    write!(text, ": {rule}; write it only if no record is missing")
+    write!(
+        text,
+        ": {rule}; write it only if no record is missing or stands twice"
+    )
 }
 
 /// Adds what a limit is.
@@ -236,7 +411,7 @@ fn add_another_type_line(text: &mut String, found: &str, wanted: &str) -> Result
     add_label(text, "points to")?;
     writeln!(
         text,
-        "the group's GRH says {wanted} in bytes 4 to 6, and this is the header of a transaction of type {found}: the type in GRH is wrong, or a GRT and a GRH are missing before this line, or its kind is mistyped"
+        "the group's GRH says {wanted} in bytes 4 to 6, and this is the header of a transaction of type {found}: the type in GRH is wrong, or a GRT and a GRH are missing before this line, or a transaction of another group was put in, or its kind is mistyped"
     )
 }
 

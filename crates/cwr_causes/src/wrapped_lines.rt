@@ -4,7 +4,7 @@ ghost use Rattle.std.specs.Prelude.{◌≡◌, ◌++◌, option_map, string_byte
 ghost use Rattle.cwr_fields.specs.Steps.Views.{field_view};
 ghost use Rattle.cwr_lines.specs.Format.Lines.{without_cr};
 ghost use Rattle.cwr_causes.specs.Format.WrappedLines.{broken_at, broken_before, broken_before_if, broken_before_line, broken_here_line, ends_soft};
-ghost use Rattle.cwr_causes.specs.Format.WrappedLines.{foreign_line, is_cut, is_mail_wide, is_short, may_go_on, short_before_line, soft_line};
+ghost use Rattle.cwr_causes.specs.Format.WrappedLines.{foreign_line, cut_here_line, is_cut, is_full, is_mail_wide, is_strange, may_go_on, short_before_line, soft_line, strangers_line, unfinished_line};
 
 use crate::openings::opening_of;
 use crate::sequences::numbers_in;
@@ -32,12 +32,12 @@ fn is_mail_wide(line: &[u8]) -> bool
     line.len() >= 70 && line.len() <= 80
 }
 
-/// Whether it is shorter than one of its kind.
-fn is_short(kind: Option<Kind>, line: &[u8]) -> bool
-    ensures { result ≡ is_short kind line.now }
+/// Whether it has all bytes of a line of its kind.
+pub(crate) fn is_full(kind: Option<Kind>, line: &[u8]) -> bool
+    ensures { result ≡ is_full kind line.now }
 {
     match kind {
-        Some(kind) => line.len() < width(kind),
+        Some(kind) => line.len() >= width(kind),
         None => false,
     }
 }
@@ -68,7 +68,7 @@ fn add_broken_before_line(text: &mut String, count: usize) -> Result<(), AllocEr
     add_label(text, "note")?;
     writeln!(
         text,
-        "the line before it has {count} bytes, as lines have that mail programs break: if this one goes on with it, put both together"
+        "the line before it has {count} bytes, as lines have that mail programs break: if this one goes on with it, put both together; if no line is longer and none goes on, all were cut there, and the rest is lost"
     )
 }
 
@@ -80,7 +80,19 @@ fn add_broken_here_line(text: &mut String, count: usize) -> Result<(), AllocErro
     add_label(text, "note")?;
     writeln!(
         text,
-        "the line has {count} bytes, as lines have that mail programs break: if the next one goes on with it, put both together"
+        "the line has {count} bytes, as lines have that mail programs break: if the next one goes on with it, put both together; if no line is longer and none goes on, all were cut there, and the rest is lost"
+    )
+}
+
+/// Adds that the line ends after so many bytes.
+#[tactic(auto, unfolding(crate::specs::Format::WrappedLines::cut_here_line))]
+fn add_cut_here_line(text: &mut String, count: usize) -> Result<(), AllocError>
+    ensures { OnOk result (string_bytes text.new ≡ string_bytes text.old ++ cut_here_line count) }
+{
+    add_label(text, "note")?;
+    writeln!(
+        text,
+        "the line ends after byte {count}: if the next one goes on with it, put both together; if no line is longer, all were cut there, and the rest is lost"
     )
 }
 
@@ -114,6 +126,27 @@ fn add_foreign_if(text: &mut String, goes_on: bool) -> Result<(), AllocError>
     if goes_on { add_foreign(text) } else { Ok(()) }
 }
 
+/// Adds that two lines begin with no record type.
+#[tactic(auto, unfolding(crate::specs::Format::WrappedLines::strangers_line))]
+fn add_strangers(text: &mut String) -> Result<(), AllocError>
+    ensures { OnOk result (string_bytes text.new ≡ string_bytes text.old ++ strangers_line) }
+{
+    add_label(text, "note")?;
+    text.push_str(
+        "neither this line nor the one before it begins with a record type: if most lines are so, something was done to the whole file: take it as it was before that; remove only lines that were put in\n",
+    )
+}
+
+/// Adds that a line may go on with the one before it, of that kind, which is no full one.
+fn add_unfinished(text: &mut String, kind: Option<Kind>) -> Result<(), AllocError>
+    ensures { OnOk result (string_bytes text.new ≡ string_bytes text.old ++ unfinished_line kind) }
+{
+    match kind {
+        Some(_) => add_short_before(text),
+        None => add_strangers(text),
+    }
+}
+
 /// Whether a line that names no record may go on with the one before: it has no sequences and looks like nothing else.
 pub(crate) fn may_go_on(line: &[u8]) -> bool
     ensures { result ≡ may_go_on line.now }
@@ -121,18 +154,28 @@ pub(crate) fn may_go_on(line: &[u8]) -> bool
     numbers_in(line).is_none() && opening_of(line).is_other()
 }
 
+/// Whether it names no record, and looks like something else: a line in base64, say.
+fn is_strange(line: &[u8]) -> bool
+    ensures { result ≡ is_strange line.now }
+{
+    kind_of(line).is_none() && !opening_of(line).is_other()
+}
+
 /// Adds what the line before shows, with which this one may go on or not.
 fn add_broken(text: &mut String, before: &[u8], goes_on: bool) -> Result<(), AllocError>
     ensures { OnOk result (string_bytes text.new ≡ string_bytes text.old ++ broken_before goes_on before.now) }
 {
+    let kind = kind_of(before);
     if ends_soft(before) {
         add_soft(text)
-    } else if !is_short(kind_of(before), before) {
+    } else if is_strange(before) {
+        Ok(())
+    } else if is_full(kind, before) {
         add_foreign_if(text, goes_on)
     } else if is_mail_wide(before) {
         add_broken_before_line(text, before.len())
     } else if goes_on {
-        add_short_before(text)
+        add_unfinished(text, kind)
     } else {
         Ok(())
     }
@@ -154,7 +197,7 @@ pub(crate) fn add_broken_before(
 }
 
 /// Whether the refused field doesn't stand whole in the line.
-fn is_cut(refused: Option<Field>, line: &[u8]) -> bool
+pub(crate) fn is_cut(refused: Option<Field>, line: &[u8]) -> bool
     ensures { result ≡ is_cut (option_map field_view refused) line.now }
 {
     match refused {
@@ -175,7 +218,7 @@ fn add_broken_at(text: &mut String, refused: Option<Field>, line: &[u8]) -> Resu
     } else if is_mail_wide(line) {
         add_broken_here_line(text, line.len())
     } else {
-        Ok(())
+        add_cut_here_line(text, line.len())
     }
 }
 

@@ -1,12 +1,13 @@
 //! What a wrong number points to: records that are missing or stand twice, or a count that wasn't changed.
 
 ghost use Rattle.std.specs.Prelude.{◌≡◌, ◌++◌, ◌==◌, List, [], if◌then◌else◌, option_map, string_bytes, OnOk};
-ghost use Rattle.cwr_causes.specs.Format.WrongNumbers.{ahead_words, amount_words, beside_words, comparison_words, count_words, counts_from_one, counts_on};
-ghost use Rattle.cwr_causes.specs.Format.WrongNumbers.{difference_words};
-ghost use Rattle.cwr_causes.specs.Format.WrongNumbers.{foot_words, going_on_words, in_order_words, is_header, is_same_line, may_be_cut, meaning_words, missing_words};
-ghost use Rattle.cwr_causes.specs.Format.WrongNumbers.{naming, naming_of, neighbours_at, one_missing_words, place_words, points_words, purpose_words, reason_words, record_words, repeated_words, sequence_words};
-ghost use Rattle.cwr_causes.specs.Format.WrongNumbers.{shifted_words, some_missing_words, stands_after, swapped_words, taken_out_words, trailer_words};
-ghost use Rattle.cwr_causes.specs.Format.WrongNumbers.{transaction_words, unless_seen, used_words, wrong_value};
+ghost use Rattle.cwr_causes.specs.Format.WrongNumbers.{begins_group, file_records_words, first_number_words, uncounted_ends};
+ghost use Rattle.cwr_causes.specs.Format.WrongNumbers.{ahead_words, amount_words, beside_words, breaking_words, comparison_words, count_words, counts_on, difference_words};
+ghost use Rattle.cwr_causes.specs.Format.WrongNumbers.{first_count_words, first_header_words, first_id_words, foot_words, going_on_words, group_records_words, id_words, in_order_words};
+ghost use Rattle.cwr_causes.specs.Format.WrongNumbers.{is_closing, is_header, is_one_more, is_same_line, later_count_words, later_header_words, later_id_words, may_be_cut, meaning_words};
+ghost use Rattle.cwr_causes.specs.Format.WrongNumbers.{missing_words, naming, naming_of, neighbours_at, one_missing_words, place_words, points_words, purpose_words, reason_words};
+ghost use Rattle.cwr_causes.specs.Format.WrongNumbers.{record_words, repeated_words, sequence_words, shifted_words, some_missing_words, stands_after, swapped_words, taken_out_words};
+ghost use Rattle.cwr_causes.specs.Format.WrongNumbers.{trailer_words, transaction_words, uncounted_words, unless_seen, used_words, wrong_value};
 
 use crate::ahead::Ahead;
 use crate::sequences::{Sequences, sequences_of, start_of_sequence};
@@ -37,6 +38,8 @@ pub(crate) struct WrongNumber<'a> {
     pub before: Option<&'a [u8]>,
     /// How the numbers after it go on, where they were looked at.
     pub ahead: Option<Ahead>,
+    /// Whether there are faults in the lines before it.
+    pub is_later: bool,
 }
 
 /// What is numbered one by one.
@@ -223,12 +226,12 @@ fn add_used(text: &mut String, what: Names, found: u64, expected: u64) -> Result
     if back == 1 {
         write!(
             text,
-            "this {one} has the number of the one before: it stands twice, or two files were put together"
+            "this {one} has the number of the one before: it stands twice, or another one was put in, or two files were put together, or only the number is wrong"
         )
     } else {
         write!(
             text,
-            "{back} {several} before, this number was used: {several} stand twice or elsewhere, or two files were put together"
+            "{back} {several} before, this number was used: {several} stand twice or elsewhere, or two files were put together, or only the number is wrong"
         )
     }
 }
@@ -256,11 +259,14 @@ fn add_taken_out(text: &mut String, what: Names, higher: u64, line: u32) -> Resu
 {
     let Names { one, several, .. } = what;
     if higher == 1 {
-        write!(text, "1 higher: the {one} after line {line} was taken out")
+        write!(
+            text,
+            "1 higher: the {one} after line {line} was taken out or stands elsewhere, or, if the counts of GRT and TRL fit, only its number was skipped"
+        )
     } else {
         write!(
             text,
-            "{higher} higher: the {several} after line {line} were taken out"
+            "{higher} higher: the {several} after line {line} were taken out or stand elsewhere, or, if the counts of GRT and TRL fit, only numbers were skipped"
         )
     }
 }
@@ -284,6 +290,35 @@ fn add_amount(
     }
 }
 
+/// Whether the first number after it is one more.
+fn is_one_more(first: Option<u64>, found: u64) -> bool
+    ensures { result ≡ is_one_more first found }
+{
+    match first {
+        Some(first) => first > found && first - found == 1,
+        None => false,
+    }
+}
+
+/// Adds that the numbers after it don't go on from it, or not all of them.
+#[tactic(auto, unfolding(crate::specs::Format::WrongNumbers::breaking_words))]
+fn add_breaking(text: &mut String, what: Names, found: u64, ahead: Ahead) -> Result<(), AllocError>
+    ensures { OnOk result (string_bytes text.new ≡ string_bytes text.old ++ breaking_words (naming_of what) found ahead) }
+{
+    let several = what.several;
+    if is_one_more(ahead.first, found) {
+        write!(
+            text,
+            "; the {several} after it go on from this number, but not all: what is missing may stand behind those"
+        )
+    } else {
+        write!(
+            text,
+            "; the {several} after it don't go on from this number, so it may be the one that is wrong"
+        )
+    }
+}
+
 /// Adds by how much a count is wrong.
 #[tactic(auto, unfolding(crate::specs::Format::WrongNumbers::difference_words))]
 fn add_difference(text: &mut String, found: u64, expected: u64) -> Result<(), AllocError>
@@ -293,33 +328,135 @@ fn add_difference(text: &mut String, found: u64, expected: u64) -> Result<(), Al
         let missing = found - expected;
         write!(
             text,
-            "{missing} missing, or the count wasn't changed when some were taken out"
+            "{missing} missing, or the count is mistyped or wasn't changed when some were taken out"
         )
     } else {
         let more = expected - found;
         write!(
             text,
-            "{more} too many, or the count wasn't changed when some were put in"
+            "{more} too many, or the count is mistyped or wasn't changed when some were put in"
         )
     }
 }
 
 /// Adds what a count points to: that of some in the whole.
-#[tactic(auto, unfolding(crate::specs::Format::WrongNumbers::count_words))]
-fn add_count(
+#[tactic(auto, unfolding(crate::specs::Format::WrongNumbers::first_count_words))]
+fn add_first_count(
     text: &mut String,
     whole: &str,
     counted: &str,
     found: u64,
     expected: u64,
 ) -> Result<(), AllocError>
-    ensures { OnOk result (string_bytes text.new ≡ string_bytes text.old ++ count_words whole.now counted.now found expected) }
+    ensures { OnOk result (string_bytes text.new ≡ string_bytes text.old ++ first_count_words whole.now counted.now found expected) }
 {
     write!(
         text,
         "the {whole} has {expected} {counted} and says {found}: "
     )?;
     add_difference(text, found, expected)
+}
+
+/// Adds the same after other faults: what stands in lines that couldn't be read isn't counted.
+#[tactic(auto, unfolding(crate::specs::Format::WrongNumbers::later_count_words))]
+fn add_later_count(
+    text: &mut String,
+    whole: &str,
+    counted: &str,
+    found: u64,
+    expected: u64,
+) -> Result<(), AllocError>
+    ensures { OnOk result (string_bytes text.new ≡ string_bytes text.old ++ later_count_words whole.now counted.now found expected) }
+{
+    write!(
+        text,
+        "as far as the lines before could be read, the {whole} has {expected} {counted} and says {found}: mend the faults before this one, and look again"
+    )
+}
+
+/// Adds what a transaction sequence points to that isn't its header's.
+#[tactic(auto, unfolding(crate::specs::Format::WrongNumbers::first_header_words))]
+fn add_first_header(text: &mut String, found: u64, expected: u64) -> Result<(), AllocError>
+    ensures { OnOk result (string_bytes text.new ≡ string_bytes text.old ++ first_header_words found expected) }
+{
+    write!(
+        text,
+        "the header of this transaction has sequence {expected}, and the record {found}: it belongs to another one, or a header is missing before it, or the number is mistyped, or bytes were lost in this line"
+    )
+}
+
+/// Adds the same after other faults: the header may be one of the lines that couldn't be read.
+#[tactic(auto, unfolding(crate::specs::Format::WrongNumbers::later_header_words))]
+fn add_later_header(text: &mut String, found: u64, expected: u64) -> Result<(), AllocError>
+    ensures { OnOk result (string_bytes text.new ≡ string_bytes text.old ++ later_header_words found expected) }
+{
+    write!(
+        text,
+        "by the lines before it this record is of transaction {expected}, and it says {found}: if a line before it is at fault, mend that first; else it belongs to another transaction, or a header is missing before it, or the number is mistyped"
+    )
+}
+
+/// Adds what a group ID in GRT points to that isn't GRH's.
+#[tactic(auto, unfolding(crate::specs::Format::WrongNumbers::first_id_words))]
+fn add_first_id(text: &mut String, found: u64, expected: u64) -> Result<(), AllocError>
+    ensures { OnOk result (string_bytes text.new ≡ string_bytes text.old ++ first_id_words found expected) }
+{
+    write!(
+        text,
+        "the group's GRH has ID {expected}, and its GRT {found}: a GRT and a GRH are missing between, or one was put in the other's place"
+    )
+}
+
+/// Adds the same after other faults: the GRH may be one of the lines that couldn't be read.
+#[tactic(auto, unfolding(crate::specs::Format::WrongNumbers::later_id_words))]
+fn add_later_id(text: &mut String, found: u64, expected: u64) -> Result<(), AllocError>
+    ensures { OnOk result (string_bytes text.new ≡ string_bytes text.old ++ later_id_words found expected) }
+{
+    write!(
+        text,
+        "the last GRH that could be read has ID {expected}, and this GRT {found}: if a GRH before it is at fault, mend that first; else a GRT and a GRH are missing between, or one was put in the other's place"
+    )
+}
+
+/// Adds that GRH and GRT themselves weren't counted, where so many are too many.
+fn add_uncounted(text: &mut String, more: u64) -> Result<(), AllocError>
+    ensures { OnOk result (string_bytes text.new ≡ string_bytes text.old ++ uncounted_words more) }
+{
+    match more {
+        2 => text.push_str(", or GRH and GRT weren't counted"),
+        _ => Ok(()),
+    }
+}
+
+/// Adds that HDR and TRL themselves weren't counted, where so many are too many.
+fn add_uncounted_ends(text: &mut String, more: u64) -> Result<(), AllocError>
+    ensures { OnOk result (string_bytes text.new ≡ string_bytes text.old ++ uncounted_ends more) }
+{
+    match more {
+        2 => text.push_str(", or HDR and TRL weren't counted"),
+        _ => Ok(()),
+    }
+}
+
+/// Adds what else than a cut the first transaction of a group with that number may come of.
+fn add_first_number(text: &mut String, found: u64) -> Result<(), AllocError>
+    ensures { OnOk result (string_bytes text.new ≡ string_bytes text.old ++ first_number_words found) }
+{
+    match found {
+        1 => text.push_str(
+            "; if you took it out on purpose, or the file counts from 1: cwr renumber --new FILE OUT",
+        ),
+        _ => text.push_str(
+            "; if you took it out on purpose, or sequences go on from group to group: cwr renumber --new FILE OUT",
+        ),
+    }
+}
+
+/// Whether a record of the kind closes a group or the file: its numbers are counts.
+fn is_closing(kind: Kind) -> bool
+    ensures { result ≡ is_closing kind }
+{
+    matches!(kind, Kind::Grt | Kind::Trl)
 }
 
 /// Whether the field of a record of the kind is a number that is too high where something was taken out before it.
@@ -352,11 +489,7 @@ impl WrongNumber<'_> {
             return Ok(());
         }
         if !ahead.goes_on {
-            let several = what.several;
-            return write!(
-                text,
-                "; the {several} after it don't go on from this number, so it may be the one that is wrong"
-            );
+            return add_breaking(text, what, self.found, ahead);
         }
         add_shifted(text, what, ahead.count)?;
         add_amount(text, what, self.found, self.expected, self.number)
@@ -465,7 +598,7 @@ impl WrongNumber<'_> {
     {
         if is_header(self.kind) && self.expected == 0 {
             return text.push_str(
-                "the header of a transaction is its first record, which has sequence 0",
+                "the header of a transaction is its first record, which has sequence 0; if all are numbered so, and none is missing: cwr renumber --new FILE OUT",
             );
         }
         self.add_in_order(text, Numbered::Record)?;
@@ -473,50 +606,85 @@ impl WrongNumber<'_> {
     }
 
     /// Adds what the sequence of a transaction points to.
-    #[tactic(auto, unfolding(crate::specs::Format::WrongNumbers::transaction_words))]
     fn add_transaction(&self, text: &mut String) -> Result<(), AllocError>
         ensures { OnOk result (string_bytes text.new ≡ string_bytes text.old ++ transaction_words (wrong_value self.now)) }
     {
         let (found, expected) = (self.found, self.expected);
         if is_header(self.kind) {
-            return self.add_in_order(text, Numbered::Transaction);
+            self.add_in_order(text, Numbered::Transaction)
+        } else if self.is_later {
+            add_later_header(text, found, expected)
+        } else {
+            add_first_header(text, found, expected)
         }
-        write!(
-            text,
-            "the header of this transaction has sequence {expected}, and the record {found}: it belongs to another one, or a header is missing before it, or the number is mistyped"
-        )
+    }
+
+    /// Adds what a count points to: that of some in the whole.
+    fn add_count(&self, text: &mut String, whole: &str, counted: &str) -> Result<(), AllocError>
+        ensures { OnOk result (string_bytes text.new ≡ string_bytes text.old ++ count_words (wrong_value self.now) whole.now counted.now) }
+    {
+        let (found, expected) = (self.found, self.expected);
+        if self.is_later {
+            add_later_count(text, whole, counted, found, expected)
+        } else {
+            add_first_count(text, whole, counted, found, expected)
+        }
+    }
+
+    /// Adds what the count of a group's records points to.
+    fn add_group_records(&self, text: &mut String) -> Result<(), AllocError>
+        ensures { OnOk result (string_bytes text.new ≡ string_bytes text.old ++ group_records_words (wrong_value self.now)) }
+    {
+        self.add_count(text, "group", "records")?;
+        if self.is_later {
+            Ok(())
+        } else {
+            add_uncounted(text, self.expected.saturating_sub(self.found))
+        }
+    }
+
+    /// Adds what a group ID in GRT points to that isn't GRH's.
+    fn add_id(&self, text: &mut String) -> Result<(), AllocError>
+        ensures { OnOk result (string_bytes text.new ≡ string_bytes text.old ++ id_words (wrong_value self.now)) }
+    {
+        if self.is_later {
+            add_later_id(text, self.found, self.expected)
+        } else {
+            add_first_id(text, self.found, self.expected)
+        }
     }
 
     /// Adds what a number of a group's GRT points to.
-    #[tactic(auto, unfolding(crate::specs::Format::WrongNumbers::foot_words))]
     fn add_foot(&self, text: &mut String) -> Result<(), AllocError>
         ensures { OnOk result (string_bytes text.new ≡ string_bytes text.old ++ foot_words (wrong_value self.now)) }
     {
-        let (found, expected) = (self.found, self.expected);
-        if self.field == 2 {
-            write!(
-                text,
-                "the group's GRH has ID {expected}, and its GRT {found}: a GRT and a GRH are missing between, or one was put in the other's place"
-            )
-        } else if self.field == 3 {
-            add_count(text, "group", "transactions", found, expected)
+        match self.field {
+            2 => self.add_id(text),
+            3 => self.add_count(text, "group", "transactions"),
+            _ => self.add_group_records(text),
+        }
+    }
+
+    /// Adds what the count of the file's records points to.
+    fn add_file_records(&self, text: &mut String) -> Result<(), AllocError>
+        ensures { OnOk result (string_bytes text.new ≡ string_bytes text.old ++ file_records_words (wrong_value self.now)) }
+    {
+        self.add_count(text, "file", "records")?;
+        if self.is_later {
+            Ok(())
         } else {
-            add_count(text, "group", "records", found, expected)
+            add_uncounted_ends(text, self.expected.saturating_sub(self.found))
         }
     }
 
     /// Adds what a number of the trailer points to.
-    #[tactic(auto, unfolding(crate::specs::Format::WrongNumbers::trailer_words))]
     fn add_trailer(&self, text: &mut String) -> Result<(), AllocError>
         ensures { OnOk result (string_bytes text.new ≡ string_bytes text.old ++ trailer_words (wrong_value self.now)) }
     {
-        let (found, expected) = (self.found, self.expected);
-        if self.field == 2 {
-            add_count(text, "file", "groups", found, expected)
-        } else if self.field == 3 {
-            add_count(text, "file", "transactions", found, expected)
-        } else {
-            add_count(text, "file", "records", found, expected)
+        match self.field {
+            2 => self.add_count(text, "file", "groups"),
+            3 => self.add_count(text, "file", "transactions"),
+            _ => self.add_file_records(text),
         }
     }
 
@@ -544,35 +712,37 @@ impl WrongNumber<'_> {
         }
     }
 
-    /// Whether something may have been taken out before the number: it is too high, and the one that belongs here doesn't stand after it.
+    /// Whether something may have been taken out before the number: it is too high, the one that belongs here doesn't stand after it, and it
+    /// is no count in which lines that couldn't be read are missing.
     fn may_be_cut(&self) -> bool
         ensures { result ≡ may_be_cut (wrong_value self.now) }
     {
         self.found > self.expected
             && counts_on(self.kind, self.field)
             && !stands_after(self.ahead, self.expected)
+            && !(self.is_later && is_closing(self.kind))
     }
 
-    /// Adds what helps where that was done on purpose.
+    /// Adds what is said of a cut on purpose: where faults stand before it, what it comes of isn't known yet.
     fn add_purpose(&self, text: &mut String) -> Result<(), AllocError>
         ensures { OnOk result (string_bytes text.new ≡ string_bytes text.old ++ purpose_words (wrong_value self.now)) }
     {
         if !self.may_be_cut() {
             Ok(())
-        } else if self.counts_from_one() {
-            text.push_str(
-                "; if you took it out on purpose, or the file counts from 1: cwr renumber --new FILE OUT",
-            )
+        } else if self.is_later {
+            text.push_str("; mend the faults before it first, and look again")
+        } else if self.begins_group() {
+            add_first_number(text, self.found)
         } else {
             text.push_str("; if you took it out on purpose: cwr renumber --new FILE OUT")
         }
     }
 
-    /// Whether it is the first transaction of a group, and has the number 1.
-    fn counts_from_one(&self) -> bool
-        ensures { result ≡ counts_from_one (wrong_value self.now) }
+    /// Whether it is the first transaction of a group.
+    fn begins_group(&self) -> bool
+        ensures { result ≡ begins_group (wrong_value self.now) }
     {
-        is_header(self.kind) && self.field == 2 && self.expected == 0 && self.found == 1
+        is_header(self.kind) && self.field == 2 && self.expected == 0
     }
 
     /// Adds the line that says what the number points to.

@@ -8,13 +8,14 @@ ghost use Rattle.cwr_decode.specs.Steps.Machines.{Empties, TakesRoom, WaitsOutsi
 ghost use Rattle.cwr_decode.specs.Steps.Passing.{Passes};
 ghost use Rattle.cwr_decode.specs.Steps.Readings.{FeedsOn};
 ghost use Rattle.cwr_decode.specs.Steps.Represents.{RepresentsSome, Represents, items_out};
-ghost use Rattle.cwr_decode.specs.Steps.LastReads.{counts_of_records, stage_of_records};
+ghost use Rattle.cwr_decode.specs.Steps.LastReads.{counts_of_records, header_of_records, stage_of_records};
 ghost use Rattle.cwr_shape.specs.declared.symbols.Symbol.{Symbol};
 ghost use Rattle.cwr_values.specs.declared.items.Item.{Item};
 
 use crate::keepers::Keeper;
 use crate::machine::{Machine, Passed, State};
 use crate::outcomes::{Answer, Outcome};
+use cwr_lines::Record;
 use cwr_shape::{Counts, Limits, Stage};
 use cwr_values::{Item, Transaction};
 use std::alloc::Global;
@@ -72,6 +73,13 @@ impl Decoder {
         self.machine.counts()
     }
 
+    /// The header of the open transaction: after a refusal, of the one that was open before the refused line.
+    pub fn header(&self) -> Option<Record>
+        ensures { result ≡ header_of_records self.now }
+    {
+        self.machine.header()
+    }
+
     /// How many bytes of the line that is read or waits are held, its line feed not counted, and how many records of
     /// the open transaction: at most 1,024 bytes, and at most as many records as the limit of a transaction.
     pub fn holds(&self) -> (usize, usize)
@@ -85,7 +93,8 @@ impl Decoder {
     /// Takes an item that nobody needs any more, and says whether it keeps the item's room: where it is a transaction within the limit,
     /// no transaction is open, and nothing was answered for good. The next transaction then has that room in place of any kept before,
     /// and asks for memory only where it isn't enough. Else the item is dropped. The decoder's one list is the
-    /// open transaction's or a spare one, with whatever room the item has, and no end leaves any.
+    /// open transaction's or a spare one, with whatever room the item has. No end leaves a spare one, and a refusal leaves the open
+    /// transaction's.
     pub fn reuse(&mut self, spent: Option<Item>) -> bool
         ensures same { self.new ≡ self.old }
         ensures taken { IsTrue result ↔ TakesRoom self.old spent }

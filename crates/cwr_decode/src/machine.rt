@@ -6,13 +6,14 @@ ghost use Rattle.cwr_shape.specs.Steps.Stages.{stage_after};
 ghost use Rattle.cwr_shape.specs.Steps.Tallies.{IsTallyOf};
 ghost use Rattle.cwr_shape.specs.declared.symbols.Symbol.{Symbol};
 ghost use Rattle.cwr_decode.specs.Steps.Machines.{FinishesRecord, TakesRoom, at_start, held_list, reading, stopped};
+ghost use Rattle.cwr_decode.specs.Steps.LastReads.{header_of_records};
 ghost use Rattle.cwr_decode.specs.Steps.Represents.{IsSound};
 ghost use Rattle.cwr_decode.specs.Steps.Calls.{Feeds, Finishes};
 
 use crate::outcomes::{Answer, Outcome};
 use cwr_fields::SpelledPair;
 use cwr_judge::Refusal;
-use cwr_lines::{LineBuf, LinePad};
+use cwr_lines::{LineBuf, LinePad, Record};
 use cwr_shape::{Counts, Limits, Stage, Tally};
 use cwr_values::Item;
 use holding::Held;
@@ -151,6 +152,13 @@ impl Machine {
         ensures { result ≡ self.now.finished }
     {
         self.finished
+    }
+
+    /// The header of the open transaction.
+    pub fn header(&self) -> Option<Record>
+        ensures { result ≡ header_of_records self.now }
+    {
+        Some(self.held.header()?.to_record())
     }
 
     /// How many bytes of the line, and how many records of the transaction.

@@ -6,7 +6,7 @@ ghost use Rattle.cwr_decode.specs.Steps.Represents.{RepresentsSome, Represents};
 ghost use Rattle.cwr_decode.specs.Steps.Machines.{WaitsOutside, again};
 ghost use Rattle.cwr_decode.specs.Steps.Passing.{CountsPassing, PassesOrFails, ReadsPassing, StaysOrPasses};
 ghost use Rattle.cwr_decode.specs.Steps.Readings.{answer_of, CountsQuickly, CountsReader, FeedsOn, FindsNoMemory, Reads, ReadsAgain, ReadsQuickly};
-ghost use Rattle.cwr_decode.specs.Steps.LastReads.{AreHeld, HoldsLast, ReadsLast, counts_of_records, stage_of_records};
+ghost use Rattle.cwr_decode.specs.Steps.LastReads.{AreHeld, HoldsLast, IsFrontOf, ReadsLast};
 
 use crate::decoders::Decoder;
 use crate::keepers::Keeper;
@@ -15,6 +15,7 @@ use crate::machine::{Passed, State};
 use crate::outcomes::Outcome;
 use cwr_devices::Source;
 use cwr_judge::Refusal;
+use cwr_lines::Record;
 use cwr_shape::{Counts, Limits, Stage};
 use cwr_values::{Item, Transaction};
 use std::alloc::Global;
@@ -50,13 +51,15 @@ impl Display for ReadFault {
 
 impl Error for ReadFault {}
 
-/// What was read last, and how far that came.
+/// What was read last, how far that came, and what transaction is open.
 #[derive(Drop)]
 pub struct LastRead {
     /// How far the accepted records have come.
     pub stage: Stage,
     /// What was counted of them.
     pub counts: Counts,
+    /// The header of their open transaction, where one is open.
+    pub header: Option<Record>,
     /// The last bytes that the reader lost.
     pub bytes: LastBytes,
 }
@@ -396,8 +399,7 @@ impl<'a, R: Source> Reading<'a, R> {
     /// What was read last, and how far the accepted records have come. After a refusal the bytes end with the refused line.
     /// `None` where the last bytes aren't held.
     pub fn last_read(&self) -> Option<LastRead>
-        ensures front { IfSome result (λ last. (last.stage ≡ stage_of_records self.now.decoder)
-            × (last.counts ≡ counts_of_records self.now.decoder)) }
+        ensures front { IfSome result (λ last. IsFrontOf last self.now.decoder) }
         ensures bytes { (read : List ℕ) → AreHeld read self.now.last
             → IsSomeAnd result (λ last. HoldsLast read last.bytes) }
     {
@@ -405,6 +407,7 @@ impl<'a, R: Source> Reading<'a, R> {
             Some(last) => Some(LastRead {
                 stage: self.decoder.stage(),
                 counts: self.decoder.counts(),
+                header: self.decoder.header(),
                 bytes: last.copy(),
             }),
             None => None,

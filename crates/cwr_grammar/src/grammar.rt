@@ -36,6 +36,9 @@ pub const BY_PLACE: &str = "by-place";
 /// The id of the flag that asks for a table of what became of each transaction.
 pub const STATE: &str = "state";
 
+/// The id of the statuses of the acknowledgements that are told.
+pub const STATUS: &str = "status";
+
 /// The id of the flag that asks for lines of JSON.
 pub const AS_JSON: &str = "json";
 
@@ -102,6 +105,15 @@ pub const ANYWAY: &str = "anyway";
 /// The levels by their letters.
 const LEVELS: [&str; 5] = ["F", "R", "T", "G", "E"];
 
+/// The statuses of transactions by their codes.
+const STATUSES: [&str; 10] = ["CO", "DU", "RA", "AS", "AC", "SR", "CR", "RJ", "NP", "RC"];
+
+/// The id of the option that says when words of lines have colours.
+pub const COLOR: &str = "color";
+
+/// When they have: where standard output is a terminal, always, or never.
+const COLORINGS: [&str; 3] = ["auto", "always", "never"];
+
 /// The id of what a table has rows of.
 pub const KIND: &str = "KIND";
 
@@ -158,6 +170,8 @@ enum Form {
     Level,
     /// `--ID NAME`, where NAME is this, any number of times.
     Names(&'static str),
+    /// `--ID STATUS`, statuses with commas between them, any number of times, but not beside the option of that id.
+    StatusesWithout(&'static str),
     /// `--ID`, only beside the option of that id.
     FlagBeside(&'static str),
     /// `--ID NAME`, where NAME is this, only beside the option of that id.
@@ -186,6 +200,8 @@ enum Form {
     },
     /// One of these, which may not be left out.
     OneOf(&'static [&'static str]),
+    /// `--ID WHEN`, one of the words for colours, which is the first one where it isn't given.
+    Coloring,
     /// The name of a file.
     File,
     /// Names of files.
@@ -206,7 +222,7 @@ impl Form {
     /// The id of the word that may not stand beside it.
     fn in_place_of(self) -> Option<&'static str> {
         match self {
-            Form::InPlace { other, .. } => Some(other),
+            Form::InPlace { other, .. } | Form::StatusesWithout(other) => Some(other),
             _ => None,
         }
     }
@@ -258,8 +274,8 @@ const ENDS: [Word; 1] = [Word {
     help: "Status 1 where bytes follow the transmission",
 }];
 
-/// The flags on how far a long run is.
-const SHOWS: [Word; 2] = [
+/// The words on how a run is shown: how far it is, and in which colours.
+const SHOWS: [Word; 3] = [
     Word {
         id: PROGRESS,
         form: Form::Flag,
@@ -269,6 +285,11 @@ const SHOWS: [Word; 2] = [
         id: NO_PROGRESS,
         form: Form::Flag,
         help: "Doesn't show it",
+    },
+    Word {
+        id: COLOR,
+        form: Form::Coloring,
+        help: "Whether verdicts, faults, findings and advice begin with a word in its colour; auto is on a terminal",
     },
 ];
 
@@ -330,7 +351,7 @@ const REPEATS: Word = Word {
 enum Common {
     /// None.
     Nothing,
-    /// The limits, and the flags on how far a long run is.
+    /// The limits, and the words on how a run is shown.
     Limits,
     /// Those, and the flag that wants nothing after a transmission.
     Reading,
@@ -426,7 +447,7 @@ const TABULATED: [Word; 4] = [
 ];
 
 /// The words of what acknowledgements say.
-const ANSWERED: [Word; 7] = [
+const ANSWERED: [Word; 8] = [
     Word {
         id: SENT,
         form: Form::Names("SENT"),
@@ -455,6 +476,11 @@ const ANSWERED: [Word; 7] = [
         },
         help: "Status 1 where a row of the table of states has one of these, with commas between them \
             [possible values: accepted, pending, rejected, conflict, duplicate, claim-rejected, no-participation, unanswered]",
+    },
+    Word {
+        id: STATUS,
+        form: Form::StatusesWithout(STATE),
+        help: "Tells acknowledgements of these statuses alone, with commas between them",
     },
     TEXTS,
     MANY,
@@ -680,6 +706,12 @@ fn argument<'a>(alloc: Global, word: Word) -> Result<Arg<'a>, AllocError> {
             .long(word.id)
             .value_name("LEVEL")
             .value_parser(&LEVELS[..]),
+        Form::StatusesWithout(_) => arg
+            .long(word.id)
+            .value_name("STATUS")
+            .value_delimiter(',')
+            .value_parser(&STATUSES[..])
+            .action(ArgAction::Append),
         Form::Names(name) => arg.long(word.id).value_name(name).action(ArgAction::Append),
         Form::NameBeside { name, .. } => arg.long(word.id).value_name(name),
         Form::Letter(letter) => arg.short(letter).value_name(word.id),
@@ -692,6 +724,11 @@ fn argument<'a>(alloc: Global, word: Word) -> Result<Arg<'a>, AllocError> {
             .required(true)
             .value_parser(value_parser!(u32).range(1..=most)),
         Form::OneOf(words) => arg.required(true).value_parser(words),
+        Form::Coloring => arg
+            .long(word.id)
+            .value_name("WHEN")
+            .value_parser(&COLORINGS[..])
+            .default_value(COLORINGS[0]),
         Form::File => arg,
         Form::Files => arg.num_args(1..),
         Form::Needed => arg.required(true),

@@ -8,19 +8,19 @@ use cwr_fields::Kind;
 use cwr_lines::RecordRef;
 
 /// NWR, REV: title.
-const TITLE: u8 = 4;
+pub const TITLE: u8 = 4;
 
 /// NWR, REV: submitter work number.
-const WORK_NUMBER: u8 = 6;
+pub const WORK_NUMBER: u8 = 6;
 
 /// ACK: creation title.
-const CREATION_TITLE: u8 = 9;
+pub const CREATION_TITLE: u8 = 9;
 
 /// ACK: submitter creation number.
-const CREATION_NUMBER: u8 = 10;
+pub const CREATION_NUMBER: u8 = 10;
 
 /// AGR: submitter agreement number.
-const AGREEMENT_NUMBER: u8 = 4;
+pub const AGREEMENT_NUMBER: u8 = 4;
 
 /// Whether the header is that of a work.
 fn is_work(head: &RecordRef<'_>) -> bool

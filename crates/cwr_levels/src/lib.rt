@@ -14,7 +14,9 @@ mod sums;
 mod totals;
 mod walk;
 
-pub use headers::{work_number, work_title};
+pub use headers::{
+    AGREEMENT_NUMBER, CREATION_NUMBER, CREATION_TITLE, TITLE, WORK_NUMBER, work_number, work_title,
+};
 pub use named_cells::{PUBLISHER_SHARES, WRITER_SHARES, cell, is_of, is_owner, number_of};
 pub use report_lines::{
     LONGEST_REPORT_LINE, fault_line, faults_line, finding_line, good_line, input_mark, joined_line,

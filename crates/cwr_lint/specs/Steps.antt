@@ -6,3 +6,4 @@ pub mod OneCells
 pub mod Puts
 pub mod Runs
 pub mod Walks
+pub mod Works

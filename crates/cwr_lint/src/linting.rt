@@ -17,11 +17,12 @@ ghost use Rattle.cwr_lint.specs.Format.Wanted.{advice_when, lines_before_fault, 
 ghost use Rattle.cwr_lint_lines.specs.Format.FaultsAtFields.{fields_end, one_more_line};
 ghost use Rattle.cwr_lint_lines.specs.Steps.Fronts.{state_at};
 ghost use Rattle.cwr_lint.specs.Steps.Walks.{AfterJudged, counts_ended, ended_by, findings_after, judged_in, state_by, told_ended};
+ghost use Rattle.cwr_lint.specs.Steps.Works.{is_same_number, open_number, work_after, work_at, work_if};
 ghost use Rattle.cwr_fields.specs.Format.Bytes.{is_spaces};
 ghost use Rattle.cwr_lint_lines.specs.Steps.JudgedLines.{IsFaultFrom, IsJudged, ends_by, judged_at, scope_by};
 ghost use Rattle.cwr_lint_lines.specs.Steps.Cells.{held_cut};
 ghost use Rattle.cwr_lint.specs.Steps.LinesRead.{IsOfLine, held_raw};
-ghost use Rattle.cwr_lint.specs.Steps.Lints.{EndsRun, Lints, Tells, counted};
+ghost use Rattle.cwr_lint.specs.Steps.Lints.{AddsEnd, EndsRun, Lints, Tells, counted};
 ghost use Rattle.cwr_lint.specs.Steps.Puts.{TellsWith, AppendsSuch, PutsWith, TellsRead};
 ghost use Rattle.cwr_lint.specs.Steps.Runs.{BeginsAt, TakesAll, TakesFirst, TakesFrom, TakesLine, TakesNextIf, TakesRead, TellsJudged, TellsRun, TellsSoMany};
 ghost use Rattle.cwr_lint.specs.Steps.CutShort.{AppendsUpTo, IsFirstPart, Leaves, LeavesOrUnread, TakesFromPart, TakesNextPart, TakesSome};
@@ -29,15 +30,16 @@ ghost use Rattle.cwr_lint.specs.Steps.CutShort.{TellsAfterUpTo, TellsLastUpTo, T
 ghost use Rattle.cwr_lint.specs.Steps.Runs.{TellsAfter, TellsToEnd, asking_of, walk_of};
 
 use crate::findings::{after_line, put_ended};
-use crate::puts::{Asked, Shown, put_end, report_number};
+use crate::puts::{Asked, Shown, put_end, put_end_words, report_number};
 use crate::raw_lines::RawLine;
 use cwr_advice::Said;
 use cwr_advise::{AdviceCounts, Manner, advise_up_to_fault};
-use cwr_causes::before_last;
+use cwr_causes::{Ahead, before_last, open_work, own_work, refused_work};
 use cwr_decode::{LastRead, Refusal};
 use cwr_devices::{Sink, Source, Target};
-use cwr_lines::{CutLine, LineBuf};
-use cwr_lint_lines::{Judged, LintState};
+use cwr_lines::{CutLine, LineBuf, Record};
+use cwr_lint_lines::{Judged, LintState, Taking};
+use cwr_notes::WorkLine;
 use cwr_shape::{Limits, level};
 use cwr_tools::{CheckedFront, ToolFault, Verdict, check_up_to_fault};
 use cwr_values::Transaction;
@@ -55,6 +57,55 @@ struct LintRun {
     findings: u64,
     /// How much advice came from each rule.
     advice: AdviceCounts,
+    /// The line on the work of the transaction that the lint is in, where its header came.
+    work: WorkLine,
+}
+
+/// What is known beside the line that is refused.
+#[derive(Clone, Copy)]
+struct Beside<'a> {
+    /// The line before it, where that is held.
+    before: Option<&'a [u8]>,
+    /// The header of the transaction that was open before it.
+    header: &'a Option<Record>,
+    /// How the numbers after it go on, where they were looked at.
+    ahead: Option<Ahead>,
+}
+
+/// The number of the open transaction.
+fn open_number(state: &LintState) -> Option<u64>
+    ensures { result ≡ open_number state.now.group }
+{
+    match &state.group {
+        Some(group) => Some(group.open_transaction().number),
+        None => None,
+    }
+}
+
+/// The line on a work, where the transaction is still open.
+fn work_if(is_open: bool, work: &WorkLine) -> WorkLine
+    ensures { result ≡ work_if is_open work.now }
+{
+    if is_open {
+        work.copy()
+    } else {
+        WorkLine::none()
+    }
+}
+
+/// The line on the work of the transaction that the lint is in after a line that was judged, before which that was the one, and with which
+/// it stays in the same or not.
+fn work_after(judged: &Judged, line: &CutLine<'_>, is_same: bool, before: &WorkLine) -> WorkLine
+    ensures { result ≡ work_after judged.now line.now is_same before.now }
+{
+    match judged {
+        Judged::Unknown => work_if(is_same, before),
+        Judged::Known(known) => match known.taken {
+            Taking::Header(_) => own_work(line),
+            Taking::Further | Taking::Other => work_if(is_same, before),
+            _ => WorkLine::none(),
+        },
+    }
 }
 
 impl LintRun {
@@ -77,12 +128,29 @@ impl LintRun {
         })
     }
 
-    /// The line, with what is held beside it.
-    fn shown<'b>(&self, raw: &'b RawLine, before: Option<&'b [u8]>) -> Shown<'b> {
+    /// The line, with what is held beside it. It stands behind the line with the first fault or not.
+    fn shown<'b>(&self, raw: &'b RawLine, before: Option<&'b [u8]>, is_later: bool) -> Shown<'b> {
         Shown {
             raw,
             before,
             stage: self.state.stage,
+            is_later,
+        }
+    }
+
+    /// The line on the work of the transaction that a fault at a field of the line is in: at the first field of the one that is open before
+    /// the line, and at any other of the one that is open with it.
+    fn work_at(&self, field: u8, judged: &Judged, line: &CutLine<'_>) -> WorkLine
+        ensures { result ≡ work_at self.now.work self.now.state field judged.now line.now }
+    {
+        match judged {
+            Judged::Known(known) if field > 1 => {
+                let mut next = self.state;
+                next.step(known.taken, known.misplaced, known.kind, line);
+                let is_same = open_number(&next) == open_number(&self.state);
+                work_after(judged, line, is_same, &self.work)
+            }
+            _ => self.work.copy(),
         }
     }
 
@@ -111,8 +179,9 @@ impl LintRun {
             let Some(fault) = self.fault_at(judged, line, from, field) else {
                 continue;
             };
-            let is_first = told == 0 && from == 1;
-            if let Err(stop) = asked.put_fault(&fault, shown, is_first, sink) {
+            let work = self.work_at(field, judged, line);
+            let faulty = shown.faulty(&work, None, told == 0 && from == 1);
+            if let Err(stop) = asked.put_fault(&fault, faulty, sink) {
                 return Err(stop);
             }
             told = told.saturating_add(1);
@@ -183,7 +252,11 @@ impl LintRun {
         ensures faults { self.new.faults ≡ self.old.faults }
         ensures findings { self.new.findings ≡ self.old.findings }
         ensures advice { self.new.advice ≡ self.old.advice }
+        ensures work { self.new.work ≡ work_after judged.now line.now
+            (is_same_number (open_number self.new.state.group) (open_number self.old.state.group))
+            self.old.work }
     {
+        let number = open_number(&self.state);
         match judged {
             Judged::Known(known) => {
                 self.state
@@ -191,6 +264,8 @@ impl LintRun {
             }
             Judged::Unknown => self.state.step_unknown(is_blank),
         }
+        let is_same = open_number(&self.state) == number;
+        self.work = work_after(judged, line, is_same, &self.work);
         let in_step = self.state.stage.is_some();
         let begun = self.begun.take();
         self.begun = after_line(alloc, begun, judged, is_good, in_step, line)?;
@@ -247,7 +322,7 @@ impl LintRun {
             (held_cut (held_raw raw.now)) 1) W.contents result sink.old sink.new }
     {
         raw.cut_into(cut);
-        let shown = self.shown(raw, Some(before.as_slice()));
+        let shown = self.shown(raw, Some(before.as_slice()), true);
         match self.take(asked, &cut.cut(), 1, &shown, raw.is_blank(), sink) {
             Ok(()) => Ok(true),
             Err(fault) => Err(fault),
@@ -310,13 +385,12 @@ impl LintRun {
         Ok(())
     }
 
-    /// Tells the first fault, which a check has met at this line, and the others of the line. The line before it stands beside it, where
-    /// that is held.
+    /// Tells the first fault, which a check has met at this line, and the others of the line.
     fn take_first<W: Target>(
         &mut self,
         asked: &Asked<'_>,
         refusal: &Refusal,
-        before: Option<&[u8]>,
+        beside: Beside<'_>,
         raw: &RawLine,
         cut: &mut LineBuf,
         sink: &mut Sink<W>,
@@ -330,8 +404,9 @@ impl LintRun {
             (held_cut (held_raw raw.now))) W.contents result sink.old sink.new }
     {
         raw.cut_into(cut);
-        let shown = self.shown(raw, before);
-        match asked.put_fault(refusal, &shown, true, sink) {
+        let shown = self.shown(raw, beside.before, false);
+        let work = refused_work(beside.header, &refusal.reason, &cut.cut());
+        match asked.put_fault(refusal, shown.faulty(&work, beside.ahead, true), sink) {
             Ok(()) => {
                 let from = refusal.field.saturating_add(1);
                 self.take(asked, &cut.cut(), from, &shown, raw.is_blank(), sink)
@@ -345,7 +420,7 @@ impl LintRun {
         &mut self,
         asked: &Asked<'_>,
         refusal: &Refusal,
-        before: Option<&[u8]>,
+        beside: Beside<'_>,
         reader: &mut R,
         raw: RawLine,
         sink: &mut Sink<W>,
@@ -359,7 +434,7 @@ impl LintRun {
             (R.remaining reader.old)) W.contents result sink.old sink.new }
     {
         let mut cut = LineBuf::new();
-        match self.take_first(asked, refusal, before, &raw, &mut cut, sink) {
+        match self.take_first(asked, refusal, beside, &raw, &mut cut, sink) {
             Ok(()) => self.take_rest(asked, reader, raw, &mut cut, sink),
             Err(fault) => Err(fault),
         }
@@ -370,7 +445,7 @@ impl LintRun {
         &mut self,
         asked: &Asked<'_>,
         refusal: &Refusal,
-        before: Option<&[u8]>,
+        beside: Beside<'_>,
         reader: &mut R,
         raw: RawLine,
         sink: &mut Sink<W>,
@@ -384,7 +459,7 @@ impl LintRun {
         ensures leaves { Leaves (TellsUpTo (asking_of asked.now) (walk_of self.old) refusal.now raw
             (R.remaining reader.old)) W.contents result sink.old sink.new }
     {
-        match self.tell_from(asked, refusal, before, reader, raw, sink) {
+        match self.tell_from(asked, refusal, beside, reader, raw, sink) {
             Ok(()) => put_end(
                 asked.all,
                 &self.advice,
@@ -400,6 +475,38 @@ impl LintRun {
 
     /// Tells the first fault, which a check has met at the line that was read last, and all that come after it, and how many they
     /// are.
+    fn run_on<R: Source, W: Target>(
+        &mut self,
+        asked: &Asked<'_>,
+        refusal: &Refusal,
+        last: &LastRead,
+        ahead: Option<Ahead>,
+        reader: &mut R,
+        sink: &mut Sink<W>,
+    ) -> Result<(), ToolFault>
+        requires unfailed { has_failed sink.old ≡ false }
+        requires begins { BeginsAt refusal.now self.old }
+        ensures tells { TellsRead R.remaining R.failures reader.old reader.new W.contents W.failures
+            (TellsRun (asking_of asked.now) (walk_of self.old) refusal.now last.now.bytes)
+            result sink.old sink.new }
+        ensures leaves { LeavesOrUnread (TellsLastUpTo (asking_of asked.now) (walk_of self.old)
+            refusal.now last.now.bytes (R.remaining reader.old)) W.contents result sink.old
+            sink.new }
+    {
+        match RawLine::of_last(&last.bytes, reader) {
+            Ok(raw) => {
+                let beside = Beside {
+                    before: before_last(&last.bytes),
+                    header: &last.header,
+                    ahead,
+                };
+                self.tell_to_end(asked, refusal, beside, reader, raw, sink)
+            }
+            Err(_) => Err(ToolFault::Reader),
+        }
+    }
+
+    /// The same, once it was looked how the numbers go on after that line.
     fn run<R: Source, W: Target>(
         &mut self,
         asked: &Asked<'_>,
@@ -417,11 +524,8 @@ impl LintRun {
             refusal.now last.now.bytes (R.remaining reader.old)) W.contents result sink.old
             sink.new }
     {
-        match RawLine::of_last(&last.bytes, reader) {
-            Ok(raw) => {
-                let before = before_last(&last.bytes);
-                self.tell_to_end(asked, refusal, before, reader, raw, sink)
-            }
+        match asked.peek(refusal, last, reader) {
+            Ok(ahead) => self.run_on(asked, refusal, last, ahead, reader, sink),
             Err(_) => Err(ToolFault::Reader),
         }
     }
@@ -446,13 +550,13 @@ fn counted(fault: ToolFault, written: u64) -> ToolFault
 
 /// Hands on what was put after so many bytes of the run, and answers how it ended.
 fn finish<W: Target>(
-    refusal: Refusal,
+    found: Verdict,
     told: Result<(), ToolFault>,
     before: u64,
     sink: Sink<W>,
 ) -> (W, Result<Verdict, ToolFault>)
     ensures kept { Keeps (W.contents (writer_of sink)) (W.contents result.0) }
-    ensures answer { EndsRun refusal (counted_up before (written_of sink)) told
+    ensures answer { EndsRun found (counted_up before (written_of sink)) told
         (W.failures (writer_of sink)) (W.failures result.0) result.1 }
     ensures handed_on { OnOk result.1 (W.handed_on result.0 ≡ true) }
 {
@@ -461,7 +565,7 @@ fn finish<W: Target>(
     match told {
         Err(fault) => (writer, Err(counted(fault, written))),
         Ok(()) => match writer.flush() {
-            Ok(()) => (writer, Ok(Verdict::Refused(refusal))),
+            Ok(()) => (writer, Ok(found)),
             Err(_) => (writer, Err(ToolFault::Writer { written })),
         },
     }
@@ -510,10 +614,32 @@ fn tell_faults<R: Source, W: Target>(
         faults: 1,
         findings,
         advice,
+        work: open_work(&last.header),
     };
     let mut sink = Sink::new(writer);
     let told = lint.run(asked, &refusal, last, reader, &mut sink);
-    finish(refusal, told, before, sink)
+    finish(Verdict::Refused(refusal), told, before, sink)
+}
+
+/// Writes words on an input that ends too early, after so many bytes, and answers that verdict.
+fn explain_end<W: Target>(
+    alloc: Global,
+    name: &str,
+    records: u32,
+    last: &LastRead,
+    before: u64,
+    writer: W,
+) -> (W, Result<Verdict, ToolFault>)
+    ensures added { AddsEnd W.contents writer result.0 result.1 }
+    ensures counted { CountsAfter W.contents before writer result.0 result.1 }
+    ensures answered { IsAnswerTo (Verdict.Truncated records) result.1 }
+    ensures reader_failures { (failures : ℕ) → CountsReaderFault result.1 failures failures }
+    ensures writer_failures { CountsWriterFault result.1 (W.failures writer) (W.failures result.0) }
+    ensures handed_on { OnOk result.1 (W.handed_on result.0 ≡ true) }
+{
+    let mut sink = Sink::new(writer);
+    let told = put_end_words(alloc, name, records, last, &mut sink);
+    finish(Verdict::Truncated { records }, told, before, sink)
 }
 
 /// Checks a transmission up to its first fault, and advises on it where that is wanted: all advice is told, or of each rule the first
@@ -575,6 +701,7 @@ fn check_front<R: Source, W: Target + Drop>(
 /// Up to the first fault it is a check, and writes what `check` writes. In the place of a refusal it writes a line for each fault, the
 /// refusal first, with the findings between them, and at the end how many faults and findings it told, and in how many lines. The
 /// answer is the verdict of `check`. With a name for the input, lines under each say what `explain` says of it, and an empty line follows.
+/// So they do under the line of an input that ends too early and has no fault before that.
 /// Where advice is wanted, that on a transaction follows its findings: all of it, or of each rule the first three pieces, and then at the
 /// end how much of each rule isn't told.
 ///
@@ -626,7 +753,12 @@ pub fn lint<R: Source, W: Target + Drop>(
         Err(fault) => (writer, Err(fault)),
         Ok(verdict) => match verdict {
             Verdict::Good { .. } => (writer, Ok(verdict)),
-            Verdict::Truncated { .. } => (writer, Ok(verdict)),
+            Verdict::Truncated { records } => match (name, last) {
+                (Some(name), Some(last)) => {
+                    explain_end(alloc, name, records, &last, written, writer)
+                }
+                _ => (writer, Ok(verdict)),
+            },
             Verdict::Refused(refusal) => match last {
                 Some(last) => {
                     let asked = Asked {

@@ -1,24 +1,27 @@
 //! The lines that a lint puts: of one fault with what explains it, and how an input ended.
 
-ghost use Rattle.std.specs.Prelude.{◌≡◌, ◌++◌, ◌∷◌, [], false};
+ghost use Rattle.std.specs.Prelude.{◌≡◌, ◌++◌, ◌∷◌, [], false, IfErr};
+ghost use Rattle.std.specs.Io.KnownBytes.{Keeps};
 ghost use Rattle.std.specs.Option.{is_some};
 ghost use Rattle.cwr_devices.specs.Steps.Sinks.{has_failed};
 ghost use Rattle.cwr_advise.specs.Steps.AdviceCounts.{summary_by};
+ghost use Rattle.cwr_causes.specs.Format.Trailing.{CountsRead};
 ghost use Rattle.cwr_levels.specs.Format.ReportLines.{fault_line, faults_line};
 ghost use Rattle.cwr_lint_lines.specs.Format.FaultsAtFields.{report_number};
 ghost use Rattle.cwr_lint.specs.Format.FaultsOfLines.{IsFaultText};
 ghost use Rattle.cwr_lint.specs.Format.Told.{truncated_unless};
-ghost use Rattle.cwr_lint.specs.Steps.CutShort.{IsFrontOf, Leaves};
+ghost use Rattle.cwr_lint.specs.Steps.CutShort.{IsFrontOf, Leaves, PutsEnd, UnlessWriter};
 ghost use Rattle.cwr_lint.specs.Steps.Puts.{PutsAfter, PutsWith, tool_result};
 ghost use Rattle.cwr_lint.specs.Steps.Runs.{AreWords, IsEndText, asking_of, sums_text};
 
 use crate::raw_lines::RawLine;
 use cwr_advice::Said;
 use cwr_advise::AdviceCounts;
-use cwr_causes::explain_fault;
-use cwr_decode::Refusal;
-use cwr_devices::{Sink, SinkFault, Target};
+use cwr_causes::{Ahead, FaultyLine, add_truncated, explain_fault, line_at_end, peek_numbers};
+use cwr_decode::{LastRead, Refusal};
+use cwr_devices::{DeviceFault, Sink, SinkFault, Source, Target};
 use cwr_levels::{fault_line, faults_line, truncated_line};
+use cwr_notes::WorkLine;
 use cwr_shape::{Limits, Stage};
 use cwr_tools::ToolFault;
 use std::alloc::Global;
@@ -45,6 +48,30 @@ pub(crate) struct Shown<'a> {
     pub before: Option<&'a [u8]>,
     /// How far the order had come before it, where that is known.
     pub stage: Option<Stage>,
+    /// Whether it stands behind the line with the first fault.
+    pub is_later: bool,
+}
+
+impl<'a> Shown<'a> {
+    /// The line with a fault, which is its first that is explained or not: with the line on its work, and with how the numbers after it
+    /// go on, where they were looked at.
+    pub fn faulty(
+        &self,
+        work: &'a WorkLine,
+        ahead: Option<Ahead>,
+        is_first: bool,
+    ) -> FaultyLine<'a> {
+        FaultyLine {
+            line: self.raw.shown(),
+            before: self.before,
+            work,
+            stage: self.stage,
+            is_too_long: self.raw.is_too_long(),
+            ahead,
+            is_first,
+            is_later: self.is_later,
+        }
+    }
 }
 
 /// A number as a report has it. It stays at `u32::MAX`.
@@ -81,6 +108,7 @@ fn put_words<W: Target>(words: &[u8], sink: &mut Sink<W>) -> Result<(), ToolFaul
     requires { has_failed sink.old ≡ false }
     ensures puts { PutsAfter W.contents W.failures words.now result sink.old sink.new }
     ensures leaves { Leaves (λ text. text ≡ words.now) W.contents result sink.old sink.new }
+    ensures others { IfErr result (λ fault. UnlessWriter fault ⊥) }
 {
     as_told(sink.put(words))
 }
@@ -187,14 +215,47 @@ pub(crate) fn put_end<W: Target>(
     }
 }
 
+/// Puts words on an input that ends too early.
+pub(crate) fn put_end_words<W: Target>(
+    alloc: Global,
+    name: &str,
+    records: u32,
+    last: &LastRead,
+    sink: &mut Sink<W>,
+) -> Result<(), ToolFault>
+    requires { has_failed sink.old ≡ false }
+    ensures { PutsEnd W.contents W.failures result sink.old sink.new }
+{
+    let mut text = String::new(alloc);
+    match add_truncated(alloc, &mut text, name, records, last) {
+        Ok(()) => put_words(text.as_bytes(), sink),
+        Err(_) => Err(ToolFault::Memory),
+    }
+}
+
 impl Asked<'_> {
-    /// Puts the lines that explain a fault of a line, and an empty line, where they are asked for. What is to be said of the whole line is said with its
-    /// first one.
+    /// How the numbers go on after the refused line, which was read last, where one of it is wrong and what is told is explained. Nothing is
+    /// taken.
+    pub fn peek<R: Source>(
+        &self,
+        refusal: &Refusal,
+        last: &LastRead,
+        reader: &mut R,
+    ) -> Result<Option<Ahead>, DeviceFault>
+        ensures kept { Keeps (R.remaining reader.old) (R.remaining reader.new) }
+        ensures failures { CountsRead result (R.failures reader.old) (R.failures reader.new) }
+    {
+        match self.name {
+            Some(_) => peek_numbers(reader, refusal, &line_at_end(&last.bytes)),
+            None => Ok(None),
+        }
+    }
+
+    /// Puts the lines that explain a fault of a line, and an empty line, where they are asked for.
     fn put_explanation<W: Target>(
         &self,
         fault: &Refusal,
-        line: &Shown<'_>,
-        is_first: bool,
+        line: FaultyLine<'_>,
         sink: &mut Sink<W>,
     ) -> Result<(), ToolFault>
         requires { has_failed sink.old ≡ false }
@@ -206,18 +267,7 @@ impl Asked<'_> {
         let Some(name) = self.name else {
             return Ok(());
         };
-        let explained = explain_fault(
-            self.alloc,
-            &self.limits,
-            name,
-            fault,
-            line.raw.shown(),
-            line.before,
-            line.raw.is_too_long(),
-            is_first,
-            line.stage,
-        );
-        match explained {
+        match explain_fault(self.alloc, &self.limits, name, fault, line) {
             Ok(text) => put_apart(text.as_bytes(), sink),
             Err(_) => Err(ToolFault::Memory),
         }
@@ -227,8 +277,7 @@ impl Asked<'_> {
     pub fn put_fault<W: Target>(
         &self,
         fault: &Refusal,
-        line: &Shown<'_>,
-        is_first: bool,
+        line: FaultyLine<'_>,
         sink: &mut Sink<W>,
     ) -> Result<(), ToolFault>
         requires { has_failed sink.old ≡ false }
@@ -238,7 +287,7 @@ impl Asked<'_> {
             sink.old sink.new }
     {
         match put_fault_line(fault, sink) {
-            Ok(()) => self.put_explanation(fault, line, is_first, sink),
+            Ok(()) => self.put_explanation(fault, line, sink),
             Err(fault) => Err(fault),
         }
     }

@@ -95,7 +95,7 @@ impl Model for WorkLine {
 
 impl WorkLine {
     /// No line.
-    fn none() -> WorkLine
+    pub fn none() -> WorkLine
         ensures { result ≡ [] }
     {
         WorkLine {
@@ -103,19 +103,23 @@ impl WorkLine {
         }
     }
 
+    /// That on an agreement or a work with that number and title. Where both are blank there is none.
+    pub fn named(is_agreement: bool, number: &[u8], title: &[u8]) -> WorkLine
+        requires number { length number.now ≤ 20 }
+        requires title { length title.now ≤ 60 }
+        ensures { result ≡ name_line is_agreement number.now title.now }
+    {
+        let mut line = WorkLine::none();
+        push_line(&mut line.text, is_agreement, number, title);
+        line
+    }
+
     /// That of a transaction with that header.
     #[tactic(auto, unfolding(crate::specs::Format::WorkNames::work_line))]
     pub fn by(head: &RecordRef<'_>) -> WorkLine
         ensures { result ≡ work_line head.now }
     {
-        let mut line = WorkLine::none();
-        push_line(
-            &mut line.text,
-            is_of(head, Kind::Agr),
-            work_number(head),
-            work_title(head),
-        );
-        line
+        WorkLine::named(is_of(head, Kind::Agr), work_number(head), work_title(head))
     }
 
     /// That of a transaction.
@@ -126,6 +130,15 @@ impl WorkLine {
             Some(head) => WorkLine::by(&head),
             None => WorkLine::none(),
         }
+    }
+
+    /// The same line.
+    pub fn copy(&self) -> WorkLine
+        ensures { result ≡ self.now }
+    {
+        let mut line = WorkLine::none();
+        push(&mut line.text, self.as_slice());
+        line
     }
 
     /// Its bytes.

@@ -22,6 +22,7 @@ use cwr_endings::{
     tell_following, tell_profile, tell_unanswering, tell_verdict, worst_level,
 };
 use cwr_explain::explain;
+use cwr_fields::TransactionStatus;
 use cwr_files::{Fault, FileLines, Gathered, Input, Name, Pace, Passing, Told, gathered, told_of};
 use cwr_json::Encoding;
 use cwr_lint::lint;
@@ -62,8 +63,13 @@ pub enum Telling<'a> {
         /// What it has rows of.
         table: Table,
     },
-    /// What the acknowledgements say, in that form, and the verdict to standard error.
-    Answers(Form),
+    /// What the acknowledgements say, and the verdict to standard error.
+    Answers {
+        /// In what form.
+        form: Form,
+        /// Those with one of these statuses are told; without one all are.
+        statuses: &'a [TransactionStatus],
+    },
     /// The findings with what explains them, the advice, and the verdict.
     Advice {
         /// All advice, or of each rule the first three pieces.
@@ -164,12 +170,13 @@ fn acks_alone<R: Source, W: Target + Drop>(
     alloc: Global,
     limits: Limits,
     form: Form,
+    statuses: &[TransactionStatus],
     reader: &mut R,
     writer: W,
 ) -> (W, Result<Verdict, ToolFault>, u64)
-    ensures reported { Reports (lines_of_acks (telling_alone form) None) limits
+    ensures reported { Reports (lines_of_acks (telling_alone form statuses.now) None) limits
         (R.remaining reader.old) (R.remaining reader.new) W.contents writer result.0 result.1 }
-    ensures told { ReportsText (lines_of_acks (telling_alone form) None) limits
+    ensures told { ReportsText (lines_of_acks (telling_alone form statuses.now) None) limits
         (R.remaining reader.old) (R.remaining reader.new) W.contents writer result.0 result.1 }
     ensures handed_on { OnOk result.1 (W.handed_on result.0 ≡ true) }
     ensures reader_failures { CountsReaderFault result.1 (R.failures reader.old)
@@ -178,6 +185,7 @@ fn acks_alone<R: Source, W: Target + Drop>(
 {
     let manner = Manner {
         form,
+        statuses,
         file: None,
         names: &[],
     };
@@ -264,8 +272,10 @@ fn tell<R: Source, W: Target + Drop>(
             let look = look_after(reader, &outcome);
             (writer, outcome, look, Count::nothing())
         }
-        Telling::Answers(form) => {
-            let (writer, outcome, answers) = acks_alone(alloc, limits, form, reader, writer);
+        Telling::Answers { form, statuses } => {
+            let (writer, outcome, answers) = acks_alone(
+                alloc, limits, form, statuses, reader, writer,
+            );
             let look = look_after(reader, &outcome);
             (writer, outcome, look, Count::of_answers(answers))
         }
@@ -355,7 +365,10 @@ fn reads_latin(telling: Telling<'_>) -> bool {
         } | Telling::Rows {
             encoding: Encoding::Latin1,
             ..
-        } | Telling::Answers(Form::Json(Encoding::Latin1))
+        } | Telling::Answers {
+            form: Form::Json(Encoding::Latin1),
+            ..
+        }
     )
 }
 
@@ -389,7 +402,7 @@ pub(crate) fn tell_aside<E: Write>(
         Telling::Data { .. } | Telling::Rows { .. } => {
             tell_verdict(&mut *error, name, judgement);
         }
-        Telling::Answers(_) => {
+        Telling::Answers { .. } => {
             tell_verdict(&mut *error, name, judgement);
             if let Some(answers) = count.answers {
                 tell_unanswering(&mut *error, name, judgement, answers, false);

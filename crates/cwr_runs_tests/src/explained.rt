@@ -11,7 +11,7 @@ use std::process::Abort;
 /// What is written of a transmission after which a second one begins.
 const EXPLAINED: &str = "GOOD groups 1 transactions 1 records 5\n  \
     after     3 bytes stand in a.cwr after the transmission; what stands there isn't judged\n  \
-    note      it begins with HDR, as a second transmission does: put the last 3 bytes into a file of their own, check both, and put them together: cwr join -o OUT --new A B\n";
+    note      it begins with HDR, as a second transmission does: put the last 3 bytes into a file of their own, check both, and put them together: cwr join -o OUT --new A B; but if it is the same one again, remove it, as each work would be sent twice\n";
 
 /// What an explanation of such a text writes to a writer of so much room, and what it answers.
 fn explained(

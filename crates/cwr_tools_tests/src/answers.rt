@@ -64,14 +64,31 @@ fn add_piece(rt: &impl Abort, decoder: &mut Decoder, piece: Option<&[u8]>, answe
     }
 }
 
-/// Checks that the decoder holds nothing, and answers for good that the input has ended so.
-fn check_ended(rt: &impl Abort, decoder: &mut Decoder, end: Option<End>) {
-    let name = name_after(end.expect(rt, "no end"));
+/// How many records the open transaction has after so many lines of a text: the last line's record sequence counts those before
+/// it. `None` where that line is of no transaction.
+fn open_records(text: &[u8], lines: u32) -> Option<usize> {
+    let before = lines.checked_sub(1)? as usize;
+    let last = text.split(|byte| *byte == b'\n').nth(before)?;
+    if let b"HDR" | b"GRH" | b"GRT" | b"TRL" = last.get(..3)? {
+        return None;
+    }
+    let sequence = str::from_utf8(last.get(11..19)?).ok()?;
+    sequence.parse::<usize>().ok()?.checked_add(1)
+}
+
+/// Checks that the decoder answers for good that the input has ended so, and holds nothing, but after a refusal the transaction
+/// that is open before the refused line.
+fn check_ended(rt: &impl Abort, decoder: &mut Decoder, text: &[u8], end: End) {
+    let open = match end {
+        End::Refused(refusal) => open_records(text, refusal.rec.saturating_sub(1)).unwrap_or(0),
+        _ => 0,
+    };
+    let name = name_after(end);
     let again = (feed(decoder, b""), feed(decoder, b"HDR"), finish(decoder));
     check_equal(
         rt,
         (decoder.holds(), again),
-        ((0, 0), ((0, name), (0, name), name)),
+        ((0, open), ((0, name), (0, name), name)),
     );
 }
 
@@ -97,7 +114,7 @@ pub(crate) fn answers_on(
     }
     add_piece(rt, &mut decoder, Some(left), &mut answers);
     add_piece(rt, &mut decoder, None, &mut answers);
-    check_ended(rt, &mut decoder, answers.end);
+    check_ended(rt, &mut decoder, text, answers.end.expect(rt, "no end"));
     answers
 }
 

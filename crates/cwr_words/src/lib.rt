@@ -3,4 +3,4 @@
 
 mod words;
 
-pub use words::{Judging, Rows, Task, Work, task_of};
+pub use words::{Colouring, Judging, Rows, Task, Work, task_of};

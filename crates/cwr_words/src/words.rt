@@ -3,17 +3,18 @@
 ghost use Rattle.std.specs.Prelude.{◌≡◌, map, None, Some, IfOk, IfSome, IsOkAnd, IsSomeAnd, codes, option_map, false, true, if◌then◌else◌};
 ghost use Rattle.std.specs.Str.{bytes_eq};
 ghost use Rattle.clap.specs.Words.{first_value, found_of, has_subcommand};
+ghost use Rattle.cwr_fields.specs.Format.MessageCodes.{status_code};
 ghost use Rattle.cwr_shape.specs.Format.Ranges.{limit_values};
-ghost use Rattle.cwr_words.specs.Format.Words.{AreLimitsOf, AreNamesOf, AreValuesOf, IsAskedBy, IsCreatedBy, IsJoinOfNames, IsJudgingOf, IsOwnWork, IsPlainCheck, IsWorkOf, level_given, level_named, named_out, rows_named, states_given, written_in};
+ghost use Rattle.cwr_words.specs.Format.Words.{AreLimitsOf, AreNamesOf, AreStatusesOf, AreValuesOf, IsAskedBy, IsCreatedBy, IsJoinOfNames, IsJudgingOf, IsOwnWork, IsPlainCheck, IsWorkOf, colouring_given, colouring_named, level_given, level_named, named_out, rows_named, states_given, written_in};
 
 use clap::error::ErrorKind;
 use clap::{ArgMatches, Error};
-use cwr_fields::Kind;
+use cwr_fields::{Cell, Kind, TransactionStatus};
 use cwr_grammar::{
-    ACKS, ADVICE, ADVISE, ALL, ANYWAY, AS_JSON, BY_PLACE, CREATED, CSV, EXPLAIN, EXPLAINED,
+    ACKS, ADVICE, ADVISE, ALL, ANYWAY, AS_JSON, BY_PLACE, COLOR, CREATED, CSV, EXPLAIN, EXPLAINED,
     FAIL_ON, FILE, GROUPS, INTO, JOIN, JSON, KIND, LINE, LINT, MANUAL, NEW, NO_PROGRESS, NUMBER,
     NUMBERS, OUT, PREFIX, PROGRESS, QUIET, RECORDS, RENUMBER, REPEATED, SAME_SENDER, SENT, SHOW,
-    SPLIT, STATE, TRANSACTION, UTF8, WHOLE, WORKS, WRITE, command,
+    SPLIT, STATE, STATUS, TRANSACTION, UTF8, WHOLE, WORKS, WRITE, command,
 };
 use cwr_moments::Moment;
 use cwr_shape::{Level, Limits};
@@ -114,6 +115,8 @@ pub enum Work<'a> {
         state: bool,
         /// A row of that table with one of these states ends the run as a refusal does.
         fail_on: States,
+        /// Those with one of these statuses are told; without one all are.
+        statuses: Vec<TransactionStatus>,
         /// Cells in UTF-8 are shown as their texts.
         utf8: bool,
     },
@@ -175,6 +178,17 @@ pub enum Work<'a> {
     Manual,
 }
 
+/// When verdicts, faults, findings and advice begin with a word in its colour.
+#[derive(Clone, Copy, Debug, PartialEq, Eq)]
+pub enum Colouring {
+    /// Where standard output is a terminal, and the environment doesn't say otherwise.
+    Auto,
+    /// Always.
+    Always,
+    /// Never.
+    Never,
+}
+
 /// What the words ask for.
 #[derive(Debug, PartialEq, Eq, Drop)]
 pub struct Task<'a> {
@@ -186,6 +200,8 @@ pub struct Task<'a> {
     pub whole: bool,
     /// Whether standard error shows how far a long run is; `None` where that is so if it is a terminal.
     pub progress: Option<bool>,
+    /// When words of lines have colours.
+    pub colouring: Colouring,
 }
 
 /// The largest limits.
@@ -366,11 +382,39 @@ fn states_in(given: &ArgMatches<'_>) -> Option<States>
     }
 }
 
-/// The work of telling what acknowledgements say. `None` where the name of a state is none.
+/// The status with that code.
+fn status_of(code: &str) -> Option<TransactionStatus>
+    ensures { IfSome result (λ status. status_code status ≡ code.now) }
+{
+    TransactionStatus::read(code.as_bytes())
+}
+
+/// The statuses that are asked for. `None` where a word is none's code.
+fn statuses_in<'a>(
+    alloc: Global,
+    given: &ArgMatches<'a>,
+) -> Result<Option<Vec<TransactionStatus>>, AllocError>
+    ensures { IfOk result (λ found. IfSome found (λ statuses. AreStatusesOf (found_of given.now) statuses.items)) }
+{
+    let codes = values_of(alloc, given, STATUS)?;
+    let mut statuses = Vec::new(alloc);
+    for code in codes.as_slice() {
+        let Some(status) = status_of(code) else {
+            return Ok(None);
+        };
+        statuses.push(status)?;
+    }
+    Ok(Some(statuses))
+}
+
+/// The work of telling what acknowledgements say. `None` where the name of a state is none, or the code of a status.
 fn acks_in<'a>(alloc: Global, given: &ArgMatches<'a>) -> Result<Option<Work<'a>>, AllocError>
     ensures { IfOk result (λ found. IfSome found (IsOwnWork (codes "acks") (found_of given.now))) }
 {
     let Some(fail_on) = states_in(given) else {
+        return Ok(None);
+    };
+    let Some(statuses) = statuses_in(alloc, given)? else {
         return Ok(None);
     };
     Ok(Some(Work::Acks {
@@ -380,6 +424,7 @@ fn acks_in<'a>(alloc: Global, given: &ArgMatches<'a>) -> Result<Option<Work<'a>>
         by_place: given.get_flag(BY_PLACE),
         state: given.get_flag(STATE),
         fail_on,
+        statuses,
         utf8: given.get_flag(UTF8),
     }))
 }
@@ -524,6 +569,27 @@ fn progress_in(given: &ArgMatches<'_>) -> Option<bool> {
     }
 }
 
+/// When words have colours, by that word.
+fn colouring_of(word: &str) -> Colouring
+    ensures { result ≡ colouring_named word.now }
+{
+    match word {
+        "always" => Colouring::Always,
+        "never" => Colouring::Never,
+        _ => Colouring::Auto,
+    }
+}
+
+/// When words have colours.
+fn colouring_in(given: &ArgMatches<'_>) -> Colouring
+    ensures { result ≡ colouring_given (first_value (found_of given.now) (codes "color")) }
+{
+    match given.get_str(COLOR) {
+        Some(word) => colouring_of(word),
+        None => Colouring::Auto,
+    }
+}
+
 /// What is asked for. `None` where a word is missing or out of its range.
 fn task_in<'a>(alloc: Global, matches: &ArgMatches<'a>) -> Result<Option<Task<'a>>, AllocError>
     // Without a subcommand it is a check of standard input within the largest limits.
@@ -542,6 +608,7 @@ fn task_in<'a>(alloc: Global, matches: &ArgMatches<'a>) -> Result<Option<Task<'a
             limits: largest(),
             whole: false,
             progress: None,
+            colouring: Colouring::Auto,
         }));
     };
     match (work_in(alloc, name, given)?, limits_of(name, given)) {
@@ -550,6 +617,7 @@ fn task_in<'a>(alloc: Global, matches: &ArgMatches<'a>) -> Result<Option<Task<'a
             limits,
             whole: given.get_flag(WHOLE),
             progress: progress_in(given),
+            colouring: colouring_in(given),
         })),
         _ => Ok(None),
     }

@@ -20,7 +20,7 @@ fn asked(rt: &(impl Abort + AllocGlobal), words: &[&str]) -> Option<(String, Lim
 
 /// Words, what they ask for, and its limits.
 #[rattlefmt::skip]
-static ASKED: [(&[&str], &str, Numbers); 43] = [
+static ASKED: [(&[&str], &str, Numbers); 44] = [
     (&["cwr"], "Check(Judging { files: [], quiet: false, fail_on: None })", LARGEST),
     (&["cwr", "check"], "Check(Judging { files: [], quiet: false, fail_on: None })", LARGEST),
     (&["cwr", "show"], "Show { file: None, fail_on: None }", LARGEST),
@@ -36,11 +36,12 @@ static ASKED: [(&[&str], &str, Numbers); 43] = [
     (&["cwr", "csv", "SWR"], "Csv { rows: Records(Swr), file: None, out: None, utf8: false }", LARGEST),
     (&["cwr", "csv", "SWR", "-o", "t.csv"], "Csv { rows: Records(Swr), file: None, out: Some(\"t.csv\"), utf8: false }", LARGEST),
     (&["cwr", "csv", "works", "--utf8", "a.cwr"], "Csv { rows: Works, file: Some(\"a.cwr\"), out: None, utf8: true }", LARGEST),
-    (&["cwr", "acks"], "Acks { files: [], sent: [], as_json: false, by_place: false, state: false, fail_on: States { accepted: false, pending: false, rejected: false, conflict: false, duplicate: false, claim_rejected: false, no_participation: false, unanswered: false }, utf8: false }", LARGEST),
-    (&["cwr", "acks", "--json", "a.cwr", "--utf8", "-"], "Acks { files: [\"a.cwr\", \"-\"], sent: [], as_json: true, by_place: false, state: false, fail_on: States { accepted: false, pending: false, rejected: false, conflict: false, duplicate: false, claim_rejected: false, no_participation: false, unanswered: false }, utf8: true }", LARGEST),
-    (&["cwr", "acks", "a.cwr", "--sent", "b.cwr"], "Acks { files: [\"a.cwr\"], sent: [\"b.cwr\"], as_json: false, by_place: false, state: false, fail_on: States { accepted: false, pending: false, rejected: false, conflict: false, duplicate: false, claim_rejected: false, no_participation: false, unanswered: false }, utf8: false }", LARGEST),
-    (&["cwr", "acks", "--sent", "c.cwr", "a.cwr", "--by-place", "--sent=b.cwr", "--state"], "Acks { files: [\"a.cwr\"], sent: [\"c.cwr\", \"b.cwr\"], as_json: false, by_place: true, state: true, fail_on: States { accepted: false, pending: false, rejected: false, conflict: false, duplicate: false, claim_rejected: false, no_participation: false, unanswered: false }, utf8: false }", LARGEST),
-    (&["cwr", "acks", "--fail-on", "conflict,rejected", "--sent", "-", "a.cwr"], "Acks { files: [\"a.cwr\"], sent: [\"-\"], as_json: false, by_place: false, state: false, fail_on: States { accepted: false, pending: false, rejected: true, conflict: true, duplicate: false, claim_rejected: false, no_participation: false, unanswered: false }, utf8: false }", LARGEST),
+    (&["cwr", "acks"], "Acks { files: [], sent: [], as_json: false, by_place: false, state: false, fail_on: States { accepted: false, pending: false, rejected: false, conflict: false, duplicate: false, claim_rejected: false, no_participation: false, unanswered: false }, statuses: [], utf8: false }", LARGEST),
+    (&["cwr", "acks", "--json", "a.cwr", "--utf8", "-"], "Acks { files: [\"a.cwr\", \"-\"], sent: [], as_json: true, by_place: false, state: false, fail_on: States { accepted: false, pending: false, rejected: false, conflict: false, duplicate: false, claim_rejected: false, no_participation: false, unanswered: false }, statuses: [], utf8: true }", LARGEST),
+    (&["cwr", "acks", "a.cwr", "--sent", "b.cwr"], "Acks { files: [\"a.cwr\"], sent: [\"b.cwr\"], as_json: false, by_place: false, state: false, fail_on: States { accepted: false, pending: false, rejected: false, conflict: false, duplicate: false, claim_rejected: false, no_participation: false, unanswered: false }, statuses: [], utf8: false }", LARGEST),
+    (&["cwr", "acks", "--sent", "c.cwr", "a.cwr", "--by-place", "--sent=b.cwr", "--state"], "Acks { files: [\"a.cwr\"], sent: [\"c.cwr\", \"b.cwr\"], as_json: false, by_place: true, state: true, fail_on: States { accepted: false, pending: false, rejected: false, conflict: false, duplicate: false, claim_rejected: false, no_participation: false, unanswered: false }, statuses: [], utf8: false }", LARGEST),
+    (&["cwr", "acks", "--fail-on", "conflict,rejected", "--sent", "-", "a.cwr"], "Acks { files: [\"a.cwr\"], sent: [\"-\"], as_json: false, by_place: false, state: false, fail_on: States { accepted: false, pending: false, rejected: true, conflict: true, duplicate: false, claim_rejected: false, no_participation: false, unanswered: false }, statuses: [], utf8: false }", LARGEST),
+    (&["cwr", "acks", "--status", "RJ,CO", "a.cwr", "--status=AS", "--sent", "b.cwr"], "Acks { files: [\"a.cwr\"], sent: [\"b.cwr\"], as_json: false, by_place: false, state: false, fail_on: States { accepted: false, pending: false, rejected: false, conflict: false, duplicate: false, claim_rejected: false, no_participation: false, unanswered: false }, statuses: [Rejected, Conflict, RegistrationAccepted], utf8: false }", LARGEST),
     (&["cwr", "write", "--utf8", "-o", "b.cwr", "--line=9", "a.jsonl"], "Write { file: Some(\"a.jsonl\"), out: Some(\"b.cwr\"), line: 9, utf8: true }", LARGEST),
     (&["cwr", "show", "--groups", "3"], "Show { file: None, fail_on: None }", (99_999_999, 3, 999_999)),
     (&["cwr", "split", "-n", "1", "a.cwr", "part-"], "Split { transactions: 1, file: \"a.cwr\", prefix: \"part-\", created: None, only_new: false, fail_on: None }", LARGEST),
@@ -78,9 +79,11 @@ fn work_that_is_asked_for(rt: HostRuntime) {
 
 /// Words that are missing or out of range.
 #[rattlefmt::skip]
-static WRONG: [&[&str]; 30] = [
+static WRONG: [&[&str]; 36] = [
     &["cwr", "csv"],
     &["cwr", "csv", "swr"],
+    &["cwr", "check", "--color"],
+    &["cwr", "explain", "--color", "red"],
     &["cwr", "check", "--fail-on", "X"],
     &["cwr", "show", "a.cwr", "b.cwr"],
     &["cwr", "acks", "a.cwr", "--sent"],
@@ -89,6 +92,10 @@ static WRONG: [&[&str]; 30] = [
     &["cwr", "acks", "a.cwr", "--fail-on", "rejected"],
     &["cwr", "acks", "a.cwr", "--sent", "b.cwr", "--fail-on", "refused"],
     &["cwr", "acks", "a.cwr", "--sent", "b.cwr", "--fail-on", "rejected,"],
+    &["cwr", "acks", "a.cwr", "--status"],
+    &["cwr", "acks", "a.cwr", "--status", "XX"],
+    &["cwr", "acks", "a.cwr", "--status", "RJ,"],
+    &["cwr", "acks", "a.cwr", "--sent", "b.cwr", "--state", "--status", "RJ"],
     &["cwr", "split"],
     &["cwr", "split", "a.cwr", "part-"],
     &["cwr", "split", "-n", "1", "a.cwr"],
@@ -127,7 +134,7 @@ fn told(rt: &(impl Abort + AllocGlobal), words: &[&str]) -> Option<String> {
 
 /// Words that are wrong, and what is told of them.
 #[rattlefmt::skip]
-static TOLD: [(&[&str], &str); 9] = [
+static TOLD: [(&[&str], &str); 11] = [
     (&["cwr", "acks", "a.cwr", "--state"], "--sent <SENT>"),
     (&["cwr", "acks", "a.cwr", "--by-place"], "--sent <SENT>"),
     (&["cwr", "split", "-n", "1", "a.cwr"], "-o <PREFIX>"),
@@ -136,6 +143,8 @@ static TOLD: [(&[&str], &str); 9] = [
     (&["cwr", "join", "out.cwr"], "<FILE>..."),
     (&["cwr", "join", "-", "a.cwr"], "./- is a file of that name"),
     (&["cwr", "acks", "a.cwr", "--fail-on", "rejected"], "--sent <SENT>"),
+    (&["cwr", "acks", "a.cwr", "--status", "RJ,XX"], "CO, DU, RA, AS, AC, SR, CR, RJ, NP, RC"),
+    (&["cwr", "acks", "a.cwr", "--sent", "b.cwr", "--state", "--status", "RJ"], "--state"),
     (&["cwr", "acks", "a.cwr", "--sent", "b.cwr", "--fail-on", "refused"], "accepted, pending, rejected, conflict, duplicate, claim-rejected, no-participation, unanswered"),
 ];
 

@@ -6,7 +6,7 @@ import sys
 import unittest
 
 sys.path.insert(0, os.path.dirname(os.path.dirname(os.path.dirname(os.path.abspath(__file__)))))
-from lib import format_page, runs
+from lib import format_page, runs, scripts
 
 PAGE = """
 ### HDR: transmission header
@@ -78,6 +78,21 @@ class Runs(unittest.TestCase):
         with contextlib.redirect_stdout(io.StringIO()) as printed:
             self.assertEqual(differences.told("it"), 1)
         self.assertEqual(printed.getvalue(), "it: other: 1, and not 2\n")
+
+    def test_hold(self):
+        differences = runs.Differences()
+        differences.hold("so", True)
+        self.assertEqual(differences.found, [])
+        differences.hold("not so", False)
+        differences.hold("not so", False)
+        with contextlib.redirect_stdout(io.StringIO()) as printed:
+            self.assertEqual(differences.told("it"), 1)
+        self.assertEqual(printed.getvalue(), "it: not so\n")
+
+
+class Scripts(unittest.TestCase):
+    def test_script(self):
+        self.assertEqual(scripts.script("side_by_side").LEFT_OUT.findall("page: left out: all\n"), [("page", "all")])
 
 
 if __name__ == "__main__":

@@ -24,7 +24,7 @@ IsOfInput (Explain judging) = are_standard (map (λ name. name.now) judging.file
 IsOfInput (Show file fail_on) = is_standard (option_map (λ name. name.now) file) ≡ true
 IsOfInput (Json file out numbers utf8) = (is_standard (option_map (λ name. name.now) file) ≡ true) × (out ≡ None)
 IsOfInput (Csv rows file out utf8) = (is_standard (option_map (λ name. name.now) file) ≡ true) × (out ≡ None)
-IsOfInput (Acks files sent as_json by_place state fail_on utf8) =
+IsOfInput (Acks files sent as_json by_place state fail_on statuses utf8) =
     (are_standard (map (λ name. name.now) files.items) ≡ true) × (sent.items ≡ [])
 IsOfInput (Lint files quiet explained advised all) = are_standard (map (λ name. name.now) files.items) ≡ true
 IsOfInput (Advise judging all repeated) = are_standard (map (λ name. name.now) judging.files.items) ≡ true

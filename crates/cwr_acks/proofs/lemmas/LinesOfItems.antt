@@ -40,7 +40,7 @@ use Rattle.cwr_acks.specs.declared.counts.Answers.{Answers}
 use Rattle.cwr_acks.specs.declared.forms.Cells.{Cells}
 use Rattle.cwr_acks.specs.declared.forms.Form.{Form}
 use Rattle.cwr_acks.specs.declared.forms.Form.TheVariants as forms
-use Rattle.cwr_acks.specs.Format.AckLines.{Matched, Telling, ack_lines, answer_as, counts_after, counts_as, lines_after}
+use Rattle.cwr_acks.specs.Format.AckLines.{is_told, Matched, Telling, ack_lines, answer_as, counts_after, counts_as, lines_after}
 use Rattle.cwr_acks.specs.Format.AckLines.{keeps_of, lines_of_acks, matched_after, name_of_notes, name_of_outcome, note_lines_if, shown_name, shown_telling}
 use Rattle.cwr_acks.specs.Format.AckLines.{unanswered_as, unanswered_if, unanswered_in}
 use Rattle.cwr_acks.specs.Format.AckLines.{unanswered_in_one}
@@ -185,11 +185,11 @@ quoted_name : (enc : Encoding) (o : Option (List ℕ)) → option_map (shown_nam
 quoted_name enc None = refl
 quoted_name enc (Some n) = refl
 
-answer_at : (form : Form) (file : Option (List ℕ)) (names : List (List ℕ)) (notes : Option Notes) (a : RecordValue)
-    (t : List RecordValue)
-    → answer_parts (shown_telling (record { form = form; file = file; names = names })) notes a t
-    ≡ answer_as form (record { form = form; file = file; names = names }) notes a t
-answer_at (forms.Words cells) file names notes a t =
+answer_at : (form : Form) (statuses : List TransactionStatus) (file : Option (List ℕ)) (names : List (List ℕ)) (notes : Option Notes)
+    (a : RecordValue) (t : List RecordValue)
+    → answer_parts (shown_telling (record { form = form; statuses = statuses; file = file; names = names })) notes a t
+    ≡ answer_as form (record { form = form; statuses = statuses; file = file; names = names }) notes a t
+answer_at (forms.Words cells) statuses file names notes a t =
     let text : List ℕ = ack_text cells a (worst_level t) in
     let name : Option (List ℕ) = name_of_notes (map (shown_name (forms.Words cells)) names) notes in
     ap (λ (l : List ℕ). ((text ++ (sent_part name ++ codes "\n")) ++ l) ++ note_lines_if cells notes a) (numbered_alike (message_text cells) 0 t)
@@ -197,7 +197,7 @@ answer_at (forms.Words cells) file names notes a t =
     (sym (append_assoc text (sent_part name) (codes "\n")))
     ∙ ap (λ (o : Option (List ℕ)). (((text ++ sent_part o) ++ codes "\n") ++ flat_map (message_text cells) t) ++ note_lines_if cells notes a)
     (name_told (shown_name (forms.Words cells)) names notes ∙ plain_name cells (name_of_notes names notes))
-answer_at (forms.Json enc) file names notes a t =
+answer_at (forms.Json enc) statuses file names notes a t =
     let name : Option (List ℕ) = name_of_notes names notes in
     let parts : Option (List ℕ) → Option (List ℕ) → List ℕ → List ℕ =
     λ f n l. (((((codes "{" ++ name_member (codes "\"file\":") f) ++ name_member (codes "\"sent\":") n)
@@ -210,7 +210,7 @@ answer_at (forms.Json enc) file names notes a t =
 
 answer_is_told : (telling : Telling) (notes : Option Notes) (a : RecordValue) (t : List RecordValue)
     → answer_parts (shown_telling telling) notes a t ≡ answer_as telling.form telling notes a t
-answer_is_told telling notes a t = answer_at telling.form telling.file telling.names notes a t
+answer_is_told telling notes a t = answer_at telling.form telling.statuses telling.file telling.names notes a t
 
 -- ---- counts
 
@@ -389,14 +389,15 @@ left_after held left matched given answers k e counted = (
 -- ---- all lines
 
 some_transaction : (telling : Telling) (d : Delivered) (history : History) (h : Held) (a : RecordValue) (rest : List RecordValue)
-    (b : Bool) → is_ack a ≡ b → Keeps d history h
-    → cond b (answer_as telling.form telling
+    (told b : Bool) → is_ack a ≡ b → Keeps d history h
+    → cond (b && told) (answer_as telling.form telling
     (Some (notes_on d history.told (record { opening = history.opening; head = a; records = a ∷ rest }))) a (a ∷ rest)) []
-    ≡ cond b (answer_parts (shown_telling telling) (cond b (Some (notes_held h a (a ∷ rest))) None) a (a ∷ rest)) []
-some_transaction telling d history h a rest true ack keeps =
-    sym (answer_is_told telling (Some (notes_held h a (a ∷ rest))) a (a ∷ rest)
-    ∙ ap (λ (n : Notes). answer_as telling.form telling (Some n) a (a ∷ rest)) (notes_told d history h a rest ack keeps))
-some_transaction telling d history h a rest false ack keeps = refl
+    ≡ cond (b && told) (answer_parts (shown_telling telling) (cond b (Some (notes_held h a (a ∷ rest))) None) a (a ∷ rest)) []
+some_transaction telling d history h a rest told true ack keeps =
+    ap (λ (l : List ℕ). cond told l [])
+    (sym (answer_is_told telling (Some (notes_held h a (a ∷ rest))) a (a ∷ rest)
+    ∙ ap (λ (n : Notes). answer_as telling.form telling (Some n) a (a ∷ rest)) (notes_told d history h a rest ack keeps)))
+some_transaction telling d history h a rest told false ack keeps = refl
 
 lines_of : (telling : Telling) (matched : Option Matched) (held : Option Held) (answers : Answers) (given : List Item) (item : Item)
     → IsAnswers answers given → IsKept held matched given
@@ -407,9 +408,9 @@ lines_of telling matched held answers given (items.GroupOpened r) h k = refl
 lines_of telling matched held answers given (items.GroupClosed r) h k = refl
 lines_of telling matched held answers given (items.Transaction []) h k = refl
 lines_of telling None None answers given (items.Transaction (a ∷ rest)) h k =
-    ap (λ (l : List ℕ). cond (is_ack a) l []) (sym (answer_is_told telling None a (a ∷ rest)))
+    ap (λ (l : List ℕ). cond (is_ack a && is_told telling.statuses (a ∷ rest)) l []) (sym (answer_is_told telling None a (a ∷ rest)))
 lines_of telling (Some m) (Some x) answers given (items.Transaction (a ∷ rest)) h k =
-    some_transaction telling m.delivered (read_after m.history given) x a rest (is_ack a) refl k
+    some_transaction telling m.delivered (read_after m.history given) x a rest (is_told telling.statuses (a ∷ rest)) (is_ack a) refl k
 lines_of telling (Some m) None answers given (items.Transaction (a ∷ rest)) h k = absurd k
 lines_of telling None (Some x) answers given (items.Transaction (a ∷ rest)) h k = absurd k
 lines_of telling None None answers given items.Ended h k =

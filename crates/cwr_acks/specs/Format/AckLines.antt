@@ -1,7 +1,7 @@
 -- What is written of items as acknowledgements, for people or as JSON, and nothing for the verdict.
-use Rattle.std.specs.Prelude.{◌≡◌, ℕ, Bool, not, ◌&&◌, List, [], ◌∷◌, ◌++◌, count_by, is_none, is_some, map, take, Option, Some, None}
+use Rattle.std.specs.Prelude.{◌≡◌, ℕ, Bool, not, ◌&&◌, ◌||◌, ◌==◌, length, List, [], ◌∷◌, ◌++◌, count_by, is_none, is_some, map, take, Option, Some, None}
 use Rattle.std.specs.Prelude.{option_map, slice_get, if◌then◌else◌}
-use Rattle.std.specs.List.{enumerate_from, flat_map}
+use Rattle.std.specs.List.{enumerate_from, flat_map, list_any}
 use Rattle.std.specs.Option.{option_and_then}
 use Rattle.json.specs.Print.{quoted}
 use Rattle.cwr_fields.specs.declared.message_codes.TransactionStatus.{TransactionStatus}
@@ -26,9 +26,11 @@ use Rattle.cwr_acks.specs.Format.AckData.{ack_data, counts_data, data_line, unan
 
 -- ---- how it is told
 
--- in what form; the file's name, where there are several files; and the names of the files of what was sent, where these are several
+-- in what form; of which statuses, where any are asked for; the file's name, where there are several files; and the names of the files of
+-- what was sent, where these are several
 pub record Telling : Type 0 where
   pub form : Form
+  pub statuses : List TransactionStatus
   pub file : Option (List ℕ)
   pub names : List (List ℕ)
 
@@ -40,6 +42,7 @@ shown_name (forms.Json enc) name = quoted name
 abbrev pub shown_telling : Telling → Telling
 shown_telling telling = record {
   form = telling.form;
+  statuses = telling.statuses;
   file = option_map (shown_name telling.form) telling.file;
   names = map (shown_name telling.form) telling.names;
 }
@@ -48,6 +51,7 @@ shown_telling telling = record {
 abbrev pub telling_of : Manner → Telling
 telling_of manner = record {
   form = manner.form;
+  statuses = manner.statuses.now;
   file = option_map (λ n. n.now) manner.file;
   names = map (λ n. n.items) manner.names.now;
 }
@@ -92,11 +96,20 @@ notes_after (Some matched) before a t =
     let history = read_after matched.history before in
     Some (notes_on matched.delivered history.told (record { opening = history.opening; head = a; records = t }))
 
--- the lines of a transaction that comes after these items, where that is an acknowledgement
+abbrev pub has_one_of : List TransactionStatus → List RecordValue → Bool
+has_one_of statuses t = list_any (λ this_status. has_status this_status (Transaction t)) statuses
+
+-- a transaction with one of the statuses that are asked for; where none is, each is told
+abbrev pub is_told : List TransactionStatus → List RecordValue → Bool
+is_told statuses t = (length statuses == 0) || has_one_of statuses t
+
+-- the lines of a transaction that comes after these items, where that is an acknowledgement that is told
 abbrev pub transaction_after : Telling → Option Matched → List Item → List RecordValue → List ℕ
 transaction_after telling matched before [] = []
 transaction_after telling matched before (a ∷ rest) =
-    if is_ack a then answer_as telling.form telling (notes_after matched before a (a ∷ rest)) a (a ∷ rest) else []
+    if is_ack a && is_told telling.statuses (a ∷ rest)
+    then answer_as telling.form telling (notes_after matched before a (a ∷ rest)) a (a ∷ rest)
+    else []
 
 -- ---- the end
 

@@ -33,7 +33,7 @@ use Rattle.cwr_acks.specs.declared.forms.Form.{Form}
 use Rattle.cwr_acks.specs.declared.forms.Form.TheVariants as forms
 use Rattle.cwr_acks.specs.declared.forms.Manner.{Manner}
 use Rattle.cwr_acks.specs.Format.AckTexts.{ack_text, message_line, name_before, sent_part, status_part, unanswered_text}
-use Rattle.cwr_acks.specs.Format.AckLines.{IsToldSo, Matched, Telling, keeps_of, lines_of_acks, matched_after, name_of_notes, note_lines_if, telling_of}
+use Rattle.cwr_acks.specs.Format.AckLines.{is_told, IsToldSo, Matched, Telling, keeps_of, lines_of_acks, matched_after, name_of_notes, note_lines_if, telling_of}
 use Rattle.cwr_acks.specs.Steps.DataTexts.{ack_members, counts_data_text, message_part, name_member, unanswered_members}
 
 -- none
@@ -177,7 +177,8 @@ answer_parts telling notes a t =
 -- those of a transaction, where that is one
 abbrev pub transaction_at : Telling → Option Notes → List RecordValue → List ℕ
 transaction_at telling notes [] = []
-transaction_at telling notes (a ∷ rest) = if is_ack a then answer_parts telling notes a (a ∷ rest) else []
+transaction_at telling notes (a ∷ rest) =
+    if is_ack a && is_told telling.statuses (a ∷ rest) then answer_parts telling notes a (a ∷ rest) else []
 
 -- what stands at the end
 abbrev pub end_at : Telling → Option Held → Answers → List ℕ

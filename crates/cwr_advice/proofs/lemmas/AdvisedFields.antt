@@ -107,6 +107,11 @@ version_of_header r h =
     of_either (λ k. IsField "version type" k 15 3) kinds.Nwr kinds.Rev r h (record { carried = refl; place = refl; width = refl })
     (record { carried = refl; place = refl; width = refl })
 
+pub number_of_writer : (r : RecordValue) → is_writer r ≡ true → IsField "interested party number" r.kind 4 9
+number_of_writer r h =
+    of_either (λ k. IsField "interested party number" k 4 9) kinds.Swr kinds.Owr r h
+    (record { carried = refl; place = refl; width = refl }) (record { carried = refl; place = refl; width = refl })
+
 -- ---- cells by their names
 
 pub blank_composite : (r : RecordValue) (cell : List ℕ) → cell ≡ cell_of_field r 14 → is_header r ≡ true → IsRecord r
@@ -120,3 +125,13 @@ named_version r cell e h fits = e ∙ named_cell "version type" r.kind 15 3 r (v
 pub named_sequence : (r : RecordValue) (cell : List ℕ) → cell ≡ cell_of_field r 4 → is_publisher r ≡ true → IsRecord r
     → cell ≡ cell_named "publisher sequence" r
 named_sequence r cell e h fits = e ∙ named_cell "publisher sequence" r.kind 4 2 r (sequence_of_publisher r h) refl fits
+
+pub named_number : (r : RecordValue) (cell : List ℕ) → cell ≡ cell_of_field r 4 → is_writer r ≡ true → IsRecord r
+    → cell ≡ cell_named "interested party number" r
+named_number r cell e h fits = e ∙ named_cell "interested party number" r.kind 4 9 r (number_of_writer r h) refl fits
+
+pub named_writer : (r : RecordValue) (cell : List ℕ) → cell ≡ cell_of_field r 8 → is_a kinds.Pwr r ≡ true → IsRecord r
+    → cell ≡ cell_named "writer interested party number" r
+named_writer r cell e h fits =
+    e ∙ named_cell "writer interested party number" kinds.Pwr 8 9 r (record { carried = refl; place = refl; width = refl })
+    (kind_of kinds.Pwr r h) fits

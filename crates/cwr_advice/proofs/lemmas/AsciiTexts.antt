@@ -1,14 +1,15 @@
 -- Texts of ASCII alone, and UTF-8.
 use Rattle.std.proofs.Common.{◌≡◌, ℕ, zero, suc, ◌≤◌, ◌<◌, Bool, true, false, not, List, [], ◌∷◌, refl, sym, ap, arith}
-use Rattle.std.specs.Prelude.{Result, Ok, Err, MatchBool, MatchResult, nat_lt, slice_index}
+use Rattle.std.specs.Prelude.{Result, Ok, Err, MatchBool, MatchResult, ◌&&◌, ◌==◌, nat_eq, nat_lt, slice_index}
+use Rattle.std.specs.List.{starts_with}
 use Rattle.std.specs.Result.{is_ok}
 use Rattle.std.specs.Str.{IsAscii, IsNotAscii, IsUtf8, is_utf8}
 use Rattle.std.proofs.lemmas.Bool.{and_from, and_left, and_parts, and_right, false_from_ne_true, le-ltb, lt-ltb, ltb-true}
-use Rattle.std.proofs.lemmas.Bool.{not-false}
+use Rattle.std.proofs.lemmas.Bool.{eqb-true, not-false, or_from}
 use Rattle.std.proofs.lemmas.Str.{IsUtf8-from_ascii, IsUtf8-from_is_utf8, is_utf8-from_IsUtf8}
 use Rattle.cwr_advice.specs.declared.characters.Characters.{Characters}
 use Rattle.cwr_advice.specs.declared.characters.Characters.TheVariants.{Unsaid, Utf8, Other}
-use Rattle.cwr_advice.specs.Format.Characters.{is_ascii, is_unlike}
+use Rattle.cwr_advice.specs.Format.Characters.{has_lost_letter, is_ascii, is_unlike}
 
 all_ascii : (bs : List ℕ) → IsAscii bs → true ≡ is_ascii bs
 all_ascii [] h = refl
@@ -52,3 +53,16 @@ never_unlike Unsaid cell e = and_left (not (is_ascii cell)) (is_utf8 cell) e
 never_unlike Utf8 cell e =
     ap not (is_utf8-from_IsUtf8 cell (IsUtf8-from_ascii cell (ascii_bytes cell (not-false (is_ascii cell) e))))
 never_unlike Other cell e = refl
+
+none_lost : (cell : List ℕ) → is_ascii cell ≡ true → has_lost_letter cell ≡ false
+none_lost [] h = refl
+none_lost (b ∷ rest) h =
+    let parts = and_parts (nat_lt b 128) (is_ascii rest) h in
+    let other : (b == 239) ≡ false =
+    false_from_ne_true (b == 239) (λ e. absurd (omega (arith, eqb-true b 239 e, ltb-true b 128 parts.0))) in
+    or_from ((b == 239) && starts_with nat_eq rest (191 ∷ 189 ∷ [])) (has_lost_letter rest) (and_left (b == 239) _ other)
+    (none_lost rest parts.1)
+
+-- and has no letter that was lost
+pub never_lost : (cell : List ℕ) → not (is_ascii cell) ≡ false → has_lost_letter cell ≡ false
+never_lost cell e = none_lost cell (not-false (is_ascii cell) e)

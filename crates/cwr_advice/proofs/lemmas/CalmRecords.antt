@@ -4,16 +4,16 @@ use Rattle.std.proofs.Common.{◌∙◌, arith, inl, inr}
 use Rattle.std.specs.Prelude.{Option, Some, None, IfSome, slice_get, ◌||◌, ◌&&◌, ◌⊎◌}
 use Rattle.std.specs.List.{list_any, after_last}
 use Rattle.std.specs.Str.{bytes_eq}
-use Rattle.std.proofs.lemmas.Bool.{and_from, and_left, and_parts, and_right, or_left, or_right}
+use Rattle.std.proofs.lemmas.Bool.{and_from, and_left, and_right, or_left, or_right}
 use Rattle.std.proofs.lemmas.List.{take-append-le, take_all}
 use Rattle.std.proofs.lemmas.List.Folds.{list_any-append}
 use Rattle.std.proofs.lemmas.Slice.Eq.{bytes_eq-Decides}
 use Rattle.cwr_lines.specs.Format.Records.{RecordValue, IsRecord, cell_named}
 use Rattle.cwr_fields.specs.declared.kinds.Kind.TheVariants as kinds
-use Rattle.cwr_levels.specs.Format.Findings.{is_a, is_owner}
+use Rattle.cwr_levels.specs.Format.Findings.{has_party_number, is_a, is_blank, is_owner}
 use Rattle.cwr_levels.proofs.lemmas.RuleTests.{cell_of_field, or_none}
 use Rattle.cwr_advice.specs.Format.Rules.{begins_with_agent, in_chain, is_agent, is_publisher, is_territory, is_territory_of}
-use Rattle.cwr_advice.specs.Format.Rules.{is_writer}
+use Rattle.cwr_advice.specs.Format.Rules.{is_writer, last_writer}
 use Rattle.cwr_advice.specs.Steps.Kept.{AreCalm, AreSinceParty, IsBegun, IsCalm, is_among, stands_again}
 use Rattle.cwr_advice.proofs.lemmas.AdvisedFields.{named_sequence}
 use Rattle.cwr_advice.proofs.lemmas.OwingWriters.{there_or_last}
@@ -103,6 +103,9 @@ still_calm t r k x below h =
       chain =
           ap (λ (l : List RecordValue). is_agent x && not (list_any (in_chain (cell_named "publisher sequence" x)) l)) same
           ∙ h.chain;
+      writer =
+          ap (λ (l : List RecordValue). is_a kinds.Pwr x && not (is_blank "writer interested party number" x)
+          && not (has_party_number (cell_named "writer interested party number" x) (last_writer l))) same ∙ h.writer;
     }
 
 pub calm_more : (t : List RecordValue) (r : RecordValue) → AreCalm t → IsCalm (t ++ r ∷ []) (length t) r → AreCalm (t ++ r ∷ [])

@@ -14,9 +14,9 @@ use Rattle.cwr_levels.specs.Format.Findings.{is_a, is_blank, share_of}
 use Rattle.cwr_levels.specs.Steps.Walks.{capped}
 use Rattle.cwr_levels.proofs.lemmas.OneMore.{any_there}
 use Rattle.cwr_advice.specs.declared.rules.AdviceRule.{AdviceRule}
-use Rattle.cwr_advice.specs.declared.rules.AdviceRule.TheVariants.{A1a, A1b, A2a, A2b, A2c, A2d, A2e, A2f, A2g, A3a, A3b, A3c}
-use Rattle.cwr_advice.specs.declared.rules.AdviceRule.TheVariants.{A3d, A3e, A4a, A4b, A4c, A4d, A5a, A6a, A6b, A6c, A7a, A8a}
-use Rattle.cwr_advice.specs.declared.rules.AdviceRule.TheVariants.{A8b, A8c, A8d, A8e, A9a}
+use Rattle.cwr_advice.specs.declared.rules.AdviceRule.TheVariants.{A1a, A1b, A2a, A2b, A2c, A2d, A2e, A2f, A2g, A2h, A3a, A3b}
+use Rattle.cwr_advice.specs.declared.rules.AdviceRule.TheVariants.{A3c, A3d, A3e, A4a, A4b, A4c, A4d, A5a, A6a, A6b, A6c, A7a}
+use Rattle.cwr_advice.specs.declared.rules.AdviceRule.TheVariants.{A8a, A8b, A8c, A8d, A8e, A9a, A9b, A9c}
 use Rattle.cwr_advice.specs.declared.rules.Asked.{Asked}
 use Rattle.cwr_advice.specs.declared.rules.Advice.{Advice}
 use Rattle.cwr_advice.specs.declared.kept.AdviceSums.{AdviceSums}
@@ -25,10 +25,10 @@ use Rattle.cwr_advice.specs.Format.Rules.{cell_at, collects_in, collects_nowhere
 use Rattle.cwr_advice.specs.Format.Rules.{has_few_territories, has_no_composite_type, has_no_publisher, has_no_territory, has_nothing}
 use Rattle.cwr_advice.specs.Format.Rules.{is_acknowledgement, is_compared, is_over_in, is_stray_component, is_territory}
 use Rattle.cwr_advice.specs.Format.Rules.{is_territory_of, is_version, lacks_components, lacks_original, owns_shares}
-use Rattle.cwr_advice.specs.Format.Rules.{records_of_writer, stands_twice, states_nothing, writers_own_less}
+use Rattle.cwr_advice.specs.Format.Rules.{names_other_writer, records_of_writer, stands_twice, states_nothing, writers_own_less}
 use Rattle.cwr_advice.specs.declared.said.Said.{Said}
 use Rattle.cwr_advice.specs.Steps.Kept.{AreKept, StandsFor, may_break_alone, may_break_some}
-use Rattle.cwr_advice.proofs.lemmas.AsciiTexts.{never_unlike}
+use Rattle.cwr_advice.proofs.lemmas.AsciiTexts.{never_lost, never_unlike}
 use Rattle.cwr_advice.proofs.lemmas.EarlyDays.{never_to_come}
 use Rattle.cwr_advice.proofs.lemmas.OwingWriters.{nobody_owes}
 
@@ -43,6 +43,7 @@ record IsUnadvised (t : List RecordValue) (k : ℕ) (r : RecordValue) : Type 0 w
   publisher : has_no_publisher t k r ≡ false
   territory : has_no_territory t k r ≡ false
   nothing : has_nothing t k r ≡ false
+  other : names_other_writer t k r ≡ false
   less : writers_own_less t ≡ false
   performing : states_nothing "pr share" t ≡ false
   mechanical : states_nothing "mr share" t ≡ false
@@ -62,6 +63,7 @@ unbroken said t k r h A2d j e = h.territory
 unbroken said t k r h A2e j e = h.nothing
 unbroken said t k r h A2f j e = e
 unbroken said t k r h A2g j e = e
+unbroken said t k r h A2h j e = h.other
 unbroken said t k r h A3a j e = e
 unbroken said t k r h A3b j e = h.less
 unbroken said t k r h A3c j e = h.performing
@@ -82,6 +84,8 @@ unbroken said t k r h A8c j e = e
 unbroken said t k r h A8d j e = e
 unbroken said t k r h A8e j e = never_to_come said.sent (cell_at r j) e
 unbroken said t k r h A9a j e = never_unlike said.characters (cell_at r j) e
+unbroken said t k r h A9b j e = never_lost (cell_at r j) e
+unbroken said t k r h A9c j e = e
 
 none_kept : {X : Type 0} → (b : Bool) (x : X) (l : List X) → b ≡ false → l ≡ [] → cond b (x ∷ l) l ≡ []
 none_kept true x l e none = absurd (cc e)
@@ -239,6 +243,7 @@ unadvised s t h clean k r there = record {
       ]);
   territory = owed_territory (owns_shares r) (cases_Bool (is_a kinds.Swr r));
   nothing = owed_territory (not (owns_shares r)) (cases_Bool (is_a kinds.Swr r));
+  other = (h.calm k r there).writer;
   less = clean.less;
   performing = stated_rights.0;
   mechanical = stated_rights.1;

@@ -7,9 +7,9 @@ use Rattle.std.specs.Option.{is_some}
 use Rattle.std.proofs.lemmas.Bool.{le-ltb, ltb-false}
 use Rattle.cwr_lines.specs.Format.Records.{RecordValue}
 use Rattle.cwr_advice.specs.declared.rules.AdviceRule.{AdviceRule}
-use Rattle.cwr_advice.specs.declared.rules.AdviceRule.TheVariants.{A1a, A1b, A2a, A2b, A2c, A2d, A2e, A2f, A2g, A3a, A3b, A3c}
-use Rattle.cwr_advice.specs.declared.rules.AdviceRule.TheVariants.{A3d, A3e, A4a, A4b, A4c, A4d, A5a, A6a, A6b, A6c, A7a, A8a}
-use Rattle.cwr_advice.specs.declared.rules.AdviceRule.TheVariants.{A8b, A8c, A8d, A8e, A9a}
+use Rattle.cwr_advice.specs.declared.rules.AdviceRule.TheVariants.{A1a, A1b, A2a, A2b, A2c, A2d, A2e, A2f, A2g, A2h, A3a, A3b}
+use Rattle.cwr_advice.specs.declared.rules.AdviceRule.TheVariants.{A3c, A3d, A3e, A4a, A4b, A4c, A4d, A5a, A6a, A6b, A6c, A7a}
+use Rattle.cwr_advice.specs.declared.rules.AdviceRule.TheVariants.{A8a, A8b, A8c, A8d, A8e, A9a, A9b, A9c}
 use Rattle.cwr_advice.specs.declared.rules.Advice.{Advice}
 use Rattle.cwr_advice.specs.declared.rules.Asked.{Asked}
 use Rattle.cwr_advice.specs.declared.said.Said.{Said}
@@ -43,6 +43,7 @@ unbroken_later said A2d t k r j e = e
 unbroken_later said A2e t k r j e = e
 unbroken_later said A2f t k r j e = e
 unbroken_later said A2g t k r j e = e
+unbroken_later said A2h t k r j e = e
 unbroken_later said A3a t k r j e = e
 unbroken_later said A3b t k r j e = e
 unbroken_later said A3c t k r j e = e
@@ -63,6 +64,8 @@ unbroken_later said A8c t k r j e = e
 unbroken_later said A8d t k r j e = e
 unbroken_later said A8e t k r j e = earliest (day_in (cell_at r j)) said.sent e
 unbroken_later said A9a t k r j e = e
+unbroken_later said A9b t k r j e = e
+unbroken_later said A9c t k r j e = e
 
 kept_none : {X : Type 0} → (b : Bool) (x : X) (l : List X) → cond b (x ∷ l) l ≡ [] → (b ≡ false) × (l ≡ [])
 kept_none true x l e = absurd (cc e)

@@ -1,6 +1,6 @@
 -- What the header of a transmission says of its characters, and texts that don't go with that.
-use Rattle.std.specs.Prelude.{ℕ, Bool, false, not, ◌&&◌, ◌||◌, nat_lt, List, codes, if◌then◌else◌}
-use Rattle.std.specs.List.{list_all}
+use Rattle.std.specs.Prelude.{ℕ, Bool, false, not, ◌&&◌, ◌||◌, ◌==◌, nat_eq, nat_lt, List, [], ◌∷◌, codes, if◌then◌else◌}
+use Rattle.std.specs.List.{list_all, starts_with}
 use Rattle.std.specs.Str.{is_utf8, str_eq_ignore_ascii_case}
 use Rattle.cwr_fields.specs.Format.Bytes.{is_spaces, trimmed}
 use Rattle.cwr_advice.specs.declared.characters.Characters.{Characters}
@@ -25,3 +25,22 @@ abbrev pub is_unlike : Characters → List ℕ → Bool
 is_unlike Unsaid cell = not (is_ascii cell) && is_utf8 cell
 is_unlike Utf8 cell = not (is_utf8 cell)
 is_unlike Other cell = false
+
+-- The bytes EF BF BD stand somewhere in the text: U+FFFD in UTF-8, which a conversion writes for a letter that it can't read.
+abbrev pub has_lost_letter : List ℕ → Bool
+has_lost_letter [] = false
+has_lost_letter (b ∷ rest) = ((b == 239) && starts_with nat_eq rest (191 ∷ 189 ∷ [])) || has_lost_letter rest
+
+-- what follows & where HTML writes one of & < > " and ' by its name or its number
+abbrev pub begins_with_name : List ℕ → Bool
+begins_with_name text =
+    starts_with nat_eq text (codes "amp;") || starts_with nat_eq text (codes "lt;") || starts_with nat_eq text (codes "gt;")
+    || starts_with nat_eq text (codes "quot;") || starts_with nat_eq text (codes "#39;")
+
+abbrev pub is_ampersand : ℕ → Bool
+is_ampersand b = b == 38
+
+-- a character of HTML stands so somewhere in the text
+abbrev pub has_html : List ℕ → Bool
+has_html [] = false
+has_html (b ∷ rest) = (is_ampersand b && begins_with_name rest) || has_html rest

@@ -1,8 +1,8 @@
 -- Advice on a transaction that is to be sent: which record breaks which rule, and at which field.
 use Prim.Native.String.{String}
 use Rattle.std.specs.Prelude.{ℕ, ◌+◌, Bool, true, false, not, ◌&&◌, ◌||◌, nat_lt, nat_le, List, [], ◌∷◌, codes, map, filter, take}
-use Rattle.std.specs.Prelude.{drop, take_while, unwrap_or, flat_map, count_by, if◌then◌else◌}
-use Rattle.std.specs.List.{list_any, sum_by, enumerate_from, after_last}
+use Rattle.std.specs.Prelude.{drop, take_while, unwrap_or, flat_map, count_by, if◌then◌else◌, Option, None}
+use Rattle.std.specs.List.{list_any, sum_by, enumerate_from, after_last, last_or}
 use Rattle.std.specs.Str.{bytes_eq}
 use Rattle.cwr_fields.specs.Format.Bytes.{is_spaces}
 use Rattle.cwr_fields.specs.declared.kinds.Kind.{Kind}
@@ -11,15 +11,15 @@ use Rattle.cwr_lines.specs.Format.Carried.{record_cell}
 use Rattle.cwr_lines.specs.Format.Records.{RecordValue, cell_named}
 use Rattle.cwr_shape.specs.declared.reasons.Level.{Level}
 use Rattle.cwr_shape.specs.declared.reasons.Level.TheVariants.{T, R, F}
-use Rattle.cwr_levels.specs.Format.Findings.{is_a, is_blank, is_owner, ownership, share_of}
+use Rattle.cwr_levels.specs.Format.Findings.{has_party_number, is_a, is_blank, is_owner, ownership, share_of}
 use Rattle.cwr_advice.specs.declared.rules.AdviceRule.{AdviceRule}
-use Rattle.cwr_advice.specs.declared.rules.AdviceRule.TheVariants.{A1a, A1b, A2a, A2b, A2c, A2d, A2e, A2f, A2g, A3a, A3b, A3c}
-use Rattle.cwr_advice.specs.declared.rules.AdviceRule.TheVariants.{A3d, A3e, A4a, A4b, A4c, A4d, A5a, A6a, A6b, A6c, A7a, A8a}
-use Rattle.cwr_advice.specs.declared.rules.AdviceRule.TheVariants.{A8b, A8c, A8d, A8e, A9a}
+use Rattle.cwr_advice.specs.declared.rules.AdviceRule.TheVariants.{A1a, A1b, A2a, A2b, A2c, A2d, A2e, A2f, A2g, A2h, A3a, A3b}
+use Rattle.cwr_advice.specs.declared.rules.AdviceRule.TheVariants.{A3c, A3d, A3e, A4a, A4b, A4c, A4d, A5a, A6a, A6b, A6c, A7a}
+use Rattle.cwr_advice.specs.declared.rules.AdviceRule.TheVariants.{A8a, A8b, A8c, A8d, A8e, A9a, A9b, A9c}
 use Rattle.cwr_advice.specs.declared.rules.Asked.{Asked}
 use Rattle.cwr_advice.specs.declared.rules.Advice.{Advice}
 use Rattle.cwr_advice.specs.declared.said.Said.{Said}
-use Rattle.cwr_advice.specs.Format.Characters.{is_unlike}
+use Rattle.cwr_advice.specs.Format.Characters.{has_html, has_lost_letter, is_unlike}
 use Rattle.cwr_advice.specs.Format.Days.{is_to_come}
 use Rattle.cwr_advice.specs.Format.Numbers.{is_ean, is_ipi_base, is_ipi_name, is_isrc, is_language, is_society}
 use Rattle.cwr_advice.specs.Format.Numbers.{is_territory_number, is_zero}
@@ -144,6 +144,17 @@ is_share cell = not (is_spaces cell) && not (is_zero cell)
 abbrev pub lacks_society : RecordValue → ℕ → Bool
 lacks_society r j = is_spaces (cell_at r j) && is_share (cell_at r (j + 1))
 
+-- the last writer among the records, if there is one
+abbrev pub last_writer : List RecordValue → Option RecordValue
+last_writer records = last_or None (filter is_writer records)
+
+-- The publisher of a writer names a writer by a number that isn't blank, and the writer before it doesn't have that number. Where the
+-- number is blank, which it may be, the record names none, and is that one's by its place alone.
+abbrev pub names_other_writer : List RecordValue → ℕ → RecordValue → Bool
+names_other_writer t k r =
+    is_a kinds.Pwr r && not (is_blank "writer interested party number" r) && not
+    (has_party_number (cell_named "writer interested party number" r) (last_writer (take k t)))
+
 -- ---- A3: who owns the rights
 
 -- more than half of it, with the tolerance of the rules V3 to V5
@@ -234,6 +245,8 @@ breaks_alone said A8c r j = is_wrong A8c (cell_at r j)
 breaks_alone said A8d r j = is_wrong A8d (cell_at r j)
 breaks_alone said A8e r j = is_to_come said.sent (cell_at r j)
 breaks_alone said A9a r j = is_unlike said.characters (cell_at r j)
+breaks_alone said A9b r j = has_lost_letter (cell_at r j)
+breaks_alone said A9c r j = has_html (cell_at r j)
 breaks_alone said rule r j = false
 
 -- Record r of the transaction t, after k others, breaks the rule, at field j where that judges a cell.
@@ -245,6 +258,7 @@ breaks said A2b t k r j = collects_nowhere t
 breaks said A2c t k r j = has_no_publisher t k r
 breaks said A2d t k r j = has_no_territory t k r
 breaks said A2e t k r j = has_nothing t k r
+breaks said A2h t k r j = names_other_writer t k r
 breaks said A3b t k r j = writers_own_less t
 breaks said A3c t k r j = states_nothing "pr share" t
 breaks said A3d t k r j = states_nothing "mr share" t
@@ -262,37 +276,50 @@ at rule j = record { rule = rule; field = j }
 abbrev pub asked_of : Kind → List Asked
 asked_of kinds.Nwr =
     at A2b 1 ∷ at A3b 1 ∷ at A3c 1 ∷ at A3d 1 ∷ at A3e 1 ∷ at A6a 14 ∷ at A6c 15 ∷ at A7a 4 ∷ at A7a 19 ∷ at A8c 5 ∷ at A8d 11
-    ∷ at A8e 8 ∷ at A9a 4 ∷ at A9a 19 ∷ []
+    ∷ at A8e 8 ∷ at A9a 4 ∷ at A9a 19 ∷ at A9b 4 ∷ at A9b 19 ∷ at A9c 4 ∷ at A9c 19 ∷ []
 asked_of kinds.Rev =
     at A2b 1 ∷ at A3b 1 ∷ at A3c 1 ∷ at A3d 1 ∷ at A3e 1 ∷ at A6a 14 ∷ at A6c 15 ∷ at A7a 4 ∷ at A7a 19 ∷ at A8c 5 ∷ at A8d 11
-    ∷ at A8e 8 ∷ at A9a 4 ∷ at A9a 19 ∷ []
+    ∷ at A8e 8 ∷ at A9a 4 ∷ at A9a 19 ∷ at A9b 4 ∷ at A9b 19 ∷ at A9c 4 ∷ at A9c 19 ∷ []
 asked_of kinds.Spu =
     at A2a 8 ∷ at A2f 10 ∷ at A2g 12 ∷ at A2g 14 ∷ at A2g 16 ∷ at A3a 13 ∷ at A4a 10 ∷ at A4b 21 ∷ at A7a 5 ∷ at A8a 12
-    ∷ at A8a 14 ∷ at A8a 16 ∷ at A9a 6 ∷ []
-asked_of kinds.Opu = at A2a 8 ∷ at A3a 13 ∷ at A4a 10 ∷ at A4b 21 ∷ at A7a 5 ∷ at A8a 12 ∷ at A8a 14 ∷ at A8a 16 ∷ at A9a 6 ∷ []
+    ∷ at A8a 14 ∷ at A8a 16 ∷ at A9a 6 ∷ at A9b 6 ∷ at A9c 6 ∷ []
+asked_of kinds.Opu =
+    at A2a 8 ∷ at A3a 13 ∷ at A4a 10 ∷ at A4b 21 ∷ at A7a 5 ∷ at A8a 12 ∷ at A8a 14 ∷ at A8a 16 ∷ at A9a 6 ∷ at A9b 6 ∷ at A9c 6
+    ∷ []
 asked_of kinds.Swr =
     at A2c 1 ∷ at A2d 1 ∷ at A2e 1 ∷ at A2f 10 ∷ at A2g 11 ∷ at A2g 13 ∷ at A2g 15 ∷ at A4a 10 ∷ at A4b 21 ∷ at A7a 4 ∷ at A7a 5
-    ∷ at A8a 11 ∷ at A8a 13 ∷ at A8a 15 ∷ at A9a 5 ∷ at A9a 6 ∷ []
-asked_of kinds.Owr = at A4a 10 ∷ at A4b 21 ∷ at A7a 4 ∷ at A7a 5 ∷ at A8a 11 ∷ at A8a 13 ∷ at A8a 15 ∷ at A9a 5 ∷ at A9a 6 ∷ []
+    ∷ at A8a 11 ∷ at A8a 13 ∷ at A8a 15 ∷ at A9a 5 ∷ at A9a 6 ∷ at A9b 5 ∷ at A9b 6 ∷ at A9c 5 ∷ at A9c 6 ∷ []
+asked_of kinds.Owr =
+    at A4a 10 ∷ at A4b 21 ∷ at A7a 4 ∷ at A7a 5 ∷ at A8a 11 ∷ at A8a 13 ∷ at A8a 15 ∷ at A9a 5 ∷ at A9a 6 ∷ at A9b 5 ∷ at A9b 6
+    ∷ at A9c 5 ∷ at A9c 6 ∷ []
 asked_of kinds.Spt = at A1a 10 ∷ at A1b 10 ∷ at A8b 10 ∷ []
 asked_of kinds.Swt = at A1a 9 ∷ at A1b 9 ∷ at A8b 9 ∷ []
 asked_of kinds.Ter = at A8b 5 ∷ []
-asked_of kinds.Ipa = at A4a 5 ∷ at A4b 6 ∷ at A7a 7 ∷ at A7a 8 ∷ at A8a 10 ∷ at A8a 12 ∷ at A8a 14 ∷ at A9a 8 ∷ at A9a 9 ∷ []
-asked_of kinds.Alt = at A8c 6 ∷ at A9a 4 ∷ []
+asked_of kinds.Ipa =
+    at A4a 5 ∷ at A4b 6 ∷ at A7a 7 ∷ at A7a 8 ∷ at A8a 10 ∷ at A8a 12 ∷ at A8a 14 ∷ at A9a 8 ∷ at A9a 9 ∷ at A9b 8 ∷ at A9b 9
+    ∷ at A9c 8 ∷ at A9c 9 ∷ []
+asked_of kinds.Alt = at A8c 6 ∷ at A9a 4 ∷ at A9b 4 ∷ at A9c 4 ∷ []
 asked_of kinds.Ewt =
     at A4a 10 ∷ at A4a 14 ∷ at A4b 11 ∷ at A4b 15 ∷ at A7a 4 ∷ at A7a 7 ∷ at A7a 8 ∷ at A7a 9 ∷ at A7a 12 ∷ at A7a 13 ∷ at A8c 6
-    ∷ at A9a 4 ∷ at A9a 7 ∷ at A9a 8 ∷ at A9a 9 ∷ at A9a 12 ∷ at A9a 13 ∷ []
+    ∷ at A9a 4 ∷ at A9a 7 ∷ at A9a 8 ∷ at A9a 9 ∷ at A9a 12 ∷ at A9a 13 ∷ at A9b 4 ∷ at A9b 7 ∷ at A9b 8 ∷ at A9b 9 ∷ at A9b 12
+    ∷ at A9b 13 ∷ at A9c 4 ∷ at A9c 7 ∷ at A9c 8 ∷ at A9c 9 ∷ at A9c 12 ∷ at A9c 13 ∷ []
 asked_of kinds.Ver =
     at A4a 10 ∷ at A4a 14 ∷ at A4b 11 ∷ at A4b 15 ∷ at A7a 4 ∷ at A7a 7 ∷ at A7a 8 ∷ at A7a 9 ∷ at A7a 12 ∷ at A7a 13 ∷ at A8c 6
-    ∷ at A9a 4 ∷ at A9a 7 ∷ at A9a 8 ∷ at A9a 9 ∷ at A9a 12 ∷ at A9a 13 ∷ []
-asked_of kinds.Per = at A4a 6 ∷ at A4b 7 ∷ at A7a 4 ∷ at A7a 5 ∷ at A9a 4 ∷ at A9a 5 ∷ []
-asked_of kinds.Rec = at A4c 12 ∷ at A4d 11 ∷ at A7a 8 ∷ at A7a 9 ∷ at A8d 6 ∷ at A9a 8 ∷ at A9a 9 ∷ []
+    ∷ at A9a 4 ∷ at A9a 7 ∷ at A9a 8 ∷ at A9a 9 ∷ at A9a 12 ∷ at A9a 13 ∷ at A9b 4 ∷ at A9b 7 ∷ at A9b 8 ∷ at A9b 9 ∷ at A9b 12
+    ∷ at A9b 13 ∷ at A9c 4 ∷ at A9c 7 ∷ at A9c 8 ∷ at A9c 9 ∷ at A9c 12 ∷ at A9c 13 ∷ []
+asked_of kinds.Per =
+    at A4a 6 ∷ at A4b 7 ∷ at A7a 4 ∷ at A7a 5 ∷ at A9a 4 ∷ at A9a 5 ∷ at A9b 4 ∷ at A9b 5 ∷ at A9c 4 ∷ at A9c 5 ∷ []
+asked_of kinds.Rec =
+    at A4c 12 ∷ at A4d 11 ∷ at A7a 8 ∷ at A7a 9 ∷ at A8d 6 ∷ at A9a 8 ∷ at A9a 9 ∷ at A9b 8 ∷ at A9b 9 ∷ at A9c 8 ∷ at A9c 9 ∷ []
 asked_of kinds.Com =
     at A4a 10 ∷ at A4a 13 ∷ at A4b 14 ∷ at A4b 15 ∷ at A6b 1 ∷ at A7a 4 ∷ at A7a 8 ∷ at A7a 9 ∷ at A7a 11 ∷ at A7a 12 ∷ at A8d 7
-    ∷ at A9a 4 ∷ at A9a 8 ∷ at A9a 9 ∷ at A9a 11 ∷ at A9a 12 ∷ []
-asked_of kinds.Pwr = at A7a 4 ∷ at A7a 5 ∷ at A9a 5 ∷ []
+    ∷ at A9a 4 ∷ at A9a 8 ∷ at A9a 9 ∷ at A9a 11 ∷ at A9a 12 ∷ at A9b 4 ∷ at A9b 8 ∷ at A9b 9 ∷ at A9b 11 ∷ at A9b 12 ∷ at A9c 4
+    ∷ at A9c 8 ∷ at A9c 9 ∷ at A9c 11 ∷ at A9c 12 ∷ []
+asked_of kinds.Pwr = at A2h 8 ∷ at A7a 4 ∷ at A7a 5 ∷ at A9a 5 ∷ at A9b 5 ∷ at A9c 5 ∷ []
 asked_of kinds.Agr = at A8e 14 ∷ []
-asked_of kinds.Orn = at A7a 5 ∷ at A7a 8 ∷ at A7a 12 ∷ at A9a 5 ∷ at A9a 8 ∷ at A9a 12 ∷ []
+asked_of kinds.Orn =
+    at A7a 5 ∷ at A7a 8 ∷ at A7a 12 ∷ at A9a 5 ∷ at A9a 8 ∷ at A9a 12 ∷ at A9b 5 ∷ at A9b 8 ∷ at A9b 12 ∷ at A9c 5 ∷ at A9c 8
+    ∷ at A9c 12 ∷ []
 asked_of this_kind = []
 
 -- What is usually rejected where the rule is broken. A5a is asked of works among those of a transmission, and of no record of a transaction.
@@ -306,6 +333,7 @@ level_of_rule A2d = T
 level_of_rule A2e = R
 level_of_rule A2f = T
 level_of_rule A2g = R
+level_of_rule A2h = R
 level_of_rule A3a = T
 level_of_rule A3b = T
 level_of_rule A3c = T

@@ -1,9 +1,9 @@
 -- The rules of advice in words.
 use Rattle.std.specs.Prelude.{ℕ, List, codes}
 use Rattle.cwr_advice.specs.declared.rules.AdviceRule.{AdviceRule}
-use Rattle.cwr_advice.specs.declared.rules.AdviceRule.TheVariants.{A1a, A1b, A2a, A2b, A2c, A2d, A2e, A2f, A2g, A3a, A3b, A3c}
-use Rattle.cwr_advice.specs.declared.rules.AdviceRule.TheVariants.{A3d, A3e, A4a, A4b, A4c, A4d, A5a, A6a, A6b, A6c, A7a, A8a}
-use Rattle.cwr_advice.specs.declared.rules.AdviceRule.TheVariants.{A8b, A8c, A8d, A8e, A9a}
+use Rattle.cwr_advice.specs.declared.rules.AdviceRule.TheVariants.{A1a, A1b, A2a, A2b, A2c, A2d, A2e, A2f, A2g, A2h, A3a, A3b}
+use Rattle.cwr_advice.specs.declared.rules.AdviceRule.TheVariants.{A3c, A3d, A3e, A4a, A4b, A4c, A4d, A5a, A6a, A6b, A6c, A7a}
+use Rattle.cwr_advice.specs.declared.rules.AdviceRule.TheVariants.{A8a, A8b, A8c, A8d, A8e, A9a, A9b, A9c}
 
 -- the name of a rule
 abbrev pub rule_text : AdviceRule → List ℕ
@@ -16,6 +16,7 @@ rule_text A2d = codes "A2d"
 rule_text A2e = codes "A2e"
 rule_text A2f = codes "A2f"
 rule_text A2g = codes "A2g"
+rule_text A2h = codes "A2h"
 rule_text A3a = codes "A3a"
 rule_text A3b = codes "A3b"
 rule_text A3c = codes "A3c"
@@ -36,6 +37,8 @@ rule_text A8c = codes "A8c"
 rule_text A8d = codes "A8d"
 rule_text A8e = codes "A8e"
 rule_text A9a = codes "A9a"
+rule_text A9b = codes "A9b"
+rule_text A9c = codes "A9c"
 
 -- what is wrong where it is broken, and what to do
 abbrev pub advice_words : AdviceRule → List ℕ
@@ -54,6 +57,8 @@ advice_words A2e =
 advice_words A2f =
     codes "this one owns shares and has no IPI name number, by which societies know whom they pay: look it up and fill it in"
 advice_words A2g = codes "a share in this right is owned, and no society is named for it: fill in its number, as 010"
+advice_words A2h =
+    codes "this one names another writer than the SWR or OWR before it: mend the number, or put the record after its writer"
 advice_words A3a = codes "a publisher owns more than half of the performing right: most societies take at most 50 %"
 advice_words A3b = codes "the writers own less than half of the performing right together: most societies ask for 50 % or more"
 advice_words A3c =
@@ -93,3 +98,5 @@ advice_words A8e =
 advice_words A9a =
     codes
     "this text is in UTF-8, and HDR does not say so, or the other way: write UTF-8 in the character set of HDR, or mend the text"
+advice_words A9b = codes "letters of this text were lost in a conversion: take it from an older file"
+advice_words A9c = codes "HTML stands in the text: write the character itself, and look whether the cells behind were moved"

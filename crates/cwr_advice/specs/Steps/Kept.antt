@@ -6,19 +6,20 @@ use Rattle.std.specs.Option.{is_some}
 use Rattle.std.specs.Str.{bytes_eq}
 use Rattle.cwr_fields.specs.declared.kinds.Kind.TheVariants as kinds
 use Rattle.cwr_lines.specs.Format.Records.{RecordValue, cell_named}
-use Rattle.cwr_levels.specs.Format.Findings.{is_a, is_blank, is_owner, share_of}
+use Rattle.cwr_levels.specs.Format.Findings.{has_party_number, is_a, is_blank, is_owner, share_of}
 use Rattle.cwr_levels.specs.Steps.Walks.{capped}
 use Rattle.cwr_advice.specs.declared.kept.AdviceSums.{AdviceSums}
 use Rattle.cwr_advice.specs.declared.kept_headers.Headers.{Headers}
 use Rattle.cwr_advice.specs.declared.owing.Owing.{Owing}
 use Rattle.cwr_advice.specs.declared.owners.Owned.{Owned}
 use Rattle.cwr_advice.specs.declared.rules.AdviceRule.{AdviceRule}
-use Rattle.cwr_advice.specs.declared.rules.AdviceRule.TheVariants.{A8e, A9a}
+use Rattle.cwr_advice.specs.declared.rules.AdviceRule.TheVariants.{A8e, A9a, A9b, A9c}
+use Rattle.cwr_advice.specs.declared.rules.Asked.{Asked}
 use Rattle.cwr_advice.specs.Format.Characters.{is_ascii}
 use Rattle.cwr_advice.specs.Format.Days.{day_in}
-use Rattle.cwr_advice.specs.Format.Rules.{asked_of, begins_with_agent, breaks_alone, cell_at, has_composite_type}
+use Rattle.cwr_advice.specs.Format.Rules.{asked_of, at, begins_with_agent, breaks_alone, cell_at, has_composite_type}
 use Rattle.cwr_advice.specs.Format.Rules.{has_no_composite_type, in_chain, is_acknowledgement, is_territory, is_territory_of}
-use Rattle.cwr_advice.specs.Format.Rules.{is_version, is_writer, records_of_writer}
+use Rattle.cwr_advice.specs.Format.Rules.{is_version, is_writer, last_writer, names_other_writer, records_of_writer}
 use Rattle.cwr_advice.specs.Format.Said.{nothing_said}
 use Rattle.cwr_advice.specs.Steps.Facts.{AreFacts}
 
@@ -73,11 +74,24 @@ stands_again before r =
 abbrev pub IsBegun : List RecordValue → Option (List ℕ) → Type 0
 IsBegun t chain = (sequence : List ℕ) → chain ≡ Some sequence → list_any (in_chain sequence) t ≡ true
 
+-- the last writer has that number
+abbrev pub IsLastWriter : List RecordValue → Option (List ℕ) → Type 0
+IsLastWriter t writer = (number : List ℕ) → writer ≡ Some number → has_party_number number (last_writer t) ≡ true
+
 -- the record may break the rule by itself, whatever is said of the transmission
 abbrev pub may_break_alone : AdviceRule → RecordValue → ℕ → Bool
 may_break_alone A8e r j = is_some (day_in (cell_at r j))
 may_break_alone A9a r j = not (is_ascii (cell_at r j))
+may_break_alone A9b r j = not (is_ascii (cell_at r j))
 may_break_alone rule r j = breaks_alone nothing_said rule r j
+
+-- what is asked of the last and the first name of a writer by themselves
+abbrev pub asked_of_names : List Asked
+asked_of_names = at A9a 5 ∷ at A9a 6 ∷ at A9b 5 ∷ at A9b 6 ∷ at A9c 5 ∷ at A9c 6 ∷ []
+
+-- the record may break one of these so
+abbrev pub may_break_one : List Asked → RecordValue → Bool
+may_break_one rules r = list_any (λ asked. may_break_alone asked.rule r asked.field) rules
 
 -- it may break some rule so
 abbrev pub may_break_some : RecordValue → Bool
@@ -88,6 +102,7 @@ pub record IsCalm (t : List RecordValue) (k : ℕ) (r : RecordValue) : Type 0 wh
   pub alone : may_break_some r ≡ false
   pub twice : stands_again (take k t) r ≡ false
   pub chain : begins_with_agent t k r ≡ false
+  pub writer : names_other_writer t k r ≡ false
 
 -- each of the records does so
 abbrev pub AreCalm : List RecordValue → Type 0
@@ -101,6 +116,7 @@ pub record AreKept (s : AdviceSums) (t : List RecordValue) : Type 0 where
   pub headers : AreHeaders t s.headers
   pub collected : AreAllCollected t s.collected
   pub chain : IsBegun t s.chain
+  pub writer : IsLastWriter t s.writer
   pub territories : AreSinceParty t s.territories.items
   pub publishers : AreOwing (is_a kinds.Swr) (is_a kinds.Pwr) t s.publishers
   pub collections : AreOwing (is_a kinds.Swr) (is_a kinds.Swt) t s.collections

@@ -56,7 +56,7 @@ in_order = (
                               refl,
                               (
                                 refl,
-                                (refl, (refl, (refl, (refl, (refl, (refl, (refl, (refl, (refl, (refl, (refl, (refl, (refl, tt))))))))))))),
+                                (refl, (refl, (refl, (refl, (refl, (refl, (refl, (refl, (refl, (refl, (refl, (refl, (refl, (refl, (refl, (refl, tt)))))))))))))))),
                               ),
                             ),
                           ),
@@ -86,6 +86,7 @@ rule_there rule.A2d = refl
 rule_there rule.A2e = refl
 rule_there rule.A2f = refl
 rule_there rule.A2g = refl
+rule_there rule.A2h = refl
 rule_there rule.A3a = refl
 rule_there rule.A3b = refl
 rule_there rule.A3c = refl
@@ -106,6 +107,8 @@ rule_there rule.A8c = refl
 rule_there rule.A8d = refl
 rule_there rule.A8e = refl
 rule_there rule.A9a = refl
+rule_there rule.A9b = refl
+rule_there rule.A9c = refl
 
 place_within : (r : AdviceRule) → place_of_rule r < length all_rules
 place_within r = slice_get_within all_rules (place_of_rule r) r (rule_there r)
@@ -277,11 +280,11 @@ summed all advice = by all_rules
 
 -- no advice came
 pub counts-none : counts_of []
-    ≡ 0 ∷ 0 ∷ 0 ∷ 0 ∷ 0 ∷ 0 ∷ 0 ∷ 0 ∷ 0 ∷ 0 ∷ 0 ∷ 0 ∷ 0 ∷ 0 ∷ 0 ∷ 0 ∷ 0 ∷ 0 ∷ 0 ∷ 0 ∷ 0 ∷ 0 ∷ 0 ∷ 0 ∷ 0 ∷ 0 ∷ 0 ∷ 0 ∷ 0 ∷ []
+    ≡ 0 ∷ 0 ∷ 0 ∷ 0 ∷ 0 ∷ 0 ∷ 0 ∷ 0 ∷ 0 ∷ 0 ∷ 0 ∷ 0 ∷ 0 ∷ 0 ∷ 0 ∷ 0 ∷ 0 ∷ 0 ∷ 0 ∷ 0 ∷ 0 ∷ 0 ∷ 0 ∷ 0 ∷ 0 ∷ 0 ∷ 0 ∷ 0 ∷ 0 ∷ 0 ∷ 0 ∷ 0 ∷ []
 unfolding all_rules
 counts-none = refl
 
--- there are 29 rules
-pub rule-count : length all_rules ≡ 29
+-- there are 32 rules
+pub rule-count : length all_rules ≡ 32
 unfolding all_rules
 rule-count = refl

@@ -1,5 +1,5 @@
 -- What a run over a text in memory has written to an empty writer.
-use Rattle.std.proofs.Common.{◌≡◌, ℕ, Bool, List, [], ◌++◌, Option, Some, None, sym, ap, subst, ◌∙◌, false}
+use Rattle.std.proofs.Common.{◌≡◌, ℕ, Bool, List, [], ◌++◌, Option, Some, None, refl, sym, ap, subst, ◌∙◌, false}
 use Rattle.std.specs.Prelude.{Result, Ok, Err, IfOk, IfSome}
 use Rattle.std.specs.Io.KnownBytes.{Appends}
 use Rattle.cwr_shape.specs.declared.limits.Limits.{Limits}
@@ -83,14 +83,31 @@ to_text : (old new : Option (List ℕ)) (report text : List ℕ) → old ≡ Som
 to_text old new report text none has a =
     subst (λ (n : Option (List ℕ)). Appends (Some []) n text) has (subst (λ (o : Option (List ℕ)). Appends o new text) none a)
 
+-- known bytes stay known
+to_none : (old new : Option (List ℕ)) (text : List ℕ) → old ≡ Some [] → new ≡ None → Appends old new text → ⊥
+to_none old new text known none a =
+    subst (λ (n : Option (List ℕ)). Appends (Some []) n text) none (subst (λ (o : Option (List ℕ)). Appends o new text) known a)
+
 tells_to : {W : Type 0} (wanted : Wanted) (limits : Limits) (after : Option (List ℕ)) (text report : List ℕ)
     (contents : W → Option (List ℕ)) (old new : W) (verdict : Verdict) → contents old ≡ Some [] → contents new ≡ Some report
     → Tells wanted limits (Some text) after contents old new verdict
     → Tells wanted limits (Some text) after (λ (t : List ℕ). Some t) [] report verdict
 tells_to wanted limits after text report contents old new (Good groups transactions records) none has h =
     (h.0, h.1, to_text (contents old) (contents new) report _ none has h.2)
-tells_to wanted limits after text report contents old new (Truncated records) none has h =
-    (h.0, h.1, to_text (contents old) (contents new) report _ none has h.2)
+tells_to wanted limits after text report contents old new (Truncated records) none has h = ended (contents h.between) refl
+  where
+    ended : (front : Option (List ℕ)) → contents h.between ≡ front
+        → Tells wanted limits (Some text) after (λ (t : List ℕ). Some t) [] report (Truncated records)
+    ended None e = absurd (to_none (contents old) (contents h.between) _ none e h.reported.2)
+    ended (Some front) e = record {
+      between = front;
+      reported = (h.reported.0, h.reported.1, to_text (contents old) (contents h.between) front _ none e h.reported.2);
+      words = h.words;
+      asked = h.asked;
+      written =
+          subst (λ (o : Option (List ℕ)). Appends o (Some report) h.words) e
+          (subst (λ (o : Option (List ℕ)). Appends (contents h.between) o h.words) has h.written);
+    }
 tells_to wanted limits after text report contents old new (Refused refusal) none has h =
     record {
       given = h.given;

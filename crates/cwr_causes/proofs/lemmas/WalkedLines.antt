@@ -4,6 +4,7 @@ use Rattle.std.proofs.Common.{take, drop, Option, Some, None, refl, sym, ap, ap�
 use Rattle.std.specs.Prelude.{◌^◌, ◌==◌, ◌⊎◌, min, nat_lt, slice_set, if◌then◌else◌, IfSome}
 use Rattle.std.specs.List.{AllByRecursion, list_any, onto_first, slice_split}
 use Rattle.std.specs.Str.{bytes_eq}
+use Rattle.std.specs.Io.{StartsWith}
 use Rattle.std.specs.Io.KnownBytes.{Consumes, IsAtEnd}
 use Rattle.std.proofs.KnownBytes.{Consumes-nil, Consumes-trans}
 use Rattle.std.proofs.lemmas.Bool.{eqb-true, ltb-true, ltb-false, le-ltb, lt-ltb, ne_eqb, or_from, or_parts, or_left, true≢false}
@@ -24,7 +25,7 @@ use Rattle.cwr_causes.specs.declared.ahead.Ahead.{Ahead}
 use Rattle.cwr_causes.specs.declared.ahead.Sequence.{Sequence}
 use Rattle.cwr_causes.specs.declared.ahead.Sequence.TheVariants.{Records, Transactions}
 use Rattle.cwr_causes.specs.declared.ahead.Walk.{Walk}
-use Rattle.cwr_causes.specs.Format.NumbersAfter.{IsAhead, TellsNumbers, begins_other, ends_numbers, first_number, go_on, have_ended, is_outside}
+use Rattle.cwr_causes.specs.Format.NumbersAfter.{IsAhead, IsSeenAhead, TellsNumbers, begins_other, ends_numbers, first_number, go_on, have_ended, is_outside}
 use Rattle.cwr_causes.specs.Format.NumbersAfter.{numbers_of_line, numbers_on}
 use Rattle.cwr_causes.specs.Format.Refusals.{first_kind}
 use Rattle.cwr_causes.specs.Format.Sequences.{capped_number, sequence_in, sequence_of}
@@ -605,3 +606,16 @@ taken_piece which n left mid after pieces old new at_end h p =
 pub taken_walked : (which : Sequence) (n : ℕ) (left after : Option (List ℕ)) (pieces : ℕ) (walk : Walk)
     → HasWalked which n left after pieces walk → TakesMore left after
 taken_walked which n left after pieces walk h = (h.more, h.consumed)
+
+-- what was seen of the lines after the number
+pub seen_ahead : (which : Sequence) (n : ℕ) (left : Option (List ℕ)) (old new : Walk) (piece : List ℕ) → old.sequence ≡ which
+    → Walks n [] old → WalksOver piece old new → IfSome left (λ bytes. StartsWith bytes piece)
+    → IfSome left (λ bytes. length piece ≡ 0 → bytes ≡ []) → IsSeenAhead which n left new.ahead
+seen_ahead which n left old new piece same begun over front some = record {
+  seen = piece;
+  front = front;
+  some = some;
+  tells =
+      subst (λ (s : Sequence). TellsNumbers n (numbers_on s (raw_lines piece)) new.ahead) (over.0 ∙ same)
+      (tells_read n piece new (over.2 n [] begun)).tells;
+}

@@ -7,17 +7,23 @@ use Rattle.cwr_fields.specs.declared.kinds.Kind.TheVariants.{Hdr}
 use Rattle.cwr_fields.specs.Format.Bytes.{are_digits}
 use Rattle.cwr_fields.specs.Format.Kinds.{letters}
 use Rattle.cwr_causes.specs.Format.LongLines.{part}
+use Rattle.cwr_causes.specs.Format.Openings.{is_other, opening_of}
 use Rattle.cwr_causes.specs.Format.Refusals.{RefusedLine, excess_at, first_kind, up_to_largest}
 use Rattle.cwr_causes.specs.Format.Texts.{label_words}
 
 -- ---- where another line begins
 
-abbrev pub are_sixteen : List ℕ → Bool
-are_sixteen digits = (length digits == 16) && are_digits digits
+-- from that place on the text has so many digits
+abbrev pub has_digits : List ℕ → ℕ → ℕ → Bool
+has_digits text from count = (length (part text from count) == count) && are_digits (part text from count)
 
--- a text begins with the letters of a kind and sixteen digits, as a record with its sequences does, and a trailer with its counts
+-- A text begins as a record does: with the letters of a kind and sixteen digits, which are sequences or counts, as GRH does with its type
+-- and its ID, or as HDR does with the sender's type and ID.
 abbrev pub begins_record : List ℕ → Bool
-begins_record text = is_some (first_kind text) && are_sixteen (part text 3 16)
+begins_record text =
+    (is_some (first_kind text) && has_digits text 3 16)
+    || ((starts_with nat_eq text (codes "GRH") && has_digits text 6 5)
+    || (starts_with nat_eq text (codes "HDR") && has_digits text 5 9))
 
 -- what a text has from the first place on at which such a line begins
 abbrev pub first_record : List ℕ → Option (List ℕ)
@@ -33,10 +39,14 @@ head_in text =
 abbrev pub has_return : List ℕ → Bool
 has_return line = is_some (position (λ b. b == 13) (take (length line - 1) line))
 
+-- what a line that names no record, and looks like nothing else, has from there on where a record begins in it
+abbrev pub hidden_text : List ℕ → Option (List ℕ)
+hidden_text line = if is_other (opening_of line) then first_record (drop 1 line) else None
+
 -- What a line of known kind has from there on, where another one begins in it: one with its numbers anywhere, and HDR or GRH after its last
 -- field. Where a carriage return stands within it, that is what ends its lines.
 abbrev pub glued_of : Option Kind → RefusedLine → Option (List ℕ)
-glued_of None r = None
+glued_of None r = hidden_text r.bytes
 glued_of (Some this_kind) r =
     if has_return r.bytes then None else option_or (first_record (drop 3 r.bytes)) (head_in (drop (excess_at r) r.bytes))
 
@@ -68,6 +78,25 @@ glued_by (Some this_kind) first of_file = glued_line (letters this_kind) first o
 abbrev pub glued_after : Option Kind → ℕ → ℕ → List ℕ
 glued_after this_kind at offset = glued_by this_kind (up_to_largest (at + 1)) (up_to_largest (offset + up_to_largest (at + 1)))
 
--- the same where the line has that text from there on
+-- that a line with those letters begins at that byte of one that names no record, from 1
+unfoldable pub hidden_line : List ℕ → ℕ → List ℕ
+hidden_line of_kind first =
+    concat
+    (label_words (codes "note") ∷ of_kind ∷ codes " begins at byte " ∷ decimal first
+    ∷ codes " of this line: what stands before that is no part of it; remove just that\n" ∷ [])
+
+abbrev pub hidden_by : Option Kind → ℕ → List ℕ
+hidden_by None first = []
+hidden_by (Some this_kind) first = hidden_line (letters this_kind) first
+
+-- the same after so many bytes
+abbrev pub hidden_after : Option Kind → ℕ → List ℕ
+hidden_after this_kind at = hidden_by this_kind (up_to_largest (at + 1))
+
+-- what is said of a line of the kind, which has that text from there on
+abbrev pub begun_words : Option Kind → RefusedLine → List ℕ → List ℕ
+begun_words None r text = hidden_after (first_kind text) (length r.bytes - length text)
+begun_words (Some this_kind) r text = glued_after (first_kind text) (length r.bytes - length text) r.offset
+
 abbrev pub glued_words : RefusedLine → List ℕ → List ℕ
-glued_words r text = glued_after (first_kind text) (length r.bytes - length text) r.offset
+glued_words r text = begun_words r.kind r text

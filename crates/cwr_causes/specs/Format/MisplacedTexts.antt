@@ -7,6 +7,7 @@ use Rattle.cwr_causes.specs.declared.misplacements.Gap.TheVariants.{FileHead, Gr
 use Rattle.cwr_causes.specs.declared.misplacements.Gap.TheVariants.{Records, End, GroupFoot}
 use Rattle.cwr_causes.specs.declared.misplacements.Misplacement.{Misplacement}
 use Rattle.cwr_causes.specs.declared.misplacements.Misplacement.TheVariants.{Missing, SecondFile, Moved, GoesOn, HeaderNumber, Unknown}
+use Rattle.cwr_causes.specs.declared.misplaced_words.LinePlace.{LinePlace}
 use Rattle.cwr_causes.specs.declared.sequences.RecordNumbers.{RecordNumbers}
 use Rattle.cwr_causes.specs.Format.ComingTexts.{symbol_words}
 use Rattle.cwr_causes.specs.Format.Texts.{label_words}
@@ -54,7 +55,7 @@ records_gap first last =
     ∷ codes " are missing before this line, or stand after it" ∷ [])
 
 abbrev pub gap_words : Gap → List ℕ
-gap_words FileHead = codes "HDR, with which a file begins, is missing before this line, or stands after it"
+gap_words FileHead = codes "HDR, with which a file begins, is missing before this line, or stands after it where lines were sorted or moved"
 gap_words Groups = codes "the groups of the file are missing before this line, or stand after it"
 gap_words GroupHead = codes "the GRH of this group is missing before this line, or stands after it"
 gap_words GroupFront =
@@ -116,13 +117,26 @@ moved_line before here =
     ∷ codes ", and the line before it those of " ∷ numbers_words before
     ∷ codes ": one of the two was moved or stands twice, or two files were put together\n" ∷ [])
 
+-- an HDR after other faults, after so many bytes
+unfoldable pub later_head_line : ℕ → List ℕ
+later_head_line offset =
+    concat
+    (label_words (codes "points to")
+    ∷ codes "HDR stands in the first line alone: if what stands before this one is no transmission, remove that; if a second file begins here, cut them apart after byte "
+    ∷ decimal offset
+    ∷ codes ", mend each, and then put them together: cwr join -o OUT --new A B; if lines were sorted or moved, take the file as it was before that\n" ∷ [])
+
 -- a second file begins, after so many bytes
-unfoldable pub second_file_line : ℕ → List ℕ
-second_file_line offset =
+unfoldable pub first_head_line : ℕ → List ℕ
+first_head_line offset =
     concat
     (label_words (codes "points to")
     ∷ codes "a second file begins with this line, and the end of the first one is missing: cut them apart after byte "
     ∷ decimal offset ∷ codes ", mend each, and then put them together: cwr join -o OUT --new A B\n" ∷ [])
+
+-- an HDR in that place
+abbrev pub second_file_line : LinePlace → List ℕ
+second_file_line place = if place.is_later then later_head_line place.offset else first_head_line place.offset
 
 -- it has the number of a header, and is none
 unfoldable pub header_number_line : List ℕ
@@ -136,15 +150,15 @@ mistyped_line =
     label_words (codes "points to")
     ++ codes "the numbers of this line are those that belong here: its record type is mistyped; don't delete it\n"
 
--- what the line shows, of a kind with those letters and after so many bytes of the file, where it may stand here after one of the first
--- symbols, and in a transaction after one of the second
-abbrev pub misplacement_words : List ℕ → ℕ → List Symbol → List Symbol → Misplacement → List ℕ
-misplacement_words letters offset letting preceding (Missing gap) = missing_line gap letters letting
-misplacement_words letters offset letting preceding SecondFile = second_file_line offset
-misplacement_words letters offset letting preceding (Moved before here) = moved_line before here
-misplacement_words letters offset letting preceding GoesOn = goes_on_line letters preceding
-misplacement_words letters offset letting preceding HeaderNumber = header_number_line
-misplacement_words letters offset letting preceding Unknown = []
+-- what the line shows, of a kind with those letters and in that place, where it may stand here after one of the first symbols, and in a
+-- transaction after one of the second
+abbrev pub misplacement_words : List ℕ → LinePlace → List Symbol → List Symbol → Misplacement → List ℕ
+misplacement_words letters place letting preceding (Missing gap) = missing_line gap letters letting
+misplacement_words letters place letting preceding SecondFile = second_file_line place
+misplacement_words letters place letting preceding (Moved before here) = moved_line before here
+misplacement_words letters place letting preceding GoesOn = goes_on_line letters preceding
+misplacement_words letters place letting preceding HeaderNumber = header_number_line
+misplacement_words letters place letting preceding Unknown = []
 
 -- what a line points to that names no record, where its numbers belong there or not
 abbrev pub mistyped_words : Bool → List ℕ

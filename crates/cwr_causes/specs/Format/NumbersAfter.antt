@@ -2,6 +2,7 @@
 use Rattle.std.specs.Prelude.{◌≡◌, ◌⊎◌, ℕ, ◌+◌, ◌-◌, ◌^◌, ◌≤◌, ◌==◌, ◌&&◌, ◌||◌, nat_lt, min, Bool, true, false, List, [], ◌∷◌, ◌++◌}
 use Rattle.std.specs.Prelude.{◌<◌, ◌↔◌, IsTrue, length, Option, None, Some, IfSome, if◌then◌else◌}
 use Rattle.std.specs.List.{list_any}
+use Rattle.std.specs.Io.{StartsWith}
 use Rattle.std.specs.Io.KnownBytes.{Consumes, IsAtEnd}
 use Rattle.cwr_fields.specs.declared.kinds.Kind.{Kind}
 use Rattle.cwr_fields.specs.declared.kinds.Kind.TheVariants.{Hdr, Grh, Grt, Trl}
@@ -87,6 +88,13 @@ pub record IsAhead (which : Sequence) (n : ℕ) (left after : Option (List ℕ))
   pub tells : TellsNumbers n (numbers_on which (raw_lines more)) ahead
   pub all : have_ended which (raw_lines more) ≡ false → IfSome left (λ bytes. IsAtEnd after) ⊎ (64 ≤ length more)
 
+-- That is told of the lines that were seen of what the reader has left: some of it where there is any.
+pub record IsSeenAhead (which : Sequence) (n : ℕ) (left : Option (List ℕ)) (ahead : Ahead) : Type 0 where
+  pub seen : List ℕ
+  pub front : IfSome left (λ bytes. StartsWith bytes seen)
+  pub some : IfSome left (λ bytes. length seen ≡ 0 → bytes ≡ [])
+  pub tells : TellsNumbers n (numbers_on which (raw_lines seen)) ahead
+
 -- ---- what is found after a refused line
 
 -- What the reader has there, where it had that left before and has this after it: of a line without its line feed whether a byte
@@ -98,3 +106,9 @@ FindsAfterLine refusal line left after (beyonds.Numbers ahead) =
     (λ n. IsAhead (followed_at refusal.field) n left after ahead)
 FindsAfterLine refusal line left after (beyonds.Trailing found) = Unit {0}
 FindsAfterLine refusal line left after beyonds.Unasked = after ≡ left
+
+-- how the numbers go on after the wrong one of the line, where nothing is taken
+abbrev pub SeesNumbers : Refusal → LineAtEnd → Option (List ℕ) → Ahead → Type 0
+SeesNumbers refusal line left ahead =
+    IfSome (number_at (first_kind line.bytes.now) refusal.field line.bytes.now)
+    (λ n. IsSeenAhead (followed_at refusal.field) n left ahead)

@@ -2,7 +2,7 @@
 use Rattle.std.specs.Prelude.{ℕ, ◌==◌, ◌&&◌, ◌||◌, nat_eq, nat_le, Bool, true, false, List, [], ◌∷◌, codes, drop, length, Option, None, Some}
 use Rattle.std.specs.Prelude.{if◌then◌else◌}
 use Rattle.std.specs.List.{concat, list_all, list_any, starts_with}
-use Rattle.std.specs.Option.{is_some, option_or}
+use Rattle.std.specs.Option.{is_none, is_some, option_or}
 use Rattle.std.specs.Char.{is_ascii_alphabetic, is_ascii_alphanumeric, is_ascii_lowercase, to_ascii_uppercase}
 use Rattle.cwr_fields.specs.declared.kinds.Kind.{Kind}
 use Rattle.cwr_fields.specs.declared.kinds.Kind.TheVariants.{Hdr, Grh}
@@ -144,14 +144,14 @@ societies_said = codes "ISW and EXC are transactions that societies send: this p
 -- what is said of it
 abbrev pub opening_said : Opening → Option (List ℕ)
 opening_said Empty = Some (codes "the line is empty: remove it")
-opening_said White = Some (codes "the line has nothing but blanks and control bytes: remove it")
+opening_said White = Some (codes "the line has nothing but blanks and control bytes: remove it, unless the line before it was broken and goes on with it")
 opening_said Ebcdic = Some (codes "this looks like EBCDIC, as mainframes write texts: have the file converted to ASCII")
 opening_said ByteOrderMark = Some (codes "the line begins with a byte order mark (EF BB BF): save the file without it")
 opening_said Utf16 =
     Some (codes "this looks like UTF-16: save the file in ASCII, or in a character set of one byte a character")
 opening_said Gzip = Some (codes "this is a gzip file: unpack it")
 opening_said Zip = Some (codes "this is a zip file: unpack it")
-opening_said LowerCase = Some (codes "record types are in capital letters")
+opening_said LowerCase = Some (codes "record types are in capital letters: where the whole file is in small ones, turn all of it")
 opening_said Pdf = Some (codes "this is a PDF file: the transmission itself is wanted")
 opening_said Rtf = Some (codes "this is a text of a word processor (RTF): save it as plain text")
 opening_said Markup = Some (codes "this looks like HTML or XML: the transmission itself is wanted")
@@ -165,8 +165,26 @@ opening_said Conflict =
     Some (codes "version control marks so where two versions differ (<<<<<<<, =======, >>>>>>>): take one of the two, and remove the marks")
 opening_said Base64 = Some (codes "this looks like base64, in which mails carry files: unpack it")
 opening_said BeforeHeader =
-    Some (codes "a file begins with HDR: what stands before that line, if it comes, is no part of the transmission, so remove it")
+    Some (codes "a file begins with HDR: if that line comes, what stands before it is no part of the transmission, so remove it; if it doesn't, the beginning of the file is missing; if each line has a number in front, remove that")
 opening_said Other = None
+
+-- ---- the same in one line after another
+
+-- both lines look alike, by something that is done to a whole file
+abbrev pub is_same_opening : Opening → Opening → Bool
+is_same_opening LowerCase LowerCase = true
+is_same_opening Markup Markup = true
+is_same_opening Quoted Quoted = true
+is_same_opening InQuotes InQuotes = true
+is_same_opening Indented Indented = true
+is_same_opening OfSocieties OfSocieties = true
+is_same_opening Base64 Base64 = true
+is_same_opening opening that = false
+
+-- it looks as the line before it does, where that is held and names no record either
+abbrev pub is_as_before : Option (List ℕ) → Opening → Bool
+is_as_before None opening = false
+is_as_before (Some before) opening = is_none (first_kind before) && is_same_opening (opening_of before) opening
 
 -- a note
 unfoldable pub note_line : List ℕ → List ℕ
@@ -176,10 +194,15 @@ abbrev pub note_words : Option (List ℕ) → List ℕ
 note_words None = []
 note_words (Some said) = note_line said
 
--- the note on a line that names no record
+-- the note on a line of that number that names no record
 abbrev pub opening_words : Reason → List ℕ → ℕ → List ℕ
 opening_words reasons.UnknownKind line number = note_words (opening_said (opening_at number (opening_of line)))
 opening_words reason line number = []
+
+-- a line that names no record, after that one, looks as that does
+abbrev pub repeats_before : Reason → Option (List ℕ) → List ℕ → Bool
+repeats_before reasons.UnknownKind before line = is_as_before before (opening_of line)
+repeats_before reason before line = false
 
 -- ---- another version of CWR
 

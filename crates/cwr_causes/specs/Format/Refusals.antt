@@ -1,5 +1,5 @@
 -- What is said of a refused line: where it stands, which field, what stands there, what that points to, and what may stand there.
-use Rattle.std.specs.Prelude.{ℕ, ◌+◌, ◌-◌, ◌^◌, ◌==◌, ◌||◌, nat_lt, min, Bool, not, List, [], ◌∷◌, ◌++◌, codes}
+use Rattle.std.specs.Prelude.{ℕ, ◌+◌, ◌-◌, ◌^◌, ◌==◌, ◌||◌, ◌&&◌, nat_le, nat_lt, min, Bool, not, List, [], ◌∷◌, ◌++◌, codes}
 use Rattle.std.specs.Prelude.{decimal, length, drop, Option, None, Some, position, if◌then◌else◌}
 use Rattle.std.specs.List.{concat}
 use Rattle.std.specs.Option.{option_and_then, unwrap_or}
@@ -14,11 +14,13 @@ use Rattle.cwr_notes.specs.Format.FindingNotes.{level_words}
 use Rattle.cwr_causes.specs.declared.ahead.Ahead.{Ahead}
 use Rattle.cwr_causes.specs.Format.Texts.{beginning_words, cell_words, label_words}
 use Rattle.cwr_causes.specs.Format.Sequences.{capped_number}
+use Rattle.cwr_causes.specs.Format.RefusedWorks.{shown_line}
 use Rattle.cwr_causes.specs.Format.WrongNumbers.{points_words}
 
 -- A refused line: the name of its input, where and why it is refused, its bytes before its line feed, whether that was read, how many
 -- bytes were read before it, the line before where all of that is held, its kind, whether it is longer than a line may be, how the
--- numbers after it go on where they were looked at, and whether the fault is the first that is explained of it.
+-- numbers after it go on where they were looked at, whether the fault is the first that is explained of it, whether there are faults in
+-- the lines before it, and the line on its work.
 pub record RefusedLine : Type 0 where
   pub name : List ℕ
   pub refusal : Refusal
@@ -30,6 +32,8 @@ pub record RefusedLine : Type 0 where
   pub is_too_long : Bool
   pub ahead : Option Ahead
   pub is_first : Bool
+  pub is_later : Bool
+  pub work : List ℕ
 
 -- the kind that a line's first three bytes name
 abbrev pub first_kind : List ℕ → Option Kind
@@ -133,10 +137,20 @@ field_name None f = codes "record type\n"
 unfoldable pub field_words : RefusedLine → List ℕ
 field_words r = label_words (codes "field") ++ field_name r.kind (refused_field r)
 
+-- what is shown isn't held, as the line is too long
+abbrev pub is_beyond : RefusedLine → Bool
+is_beyond r = r.is_too_long && nat_le (length (without_return r)) (shown r).0
+
+-- what stands in the place of a cell
+abbrev pub rest_words : RefusedLine → List ℕ
+rest_words r =
+    if is_beyond r then codes "more than 1024 bytes before a line end"
+    else beginning_words (drop (min (shown r).0 (length (without_return r))) (without_return r))
+
 -- what stands in the cell of the field, or in its place
 abbrev pub content_words : RefusedLine → Option (List ℕ) → List ℕ
 content_words r (Some cell) = cell_words cell
-content_words r None = beginning_words (drop (min (shown r).0 (length (without_return r))) (without_return r))
+content_words r None = rest_words r
 
 -- the line that says what stands there
 unfoldable pub found_words : RefusedLine → Option (List ℕ) → List ℕ
@@ -157,6 +171,7 @@ wrong_number r (Some this_kind) (Some cell) expected =
       line = r.bytes;
       before = r.before;
       ahead = r.ahead;
+      is_later = r.is_later;
     })
 wrong_number r this_kind cell expected = []
 
@@ -175,6 +190,6 @@ refused_level_words r = concat (label_words (codes "level") ∷ level_words r.re
 
 -- ---- all of it
 
--- where and in which field the line is refused, what stands there, and what a wrong number points to
+-- where, in which work and in which field the line is refused, what stands there, and what a wrong number points to
 unfoldable pub head_words : RefusedLine → Option (List ℕ) → List ℕ
-head_words r cell = where_words r ++ field_words r ++ found_words r cell ++ number_points_words r cell
+head_words r cell = where_words r ++ shown_line r.work ++ field_words r ++ found_words r cell ++ number_points_words r cell

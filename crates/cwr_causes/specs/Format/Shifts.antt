@@ -1,10 +1,10 @@
 -- Why the cells of a refused line may stand elsewhere than in their places.
-use Rattle.std.specs.Prelude.{ℕ, zero, suc, ◌+◌, ◌-◌, ◌==◌, ◌&&◌, ◌||◌, min, nat_eq, nat_le, nat_lt, bit_and, Bool, true, false, List, []}
+use Rattle.std.specs.Prelude.{ℕ, zero, suc, ◌+◌, ◌-◌, ◌==◌, ◌&&◌, ◌||◌, min, nat_eq, nat_le, nat_lt, bit_and, not, Bool, true, false, List, []}
 use Rattle.std.specs.Prelude.{◌∷◌, ◌++◌, codes, count_by, decimal, drop, length, slice_get, take, Option, None, Some, if◌then◌else◌}
 use Rattle.std.specs.Char.{is_ascii_alphanumeric}
-use Rattle.std.specs.List.{concat, starts_with}
+use Rattle.std.specs.List.{concat, list_any, starts_with}
 use Rattle.std.specs.Option.{option_or}
-use Rattle.std.specs.Str.{is_utf8}
+use Rattle.std.specs.Str.{bytes_eq, is_utf8}
 use Rattle.cwr_fields.specs.declared.kinds.Kind.{Kind}
 use Rattle.cwr_fields.specs.Format.Bytes.{trimmed}
 use Rattle.cwr_fields.specs.Format.Kinds.{letters}
@@ -12,8 +12,11 @@ use Rattle.cwr_fields.specs.Format.Layouts.{FieldLayout, field_with_start, layou
 use Rattle.cwr_causes.specs.declared.shifts.Sign.{Sign}
 use Rattle.cwr_causes.specs.declared.shifts.Sign.TheVariants.{GoesOn, Gap}
 use Rattle.cwr_causes.specs.Format.LongLines.{long_line_words}
-use Rattle.cwr_causes.specs.Format.Refusals.{up_to_largest}
+use Rattle.cwr_causes.specs.Format.NumbersAfter.{is_outside}
+use Rattle.cwr_causes.specs.Format.Refusals.{first_kind, up_to_largest}
 use Rattle.cwr_causes.specs.Format.Texts.{label_words}
+use Rattle.cwr_causes.specs.Format.WrappedLines.{is_cut, is_full}
+use Rattle.cwr_lines.specs.Format.Lines.{without_cr}
 
 -- ---- characters of several bytes
 
@@ -108,24 +111,102 @@ unfoldable pub sign_line : List ℕ → List ℕ → List ℕ → ℕ → List �
 sign_line of_kind name said last =
     concat
     (label_words (codes "note") ∷ of_kind ∷ codes " " ∷ name ∷ codes " " ∷ said ∷ codes " (byte " ∷ decimal last
-    ∷ codes "), and the line is short: blanks may have been lost before that\n" ∷ [])
+    ∷ codes "), and the line is short: blanks or letters may have been lost before that\n" ∷ [])
 
 abbrev pub sign_words : Kind → Option ((f : ℕ × FieldLayout) × Sign) → List ℕ
 sign_words this_kind None = []
 sign_words this_kind (Some found) =
     sign_line (letters this_kind) found.0.1.name (sign_said found.1) (end_of found.0.0 found.0.1.width)
 
--- the same where the line is short
-abbrev pub lost_words : Kind → ℕ → List ℕ → List ℕ
-lost_words this_kind refused line =
-    if nat_le (line_width this_kind) (length line) then [] else sign_words this_kind (field_with_sign this_kind refused line)
+-- ---- a line that is shorter than those around it
 
--- why the cells of a line of the kind, which is refused at that field, may stand elsewhere
-abbrev pub shift_of : Kind → ℕ → List ℕ → List ℕ
-shift_of this_kind refused line =
-    if bytes_beyond line == 0 then lost_words this_kind refused line ++ long_line_words this_kind refused line
+-- its last byte is a space
+abbrev pub ends_blank : List ℕ → Bool
+ends_blank line = bytes_eq (drop (length line - 1) line) (codes " ")
+
+-- the line before has all bytes of one of its kind, and blanks at its end
+abbrev pub is_filled_up : Option (List ℕ) → Bool
+is_filled_up None = false
+is_filled_up (Some line) = is_full (first_kind (without_cr line)) (without_cr line) && ends_blank (without_cr line)
+
+-- A short line of the kind isn't just one without the blanks at its end: it stands in a transaction, as others are often written without
+-- their last fields, and has such blanks, or lacks two bytes at most.
+abbrev pub lacks_bytes : Kind → List ℕ → Bool
+lacks_bytes this_kind line =
+    not (is_outside (Some this_kind)) && (ends_blank line || nat_le (line_width this_kind - length line) 2)
+
+-- and the line before is filled up
+abbrev pub lost_bytes : Kind → Option (List ℕ) → List ℕ → Bool
+lost_bytes this_kind before line = lacks_bytes this_kind line && is_filled_up before
+
+unfoldable pub one_short_line : List ℕ
+one_short_line =
+    label_words (codes "note")
+    ++ codes "this line is 1 byte shorter than one of its kind, and the line before it is filled up: a byte was lost in the first wrong cell or before it, and what stands behind it has moved to the left; put it back, and don't mend the cells behind one by one\n"
+
+unfoldable pub some_short_line : ℕ → List ℕ
+some_short_line count =
+    concat
+    (label_words (codes "note") ∷ codes "this line is " ∷ decimal count
+    ∷ codes " bytes shorter than one of its kind, and the line before it is filled up: bytes were lost in the first wrong cell or before it, and what stands behind them has moved to the left; put them back, and don't mend the cells behind one by one\n" ∷ [])
+
+-- that it has so many bytes less than one of its kind
+abbrev pub short_line : ℕ → List ℕ
+short_line count = if count == 1 then one_short_line else some_short_line count
+
+abbrev pub short_line_if : Bool → ℕ → List ℕ
+short_line_if filled_up count = if filled_up then short_line count else []
+
+-- what a short line of the kind, which is refused at that field, shows: a field of it, or where that field stands whole in it, its length
+-- beside the line before
+abbrev pub lost_by : Kind → ℕ → Option ((f : ℕ × FieldLayout) × Sign) → Option (List ℕ) → List ℕ → List ℕ
+lost_by this_kind refused None before line =
+    short_line_if (not (is_cut (field_with_start this_kind refused) line) && lost_bytes this_kind before line)
+    (line_width this_kind - length line)
+lost_by this_kind refused (Some found) before line = sign_words this_kind (Some found)
+
+-- the same where the line is short
+abbrev pub lost_words : Kind → ℕ → Option (List ℕ) → List ℕ → List ℕ
+lost_words this_kind refused before line =
+    if nat_le (line_width this_kind) (length line) then []
+    else lost_by this_kind refused (field_with_sign this_kind refused line) before line
+
+-- ---- bytes that are no text
+
+abbrev pub is_zero_byte : ℕ → Bool
+is_zero_byte b = b == 0
+
+abbrev pub is_tab : ℕ → Bool
+is_tab b = b == 9
+
+unfoldable pub zero_line : List ℕ
+zero_line =
+    label_words (codes "note")
+    ++ codes "bytes of zeros (00) stand in the line: where they stand for blanks, put blanks there; else a block was lost on a disk or on the way: get the file again\n"
+
+unfoldable pub tab_line : List ℕ
+tab_line =
+    label_words (codes "note")
+    ++ codes "tabs (09) stand in the line, where blanks were: each cell has its place; take the file as it was before that\n"
+
+-- why the cells of a line of the kind, which is refused at that field after that line, may stand elsewhere
+abbrev pub moved_of : Kind → ℕ → Option (List ℕ) → List ℕ → List ℕ
+moved_of this_kind refused before line =
+    if bytes_beyond line == 0 then lost_words this_kind refused before line ++ long_line_words this_kind refused line
     else character_words this_kind line (bytes_beyond line)
 
-abbrev pub shift_words : Option Kind → ℕ → List ℕ → List ℕ
-shift_words None refused line = []
-shift_words (Some this_kind) refused line = shift_of this_kind refused line
+abbrev pub shift_of : Kind → ℕ → Option (List ℕ) → List ℕ → List ℕ
+shift_of this_kind refused before line =
+    if list_any is_zero_byte line then zero_line
+    else (if list_any is_tab line then tab_line else moved_of this_kind refused before line)
+
+abbrev pub shift_words : Option Kind → ℕ → Option (List ℕ) → List ℕ → List ℕ
+shift_words None refused before line = []
+shift_words (Some this_kind) refused before line = shift_of this_kind refused before line
+
+-- a line of the kind after that one is longer than such lines, but for blanks, or shorter than those around it
+abbrev pub is_moved : Option Kind → Option (List ℕ) → List ℕ → Bool
+is_moved None before line = false
+is_moved (Some this_kind) before line =
+    nat_lt (line_width this_kind) (length (trimmed line))
+    || (nat_lt (length line) (line_width this_kind) && lost_bytes this_kind before line)

@@ -8,7 +8,7 @@ use Rattle.cwr_causes.specs.Format.GluedLines.{glued_text, glued_words}
 use Rattle.cwr_causes.specs.Format.LongLines.{long_id_words}
 use Rattle.cwr_causes.specs.Format.Openings.{is_packed, opening_of, opening_words, version_words}
 use Rattle.cwr_causes.specs.Format.Refusals.{RefusedLine, without_return}
-use Rattle.cwr_causes.specs.Format.Shifts.{shift_words}
+use Rattle.cwr_causes.specs.Format.Shifts.{is_moved, shift_words}
 use Rattle.cwr_causes.specs.Format.TruncatedTexts.{cut_off_words}
 use Rattle.cwr_causes.specs.Format.WrappedLines.{broken_words}
 
@@ -34,7 +34,8 @@ first_signs r =
 
 -- that its cells may stand elsewhere, or a mail program broke it, which is said with the first fault of a line
 abbrev pub cells_signs : RefusedLine → List ℕ
-cells_signs r = if r.is_too_long then [] else shift_words r.kind r.refusal.field (without_return r) ++ broken_words r
+cells_signs r =
+    if r.is_too_long then [] else shift_words r.kind r.refusal.field r.before (without_return r) ++ broken_words r
 
 abbrev pub whole_line_of : RefusedLine → Option (List ℕ) → List ℕ
 whole_line_of r None = cells_signs r
@@ -44,8 +45,15 @@ whole_line_of r (Some text) = glued_words r text
 unfoldable pub whole_line_signs : RefusedLine → List ℕ
 whole_line_signs r = whole_line_of r (glued_text r)
 
+-- with a further fault of a line of which the cells may stand elsewhere, that it may come of that
+unfoldable pub follows_line : List ℕ
+follows_line = label_words (codes "note") ++ codes "this may come of the fault before it in this line: mend that first, and look again\n"
+
+abbrev pub further_signs : RefusedLine → List ℕ
+further_signs r = if is_moved r.kind r.before (without_return r) then follows_line else []
+
 abbrev pub shift_signs : RefusedLine → List ℕ
-shift_signs r = if r.is_first then whole_line_signs r else []
+shift_signs r = if r.is_first then whole_line_signs r else further_signs r
 
 -- the line names no record and begins a file that is no text of one byte a character
 abbrev pub is_packed_by : Reason → List ℕ → Bool

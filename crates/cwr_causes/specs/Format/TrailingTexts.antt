@@ -1,10 +1,12 @@
 -- What is said of the bytes after a transmission.
 use Rattle.std.specs.Prelude.{ℕ, ◌==◌, ◌&&◌, ◌||◌, Bool, true, false, List, [], ◌∷◌, ◌++◌, codes, decimal, Option, None, Some, if◌then◌else◌}
 use Rattle.std.specs.List.{concat}
+use Rattle.std.specs.Option.{is_some}
 use Rattle.std.specs.Str.{bytes_eq}
+use Rattle.cwr_fields.specs.Format.Kinds.{kind_of}
 use Rattle.cwr_causes.specs.declared.trailing.Trailing.{Trailing}
 use Rattle.cwr_causes.specs.declared.trailing_words.Remainder.{Remainder}
-use Rattle.cwr_causes.specs.declared.trailing_words.Remainder.TheVariants.{Filler, Signature, Unknown}
+use Rattle.cwr_causes.specs.declared.trailing_words.Remainder.TheVariants.{Filler, Records, Signature, Unknown}
 use Rattle.cwr_causes.specs.Format.Openings.{note_words}
 use Rattle.cwr_causes.specs.Format.Texts.{label_words}
 
@@ -22,7 +24,7 @@ unfoldable pub second_line : ℕ → List ℕ
 second_line count =
     concat
     (label_words (codes "note") ∷ codes "it begins with HDR, as a second transmission does: put the last " ∷ decimal count
-    ∷ codes " bytes into a file of their own, check both, and put them together: cwr join -o OUT --new A B\n" ∷ [])
+    ∷ codes " bytes into a file of their own, check both, and put them together: cwr join -o OUT --new A B; but if it is the same one again, remove it, as each work would be sent twice\n" ∷ [])
 
 -- the same where it isn't known how many these are
 unfoldable pub second_of_many : List ℕ
@@ -36,14 +38,15 @@ is_signature (a ∷ b ∷ c ∷ rest) = (a == 45) && ((b == 45) && ((c == 32) ||
 is_signature begins = false
 
 -- What they look like that begin otherwise: all of them fill up a file, as blank lines and the end mark of DOS do, or they are the
--- signature of a mail.
+-- signature of a mail, or begin as a record does.
 abbrev pub remainder_of : Trailing → Remainder
 remainder_of found =
-    if found.is_filler && found.is_all then Filler else (if is_signature found.begins then Signature else Unknown)
+    if found.is_filler && found.is_all then Filler else (if is_signature found.begins then Signature else (if is_some (kind_of found.begins) then Records else Unknown))
 
 abbrev pub remainder_said : Remainder → Option (List ℕ)
 remainder_said Filler = Some (codes "only blanks, line ends, zeros or end marks of DOS (byte 26) stand there: nothing is lost without them")
 remainder_said Signature = Some (codes "it begins as the signature of a mail does")
+remainder_said Records = Some (codes "it begins as a record does: if it belongs to the transmission, put it before TRL, and mend the counts")
 remainder_said Unknown = None
 
 -- the same, if they do, and else what they look like

@@ -1,7 +1,8 @@
 -- What may stand in the place of what was found, in words, and what a misplaced line points to.
-use Rattle.std.specs.Prelude.{ℕ, ◌+◌, ◌-◌, ◌^◌, ◌==◌, ◌&&◌, not, Bool, true, false, List, [], ◌∷◌, ◌++◌, codes, decimal, position}
-use Rattle.std.specs.Prelude.{slice_index, Option, None, Some, if◌then◌else◌}
-use Rattle.std.specs.List.{concat}
+use Rattle.std.specs.Prelude.{ℕ, ◌+◌, ◌-◌, ◌^◌, ◌==◌, ◌&&◌, ◌||◌, nat_eq, nat_le, not, Bool, true, false, List, [], ◌∷◌, ◌++◌, codes, decimal, position}
+use Rattle.std.specs.Prelude.{drop, length, slice_index, Option, None, Some, if◌then◌else◌}
+use Rattle.std.specs.Char.{is_ascii_alphabetic}
+use Rattle.std.specs.List.{concat, list_all, list_any, starts_with}
 use Rattle.std.specs.Str.{bytes_eq}
 use Rattle.std.specs.Fmt.{format_spec, styled_decimal}
 use Rattle.cwr_fields.specs.declared.cell_types.CellFault.{CellFault}
@@ -46,10 +47,82 @@ abbrev pub control_words : Option (List ℕ) → List ℕ
 control_words None = []
 control_words (Some cell) = control_at cell (position is_control cell)
 
--- the same where a control byte is its fault
-abbrev pub fault_words : CellFault → Option (List ℕ) → List ℕ
-fault_words cell_faults.Control cell = control_words cell
-fault_words fault cell = []
+-- the letter O
+abbrev pub is_letter_o : ℕ → Bool
+is_letter_o b = (b == 79) || (b == 111)
+
+-- a digit or a space
+abbrev pub is_digit_or_space : ℕ → Bool
+is_digit_or_space b = (b == 32) || (nat_le 48 b && nat_le b 57)
+
+-- its last byte is a letter
+abbrev pub ends_letter : List ℕ → Bool
+ends_letter cell = list_any is_ascii_alphabetic (drop (length cell - 1) cell)
+
+-- it begins with a digit that is no zero, or with a zero, and ends with a letter, as where what stands behind it has moved in
+abbrev pub begins_early : List ℕ → Bool
+begins_early [] = false
+begins_early (b ∷ rest) = (nat_le 49 b && nat_le b 57) || ((b == 48) && ends_letter (b ∷ rest))
+
+-- why a cell isn't all digits, as far as it shows: letters stand for zeros, in a number of the file's own spaces do, or in another one zeros
+-- may have been lost in front
+abbrev pub digit_said : Bool → List ℕ → List ℕ
+digit_said derived cell =
+    if list_any is_letter_o cell then codes "; the letter O isn't the digit 0"
+    else (if derived && list_all is_digit_or_space cell then codes "; cwr renumber --new FILE OUT writes such numbers in full"
+    else (if begins_early cell
+    then codes "; such a number has zeros in front: where some were lost, what stands behind it has moved to the left" else []))
+
+-- a digit, or the letter O
+abbrev pub is_digit_or_o : ℕ → Bool
+is_digit_or_o b = is_letter_o b || (nat_le 48 b && nat_le b 57)
+
+-- digits alone, but for letters O
+abbrev pub has_letters_o : List ℕ → Bool
+has_letters_o cell = list_any is_letter_o cell && list_all is_digit_or_o cell
+
+-- a mark between the parts of a date: a full stop, a hyphen or a slash
+abbrev pub is_date_mark : ℕ → Bool
+is_date_mark b = (b == 46) || ((b == 45) || (b == 47))
+
+-- why a cell isn't a time, as far as it shows: letters stand for zeros
+abbrev pub time_words : Option (List ℕ) → List ℕ
+time_words None = []
+time_words (Some cell) = if has_letters_o cell then codes "; the letter O isn't the digit 0" else []
+
+-- why a cell isn't a day: the same, or it is written with marks
+abbrev pub date_said : List ℕ → List ℕ
+date_said cell =
+    if has_letters_o cell then codes "; the letter O isn't the digit 0"
+    else (if list_any is_date_mark cell
+    then codes "; a date has no marks: where it was written in ten bytes, what stands behind it has moved to the right" else [])
+
+abbrev pub date_words : Option (List ℕ) → List ℕ
+date_words None = []
+date_words (Some cell) = date_said cell
+
+-- why a cell isn't the version that belongs there: its last digit may be lost
+abbrev pub version_said : List ℕ → List ℕ
+version_said cell =
+    if starts_with nat_eq cell (codes "01.1") || starts_with nat_eq cell (codes "02.1")
+    then codes "; where its last 0 was lost, what stands behind it has moved to the left" else []
+
+abbrev pub constant_words : Option (List ℕ) → List ℕ
+constant_words None = []
+constant_words (Some cell) = version_said cell
+
+abbrev pub digit_words : Bool → Option (List ℕ) → List ℕ
+digit_words derived None = []
+digit_words derived (Some cell) = digit_said derived cell
+
+-- what shows of a cell's fault: its control byte, or what stands in the place of digits
+abbrev pub fault_words : Bool → CellFault → Option (List ℕ) → List ℕ
+fault_words derived cell_faults.Control cell = control_words cell
+fault_words derived cell_faults.NotDigits cell = digit_words derived cell
+fault_words derived cell_faults.NotADate cell = date_words cell
+fault_words derived cell_faults.NotATime cell = time_words cell
+fault_words derived cell_faults.NotConstant cell = constant_words cell
+fault_words derived fault cell = []
 
 -- what a number counts, where it is one of the file's own
 abbrev pub rule_words : Bool → Option Kind → ℕ → List ℕ
@@ -61,7 +134,7 @@ unfoldable pub cell_expected_words : RefusedLine → FieldLayout → CellFault �
 cell_expected_words r f fault cell =
     concat
     (label_words (codes "expected") ∷ type_words f.width f.ty ∷ rule_words f.derived r.kind r.refusal.field
-    ∷ fault_words fault cell ∷ codes "\n" ∷ [])
+    ∷ fault_words f.derived fault cell ∷ codes "\n" ∷ [])
 
 -- ---- the number that belongs there
 
@@ -75,7 +148,7 @@ number_in_width width n =
 unfoldable pub counted_number : Kind → ℕ → ℕ → ℕ → List ℕ
 counted_number this_kind j width n =
     concat
-    (number_in_width width n ∷ codes ": " ∷ counted_words this_kind j ∷ codes "; write it only if no record is missing" ∷ [])
+    (number_in_width width n ∷ codes ": " ∷ counted_words this_kind j ∷ codes "; write it only if no record is missing or stands twice" ∷ [])
 
 abbrev pub number_of_field : Option Kind → Option (ℕ × FieldLayout) → ℕ → ℕ → List ℕ
 number_of_field (Some this_kind) (Some f) j n = counted_number this_kind j f.1.width n
@@ -148,7 +221,7 @@ another_type_line found wanted =
     concat
     (label_words (codes "points to") ∷ codes "the group's GRH says " ∷ wanted
     ∷ codes " in bytes 4 to 6, and this is the header of a transaction of type " ∷ found
-    ∷ codes ": the type in GRH is wrong, or a GRT and a GRH are missing before this line, or its kind is mistyped\n" ∷ [])
+    ∷ codes ": the type in GRH is wrong, or a GRT and a GRH are missing before this line, or a transaction of another group was put in, or its kind is mistyped\n" ∷ [])
 
 abbrev pub another_type_words : Option Stage → Kind → List ℕ
 another_type_words (Some (Within ty step)) this_kind =

@@ -92,10 +92,10 @@ missing_words what neighbours found expected after =
 unfoldable pub used_words : Naming → ℕ → ℕ → List ℕ
 used_words what found expected =
     if expected - found == 1 then concat
-    (codes "this " ∷ what.one ∷ codes " has the number of the one before: it stands twice, or two files were put together" ∷ [])
+    (codes "this " ∷ what.one ∷ codes " has the number of the one before: it stands twice, or another one was put in, or two files were put together, or only the number is wrong" ∷ [])
     else concat
     (decimal (expected - found) ∷ codes " " ∷ what.several ∷ codes " before, this number was used: " ∷ what.several
-    ∷ codes " stand twice or elsewhere, or two files were put together" ∷ [])
+    ∷ codes " stand twice or elsewhere, or two files were put together, or only the number is wrong" ∷ [])
 
 -- ---- how the numbers go on
 
@@ -109,9 +109,9 @@ shifted_words what count =
 -- by how much they are higher, and what was taken out after that line
 unfoldable pub taken_out_words : Naming → ℕ → ℕ → List ℕ
 taken_out_words what higher line =
-    if higher == 1 then concat (codes "1 higher: the " ∷ what.one ∷ codes " after line " ∷ decimal line ∷ codes " was taken out" ∷ [])
+    if higher == 1 then concat (codes "1 higher: the " ∷ what.one ∷ codes " after line " ∷ decimal line ∷ codes " was taken out or stands elsewhere, or, if the counts of GRT and TRL fit, only its number was skipped" ∷ [])
     else concat
-    (decimal higher ∷ codes " higher: the " ∷ what.several ∷ codes " after line " ∷ decimal line ∷ codes " were taken out" ∷ [])
+    (decimal higher ∷ codes " higher: the " ∷ what.several ∷ codes " after line " ∷ decimal line ∷ codes " were taken out or stand elsewhere, or, if the counts of GRT and TRL fit, only numbers were skipped" ∷ [])
 
 -- by how much they are higher or lower on the line of that number
 unfoldable pub amount_words : Naming → ℕ → ℕ → ℕ → List ℕ
@@ -119,13 +119,25 @@ amount_words what found expected line =
     if nat_lt expected found then taken_out_words what (found - expected) (line - 1)
     else decimal (expected - found) ++ codes " lower"
 
+-- the first number after it is one more
+abbrev pub is_one_more : Option ℕ → ℕ → Bool
+is_one_more None n = false
+is_one_more (Some m) n = nat_lt n m && (m - n == 1)
+
+-- that they don't go on from it, or not all of them
+unfoldable pub breaking_words : Naming → ℕ → Ahead → List ℕ
+breaking_words what found ahead =
+    if is_one_more ahead.first found then concat
+    (codes "; the " ∷ what.several ∷ codes " after it go on from this number, but not all: what is missing may stand behind those" ∷ [])
+    else concat
+    (codes "; the " ∷ what.several ∷ codes " after it don't go on from this number, so it may be the one that is wrong" ∷ [])
+
 -- how the numbers after a wrong one go on
 unfoldable pub ahead_words : Naming → ℕ → ℕ → ℕ → Ahead → List ℕ
 ahead_words what found expected line ahead =
     if ahead.count == 0 then []
     else (if ahead.goes_on then shifted_words what ahead.count ++ amount_words what found expected line
-    else concat
-    (codes "; the " ∷ what.several ∷ codes " after it don't go on from this number, so it may be the one that is wrong" ∷ []))
+    else breaking_words what found ahead)
 
 -- the same where they were looked at, and where it isn't said that two changed places
 abbrev pub going_on_words : Naming → ℕ → ℕ → ℕ → Option Ahead → List ℕ
@@ -149,16 +161,23 @@ order_words what neighbours found expected line after =
 unfoldable pub difference_words : ℕ → ℕ → List ℕ
 difference_words found expected =
     if nat_lt expected found
-    then decimal (found - expected) ++ codes " missing, or the count wasn't changed when some were taken out"
-    else decimal (expected - found) ++ codes " too many, or the count wasn't changed when some were put in"
+    then decimal (found - expected) ++ codes " missing, or the count is mistyped or wasn't changed when some were taken out"
+    else decimal (expected - found) ++ codes " too many, or the count is mistyped or wasn't changed when some were put in"
 
 -- what a count points to: that of some in the whole
-unfoldable pub count_words : List ℕ → List ℕ → ℕ → ℕ → List ℕ
-count_words whole counted found expected =
+unfoldable pub first_count_words : List ℕ → List ℕ → ℕ → ℕ → List ℕ
+first_count_words whole counted found expected =
     concat
     (codes "the " ∷ whole ∷ codes " has " ∷ decimal expected ∷ codes " " ∷ counted ∷ codes " and says " ∷ decimal found
     ∷ codes ": " ∷ [])
     ++ difference_words found expected
+
+-- the same after other faults: what stands in lines that couldn't be read isn't counted
+unfoldable pub later_count_words : List ℕ → List ℕ → ℕ → ℕ → List ℕ
+later_count_words whole counted found expected =
+    concat
+    (codes "as far as the lines before could be read, the " ∷ whole ∷ codes " has " ∷ decimal expected ∷ codes " " ∷ counted
+    ∷ codes " and says " ∷ decimal found ∷ codes ": mend the faults before this one, and look again" ∷ [])
 
 -- ---- the sequences of lines
 
@@ -205,7 +224,8 @@ is_header Ack = true
 is_header this_kind = false
 
 -- A number that isn't the one that belongs there: the kind of its record, its field, what stands there, what belongs there, the
--- number of its line, that line, the line before where it is held, and how the numbers after it go on where they were looked at.
+-- number of its line, that line, the line before where it is held, how the numbers after it go on where they were looked at, and whether
+-- there are faults in the lines before it.
 pub record WrongValue : Type 0 where
   pub kind : Kind
   pub field : ℕ
@@ -215,6 +235,7 @@ pub record WrongValue : Type 0 where
   pub line : List ℕ
   pub before : Option (List ℕ)
   pub ahead : Option Ahead
+  pub is_later : Bool
 
 abbrev pub wrong_value : WrongNumber → WrongValue
 wrong_value wrong =
@@ -227,6 +248,7 @@ wrong_value wrong =
       line = wrong.line.now;
       before = option_map (λ b. b.now) wrong.before;
       ahead = wrong.ahead;
+      is_later = wrong.is_later;
     }
 
 abbrev pub neighbours_at : WrongValue → Sequences
@@ -246,33 +268,88 @@ repeated_words wrong =
 unfoldable pub record_words : WrongValue → List ℕ
 record_words wrong =
     if is_header wrong.kind && (wrong.expected == 0)
-    then codes "the header of a transaction is its first record, which has sequence 0"
+    then codes "the header of a transaction is its first record, which has sequence 0; if all are numbered so, and none is missing: cwr renumber --new FILE OUT"
     else in_order_words numbered.Record wrong ++ repeated_words wrong
 
+-- what a transaction sequence points to that isn't its header's
+unfoldable pub first_header_words : ℕ → ℕ → List ℕ
+first_header_words found expected =
+    concat
+    (codes "the header of this transaction has sequence " ∷ decimal expected ∷ codes ", and the record " ∷ decimal found
+    ∷ codes ": it belongs to another one, or a header is missing before it, or the number is mistyped, or bytes were lost in this line" ∷ [])
+
+-- the same after other faults: the header may be one of the lines that couldn't be read
+unfoldable pub later_header_words : ℕ → ℕ → List ℕ
+later_header_words found expected =
+    concat
+    (codes "by the lines before it this record is of transaction " ∷ decimal expected ∷ codes ", and it says " ∷ decimal found
+    ∷ codes ": if a line before it is at fault, mend that first; else it belongs to another transaction, or a header is missing before it, or the number is mistyped" ∷ [])
+
+abbrev pub header_words : WrongValue → List ℕ
+header_words wrong =
+    if wrong.is_later then later_header_words wrong.found wrong.expected
+    else first_header_words wrong.found wrong.expected
+
 -- what the sequence of a transaction points to
-unfoldable pub transaction_words : WrongValue → List ℕ
+abbrev pub transaction_words : WrongValue → List ℕ
 transaction_words wrong =
-    if is_header wrong.kind then in_order_words numbered.Transaction wrong
-    else concat
-    (codes "the header of this transaction has sequence " ∷ decimal wrong.expected ∷ codes ", and the record "
-    ∷ decimal wrong.found
-    ∷ codes ": it belongs to another one, or a header is missing before it, or the number is mistyped" ∷ [])
+    if is_header wrong.kind then in_order_words numbered.Transaction wrong else header_words wrong
+
+-- what a count points to: that of some in the whole
+abbrev pub count_words : WrongValue → List ℕ → List ℕ → List ℕ
+count_words wrong whole counted =
+    if wrong.is_later then later_count_words whole counted wrong.found wrong.expected
+    else first_count_words whole counted wrong.found wrong.expected
+
+-- that GRH and GRT themselves weren't counted, where so many are too many
+abbrev pub uncounted_words : ℕ → List ℕ
+uncounted_words more = if more == 2 then codes ", or GRH and GRT weren't counted" else []
+
+-- what the count of a group's records points to
+abbrev pub group_records_words : WrongValue → List ℕ
+group_records_words wrong =
+    count_words wrong (codes "group") (codes "records")
+    ++ (if wrong.is_later then [] else uncounted_words (wrong.expected - wrong.found))
+
+-- what a group ID in GRT points to that isn't GRH's
+unfoldable pub first_id_words : ℕ → ℕ → List ℕ
+first_id_words found expected =
+    concat
+    (codes "the group's GRH has ID " ∷ decimal expected ∷ codes ", and its GRT " ∷ decimal found
+    ∷ codes ": a GRT and a GRH are missing between, or one was put in the other's place" ∷ [])
+
+-- the same after other faults: the GRH may be one of the lines that couldn't be read
+unfoldable pub later_id_words : ℕ → ℕ → List ℕ
+later_id_words found expected =
+    concat
+    (codes "the last GRH that could be read has ID " ∷ decimal expected ∷ codes ", and this GRT " ∷ decimal found
+    ∷ codes ": if a GRH before it is at fault, mend that first; else a GRT and a GRH are missing between, or one was put in the other's place" ∷ [])
+
+abbrev pub id_words : WrongValue → List ℕ
+id_words wrong =
+    if wrong.is_later then later_id_words wrong.found wrong.expected else first_id_words wrong.found wrong.expected
 
 -- what the number of a group's GRT points to
-unfoldable pub foot_words : WrongValue → List ℕ
+abbrev pub foot_words : WrongValue → List ℕ
 foot_words wrong =
-    if wrong.field == 2 then concat
-    (codes "the group's GRH has ID " ∷ decimal wrong.expected ∷ codes ", and its GRT " ∷ decimal wrong.found
-    ∷ codes ": a GRT and a GRH are missing between, or one was put in the other's place" ∷ [])
-    else (if wrong.field == 3 then count_words (codes "group") (codes "transactions") wrong.found wrong.expected
-    else count_words (codes "group") (codes "records") wrong.found wrong.expected)
+    if wrong.field == 2 then id_words wrong
+    else (if wrong.field == 3 then count_words wrong (codes "group") (codes "transactions") else group_records_words wrong)
+
+-- that HDR and TRL themselves weren't counted, where so many are too many
+abbrev pub uncounted_ends : ℕ → List ℕ
+uncounted_ends more = if more == 2 then codes ", or HDR and TRL weren't counted" else []
+
+-- what the count of the file's records points to
+abbrev pub file_records_words : WrongValue → List ℕ
+file_records_words wrong =
+    count_words wrong (codes "file") (codes "records")
+    ++ (if wrong.is_later then [] else uncounted_ends (wrong.expected - wrong.found))
 
 -- what a number of the trailer points to
-unfoldable pub trailer_words : WrongValue → List ℕ
+abbrev pub trailer_words : WrongValue → List ℕ
 trailer_words wrong =
-    if wrong.field == 2 then count_words (codes "file") (codes "groups") wrong.found wrong.expected
-    else (if wrong.field == 3 then count_words (codes "file") (codes "transactions") wrong.found wrong.expected
-    else count_words (codes "file") (codes "records") wrong.found wrong.expected)
+    if wrong.field == 2 then count_words wrong (codes "file") (codes "groups")
+    else (if wrong.field == 3 then count_words wrong (codes "file") (codes "transactions") else file_records_words wrong)
 
 -- what a sequence points to
 unfoldable pub sequence_words : WrongValue → List ℕ
@@ -294,21 +371,36 @@ counts_on Grt field = not (field == 2)
 counts_on Trl field = true
 counts_on this_kind field = if is_header this_kind then field == 2 else field == 3
 
--- something may have been taken out before it: the number is higher, and the one that belongs here doesn't stand after it
+-- the record closes a group or the file: its numbers are counts
+abbrev pub is_closing : Kind → Bool
+is_closing Grt = true
+is_closing Trl = true
+is_closing this_kind = false
+
+-- Something may have been taken out before it: the number is higher, the one that belongs here doesn't stand after it, and it is no count
+-- in which lines that couldn't be read are missing.
 abbrev pub may_be_cut : WrongValue → Bool
 may_be_cut wrong =
-    nat_lt wrong.expected wrong.found && (counts_on wrong.kind wrong.field && not (stands_after wrong.ahead wrong.expected))
+    nat_lt wrong.expected wrong.found
+    && (counts_on wrong.kind wrong.field
+    && (not (stands_after wrong.ahead wrong.expected) && not (wrong.is_later && is_closing wrong.kind)))
 
--- it is the first transaction of a group, and has the number 1
-abbrev pub counts_from_one : WrongValue → Bool
-counts_from_one wrong =
-    is_header wrong.kind && ((wrong.field == 2) && ((wrong.expected == 0) && (wrong.found == 1)))
+-- it is the first transaction of a group
+abbrev pub begins_group : WrongValue → Bool
+begins_group wrong = is_header wrong.kind && ((wrong.field == 2) && (wrong.expected == 0))
 
+-- what else than a cut the first transaction of a group with that number may come of
+abbrev pub first_number_words : ℕ → List ℕ
+first_number_words found =
+    if found == 1 then codes "; if you took it out on purpose, or the file counts from 1: cwr renumber --new FILE OUT"
+    else codes "; if you took it out on purpose, or sequences go on from group to group: cwr renumber --new FILE OUT"
+
+-- what is said of a cut on purpose: where faults stand before it, what it comes of isn't known yet
 abbrev pub purpose_words : WrongValue → List ℕ
 purpose_words wrong =
-    if may_be_cut wrong then (if counts_from_one wrong
-    then codes "; if you took it out on purpose, or the file counts from 1: cwr renumber --new FILE OUT"
-    else codes "; if you took it out on purpose: cwr renumber --new FILE OUT") else []
+    if may_be_cut wrong then (if wrong.is_later then codes "; mend the faults before it first, and look again"
+    else (if begins_group wrong then first_number_words wrong.found
+    else codes "; if you took it out on purpose: cwr renumber --new FILE OUT")) else []
 
 -- the line that says what the number points to
 unfoldable pub points_words : WrongValue → List ℕ

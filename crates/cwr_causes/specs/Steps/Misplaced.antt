@@ -5,6 +5,7 @@ use Rattle.cwr_fields.specs.Format.Kinds.{letters}
 use Rattle.cwr_shape.specs.declared.reasons.Reason.{Reason}
 use Rattle.cwr_shape.specs.declared.reasons.Reason.TheVariants as reasons
 use Rattle.cwr_shape.specs.declared.stages.Stage.{Stage}
+use Rattle.cwr_causes.specs.declared.misplaced_words.LinePlace.{LinePlace}
 use Rattle.cwr_causes.specs.declared.misplacements.Misplacement.{Misplacement}
 use Rattle.cwr_causes.specs.Format.MisplacedTexts.{misplacement_words, mistyped_words}
 use Rattle.cwr_causes.specs.Format.Misplacements.{belongs, misplacement_of, numbers_before, numbers_in, numbers_of}
@@ -13,10 +14,10 @@ use Rattle.cwr_causes.specs.Format.Refusals.{RefusedLine}
 use Rattle.cwr_causes.specs.Format.Wanted.{another_type_words, is_other_header, stands_twice, twice_words}
 use Rattle.cwr_causes.specs.Steps.Coming.{closes_at, letting_at, preceding_at}
 
--- what a line of the kind shows, where the records before have come to that stage
-unfoldable pub misplaced_text : Option Stage → Kind → ℕ → Misplacement → List ℕ
-misplaced_text stage this_kind offset shown =
-    misplacement_words (letters this_kind) offset (letting_at stage this_kind) (preceding_at stage this_kind) shown
+-- what a line of the kind in that place shows, where the records before have come to that stage
+unfoldable pub misplaced_text : Option Stage → Kind → LinePlace → Misplacement → List ℕ
+misplaced_text stage this_kind place shown =
+    misplacement_words (letters this_kind) place (letting_at stage this_kind) (preceding_at stage this_kind) shown
 
 -- what it and the line before it show
 abbrev pub shown_by : Option Stage → RefusedLine → Kind → Misplacement
@@ -28,7 +29,7 @@ abbrev pub misplaced_words : Option Stage → RefusedLine → Kind → List ℕ
 misplaced_words stage r this_kind =
     if stands_twice r.before r.bytes then twice_words
     else (if is_other_header stage this_kind then another_type_words stage this_kind
-    else misplaced_text stage this_kind r.offset (shown_by stage r this_kind))
+    else misplaced_text stage this_kind (record { offset = r.offset; is_later = r.is_later }) (shown_by stage r this_kind))
 
 -- what a line points to that is misplaced or names no record
 abbrev pub order_words : Option Stage → RefusedLine → Reason → Option Kind → List ℕ

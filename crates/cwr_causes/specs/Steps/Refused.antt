@@ -1,7 +1,8 @@
 -- A refused line as it is kept.
-use Rattle.std.specs.Prelude.{◌≡◌, ℕ, ◌-◌, ◌^◌, ◌<◌, ◌==◌, ◌≤◌, Bool, true, false, List, [], ◌∷◌, ◌++◌, length, IsFalse, IfSome, Option, None, Some, option_map}
+use Rattle.std.specs.Prelude.{◌≡◌, ℕ, ◌-◌, ◌^◌, ◌<◌, ◌==◌, ◌≤◌, Bool, true, false, List, [], ◌∷◌, ◌++◌, codes, length, IsFalse, IfSome, Option, None, Some, option_map, if◌then◌else◌}
 use Rattle.std.specs.List.{concat, list_any}
 use Rattle.cwr_lines.specs.Format.Lines.{is_lf, longest_line}
+use Rattle.cwr_lines.specs.Format.Records.{RecordValue}
 use Rattle.cwr_lines.specs.declared.lines.LineEnd.TheVariants.{Line}
 use Rattle.cwr_lines.specs.Steps.Held.{held_cell}
 use Rattle.cwr_decode.specs.declared.last_bytes.LastBytes.{LastBytes}
@@ -10,6 +11,7 @@ use Rattle.cwr_decode.specs.Steps.LastReads.{bytes_read}
 use Rattle.cwr_judge.specs.declared.refusals.Refusal.{Refusal}
 use Rattle.cwr_causes.specs.declared.ahead.Ahead.{Ahead}
 use Rattle.cwr_causes.specs.declared.beyond.Beyond.{Beyond}
+use Rattle.cwr_causes.specs.declared.beyond.FaultyLine.{FaultyLine}
 use Rattle.cwr_causes.specs.declared.beyond.Beyond.TheVariants as beyonds
 use Rattle.cwr_causes.specs.declared.lines_at_end.LineAtEnd.{LineAtEnd}
 use Rattle.cwr_fields.specs.Format.Layouts.{FieldLayout}
@@ -25,9 +27,11 @@ use Rattle.cwr_decode.specs.Steps.LastReads.{HoldsLast}
 use Rattle.cwr_causes.specs.declared.causes.Refused.{Refused}
 use Rattle.cwr_causes.specs.Format.Refusals.{RefusedLine, first_kind, head_words, refused_field, refused_level_words}
 use Rattle.cwr_causes.specs.Format.Handling.{handling_words}
+use Rattle.cwr_causes.specs.Format.Openings.{note_line, repeats_before}
 use Rattle.cwr_causes.specs.Format.Signs.{signs_words}
 use Rattle.cwr_causes.specs.Format.Wanted.{cell_expected_words, end_expected_words, limit_words, number_expected_words}
 use Rattle.cwr_causes.specs.Steps.Misplaced.{order_words}
+use Rattle.cwr_causes.specs.Steps.Works.{work_refused}
 
 abbrev pub refused_line : Refused → RefusedLine
 refused_line r =
@@ -42,6 +46,8 @@ refused_line r =
       is_too_long = r.is_too_long;
       ahead = r.ahead;
       is_first = r.is_first;
+      is_later = r.is_later;
+      work = r.work.now;
     }
 
 -- a line that isn't too long has that cell in the refused field
@@ -68,11 +74,17 @@ expected_words limits stage r cell = expected_by limits stage r cell r.refusal.r
 unfoldable pub wanted_words : Limits → Option Stage → RefusedLine → Option (List ℕ) → List ℕ
 wanted_words limits stage r cell = order_words stage r r.refusal.reason r.kind ++ expected_words limits stage r cell
 
--- What is said of the refusal of the line, whose refused field holds that cell, where the records before have come to that stage:
+-- What is said in full of the refusal of the line, whose refused field holds that cell, where the records before have come to that stage:
 -- where it is and what stands there, what it points to, what may stand there, the level, what was done to the line, and what else it shows.
-unfoldable pub refusal_words : Limits → Option Stage → RefusedLine → Option (List ℕ) → List ℕ
-refusal_words limits stage r cell =
+unfoldable pub whole_words : Limits → Option Stage → RefusedLine → Option (List ℕ) → List ℕ
+whole_words limits stage r cell =
     concat (head_words r cell ∷ wanted_words limits stage r cell ∷ refused_level_words r ∷ handling_words r cell ∷ signs_words r ∷ [])
+
+-- The same, or where it names no record and looks as the line before it does, just that.
+abbrev pub refusal_words : Limits → Option Stage → RefusedLine → Option (List ℕ) → List ℕ
+refusal_words limits stage r cell =
+    if repeats_before r.refusal.reason r.before r.bytes then note_line (codes "the same as in the line before it")
+    else whole_words limits stage r cell
 
 -- the text goes on with that, for the cell that the line has there
 abbrev pub ExplainsLine : Limits → Option Stage → RefusedLine → List ℕ → List ℕ → Type 0
@@ -97,9 +109,16 @@ abbrev pub ahead_in : Beyond → Option Ahead
 ahead_in (beyonds.Numbers ahead) = Some ahead
 ahead_in beyond = None
 
+-- a line that isn't too long has that line on its work, where it is refused for that reason after records with that header of their open
+-- transaction
+abbrev pub HasWork : Option RecordValue → Reason → List ℕ → List ℕ → Type 0
+HasWork header reason bytes work =
+    length bytes ≤ longest_line → IsFalse (list_any is_lf bytes)
+    → work ≡ work_refused header reason (record { bytes = bytes; ended = Line })
+
 -- the refused line with which the bytes end that were read
-abbrev pub last_refused : List ℕ → Refusal → LineAtEnd → Option (List ℕ) → Beyond → RefusedLine
-last_refused name refusal line before beyond =
+abbrev pub last_refused : List ℕ → Refusal → LineAtEnd → Option (List ℕ) → Beyond → List ℕ → RefusedLine
+last_refused name refusal line before beyond work =
     record {
       name = name;
       refusal = refusal;
@@ -111,22 +130,26 @@ last_refused name refusal line before beyond =
       is_too_long = goes_on beyond;
       ahead = ahead_in beyond;
       is_first = true;
+      is_later = false;
+      work = work;
     }
 
--- a line with a fault, of which nothing after it was looked at
-abbrev pub fault_line : List ℕ → Refusal → LineAtEnd → Option (List ℕ) → Bool → Bool → RefusedLine
-fault_line name fault line before is_too_long is_first =
+-- a line with a fault
+abbrev pub fault_line : List ℕ → Refusal → FaultyLine → RefusedLine
+fault_line name fault line =
     record {
       name = name;
       refusal = fault;
-      bytes = line.bytes.now;
-      ended = line.ended;
-      offset = line.offset;
-      before = before;
-      kind = first_kind line.bytes.now;
-      is_too_long = is_too_long;
-      ahead = None;
-      is_first = is_first;
+      bytes = line.line.bytes.now;
+      ended = line.line.ended;
+      offset = line.line.offset;
+      before = option_map (λ b. b.now) line.before;
+      kind = first_kind line.line.bytes.now;
+      is_too_long = line.is_too_long;
+      ahead = line.ahead;
+      is_first = line.is_first;
+      is_later = line.is_later;
+      work = line.work.now;
     }
 
 -- the text goes on with what is said of the refusal of the line with which the bytes end that were read
@@ -136,7 +159,9 @@ pub record ExplainsRefusal (limits : Limits) (name : List ℕ) (refusal : Refusa
   pub is_last : IsLineAtEnd last.bytes line
   pub before : Option (List ℕ)
   pub is_before : IsLineBefore last.bytes before
-  pub explains : ExplainsLine limits (Some last.stage) (last_refused name refusal line before beyond) old new
+  pub work : List ℕ
+  pub is_work : HasWork last.header refusal.reason line.bytes.now work
+  pub explains : ExplainsLine limits (Some last.stage) (last_refused name refusal line before beyond work) old new
 
 -- What is said of an input that ends too early, after that line: where it ends, the records that may come, that the line may have
 -- been cut off, and that what stood after it is missing.

@@ -20,7 +20,7 @@ use Rattle.cwr_decode.specs.declared.outcomes.Outcome.{Outcome}
 use Rattle.cwr_decode.specs.declared.outcomes.Outcome.TheVariants as outcomes
 use Rattle.cwr_decode.specs.declared.machine.State.{State}
 use Rattle.cwr_decode.specs.declared.machine.State.TheVariants as states
-use Rattle.cwr_decode.specs.Steps.Machines.{Accepts, Standing, IsReady, Judges, JudgesFront, with_line, with_tally, stopped}
+use Rattle.cwr_decode.specs.Steps.Machines.{Accepts, Standing, IsReady, Judges, JudgesFront, with_line, with_refusal, with_tally}
 use Rattle.cwr_decode.specs.Steps.Represents.{Represents, RepresentsIn, IsReading, IsInput, IsRight, items_out, text_of}
 use Rattle.cwr_decode.specs.Steps.Calls.{RefusesLast, Advances, Grows}
 use Rattle.cwr_decode.proofs.lemmas.AfterAcceptedLine.{HasLine, never_too_long}
@@ -153,7 +153,7 @@ judged_rest t new None ended (inr r) = absurd r.reports
 judged_rest t new (Some o) ended (inr r) =
     let k = r.reports in
     subst (λ (q : Standing). Rest t (Some o) q) (sym k.stops) (subst
-    (λ (x : Outcome). Rest t (Some x) (stopped t (states.Refused k.refusal))) (sym k.reported)
+    (λ (x : Outcome). Rest t (Some x) (with_refusal t k.refusal)) (sym k.reported)
     (record { ready = tt; leaves = refl; none = tt; finished = refl; limits = refl }))
 
 -- no record is forgotten by that, and out of memory comes with one more

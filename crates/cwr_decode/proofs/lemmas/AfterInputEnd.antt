@@ -101,7 +101,7 @@ ended_stands d input given ready empty st = record { in_range = st.in_range; her
       number = h.number;
       level = h.level;
       empty = h.empty;
-      nothing = h.nothing;
+      held = h.held;
       given_are = h.given_are;
     }
     by (states.Truncated n) e h = record {

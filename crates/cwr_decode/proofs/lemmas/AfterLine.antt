@@ -21,7 +21,7 @@ use Rattle.cwr_decode.specs.declared.machine.State.{State}
 use Rattle.cwr_decode.specs.declared.machine.State.TheVariants as states
 use Rattle.cwr_fields.specs.Format.Kinds.{is_in_transaction}
 use Rattle.cwr_judge.specs.Steps.Judged.{IsOfNone, IsFirstFault}
-use Rattle.cwr_decode.specs.Steps.Machines.{Standing, Empties, Refuses, ReportsFault, Judges, EntersHeld, stopped, held_list}
+use Rattle.cwr_decode.specs.Steps.Machines.{Standing, Empties, Refuses, ReportsFault, Judges, EntersHeld, with_refusal, held_list}
 use Rattle.cwr_judge.specs.Steps.Open.{item_of}
 use Rattle.cwr_decode.specs.Steps.Calls.{RefusesLast}
 use Rattle.cwr_decode.specs.Steps.Represents.{IsPending, IsStopped, Represents, RepresentsIn, items_in, items_out}
@@ -36,7 +36,7 @@ reported_stopped : (d : Standing) (input : List ℕ) (given : List Item) (fault 
     → ((xs : List Symbol) → tallies.IsTallyOf d.tally xs → IsOfNone d.tally.limits xs d.line)
     → ((xs : List Symbol) → tallies.IsTallyOf d.tally xs → IsFirstFault d.tally.limits xs d.line fault.field fault.reason)
     → (t : ReportsFault d (held_kind d.line) fault o new)
-    → IsStopped (stopped d (states.Refused t.refusal)) input (given ++ []) t.refusal
+    → IsStopped (with_refusal d t.refusal) input (given ++ []) t.refusal
 reported_stopped d input given fault o new h none first t =
     let xs : List Symbol = map symbol_of h.records in
     let counts : d.tally.counts ≡ counts_of xs = h.read.counted.counted in
@@ -60,7 +60,7 @@ reported_stopped d input given fault o new h none first t =
           t.level xs h.read.counted
           ∙ ap₂ (λ (f : ℕ) (r : Reason). level_of (held_kind d.line) f r (scope_after xs)) (sym t.field) (sym t.reason);
       empty = refl;
-      nothing = refl;
+      held = h.held;
       given_are = append-nil given ∙ h.given_are;
     }
 
@@ -71,7 +71,7 @@ reported_stands : (d : Standing) (input : List ℕ) (given : List Item) (fault :
     → ReportsFault d (held_kind d.line) fault o new → Represents new input (given ++ items_out o)
 reported_stands d input given fault o new h none first t =
     subst (λ (q : Standing). Represents q input (given ++ items_out o)) (sym t.stops)
-    (subst (λ (q : Outcome). Represents (stopped d (states.Refused t.refusal)) input (given ++ items_out q)) (sym t.reported)
+    (subst (λ (q : Outcome). Represents (with_refusal d t.refusal) input (given ++ items_out q)) (sym t.reported)
     (record { in_range = h.in_range; here = reported_stopped d input given fault o new h none first t }))
 
 -- the refused line is the one that was judged
@@ -80,7 +80,7 @@ pub reported_as : (d : Standing) (input : List ℕ) (given : List Item) (fault :
     → ((xs : List Symbol) → tallies.IsTallyOf d.tally xs → IsOfNone d.tally.limits xs d.line)
     → ((xs : List Symbol) → tallies.IsTallyOf d.tally xs → IsFirstFault d.tally.limits xs d.line fault.field fault.reason)
     → (t : ReportsFault d (held_kind d.line) fault o new)
-    → (s : IsStopped (stopped d (states.Refused t.refusal)) input (given ++ []) t.refusal) × (s.line ≡ d.line)
+    → (s : IsStopped (with_refusal d t.refusal) input (given ++ []) t.refusal) × (s.line ≡ d.line)
     × (s.input_ended ≡ d.finished)
 unfolding reported_stopped
 reported_as d input given fault o new h none first t = (reported_stopped d input given fault o new h none first t, refl, refl)
@@ -94,7 +94,7 @@ pub reported_last : (d : Standing) (input : List ℕ) (given : List Item) (fault
 unfolding reported_stopped
 reported_last d input given fault o new h none first t whole =
     subst (λ (q : Standing). RefusesLast o q input (given ++ items_out o)) (sym t.stops)
-    (subst (λ (q : Outcome). RefusesLast q (stopped d (states.Refused t.refusal)) input (given ++ items_out q)) (sym t.reported)
+    (subst (λ (q : Outcome). RefusesLast q (with_refusal d t.refusal) input (given ++ items_out q)) (sym t.reported)
     (reported_stopped d input given fault o new h none first t, whole))
 
 refuse_stands : (d : Standing) (input : List ℕ) (given : List Item) (out : Option Outcome) (new : Standing)

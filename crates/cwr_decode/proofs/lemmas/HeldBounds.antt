@@ -15,7 +15,7 @@ use Rattle.cwr_values.specs.Format.Begins.{rows_so_far}
 use Rattle.cwr_judge.specs.Steps.Open.{open_of}
 use Rattle.cwr_decode.specs.declared.machine.State.{State}
 use Rattle.cwr_decode.specs.declared.machine.State.TheVariants as states
-use Rattle.cwr_decode.specs.Steps.Machines.{Standing, held_list}
+use Rattle.cwr_decode.specs.Steps.Machines.{Standing, held_list, held_of}
 use Rattle.cwr_decode.specs.Steps.Represents.{AreAccepted, IsSound, IsThrough, RepresentsIn}
 use Rattle.cwr_decode.proofs.lemmas.AfterAcceptedLine.{list_held}
 
@@ -44,6 +44,13 @@ open_few tally lines records read =
     let keeps = none_passed tally.limits xs (read.within xs [] (sym (append-nil xs))) in
     omega (arith, keeps.transaction, length-drop (length records - open_records xs) records)
 
+-- so it is of what is held of it
+open_bounded : (d : Standing) (lines : List (List ℕ)) (records : List RecordValue) → AreAccepted d.tally lines records
+    → d.held ≡ held_of (open_of records) → length (held_list d.held) ≤ d.tally.limits.transaction
+open_bounded d lines records read kept =
+    let held : held_list d.held ≡ open_of records = ap held_list kept ∙ list_held (open_of records) in
+    omega (arith, ap length held, open_few d.tally lines records read)
+
 -- nothing is held
 none_held : (d : Standing) → d.line.bytes ≡ [] → d.held ≡ None → IsBounded d
 none_held d empty nothing = record {
@@ -57,16 +64,17 @@ through_bounded d input given t = none_held d t.empty t.nothing
 bounded_in : (state : State) (d : Standing) (input : List ℕ) (given : List Item) → RepresentsIn state d input given → IsBounded d
 bounded_in states.Reading d input given r = record {
   line = omega (arith, r.line.short);
-  transaction =
-      let held : held_list d.held ≡ open_of r.records = ap held_list r.held ∙ list_held (open_of r.records) in
-      omega (arith, ap length held, open_few d.tally r.lines r.records r.read);
+  transaction = open_bounded d r.lines r.records r.read r.held;
 }
 bounded_in states.Pending d input given p = record {
   line = last_short (rows_so_far (p.records ++ p.last ∷ [])) p.lines p.earlier d.line.bytes p.read.rows p.waits;
   transaction = omega (arith, ap (λ (held : Option (List RecordValue)). length (held_list held)) p.held);
 }
 bounded_in states.Ended d input given e = through_bounded d input given e.through
-bounded_in (states.Refused refusal) d input given s = none_held d s.empty s.nothing
+bounded_in (states.Refused refusal) d input given s = record {
+  line = omega (arith, ap length s.empty);
+  transaction = open_bounded d s.lines s.records s.read s.held;
+}
 bounded_in (states.Truncated count) d input given c = through_bounded d input given c.through
 bounded_in states.Memory d input given f = through_bounded d input given f.through
 

@@ -17,7 +17,7 @@ use Rattle.cwr_decode.specs.declared.machine.State.TheVariants as states
 use Rattle.cwr_judge.specs.declared.judging.LineFault.{LineFault}
 use Rattle.cwr_judge.specs.Format.Ends.{IsRefused}
 use Rattle.cwr_judge.specs.Steps.Judged.{IsOfNone, IsFirstFault}
-use Rattle.cwr_decode.specs.Steps.Machines.{Standing, Leaves, Judges, ReportsFault, with_tally, stopped}
+use Rattle.cwr_decode.specs.Steps.Machines.{Standing, Leaves, Judges, ReportsFault, with_tally, with_refusal}
 use Rattle.cwr_decode.specs.declared.endings.End.TheVariants as ends
 use Rattle.cwr_decode.specs.Steps.Represents.{Represents, RepresentsIn, IsInput, IsRight, IsStopped, MayFollow, IsEndAlways}
 use Rattle.cwr_decode.specs.Steps.Represents.{EndsInLf, GoesTooFar, EndsLine, items_out, text_of}
@@ -81,7 +81,7 @@ refused_right : (d : Standing) (input_ended : Bool) (input tail : List ℕ) (giv
 refused_right d input_ended input tail given fault o new h f none bad first t fresh after =
     by d.line.ended refl input_ended f none fresh after
   where
-    reported : (s : IsStopped (stopped d (states.Refused t.refusal)) input (given ++ []) t.refusal) × (s.line ≡ d.line)
+    reported : (s : IsStopped (with_refusal d t.refusal) input (given ++ []) t.refusal) × (s.line ≡ d.line)
         × (s.input_ended ≡ d.finished)
     reported = reported_as d input given fault o new h bad first t
 
@@ -99,14 +99,14 @@ refused_right d input_ended input tail given fault o new h f none bad first t fr
         let follows : MayFollow reported.0.input_ended (tail ++ more) =
         subst (λ (x : Bool). MayFollow x (tail ++ more)) (sym (reported.2 ∙ g)) (may b more n m) in
         subst (λ (x : List ℕ). IsRefused d.tally.limits x t.refusal) (sym (append_assoc input tail more))
-        (refused_line (stopped d (states.Refused t.refusal)) input (given ++ []) t.refusal (tail ++ more) reported.0
+        (refused_line (with_refusal d t.refusal) input (given ++ []) t.refusal (tail ++ more) reported.0
         (ended Line q) follows)
     by Over q true g n z k = absurd (z refl refl)
     by Over q false g n z k = λ more m.
         let text : (input ++ tail) ++ more ≡ input ++ k.0 ∷ (k.1 ++ more) =
         append_assoc input tail more ∙ ap (λ (x : List ℕ). input ++ (x ++ more)) k.2 in
         subst (λ (x : List ℕ). IsRefused d.tally.limits x t.refusal) (sym text)
-        (refused_long (stopped d (states.Refused t.refusal)) input (given ++ []) t.refusal k.0 (k.1 ++ more) reported.0
+        (refused_long (with_refusal d t.refusal) input (given ++ []) t.refusal k.0 (k.1 ++ more) reported.0
         (ended Over q) (reported.2 ∙ g) k.3)
 
 -- a refused line ends with the used bytes

@@ -21,10 +21,10 @@ use Rattle.cwr_shape.specs.Steps.Tallies.{TallyValue}
 use Rattle.cwr_values.specs.Format.Values.{TransmissionValue, symbol_of}
 use Rattle.cwr_judge.specs.declared.refusals.Refusal.{Refusal}
 use Rattle.cwr_judge.specs.Format.Ends.{IsAccepted, IsRefused, IsTruncated}
-use Rattle.cwr_judge.specs.Steps.Open.{items_so_far}
+use Rattle.cwr_judge.specs.Steps.Open.{items_so_far, open_of}
 use Rattle.cwr_judge.proofs.lemmas.Trailers.{trailer_ends, whole_ends}
 use Rattle.cwr_decode.specs.declared.machine.State.TheVariants as states
-use Rattle.cwr_decode.specs.Steps.Machines.{Standing, at_start}
+use Rattle.cwr_decode.specs.Steps.Machines.{Standing, at_start, held_of}
 use Rattle.cwr_decode.specs.Steps.Represents.{AreAccepted, IsInput, IsStopped, MayFollow, text_of}
 use Rattle.cwr_decode.specs.Steps.TextLines.{AcceptsLine, FirstLine, IsCutOff, IsLastLine, RefusesLine}
 use Rattle.cwr_decode.proofs.lemmas.CutTruncated.{cut_truncated}
@@ -233,7 +233,7 @@ walked_refused limits text used count tally line refusal w f r =
     input = take (used + count) text
 
     d : Standing
-    d = record { line = empty_line; tally = tally; held = None; state = states.Refused refusal; finished = l.input_ended }
+    d = record { line = empty_line; tally = tally; held = held_of (open_of w.records); state = states.Refused refusal; finished = l.input_ended }
 
     stopped : IsStopped d input (items_so_far w.records) refusal
     stopped = record {
@@ -252,7 +252,7 @@ walked_refused limits text used count tally line refusal w f r =
       number = omega (arith, r.number, length-map w.records symbol_of);
       level = r.level;
       empty = refl;
-      nothing = refl;
+      held = refl;
       given_are = refl;
     }
 

@@ -1,10 +1,12 @@
 -- The bytes that were read last, and how far the records have come.
-use Rattle.std.specs.Prelude.{◌≡◌, ◌⊎◌, ℕ, ◌-◌, ◌^◌, ◌≤◌, min, List, [], ◌++◌, length, Option, IsSomeAnd}
+use Rattle.std.specs.Prelude.{◌≡◌, ◌⊎◌, ℕ, ◌-◌, ◌^◌, ◌≤◌, min, List, [], ◌++◌, length, Option, IsSomeAnd, slice_get}
 use Rattle.std.specs.Io.KnownBytes.{Consumes}
+use Rattle.cwr_lines.specs.Format.Records.{RecordValue}
 use Rattle.cwr_shape.specs.declared.stages.Stage.{Stage}
 use Rattle.cwr_shape.specs.declared.tallies.Counts.{Counts}
 use Rattle.cwr_decode.specs.declared.last_bytes.LastBytes.{LastBytes}
-use Rattle.cwr_decode.specs.Steps.Machines.{Standing}
+use Rattle.cwr_decode.specs.declared.readings.LastRead.{LastRead}
+use Rattle.cwr_decode.specs.Steps.Machines.{Standing, held_list}
 
 -- the bytes that are held
 abbrev pub last_held : LastBytes → List ℕ
@@ -36,6 +38,15 @@ pub record ReadsLast (left after : Option (List ℕ)) (old new : Option LastByte
 abbrev pub stage_of_records : Standing → Stage
 stage_of_records d = d.tally.stage
 
+-- the header of the open transaction, where one is open
+abbrev pub header_of_records : Standing → Option RecordValue
+header_of_records d = slice_get (held_list d.held) 0
+
 -- what was counted of them
 abbrev pub counts_of_records : Standing → Counts
 counts_of_records d = d.tally.counts
+
+-- all this is so of what was read last
+abbrev pub IsFrontOf : LastRead → Standing → Type 0
+IsFrontOf last d =
+    (last.stage ≡ stage_of_records d) × (last.counts ≡ counts_of_records d) × (last.header ≡ header_of_records d)

@@ -110,6 +110,16 @@ at_start tally = record { line = empty_line; tally = tally; held = None; state =
 abbrev pub stopped : Standing → State → Standing
 stopped old state = record { line = empty_line; tally = old.tally; held = None; state = state; finished = old.finished }
 
+-- a line was refused: the open transaction is held as it was
+abbrev pub with_refusal : Standing → Refusal → Standing
+with_refusal old refusal = record {
+  line = empty_line;
+  tally = old.tally;
+  held = old.held;
+  state = Refused refusal;
+  finished = old.finished;
+}
+
 -- at the start of a line
 abbrev pub reading : Standing → Option (List RecordValue) → Standing
 reading old held = record { line = empty_line; tally = old.tally; held = held; state = Reading; finished = old.finished }
@@ -216,7 +226,7 @@ pub record Accepts (old : Standing) (result : Option Outcome) (new : Standing) :
   pub same : (xs : List Symbol) → IsTallyOf old.tally xs → continues ≡ continues_open xs symbol
   pub follows : Follows continues old.held accepted (with_tally old tally) result new
 
--- the fault of a line of the kind is reported, and nothing is held from then on
+-- the fault of a line of the kind is reported, and the open transaction is held as it was
 pub record ReportsFault (old : Standing) (kind : Option Kind) (fault : LineFault) (outcome : Outcome) (new : Standing) : Type 0
   where
     pub refusal : Refusal
@@ -226,7 +236,7 @@ pub record ReportsFault (old : Standing) (kind : Option Kind) (fault : LineFault
     pub level : (xs : List Symbol) → IsTallyOf old.tally xs
         → refusal.level ≡ level_of kind fault.field fault.reason (scope_after xs)
     pub reported : outcome ≡ outcomes.Refused refusal
-    pub stops : new ≡ stopped old (Refused refusal)
+    pub stops : new ≡ with_refusal old refusal
 
 -- the line is refused
 pub record Refuses (old : Standing) (result : Option Outcome) (new : Standing) : Type 0 where

@@ -103,7 +103,7 @@ pub record EndsTooEarly (d : Standing) (input : List ℕ) (given : List Item) (c
   pub left : ¬ IsWhole (map symbol_of through.records)
   pub counted : count ≡ length through.records
 
--- The line after the accepted ones is that of no record that may come next, and nothing is held. Once the input has ended,
+-- The line after the accepted ones is that of no record that may come next, and of it nothing is held. Once the input has ended,
 -- that line may have ended with it.
 pub record IsStopped (d : Standing) (input : List ℕ) (given : List Item) (refusal : Refusal) : Type 0 where
   pub lines : List (List ℕ)
@@ -121,7 +121,7 @@ pub record IsStopped (d : Standing) (input : List ℕ) (given : List Item) (refu
   pub number : refusal.rec ≡ length records + 1
   pub level : refusal.level ≡ level_of (held_kind line) refusal.field refusal.reason (scope_after (map symbol_of records))
   pub empty : d.line.bytes ≡ []
-  pub nothing : d.held ≡ None
+  pub held : d.held ≡ held_of (open_of records)
   pub given_are : given ≡ items_so_far records
 
 abbrev pub RepresentsIn : State → Standing → List ℕ → List Item → Type 0

@@ -1,6 +1,6 @@
 //! What is held of the open transaction: records are added to it, and it is handed out.
 
-ghost use Rattle.std.specs.Prelude.{List, ◌∷◌, ◌++◌, [], ◌≡◌, ◌↔◌, Some, None, IfSome, IsTrue, IsFalse, IsSome, OnOk, OnErr, length};
+ghost use Rattle.std.specs.Prelude.{List, ◌∷◌, ◌++◌, [], ◌≡◌, ◌↔◌, Some, None, IfSome, IsTrue, IsFalse, IsSome, OnOk, OnErr, length, slice_get};
 ghost use Rattle.cwr_lines.specs.Format.Growth.{AsksMemory};
 ghost use Rattle.cwr_shape.specs.Steps.Tallies.{IsTallyOf};
 ghost use Rattle.cwr_shape.specs.declared.symbols.Symbol.{Symbol};
@@ -78,6 +78,16 @@ impl Held {
         }
     }
 
+    /// The header of the open transaction: its first record.
+    pub(super) fn header(&self) -> Option<RecordRef<'_>>
+        ensures { result ≡ slice_get (held_list self.now) 0 }
+    {
+        match &self.list {
+            HeldList::Open(transaction) => transaction.record(0),
+            HeldList::Spare(_) => None,
+        }
+    }
+
     /// The header of the open transaction, where nothing else is held of that.
     pub(super) fn lone_header(&self) -> Option<RecordRef<'_>>
         ensures { IfSome result (λ header. self.now ≡ Some (header ∷ [])) }
@@ -111,6 +121,15 @@ impl Held {
     {
         if let Some(whole) = self.take(alloc) {
             self.list = HeldList::Spare(whole.into_records());
+        }
+    }
+
+    /// Drops the room that is spare. An open transaction stays.
+    pub(super) fn drop_room(&mut self, alloc: Global)
+        ensures { self.new ≡ self.old }
+    {
+        if let HeldList::Spare(room) = &mut self.list {
+            *room = RecordList::new(alloc);
         }
     }
 

@@ -2,7 +2,7 @@
 
 ghost use Rattle.std.specs.Prelude.{◌≡◌, ◌≢◌, false, Some};
 ghost use Rattle.cwr_lines.specs.Steps.Held.{IsHeld, Takes};
-ghost use Rattle.cwr_decode.specs.Steps.Machines.{ClosesLine, HoldsOpen, IsReady, Judges, ReportsFault};
+ghost use Rattle.cwr_decode.specs.Steps.Machines.{ClosesLine, HoldsOpen, IsReady, Judges, ReportsFault, with_refusal};
 ghost use Rattle.cwr_decode.specs.Steps.Represents.{IsSound};
 ghost use Rattle.cwr_decode.specs.Steps.Calls.{Advances, TakesEnd};
 
@@ -16,6 +16,15 @@ use cwr_shape::level;
 use cwr_values::Item;
 
 impl Machine {
+    /// Stops for good with a refusal. The open transaction stays as it is, and no room is spare.
+    fn stop_refused(&mut self, refusal: Refusal)
+        ensures { self.new ≡ with_refusal self.old refusal }
+    {
+        self.line.clear();
+        self.held.drop_room(self.alloc);
+        self.state = State::Refused(refusal);
+    }
+
     /// Refuses the line for good.
     fn refuse(&mut self, kind: Option<Kind>, fault: LineFault) -> Outcome
         ensures { ReportsFault self.old kind fault result self.new }
@@ -26,7 +35,7 @@ impl Machine {
             level: level(kind, fault.field, &fault.reason, self.tally.scope()),
             reason: fault.reason,
         };
-        self.stop(State::Refused(refusal));
+        self.stop_refused(refusal);
         Outcome::Refused(refusal)
     }
 

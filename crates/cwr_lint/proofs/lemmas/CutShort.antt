@@ -94,6 +94,16 @@ pub leaves_read : {W A : Type 0} (P Q : List ℕ → Type 0) (contents : W → O
 leaves_read P Q contents (Ok x) old new f p = tt
 leaves_read P Q contents (Err fault) old new f p = (p.0, p.1, inr (f p.0 p.2))
 
+pub unread_as : {W A : Type 0} (P Q : List ℕ → Type 0) (contents : W → Option (List ℕ)) (result : Result A ToolFault)
+    (old new : Sink W) → ((text : List ℕ) → P text → Q text) → LeavesOrUnread P contents result old new
+    → LeavesOrUnread Q contents result old new
+unread_as P Q contents (Ok x) old new f p = tt
+unread_as P Q contents (Err fault) old new f p = (p.0, p.1, by p.2)
+  where
+    by : IsUnread fault p.0 ⊎ P p.0 → IsUnread fault p.0 ⊎ Q p.0
+    by (inl none) = inl none
+    by (inr h) = inr (f p.0 h)
+
 -- one text, and then such a one
 pub then_cut : {W : Type 0} (P Q : List ℕ → Type 0) (contents : W → Option (List ℕ)) (text : List ℕ) (fault : ToolFault)
     (old mid new : Sink W) → Adds contents text old mid → ((more : List ℕ) → P more → Q (text ++ more))
@@ -408,23 +418,23 @@ fault_ends P contents start new n (faults.Limit limit) text sink p unfailed kept
     (text, p, whole_written contents start new text sink unfailed kept h)
 
 -- what is written where a run ends with a fault, its own or that of the last flush
-pub ends_cut : {W : Type 0} (P Q : List ℕ → Type 0) (contents : W → Option (List ℕ)) (writer new : W) (refusal : Refusal) (n : ℕ)
+pub ends_cut : {W : Type 0} (P Q : List ℕ → Type 0) (contents : W → Option (List ℕ)) (writer new : W) (found : Verdict) (n : ℕ)
     (text : List ℕ) (begun sink : Sink W) (told : Result (Unit {0}) ToolFault) (a b : ℕ) (result : Result Verdict ToolFault)
     → ((it : List ℕ) → P it → Q it) → IfOk told (λ u. P text) → LeavesOrUnread Q contents told begun sink
     → HasWritten contents (contents writer) [] begun → HasWritten contents (contents writer) text sink
-    → Keeps (contents (writer_of sink)) (contents new) → EndsRun refusal n told a b result
+    → Keeps (contents (writer_of sink)) (contents new) → EndsRun found n told a b result
     → AppendsUpTo contents writer new result Q
-ends_cut P Q contents writer new refusal n text begun sink (Ok u) a b (Ok verdict) f p q empty h kept e = tt
-ends_cut P Q contents writer new refusal n text begun sink (Ok u) a b (Err (faults.Writer written)) f p q empty h kept e =
+ends_cut P Q contents writer new found n text begun sink (Ok u) a b (Ok verdict) f p q empty h kept e = tt
+ends_cut P Q contents writer new found n text begun sink (Ok u) a b (Err (faults.Writer written)) f p q empty h kept e =
     front_written Q contents (contents writer) new written text sink (f text p) kept h
-ends_cut P Q contents writer new refusal n text begun sink (Ok u) a b (Err faults.Reader) f p q empty h kept e = absurd e
-ends_cut P Q contents writer new refusal n text begun sink (Ok u) a b (Err faults.Memory) f p q empty h kept e = absurd e
-ends_cut P Q contents writer new refusal n text begun sink (Ok u) a b (Err (faults.Refused other)) f p q empty h kept e = absurd e
-ends_cut P Q contents writer new refusal n text begun sink (Ok u) a b (Err (faults.Truncated records)) f p q empty h kept e =
+ends_cut P Q contents writer new found n text begun sink (Ok u) a b (Err faults.Reader) f p q empty h kept e = absurd e
+ends_cut P Q contents writer new found n text begun sink (Ok u) a b (Err faults.Memory) f p q empty h kept e = absurd e
+ends_cut P Q contents writer new found n text begun sink (Ok u) a b (Err (faults.Refused other)) f p q empty h kept e = absurd e
+ends_cut P Q contents writer new found n text begun sink (Ok u) a b (Err (faults.Truncated records)) f p q empty h kept e =
     absurd e
-ends_cut P Q contents writer new refusal n text begun sink (Ok u) a b (Err faults.Output) f p q empty h kept e = absurd e
-ends_cut P Q contents writer new refusal n text begun sink (Ok u) a b (Err (faults.Limit limit)) f p q empty h kept e = absurd e
-ends_cut P Q contents writer new refusal n text begun sink (Err fault) a b result f p q empty h kept e =
+ends_cut P Q contents writer new found n text begun sink (Ok u) a b (Err faults.Output) f p q empty h kept e = absurd e
+ends_cut P Q contents writer new found n text begun sink (Ok u) a b (Err (faults.Limit limit)) f p q empty h kept e = absurd e
+ends_cut P Q contents writer new found n text begun sink (Err fault) a b result f p q empty h kept e =
     subst (λ (r : Result Verdict ToolFault). AppendsUpTo contents writer new r Q) (sym e.0)
     (fault_ends Q contents (contents writer) new n fault q.0 sink q.2 q.1.unfailed kept
     (q.1.written (contents writer) [] empty))

@@ -1,9 +1,10 @@
 -- The line that was read last, and what the reader has of it.
-use Rattle.std.proofs.Common.{◌≡◌, ◌≢◌, ℕ, ◌≤◌, Bool, true, false, true≢false, List, [], ◌∷◌, ◌++◌, length, drop, Option, refl}
+use Rattle.std.proofs.Common.{◌≡◌, ◌≢◌, ℕ, ◌≤◌, Bool, true, false, true≢false, List, [], ◌∷◌, ◌++◌, length, drop, Option, None, Some, refl}
 use Rattle.std.proofs.Common.{sym, ap, subst, ◌∙◌, arith, inl, inr, append_assoc, append-nil}
 use Rattle.std.specs.Prelude.{◌⊎◌, IsFalse}
 use Rattle.std.specs.List.{list_any}
-use Rattle.std.proofs.KnownBytes.{Consumes-nil}
+use Rattle.std.specs.Io.KnownBytes.{Keeps}
+use Rattle.std.proofs.KnownBytes.{Consumes-kept, Consumes-nil, Consumes-trans}
 use Rattle.std.proofs.lemmas.List.{length-append}
 use Rattle.std.proofs.Math.Seq.{drop-append-le, drop-append_seam}
 use Rattle.cwr_lines.specs.Format.Lines.{is_lf}
@@ -117,3 +118,22 @@ last_open left after last shown found old raw other finds same h r = record {
 pub some_line : (left after : Option (List ℕ)) (shown : List ℕ) (old raw : RawLine) → HoldsRaw shown old
     → ReadsRest left after old raw → IsOfLine raw
 some_line left after shown old raw h r = record { line = shown ++ r.more.bytes; holds = r.more.grown shown h }
+
+-- ---- where the reader shows its bytes before they are read
+
+kept_end : (left mid after : Option (List ℕ)) (bytes : List ℕ) → Keeps left mid → IsAllRead mid after bytes
+    → IsAllRead left after bytes
+kept_end None mid after bytes k (inl e) = inl tt
+kept_end None mid after bytes k (inr n) = inr n
+kept_end (Some xs) None after bytes k e = absurd k
+kept_end (Some xs) (Some ys) after bytes k (inl e) = inl e
+kept_end (Some xs) (Some ys) after bytes k (inr n) = inr n
+
+pub reads_kept : (left mid after : Option (List ℕ)) (last : LastBytes) (raw : RawLine) → Keeps left mid
+    → ReadsLast mid after last raw → ReadsLast left after last raw
+reads_kept left mid after last raw k r = record {
+  bytes = r.bytes;
+  taken = Consumes-trans left mid after [] r.bytes (Consumes-kept left left mid [] (Consumes-nil left) k) r.taken;
+  all = λ e. kept_end left mid after r.bytes k (r.all e);
+  line = r.line;
+}

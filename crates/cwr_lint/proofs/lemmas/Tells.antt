@@ -1,6 +1,6 @@
 -- A whole lint: a check up to the first fault, and what follows it.
 use Rattle.std.proofs.Common.{◌≡◌, ℕ, ◌-◌, ◌≤◌, List, [], ◌∷◌, ◌++◌, length, Option, Some, None, refl, sym, ap, subst, ◌∙◌, arith}
-use Rattle.std.proofs.Common.{inl, inr, append_assoc, append-nil, ap₂, drop}
+use Rattle.std.proofs.Common.{inl, inr, append_assoc, append-nil, ap₂, drop, true≢false}
 use Rattle.std.specs.Prelude.{◌⊎◌, ◌^◌, Bool, true, false, Result, Ok, Err, IfErr, IfOk, IfSome, IsFalse, IsSomeAnd, OnOk}
 use Rattle.std.specs.List.{AllByRecursion, list_any}
 use Rattle.std.specs.Io.KnownBytes.{Appends, Consumes, IsAtEnd}
@@ -24,7 +24,7 @@ use Rattle.cwr_lint.specs.Format.Wanted.{lines_with, said_when}
 use Rattle.cwr_lint.specs.declared.raw_lines.RawLine.{RawLine}
 use Rattle.cwr_lint.specs.Steps.CutShort.{AppendsUpTo, IsToldUpTo, IsUnread, TellsAfterUpTo, TellsLastUpTo}
 use Rattle.cwr_lint.specs.Steps.LinesRead.{GoesOn, HoldsRaw, IsAllRead, IsTextOf, ReadsLast, spelled}
-use Rattle.cwr_lint.specs.Steps.Runs.{TellsRun}
+use Rattle.cwr_lint.specs.Steps.Runs.{AreWords, TellsRun}
 use Rattle.cwr_lint_lines.specs.Steps.Fronts.{state_at}
 use Rattle.cwr_lint.specs.Steps.Walks.{IsTold, Walk, begins_at}
 use Rattle.cwr_shape.specs.declared.stages.Stage.{Stage}
@@ -48,7 +48,7 @@ use Rattle.cwr_judge.proofs.lemmas.Accepted.{accepted_once}
 use Rattle.cwr_tools.specs.Steps.Reports.{Reports, StandsAfter}
 use Rattle.cwr_advice.specs.declared.said.Said.{Said}
 use Rattle.cwr_lines.specs.Format.Lines.{is_lf}
-use Rattle.cwr_lint.specs.Steps.Lints.{AreLinesRead, AreWordsUpTo, Lints, Tells, TellsFaults, TellsUpToFault}
+use Rattle.cwr_lint.specs.Steps.Lints.{AddsEnd, AreLinesRead, AreWordsUpTo, Lints, Tells, TellsFaults, TellsUpToFault}
 use Rattle.cwr_lint.proofs.lemmas.CutShort.{cut_as}
 
 -- nothing follows a verdict that is no refusal: what was written is what a check writes
@@ -68,7 +68,7 @@ tells_good wanted limits before after contents old new groups transactions recor
 pub tells_truncated : {W : Type 0} (wanted : Wanted) (limits : Limits) (before after : Option (List ℕ))
     (contents : W → Option (List ℕ)) (old new : W) (records : ℕ)
     → Reports (lines_up_to wanted) limits before after contents old new (Ok (Truncated records))
-    → Tells wanted limits before after contents old new (Truncated records)
+    → Reports (lines_linted wanted) limits before after contents old new (Ok (Truncated records))
 tells_truncated wanted limits before after contents old new records h =
     truncated_with wanted.advised wanted.explained wanted.all h
   where
@@ -154,7 +154,7 @@ built wanted limits before left after contents old between new refusal asking fo
       heard_before = x.stopped;
       told =
           subst (λ (w : Walk). IsTold (asking_for wanted (said_in x.heard)) w refusal refused t.tells.lines t.tells.over text)
-          (begins_same (refusal.rec - 1) s.1 s.3 x.counted x.advised)
+          (begins_same (refusal.rec - 1) s.1.0 s.1.1 x.counted x.advised)
           (subst (λ (a : Asking). IsTold a (begins_at (state_at last.stage last.counts (refusal.rec - 1)) found advice) refusal refused
           t.tells.lines t.tells.over text) x.asks (t.tells.told refused holds));
       written =
@@ -267,7 +267,7 @@ built_up_to wanted limits before left refusal asking found advice last text s x 
   heard_before = x.stopped;
   told =
       subst (λ (w : Walk). IsToldUpTo (asking_for wanted (said_in x.heard)) w refusal refused t.tells.lines text)
-      (begins_same (refusal.rec - 1) s.1 s.3 x.counted x.advised)
+      (begins_same (refusal.rec - 1) s.1.0 s.1.1 x.counted x.advised)
       (subst (λ (a : Asking). IsToldUpTo a (begins_at (state_at last.stage last.counts (refusal.rec - 1)) found advice) refusal refused
       t.tells.lines text) x.asks (t.tells.told refused holds));
   read = read;
@@ -362,6 +362,71 @@ lints_at flag wanted limits before after contents old new checked result same h 
     subst (λ (b : Wanted). Lints b limits before after contents old new result) same
     (lints_alone flag limits before after contents old new checked result h e)
 
+-- ---- an end that comes too early
+
+tells_end : {W : Type 0} (wanted : Wanted) (limits : Limits) (before after : Option (List ℕ)) (contents : W → Option (List ℕ))
+    (old between new : W) (records : ℕ) (words : List ℕ)
+    → Reports (lines_up_to wanted) limits before after contents old between (Ok (Truncated records))
+    → AreWords wanted.explained words → Appends (contents between) (contents new) words
+    → Tells wanted limits before after contents old new (Truncated records)
+tells_end wanted limits before after contents old between new records words h asked written = record {
+  between = between;
+  reported = tells_truncated wanted limits before after contents old between records h;
+  words = words;
+  asked = asked;
+  written = written;
+}
+
+pub truncated_unaccepted : {W : Type 0} (wanted : Wanted) (limits : Limits) (before after : Option (List ℕ))
+    (contents : W → Option (List ℕ)) (old new : W) (records : ℕ) → JudgesText limits before (Ok (Truncated records))
+    → JudgesAccepted (lines_linted wanted) limits before after contents old new (Truncated records)
+truncated_unaccepted wanted limits None after contents old new records h = tt
+truncated_unaccepted wanted limits (Some text) after contents old new records h = λ v n a. absurd (h.unaccepted v n a)
+
+asked_words : (explained : Bool) (words : List ℕ) → explained ≡ true → AreWords explained words
+asked_words explained words is = λ e. absurd (true≢false (sym is ∙ e))
+
+-- words on it follow the check
+pub ended_lints : {W : Type 0} (flag wanted : Wanted) (limits : Limits) (before after : Option (List ℕ))
+    (contents : W → Option (List ℕ)) (old between new : W) (records : ℕ) (checked result : Result Verdict ToolFault)
+    → flag ≡ wanted → wanted.explained ≡ true → Reports (lines_up_to flag) limits before after contents old between checked
+    → checked ≡ Ok (Truncated records) → IsAnswerTo (Truncated records) result → AddsEnd contents between new result
+    → Lints wanted limits before after contents old new result
+ended_lints flag wanted limits before after contents old between new records checked (Ok verdict) same is h e answered adds =
+    lints_after wanted limits before after after contents old between new checked (Ok verdict) adds.0
+    (subst (λ (b : Wanted). Reports (lines_up_to b) limits before after contents old between checked) same h) adds.1
+    ([], Consumes-nil after)
+    (subst (λ (r : Result Verdict ToolFault). IsAnswerAfter r (Ok verdict)) (sym e) answered) tt
+ended_lints flag wanted limits before after contents old between new records checked (Err fault) same is h e answered adds =
+    lints_after wanted limits before after after contents old between new checked (Err fault) adds.0
+    (subst (λ (b : Wanted). Reports (lines_up_to b) limits before after contents old between checked) same h) adds.1
+    ([], Consumes-nil after)
+    (subst (λ (r : Result Verdict ToolFault). IsAnswerAfter r (Err fault)) (sym e) answered)
+    (subst (λ (r : Result Verdict ToolFault). AreWordsUpTo wanted limits before after r fault adds.0) (sym e) (is, adds.2))
+
+pub ended_tells : {W : Type 0} (flag wanted : Wanted) (limits : Limits) (before after : Option (List ℕ))
+    (contents : W → Option (List ℕ)) (old between new : W) (records : ℕ) (checked result : Result Verdict ToolFault)
+    → flag ≡ wanted → wanted.explained ≡ true → Reports (lines_up_to flag) limits before after contents old between checked
+    → checked ≡ Ok (Truncated records) → IsAnswerTo (Truncated records) result → AddsEnd contents between new result
+    → IfOk result (Tells wanted limits before after contents old new)
+ended_tells flag wanted limits before after contents old between new records checked (Ok verdict) same is h e answered adds =
+    subst (Tells wanted limits before after contents old new) (sym answered)
+    (tells_end wanted limits before after contents old between new records adds.0
+    (subst (λ (b : Wanted). Reports (lines_up_to b) limits before after contents old between (Ok (Truncated records))) same
+    (subst (Reports (lines_up_to flag) limits before after contents old between) e h)) (asked_words wanted.explained adds.0 is)
+    adds.1)
+ended_tells flag wanted limits before after contents old between new records checked (Err fault) same is h e answered adds = tt
+
+-- such a text isn't accepted
+pub ended_accepted : {W : Type 0} (wanted : Wanted) (limits : Limits) (before after : Option (List ℕ))
+    (contents : W → Option (List ℕ)) (old new : W) (records : ℕ) (checked result : Result Verdict ToolFault)
+    → checked ≡ Ok (Truncated records) → JudgesText limits before checked → IsAnswerTo (Truncated records) result
+    → IfOk result (JudgesAccepted (lines_linted wanted) limits before after contents old new)
+ended_accepted wanted limits before after contents old new records checked (Ok verdict) e judged answered =
+    subst (JudgesAccepted (lines_linted wanted) limits before after contents old new) (sym answered)
+    (truncated_unaccepted wanted limits before after contents old new records (subst (JudgesText limits before) e judged))
+ended_accepted wanted limits before after contents old new records checked (Err fault) e judged answered = tt
+
 -- the verdict is no refusal
 abbrev pub IsUnrefused : Verdict → Type 0
 IsUnrefused (Good groups transactions records) = Unit {0}
@@ -376,7 +441,7 @@ tells_unrefused wanted limits before after contents old new (Good groups transac
     tells_good wanted limits before after contents old new groups transactions records h
 tells_unrefused wanted limits before after contents old new (Refused refusal) is h = absurd is
 tells_unrefused wanted limits before after contents old new (Truncated records) is h =
-    tells_truncated wanted limits before after contents old new records h
+    tells_end wanted limits before after contents old new new records [] h (λ e. refl) (Appends-nil (contents new))
 
 pub unrefused_at : {W : Type 0} (flag wanted : Wanted) (limits : Limits) (before after : Option (List ℕ))
     (contents : W → Option (List ℕ)) (old new : W) (checked : Result Verdict ToolFault) (verdict : Verdict)
@@ -463,8 +528,7 @@ accepted_at wanted limits before after contents old new (Good groups transaction
 accepted_at wanted limits before after contents old new (Truncated records) result e judged told =
     subst (λ (r : Result Verdict ToolFault). IfOk r (JudgesAccepted (lines_linted wanted) limits before after contents old new))
     (sym e)
-    (judges_accepted (lines_linted wanted) limits before after contents old new (Truncated records)
-    (subst (λ (r : Result Verdict ToolFault). IfOk r (Tells wanted limits before after contents old new)) e told))
+    (truncated_unaccepted wanted limits before after contents old new records (subst (JudgesText limits before) e judged))
 accepted_at wanted limits before after contents old new (Refused refusal) result e judged told =
     subst (λ (r : Result Verdict ToolFault). IfOk r (JudgesAccepted (lines_linted wanted) limits before after contents old new))
     (sym e) (none before (subst (JudgesText limits before) e judged))

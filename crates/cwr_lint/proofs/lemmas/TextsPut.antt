@@ -1,6 +1,6 @@
 -- Texts that are put one after another.
 use Rattle.std.proofs.Common.{◌≡◌, ℕ, false, List, [], ◌++◌, Option, refl, sym, subst, append_assoc, append-nil}
-use Rattle.std.specs.Prelude.{Bool, Result, Ok, Err, IfOk, OnOk, is_err}
+use Rattle.std.specs.Prelude.{Bool, Result, Ok, Err, IfErr, IfOk, OnOk, is_err}
 use Rattle.cwr_devices.specs.declared.sinks.Sink.{Sink}
 use Rattle.cwr_devices.specs.declared.sinks.SinkFault.{SinkFault}
 use Rattle.cwr_devices.specs.Steps.Sinks.{CountsOn, HasWritten, has_failed, writer_of}
@@ -11,6 +11,7 @@ use Rattle.cwr_tools.specs.Steps.Reports.{PutsLines}
 use Rattle.cwr_judge.specs.declared.refusals.Refusal.{Refusal}
 use Rattle.cwr_levels.specs.Format.ReportLines.{fault_line}
 use Rattle.cwr_lint.specs.Format.FaultsOfLines.{Asking, IsFaultText}
+use Rattle.cwr_lint.specs.Steps.CutShort.{UnlessWriter}
 use Rattle.cwr_lint.specs.Steps.Runs.{AreWords}
 use Rattle.cwr_lint.specs.Steps.Puts.{CountsPut, PutsAfter, PutsWith, tool_result}
 
@@ -147,3 +148,15 @@ findings_put contents failures takes_memory text wanted (Err (faults.Limit limit
 pub no_findings : {W : Type 0} (contents : W → Option (List ℕ)) (failures : W → ℕ) (sink : Sink W) (text : List ℕ) → [] ≡ text
     → has_failed sink ≡ false → PutsWith (λ (u : Unit {0}) (it : List ℕ). it ≡ text) contents failures (Ok tt) sink sink
 no_findings contents failures sink text e unfailed = ([], none_put contents failures tt sink unfailed, e)
+
+-- a call that only the writer fails leaves nothing before another fault
+pub none_unless : (result : Result (Unit {0}) ToolFault) (text : List ℕ) → IfErr result (λ fault. UnlessWriter fault ⊥)
+    → IfErr result (λ fault. UnlessWriter fault (text ≡ []))
+none_unless (Ok u) text h = tt
+none_unless (Err (faults.Writer written)) text h = tt
+none_unless (Err faults.Reader) text h = absurd h
+none_unless (Err faults.Memory) text h = absurd h
+none_unless (Err (faults.Refused refusal)) text h = absurd h
+none_unless (Err (faults.Truncated records)) text h = absurd h
+none_unless (Err faults.Output) text h = absurd h
+none_unless (Err (faults.Limit limit)) text h = absurd h

@@ -1,25 +1,24 @@
 -- Texts that are put one after another, while bytes are taken from a reader.
-use Rattle.std.proofs.Common.{◌≡◌, ℕ, ◌+◌, ◌-◌, false, List, [], ◌++◌, Option, refl, sym, ap, subst, ◌∙◌, append_assoc, append-nil}
-use Rattle.std.specs.Prelude.{◌^◌, min, Result, Ok, Err, IfOk, OnOk}
+use Rattle.std.proofs.Common.{◌≡◌, ℕ, ◌+◌, ◌-◌, false, List, [], ◌∷◌, ◌++◌, Option, refl, sym, ap, subst, ◌∙◌, append_assoc, append-nil}
+use Rattle.std.specs.Prelude.{◌^◌, min, Result, Ok, Err, IfErr, IfOk, OnOk}
 use Rattle.std.specs.Io.KnownBytes.{Appends, GrowsBy, Keeps}
 use Rattle.cwr_devices.specs.Format.Failures.{one_more_failure}
 use Rattle.cwr_devices.specs.declared.sinks.Sink.{Sink}
 use Rattle.cwr_devices.specs.Steps.Sinks.{HasWritten, counted_up, has_failed, writer_of, written_of}
 use Rattle.cwr_encode.proofs.lemmas.Ends.{all_written, appends_kept}
-use Rattle.cwr_judge.specs.declared.refusals.Refusal.{Refusal}
 use Rattle.cwr_causes.specs.Format.Trailing.{TakesMore}
 use Rattle.cwr_tools.specs.Format.Reports.{AddsWords, CountsAfter, CountsReaderFault, CountsWriterFault}
 use Rattle.cwr_tools.specs.Format.Verdicts.{IsAnswerTo}
 use Rattle.cwr_causes.proofs.lemmas.TakenPieces.{no_more, takes_both}
 use Rattle.cwr_tools.specs.declared.verdicts.Verdict.{Verdict}
-use Rattle.cwr_tools.specs.declared.verdicts.Verdict.TheVariants.{Refused}
 use Rattle.cwr_tools.specs.declared.verdicts.ToolFault.{ToolFault}
 use Rattle.cwr_tools.specs.declared.verdicts.ToolFault.TheVariants as faults
-use Rattle.cwr_lint.specs.Steps.Lints.{EndsRun, counted}
+use Rattle.cwr_lint.specs.Steps.CutShort.{UnlessWriter}
+use Rattle.cwr_lint.specs.Steps.Lints.{AddsEnd, EndsRun, counted}
 use Rattle.cwr_lint.specs.Steps.Puts.{CountsBoth, CountsPut, PutsAfter, PutsWith, ReadsAndPuts, ReadsAndPutsWith}
 
 -- what is put counts for both
-put_counts : {A : Type 0} (result : Result A ToolFault) (reader old new : ℕ) → CountsPut result old new
+pub put_counts : {A : Type 0} (result : Result A ToolFault) (reader old new : ℕ) → CountsPut result old new
     → CountsBoth result reader reader old new
 put_counts (Ok x) reader old new h = (refl, h)
 put_counts (Err (faults.Writer written)) reader old new h = (refl, h)
@@ -225,15 +224,15 @@ answers A n verdict (faults.Limit limit) a b c d h = absurd h
 
 -- all that was told is written
 pub ends_told : {W : Type 0} (P : List ℕ → Type 0) (contents : W → Option (List ℕ)) (start : Option (List ℕ)) (new : W)
-    (refusal : Refusal) (n : ℕ) (text : List ℕ) (sink : Sink W) (told : Result (Unit {0}) ToolFault) (a b : ℕ)
+    (found : Verdict) (n : ℕ) (text : List ℕ) (sink : Sink W) (told : Result (Unit {0}) ToolFault) (a b : ℕ)
     (result : Result Verdict ToolFault)
     → IfOk told (λ u. P text) → OnOk told (has_failed sink ≡ false) → Keeps (contents (writer_of sink)) (contents new)
-    → HasWritten contents start text sink → EndsRun refusal n told a b result
+    → HasWritten contents start text sink → EndsRun found n told a b result
     → OnOk result ((it : List ℕ) × P it × Appends start (contents new) it)
-ends_told P contents start new refusal n text sink (Ok u) a b (Ok verdict) is unfailed kept h e =
+ends_told P contents start new found n text sink (Ok u) a b (Ok verdict) is unfailed kept h e =
     (text, is, (all_written contents start text text sink new (written_of sink) refl unfailed kept refl h).appended)
-ends_told P contents start new refusal n text sink (Ok u) a b (Err fault) is unfailed kept h e = tt
-ends_told P contents start new refusal n text sink (Err fault) a b result is unfailed kept h e =
+ends_told P contents start new found n text sink (Ok u) a b (Err fault) is unfailed kept h e = tt
+ends_told P contents start new found n text sink (Err fault) a b result is unfailed kept h e =
     subst (λ (r : Result Verdict ToolFault). OnOk r ((it : List ℕ) × P it × Appends start (contents new) it)) (sym e.0) tt
 
 -- some bytes are, however it ends
@@ -243,55 +242,55 @@ pub ends_words : {W : Type 0} (contents : W → Option (List ℕ)) (writer new :
 ends_words contents writer new text sink kept h =
     (h.bytes, appends_kept (contents writer) (contents (writer_of sink)) (contents new) h.bytes h.appended kept)
 
-pub ends_reader : (refusal : Refusal) (n : ℕ) (told : Result (Unit {0}) ToolFault) (result : Result Verdict ToolFault)
-    (reader read a b d : ℕ) → CountsBoth told reader read a b → EndsRun refusal n told b d result → CountsReaderFault result reader
+pub ends_reader : (found : Verdict) (n : ℕ) (told : Result (Unit {0}) ToolFault) (result : Result Verdict ToolFault)
+    (reader read a b d : ℕ) → CountsBoth told reader read a b → EndsRun found n told b d result → CountsReaderFault result reader
     read
-ends_reader refusal n (Ok u) (Ok verdict) reader read a b d h e = h.0
-ends_reader refusal n (Ok u) (Err (faults.Writer written)) reader read a b d h e = h.0
-ends_reader refusal n (Ok u) (Err faults.Reader) reader read a b d h e = absurd e
-ends_reader refusal n (Ok u) (Err faults.Memory) reader read a b d h e = absurd e
-ends_reader refusal n (Ok u) (Err (faults.Refused other)) reader read a b d h e = absurd e
-ends_reader refusal n (Ok u) (Err (faults.Truncated records)) reader read a b d h e = absurd e
-ends_reader refusal n (Ok u) (Err faults.Output) reader read a b d h e = absurd e
-ends_reader refusal n (Ok u) (Err (faults.Limit limit)) reader read a b d h e = absurd e
-ends_reader refusal n (Err fault) result reader read a b d h e =
+ends_reader found n (Ok u) (Ok verdict) reader read a b d h e = h.0
+ends_reader found n (Ok u) (Err (faults.Writer written)) reader read a b d h e = h.0
+ends_reader found n (Ok u) (Err faults.Reader) reader read a b d h e = absurd e
+ends_reader found n (Ok u) (Err faults.Memory) reader read a b d h e = absurd e
+ends_reader found n (Ok u) (Err (faults.Refused other)) reader read a b d h e = absurd e
+ends_reader found n (Ok u) (Err (faults.Truncated records)) reader read a b d h e = absurd e
+ends_reader found n (Ok u) (Err faults.Output) reader read a b d h e = absurd e
+ends_reader found n (Ok u) (Err (faults.Limit limit)) reader read a b d h e = absurd e
+ends_reader found n (Err fault) result reader read a b d h e =
     subst (λ (r : Result Verdict ToolFault). CountsReaderFault r reader read) (sym e.0)
     (reader_counts (Unit {0}) n fault reader read a b h)
 
-pub ends_writer : (refusal : Refusal) (n : ℕ) (told : Result (Unit {0}) ToolFault) (result : Result Verdict ToolFault)
-    (reader read a b d : ℕ) → CountsBoth told reader read a b → EndsRun refusal n told b d result → CountsWriterFault result a d
-ends_writer refusal n (Ok u) (Ok verdict) reader read a b d h e = e.1 ∙ h.1
-ends_writer refusal n (Ok u) (Err (faults.Writer written)) reader read a b d h e = e.0 ∙ ap one_more_failure h.1
-ends_writer refusal n (Ok u) (Err faults.Reader) reader read a b d h e = absurd e
-ends_writer refusal n (Ok u) (Err faults.Memory) reader read a b d h e = absurd e
-ends_writer refusal n (Ok u) (Err (faults.Refused other)) reader read a b d h e = absurd e
-ends_writer refusal n (Ok u) (Err (faults.Truncated records)) reader read a b d h e = absurd e
-ends_writer refusal n (Ok u) (Err faults.Output) reader read a b d h e = absurd e
-ends_writer refusal n (Ok u) (Err (faults.Limit limit)) reader read a b d h e = absurd e
-ends_writer refusal n (Err fault) result reader read a b d h e =
+pub ends_writer : (found : Verdict) (n : ℕ) (told : Result (Unit {0}) ToolFault) (result : Result Verdict ToolFault)
+    (reader read a b d : ℕ) → CountsBoth told reader read a b → EndsRun found n told b d result → CountsWriterFault result a d
+ends_writer found n (Ok u) (Ok verdict) reader read a b d h e = e.1 ∙ h.1
+ends_writer found n (Ok u) (Err (faults.Writer written)) reader read a b d h e = e.0 ∙ ap one_more_failure h.1
+ends_writer found n (Ok u) (Err faults.Reader) reader read a b d h e = absurd e
+ends_writer found n (Ok u) (Err faults.Memory) reader read a b d h e = absurd e
+ends_writer found n (Ok u) (Err (faults.Refused other)) reader read a b d h e = absurd e
+ends_writer found n (Ok u) (Err (faults.Truncated records)) reader read a b d h e = absurd e
+ends_writer found n (Ok u) (Err faults.Output) reader read a b d h e = absurd e
+ends_writer found n (Ok u) (Err (faults.Limit limit)) reader read a b d h e = absurd e
+ends_writer found n (Err fault) result reader read a b d h e =
     subst (λ (r : Result Verdict ToolFault). CountsWriterFault r a d) (sym e.0)
     (subst (λ (k : ℕ). CountsWriterFault (Err (counted n fault)) a k) (sym e.1) (writer_counts (Unit {0}) n fault reader read a b h))
 
-pub ends_answer : (refusal : Refusal) (n : ℕ) (told : Result (Unit {0}) ToolFault) (result : Result Verdict ToolFault)
-    (reader read a b d : ℕ) → CountsBoth told reader read a b → EndsRun refusal n told b d result → IsAnswerTo (Refused refusal)
+pub ends_answer : (found : Verdict) (n : ℕ) (told : Result (Unit {0}) ToolFault) (result : Result Verdict ToolFault)
+    (reader read a b d : ℕ) → CountsBoth told reader read a b → EndsRun found n told b d result → IsAnswerTo found
     result
-ends_answer refusal n (Ok u) (Ok verdict) reader read a b d h e = e.0
-ends_answer refusal n (Ok u) (Err (faults.Writer written)) reader read a b d h e = tt
-ends_answer refusal n (Ok u) (Err faults.Reader) reader read a b d h e = absurd e
-ends_answer refusal n (Ok u) (Err faults.Memory) reader read a b d h e = absurd e
-ends_answer refusal n (Ok u) (Err (faults.Refused other)) reader read a b d h e = absurd e
-ends_answer refusal n (Ok u) (Err (faults.Truncated records)) reader read a b d h e = absurd e
-ends_answer refusal n (Ok u) (Err faults.Output) reader read a b d h e = absurd e
-ends_answer refusal n (Ok u) (Err (faults.Limit limit)) reader read a b d h e = absurd e
-ends_answer refusal n (Err fault) result reader read a b d h e =
-    subst (IsAnswerTo (Refused refusal)) (sym e.0) (answers (Unit {0}) n (Refused refusal) fault reader read a b h)
+ends_answer found n (Ok u) (Ok verdict) reader read a b d h e = e.0
+ends_answer found n (Ok u) (Err (faults.Writer written)) reader read a b d h e = tt
+ends_answer found n (Ok u) (Err faults.Reader) reader read a b d h e = absurd e
+ends_answer found n (Ok u) (Err faults.Memory) reader read a b d h e = absurd e
+ends_answer found n (Ok u) (Err (faults.Refused other)) reader read a b d h e = absurd e
+ends_answer found n (Ok u) (Err (faults.Truncated records)) reader read a b d h e = absurd e
+ends_answer found n (Ok u) (Err faults.Output) reader read a b d h e = absurd e
+ends_answer found n (Ok u) (Err (faults.Limit limit)) reader read a b d h e = absurd e
+ends_answer found n (Err fault) result reader read a b d h e =
+    subst (IsAnswerTo found) (sym e.0) (answers (Unit {0}) n found fault reader read a b h)
 
 -- a fault of the writer has the number of all bytes
-pub ends_counted : {W : Type 0} (refusal : Refusal) (contents : W → Option (List ℕ)) (writer new : W) (before : ℕ) (text : List ℕ)
+pub ends_counted : {W : Type 0} (found : Verdict) (contents : W → Option (List ℕ)) (writer new : W) (before : ℕ) (text : List ℕ)
     (sink : Sink W) (told : Result (Unit {0}) ToolFault) (a b : ℕ) (result : Result Verdict ToolFault)
     → Keeps (contents (writer_of sink)) (contents new) → HasWritten contents (contents writer) text sink
-    → EndsRun refusal (counted_up before (written_of sink)) told a b result → CountsAfter contents before writer new result
-ends_counted refusal contents writer new before text sink told a b result kept h e = by told result e
+    → EndsRun found (counted_up before (written_of sink)) told a b result → CountsAfter contents before writer new result
+ends_counted found contents writer new before text sink told a b result kept h e = by told result e
   where
     had : (more : ℕ) × GrowsBy (contents writer) (contents new) more
         × (counted_up before (written_of sink) ≡ min (before + more) (2 ^ 64 - 1))
@@ -312,7 +311,7 @@ ends_counted refusal contents writer new before text sink told a b result kept h
     at (faults.Limit limit) = tt
 
     by : (told : Result (Unit {0}) ToolFault) (result : Result Verdict ToolFault)
-        → EndsRun refusal (counted_up before (written_of sink)) told a b result → CountsAfter contents before writer new result
+        → EndsRun found (counted_up before (written_of sink)) told a b result → CountsAfter contents before writer new result
     by (Ok u) (Ok verdict) e = tt
     by (Ok u) (Err (faults.Writer written)) e = (had.0, had.1, e.1 ∙ had.2)
     by (Ok u) (Err faults.Reader) e = tt
@@ -323,3 +322,41 @@ ends_counted refusal contents writer new before text sink told a b result kept h
     by (Ok u) (Err (faults.Limit limit)) e = tt
     by (Err fault) result e =
         subst (CountsAfter contents before writer new) (sym e.0) (at fault)
+
+-- the words on an end that comes too early
+pub ends_early : {W : Type 0} (contents : W → Option (List ℕ)) (writer new : W) (found : Verdict) (n : ℕ) (text : List ℕ)
+    (sink : Sink W) (told : Result (Unit {0}) ToolFault) (a b : ℕ) (result : Result Verdict ToolFault)
+    → Keeps (contents (writer_of sink)) (contents new) → HasWritten contents (contents writer) text sink
+    → IfErr told (λ fault. UnlessWriter fault (text ≡ [])) → EndsRun found n told a b result → AddsEnd contents writer new result
+ends_early contents writer new found n text sink told a b result kept h none e =
+    (words.0, words.1, by told result none e)
+  where
+    words : (it : List ℕ) × Appends (contents writer) (contents new) it
+    words = (h.bytes, appends_kept (contents writer) (contents (writer_of sink)) (contents new) h.bytes h.appended kept)
+
+    front_nil : (bytes rest : List ℕ) → [] ≡ bytes ++ rest → bytes ≡ []
+    front_nil [] rest e = refl
+    front_nil (x ∷ bytes) rest e = absurd (cc e)
+
+    at : (fault : ToolFault) → UnlessWriter fault (text ≡ []) → UnlessWriter (counted n fault) (h.bytes ≡ [])
+    at (faults.Writer written) p = tt
+    at faults.Memory p = front_nil h.bytes h.rest (sym p ∙ h.split)
+    at faults.Reader p = front_nil h.bytes h.rest (sym p ∙ h.split)
+    at (faults.Refused other) p = front_nil h.bytes h.rest (sym p ∙ h.split)
+    at (faults.Truncated records) p = front_nil h.bytes h.rest (sym p ∙ h.split)
+    at faults.Output p = front_nil h.bytes h.rest (sym p ∙ h.split)
+    at (faults.Limit limit) p = front_nil h.bytes h.rest (sym p ∙ h.split)
+
+    by : (told : Result (Unit {0}) ToolFault) (result : Result Verdict ToolFault)
+        → IfErr told (λ fault. UnlessWriter fault (text ≡ [])) → EndsRun found n told a b result
+        → IfErr result (λ fault. UnlessWriter fault (h.bytes ≡ []))
+    by (Ok u) (Ok verdict) p e = tt
+    by (Ok u) (Err (faults.Writer written)) p e = tt
+    by (Ok u) (Err faults.Reader) p e = absurd e
+    by (Ok u) (Err faults.Memory) p e = absurd e
+    by (Ok u) (Err (faults.Refused other)) p e = absurd e
+    by (Ok u) (Err (faults.Truncated records)) p e = absurd e
+    by (Ok u) (Err faults.Output) p e = absurd e
+    by (Ok u) (Err (faults.Limit limit)) p e = absurd e
+    by (Err fault) result p e =
+        subst (λ (r : Result Verdict ToolFault). IfErr r (λ it. UnlessWriter it (h.bytes ≡ []))) (sym e.0) (at fault p)

@@ -1,6 +1,6 @@
 -- What a lint has told where a device or memory failed.
 use Rattle.std.specs.Prelude.{◌≡◌, ◌⊎◌, ℕ, ◌+◌, ◌-◌, ◌^◌, ◌≤◌, min, Bool, true, false, IsFalse, List, [], ◌∷◌, ◌++◌}
-use Rattle.std.specs.Prelude.{Option, Result, Ok, Err}
+use Rattle.std.specs.Prelude.{Option, IfErr, Result, Ok, Err}
 use Rattle.std.specs.List.{AllByRecursion, list_any}
 use Rattle.std.specs.Io.KnownBytes.{Appends, Consumes}
 use Rattle.cwr_lines.specs.Format.Lines.{is_lf}
@@ -20,6 +20,7 @@ use Rattle.cwr_lint.specs.declared.linting.LintRun.{LintRun}
 use Rattle.cwr_lint.specs.declared.raw_lines.RawLine.{RawLine}
 use Rattle.cwr_lint.specs.Format.FaultsOfLines.{Asking, EndedTransaction, IsFaultText, Tells, ended_lines}
 use Rattle.cwr_lint.specs.Steps.LinesRead.{GoesOn, HoldsRaw, IsOfLine, ReadsLast, ReadsLine, held_raw}
+use Rattle.cwr_lint.specs.Steps.Puts.{PutsAfter}
 use Rattle.cwr_lint.specs.Steps.Runs.{TakesFirst, walk_of}
 use Rattle.cwr_lint.specs.Steps.Walks.{IsTold, Walk, WalksLine, WalksLines, begins_at, ended_at, judged_line, told_ended}
 
@@ -54,6 +55,11 @@ abbrev pub LeavesOrUnread : {W A : Type 0} → (List ℕ → Type 0) → (W → 
 LeavesOrUnread P contents (Ok x) old new = Unit {0}
 LeavesOrUnread P contents (Err fault) old new =
     (text : List ℕ) × PutsUpTo contents text fault old new × (IsUnread fault text ⊎ P text)
+
+-- some text is put, and before a fault none, unless that is the writer's
+abbrev pub PutsEnd : {W : Type 0} → (W → Option (List ℕ)) → (W → ℕ) → Result (Unit {0}) ToolFault → Sink W → Sink W → Type 0
+PutsEnd contents failures result old new =
+    (text : List ℕ) × PutsAfter contents failures text result old new × IfErr result (λ fault. UnlessWriter fault (text ≡ []))
 
 -- a text, or nothing
 abbrev pub IsNoneOr : List ℕ → List ℕ → Type 0

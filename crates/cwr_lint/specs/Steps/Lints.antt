@@ -16,7 +16,7 @@ use Rattle.cwr_values.specs.Format.Values.{symbol_of}
 use Rattle.cwr_tools.specs.Format.Verdicts.{IsAnswerAfter}
 use Rattle.cwr_tools.specs.Format.Watching.{findings_with}
 use Rattle.cwr_tools.specs.declared.verdicts.Verdict.{Verdict}
-use Rattle.cwr_tools.specs.declared.verdicts.Verdict.TheVariants.{Refused}
+use Rattle.cwr_tools.specs.declared.verdicts.Verdict.TheVariants.{Refused, Truncated}
 use Rattle.cwr_tools.specs.declared.verdicts.ToolFault.{ToolFault}
 use Rattle.cwr_tools.specs.declared.verdicts.ToolFault.TheVariants.{Writer}
 use Rattle.cwr_advise.specs.Format.AdviceLines.{said_in}
@@ -25,9 +25,9 @@ use Rattle.cwr_tools.specs.Steps.Reports.{Reports}
 use Rattle.cwr_tools.specs.Steps.Verdicts.{StopsAfter}
 use Rattle.cwr_lint_lines.specs.Steps.Fronts.{state_at}
 use Rattle.cwr_lint.specs.Format.Wanted.{Wanted, advice_when, asking_for, lines_linted, lines_up_to}
-use Rattle.cwr_lint.specs.Steps.CutShort.{IsCutText, IsToldUpTo, IsUnread}
+use Rattle.cwr_lint.specs.Steps.CutShort.{IsCutText, IsToldUpTo, IsUnread, UnlessWriter}
 use Rattle.cwr_lint.specs.Steps.LinesRead.{IsTextOf}
-use Rattle.cwr_lint.specs.Steps.Runs.{EndsAtTrl}
+use Rattle.cwr_lint.specs.Steps.Runs.{AreWords, EndsAtTrl}
 use Rattle.cwr_lint.specs.Steps.Walks.{IsTold, begins_at}
 
 -- These bytes were read: the text of lines, of which this one is refused, and those follow it. The lines before it are those of records, which
@@ -60,11 +60,14 @@ pub record TellsUpToFault (wanted : Wanted) (limits : Limits) (before left : Opt
       × AreLinesRead refusal tally last bytes refused lines)
 
 -- The words after a check where a fault follows: none after a fault of the check. After a refusal what is told up to the fault, or nothing,
--- where the reader fails in the refused line; where the fault is the writer's, the first bytes of such words.
+-- where the reader fails in the refused line or right behind it; where the fault is the writer's, the first bytes of such words. After an end that comes too early,
+-- where words on it are asked for, some of those where the fault is the writer's, and else none.
 abbrev pub AreWordsUpTo : Wanted → Limits → Option (List ℕ) → Option (List ℕ) → Result Verdict ToolFault → ToolFault → List ℕ
     → Type 0
 AreWordsUpTo wanted limits before left (Ok (Refused refusal)) fault words =
     IsCutText (λ text. IsUnread fault text ⊎ TellsUpToFault wanted limits before left refusal text) fault words
+AreWordsUpTo wanted limits before left (Ok (Truncated records)) fault words =
+    (wanted.explained ≡ true) × UnlessWriter fault (words ≡ [])
 AreWordsUpTo wanted limits before left (Ok verdict) fault words = ⊥
 AreWordsUpTo wanted limits before left (Err other) fault words = words ≡ []
 
@@ -111,24 +114,40 @@ pub record TellsFaults {W : Type 0} (wanted : Wanted) (limits : Limits) (before 
   pub ends : over ≡ true → EndsAtTrl (refused ∷ lines)
   pub all : over ≡ false → IfSome before (λ known. IsAtEnd after ⊎ (2 ^ 64 - 1 ≤ length known))
 
--- Of a text that is refused the faults are told, and the refusal first. Of any other what a check writes is written, and nothing else: the
--- findings of the items, and the line of the verdict.
+-- What a check writes is written, and then words on the end that comes too early, where they are asked for.
+pub record TellsEnd {W : Type 0} (wanted : Wanted) (limits : Limits) (before after : Option (List ℕ))
+    (contents : W → Option (List ℕ)) (old new : W) (records : ℕ) : Type 0 where
+  pub between : W
+  pub reported : Reports (lines_linted wanted) limits before after contents old between (Ok (Truncated records))
+  pub words : List ℕ
+  pub asked : AreWords wanted.explained words
+  pub written : Appends (contents between) (contents new) words
+
+-- Of a text that is refused the faults are told, and the refusal first. Of one that ends too early and of a whole one what a check writes is
+-- written: the findings of the items, and the line of the verdict. Words follow the line of an end that comes too early, and nothing else.
 abbrev pub Tells : {W : Type 0} → Wanted → Limits → Option (List ℕ) → Option (List ℕ) → (W → Option (List ℕ)) → W → W → Verdict
     → Type 0
 Tells wanted limits before after contents old new (Refused refusal) =
     TellsFaults wanted limits before after contents old new refusal
+Tells wanted limits before after contents old new (Truncated records) =
+    TellsEnd wanted limits before after contents old new records
 Tells wanted limits before after contents old new verdict =
     Reports (lines_linted wanted) limits before after contents old new (Ok verdict)
+
+-- some words were added, and before a fault none, unless that is the writer's
+abbrev pub AddsEnd : {W : Type 0} → (W → Option (List ℕ)) → W → W → Result Verdict ToolFault → Type 0
+AddsEnd contents old new result = (words : List ℕ) × Appends (contents old) (contents new) words
+    × IfErr result (λ fault. UnlessWriter fault (words ≡ []))
 
 -- the fault, where so many bytes were written in all
 abbrev pub counted : ℕ → ToolFault → ToolFault
 counted count (Writer written) = Writer count
 counted count fault = fault
 
--- A run that goes on after the refusal, and has written so many bytes in all, ends so: its fault is answered, and nothing more is done; or else
--- the writer hands on what it has, and the refusal is answered, or the fault of the writer, which then counts one more failure.
-abbrev pub EndsRun : Refusal → ℕ → Result (Unit {0}) ToolFault → ℕ → ℕ → Result Verdict ToolFault → Type 0
-EndsRun refusal count (Err fault) old new result = (result ≡ Err (counted count fault)) × (new ≡ old)
-EndsRun refusal count (Ok u) old new (Ok verdict) = (verdict ≡ Refused refusal) × (new ≡ old)
-EndsRun refusal count (Ok u) old new (Err (Writer written)) = (new ≡ one_more_failure old) × (written ≡ count)
-EndsRun refusal count (Ok u) old new (Err fault) = ⊥
+-- A run that goes on after a check with that verdict, and has written so many bytes in all, ends so: its fault is answered, and nothing more
+-- is done; or else the writer hands on what it has, and the verdict is answered, or the fault of the writer, which then counts one more failure.
+abbrev pub EndsRun : Verdict → ℕ → Result (Unit {0}) ToolFault → ℕ → ℕ → Result Verdict ToolFault → Type 0
+EndsRun found count (Err fault) old new result = (result ≡ Err (counted count fault)) × (new ≡ old)
+EndsRun found count (Ok u) old new (Ok verdict) = (verdict ≡ found) × (new ≡ old)
+EndsRun found count (Ok u) old new (Err (Writer written)) = (new ≡ one_more_failure old) × (written ≡ count)
+EndsRun found count (Ok u) old new (Err fault) = ⊥

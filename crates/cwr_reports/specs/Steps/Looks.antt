@@ -37,7 +37,7 @@ tells_findings (tellings.Faults name advised all) = false
 tells_findings tellings.Records = true
 tells_findings (tellings.Data encoding numbers) = false
 tells_findings (tellings.Rows encoding table) = false
-tells_findings (tellings.Answers form) = false
+tells_findings (tellings.Answers form statuses) = false
 tells_findings (tellings.Advice all repeated) = true
 
 -- where a text is accepted, the watch saw what counts of its transmission

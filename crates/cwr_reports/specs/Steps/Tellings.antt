@@ -2,6 +2,7 @@
 use Rattle.std.specs.Prelude.{◌≡◌, [], ℕ, List, Option, None, IfOk, Result, Ok, Err}
 use Rattle.std.specs.Option.{is_some}
 use Rattle.cwr_devices.specs.Format.Failures.{one_more_failure}
+use Rattle.cwr_fields.specs.declared.message_codes.TransactionStatus.{TransactionStatus}
 use Rattle.cwr_shape.specs.declared.limits.Limits.{Limits}
 use Rattle.cwr_tools.specs.declared.watch.FindingCount.{FindingCount}
 use Rattle.cwr_tools.specs.declared.verdicts.Verdict.{Verdict}
@@ -24,10 +25,11 @@ use Rattle.cwr_endings.specs.declared.judgements.Judgement.{Judgement}
 use Rattle.cwr_reports.specs.declared.reports.Telling.{Telling}
 use Rattle.cwr_reports.specs.declared.reports.Telling.TheVariants as tellings
 
--- how it is told what acknowledgements say where there is one file, and nothing that was sent
-abbrev pub telling_alone : Form → AckTelling
-telling_alone form = record {
+-- how it is told what acknowledgements of these statuses say, or all without one, where there is one file, and nothing that was sent
+abbrev pub telling_alone : Form → List TransactionStatus → AckTelling
+telling_alone form statuses = record {
   form = form;
+  statuses = statuses;
   file = None;
   names = [];
 }
@@ -48,8 +50,8 @@ TellsUpTo (tellings.Data encoding numbers) limits before after contents old new 
     Reports (lines_of_data encoding numbers) limits before after contents old new outcome
 TellsUpTo (tellings.Rows encoding table) limits before after contents old new outcome =
     Reports (lines_of_table encoding table) limits before after contents old new outcome
-TellsUpTo (tellings.Answers form) limits before after contents old new outcome =
-    Reports (lines_of_acks (telling_alone form) None) limits before after contents old new outcome
+TellsUpTo (tellings.Answers form statuses) limits before after contents old new outcome =
+    Reports (lines_of_acks (telling_alone form statuses.now) None) limits before after contents old new outcome
 TellsUpTo (tellings.Advice all repeated) limits before after contents old new outcome =
     Reports (lines_of_advice all repeated) limits before after contents old new outcome
 

@@ -10,7 +10,7 @@ use Rattle.cwr_decode.specs.declared.last_bytes.LastBytes.{LastBytes}
 use Rattle.cwr_decode.specs.declared.readings.LastRead.{LastRead}
 use Rattle.cwr_decode.specs.declared.readings.ReadFault.{ReadFault}
 use Rattle.cwr_decode.specs.declared.readings.ReadFault.TheVariants as faults
-use Rattle.cwr_decode.specs.Steps.LastReads.{AreHeld, HoldsLast, ReadsLast, counts_of_records, stage_of_records}
+use Rattle.cwr_decode.specs.Steps.LastReads.{AreHeld, HoldsLast, IsFrontOf, ReadsLast}
 use Rattle.cwr_decode.proofs.lemmas.LastHeld.{reads_on}
 use Rattle.cwr_tools.specs.declared.verdicts.Verdict.{Verdict}
 use Rattle.cwr_tools.specs.declared.verdicts.Verdict.TheVariants.{Good}
@@ -52,16 +52,14 @@ held_of_stop before after input last c h = by before (consumed_once before after
 
 stopped_at : (limits : Limits) (fault : ReadFault) (before after : Option (List ℕ)) (given : List Item) (last : LastRead)
     → (stop : StopsAfter limits fault before after given)
-    → (last.stage ≡ stage_of_records stop.0.decoder) × (last.counts ≡ counts_of_records stop.0.decoder)
-    → HoldsRead before after (Some last.bytes) → StopsAt limits fault before after last
+    → IsFrontOf last stop.0.decoder → HoldsRead before after (Some last.bytes) → StopsAt limits fault before after last
 stopped_at limits fault before after given last stop front h =
-    (stop.0, front.0, held_of_stop before after stop.0.read.input last.bytes stop.0.read.consumed h, front.1)
+    (stop.0, front, held_of_stop before after stop.0.read.input last.bytes stop.0.read.consumed h)
 
 -- the run stopped with that fault
 fault_last : (limits : Limits) (before after : Option (List ℕ)) (given : List Item) (last : LastRead) (fault : ReadFault)
     (result : Result Verdict ToolFault) → (stop : StopsAfter limits fault before after given)
-    → (last.stage ≡ stage_of_records stop.0.decoder) × (last.counts ≡ counts_of_records stop.0.decoder)
-    → HoldsRead before after (Some last.bytes) → IsVerdictOf fault result
+    → IsFrontOf last stop.0.decoder → HoldsRead before after (Some last.bytes) → IsVerdictOf fault result
     → IfOk result (λ verdict. IsSomeAnd (Some last) (IsReadLast limits before after verdict))
 fault_last limits before after given last faults.Reader result stop front h e =
     subst (λ (r : Result Verdict ToolFault). IfOk r (λ verdict. IsSomeAnd (Some last) (IsReadLast limits before after verdict)))
@@ -97,7 +95,7 @@ answers_read before after held last h same = record { read = h.read; consumed = 
 pub fault_answered : (limits : Limits) (before after : Option (List ℕ)) (given : List Item) (held : Option LastBytes)
     (answered : Option LastRead) (fault : ReadFault) (result : Result Verdict ToolFault)
     → (stop : StopsAfter limits fault before after given)
-    → IfSome answered (λ last. (last.stage ≡ stage_of_records stop.0.decoder) × (last.counts ≡ counts_of_records stop.0.decoder))
+    → IfSome answered (λ last. IsFrontOf last stop.0.decoder)
     → HoldsRead before after held → AnswersHeld held answered → IsVerdictOf fault result
     → IfOk result (λ verdict. IsSomeAnd answered (IsReadLast limits before after verdict))
 fault_answered limits before after given held None fault result stop front h same e = absurd (same h.read h.held)

@@ -8,7 +8,7 @@ use Rattle.cwr_decode.specs.declared.readings.ReadFault.{ReadFault}
 use Rattle.cwr_decode.specs.declared.readings.ReadFault.TheVariants as read_faults
 use Rattle.cwr_judge.specs.Format.Items.{item_records, opens_group, is_transaction, value_items}
 use Rattle.cwr_decode.specs.declared.readings.LastRead.{LastRead}
-use Rattle.cwr_decode.specs.Steps.LastReads.{HoldsLast, counts_of_records, stage_of_records}
+use Rattle.cwr_decode.specs.Steps.LastReads.{HoldsLast, IsFrontOf}
 use Rattle.cwr_decode.specs.Format.Runs.{TakesFront}
 use Rattle.cwr_decode.specs.Steps.Runs.{StopsRun}
 use Rattle.cwr_tools.specs.declared.verdicts.Verdict.{Verdict}
@@ -41,11 +41,12 @@ IsRightVerdict limits before (Refused refusal) after given = StopsAfter limits (
 IsRightVerdict limits before (Truncated records) after given =
     StopsAfter limits (read_faults.Truncated records) before after given
 
--- the decoder stopped so at that stage, with these counts; where the text's bytes are known, the last of those that it was fed are held
+-- the decoder stopped so at that stage, with these counts and that open transaction; where the text's bytes are known, the last of those
+-- that it was fed are held
 abbrev pub StopsAt : Limits → ReadFault → Option (List ℕ) → Option (List ℕ) → LastRead → Type 0
 StopsAt limits fault before after last =
-    (stop : StopsRun limits fault before after) × (last.stage ≡ stage_of_records stop.decoder)
-    × IfSome before (λ text. HoldsLast stop.read.input last.bytes) × (last.counts ≡ counts_of_records stop.decoder)
+    (stop : StopsRun limits fault before after) × IsFrontOf last stop.decoder
+    × IfSome before (λ text. HoldsLast stop.read.input last.bytes)
 
 -- what was read last where a text has the verdict: the last of the bytes that the reader lost, and where the text isn't good the
 -- stage of its accepted records

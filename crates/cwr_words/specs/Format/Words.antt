@@ -7,7 +7,9 @@ use Rattle.std.specs.Str.Parse.{digits_value, without_leading_plus}
 use Rattle.clap.specs.declared.parser.matches.ArgMatches.{ArgMatches}
 use Rattle.clap.specs.declared.parser.matches.Found.{Found}
 use Rattle.clap.specs.Words.{one_text, first_value, matched_of, raw_values, rows_of, subcommand_name_of, subcommand_rows_of}
+use Rattle.cwr_fields.specs.declared.message_codes.TransactionStatus.{TransactionStatus}
 use Rattle.cwr_fields.specs.Format.Kinds.{kind_of}
+use Rattle.cwr_fields.specs.Format.MessageCodes.{status_code}
 use Rattle.cwr_shape.specs.declared.limits.Limits.{Limits}
 use Rattle.cwr_shape.specs.declared.reasons.Level.{Level}
 use Rattle.cwr_shape.specs.declared.reasons.Level.TheVariants as levels
@@ -16,6 +18,8 @@ use Rattle.cwr_moments.specs.declared.moments.Moment.{Moment}
 use Rattle.cwr_moments.specs.Format.Moments.{moment_text}
 use Rattle.cwr_states.specs.declared.state_sets.States.{States}
 use Rattle.cwr_states.specs.Format.StateSets.{no_states, states_in}
+use Rattle.cwr_words.specs.declared.words.Colouring.{Colouring}
+use Rattle.cwr_words.specs.declared.words.Colouring.TheVariants as colourings
 use Rattle.cwr_words.specs.declared.words.Judging.{Judging}
 use Rattle.cwr_words.specs.declared.words.Rows.{Rows}
 use Rattle.cwr_words.specs.declared.words.Rows.TheVariants.{Records, Works}
@@ -56,6 +60,17 @@ abbrev pub level_given : Option (List ℕ) → Option Level
 level_given None = None
 level_given (Some letter) = level_named letter
 
+-- when words have colours, and that for the option's word: without one where standard output is a terminal
+abbrev pub colouring_named : List ℕ → Colouring
+colouring_named word =
+    if bytes_eq word (codes "always") then colourings.Always
+    else if bytes_eq word (codes "never") then colourings.Never
+    else colourings.Auto
+
+abbrev pub colouring_given : Option (List ℕ) → Colouring
+colouring_given None = colourings.Auto
+colouring_given (Some word) = colouring_named word
+
 -- what is written: what the option -o names, or else the word of that id
 abbrev pub written_in : Found → List ℕ → Option (List ℕ)
 written_in found id = option_or (first_value found (codes "o")) (first_value found id)
@@ -85,7 +100,7 @@ IsSplitOf found (Lint files quiet explained advised all) = ⊥
 IsSplitOf found (Advise judging all repeated) = ⊥
 IsSplitOf found (Json file out numbers utf8) = ⊥
 IsSplitOf found (Csv rows file out utf8) = ⊥
-IsSplitOf found (Acks files sent as_json by_place state fail_on utf8) = ⊥
+IsSplitOf found (Acks files sent as_json by_place state fail_on statuses utf8) = ⊥
 IsSplitOf found (Write file out line utf8) = ⊥
 IsSplitOf found (Split transactions file prefix created only_new fail_on) =
     ((text : List ℕ) → one_text found (codes "N") ≡ Some text
@@ -137,13 +152,19 @@ abbrev pub states_given : Option (List ℕ) → Option States
 states_given None = Some no_states
 states_given (Some text) = states_in text
 
--- what the acknowledgements of the files FILE say, matched with the transmissions of the files that SENT names, in their order: as JSON, by place alone, as
--- a table of states and in UTF-8 where those flags are given; a row of that table ends the run as a refusal does where it has one of the states that are named
+-- the statuses whose codes the option has, in their order, or none without the option
+abbrev pub AreStatusesOf : Found → List TransactionStatus → Type 0
+AreStatusesOf found statuses = AreValuesOf found (codes "status") (map status_code statuses)
+
+-- what the acknowledgements of the files FILE say, those of the statuses that are named, matched with the transmissions of the files that SENT names, in their
+-- order: as JSON, by place alone, as a table of states and in UTF-8 where those flags are given; a row of that table ends the run as a refusal does where it has
+-- one of the states that are named
 abbrev pub IsAcksOf : Found → Work → Type 0
-IsAcksOf found (Acks files sent as_json by_place state fail_on utf8) =
+IsAcksOf found (Acks files sent as_json by_place state fail_on statuses utf8) =
     AreNamesOf found (map (λ name. name.now) files.items) × AreValuesOf found (codes "sent") (map (λ name. name.now) sent.items)
     × IsFlagOf found (codes "json") as_json × IsFlagOf found (codes "by-place") by_place × IsFlagOf found (codes "state") state
-    × (states_given (first_value found (codes "fail-on")) ≡ Some fail_on) × IsFlagOf found (codes "utf8") utf8
+    × (states_given (first_value found (codes "fail-on")) ≡ Some fail_on) × AreStatusesOf found statuses.items
+    × IsFlagOf found (codes "utf8") utf8
 IsAcksOf found work = ⊥
 
 -- a transmission from the lines of the file FILE to the file OUT, where lines may have so many bytes as that option says, in UTF-8 where that flag
@@ -196,8 +217,8 @@ IsWorkOf name found (Advise judging all repeated) =
 IsWorkOf name found (Json file out numbers utf8) =
     (bytes_eq name (codes "json") ≡ true) × IsExportOf found (Json file out numbers utf8)
 IsWorkOf name found (Csv rows file out utf8) = (bytes_eq name (codes "csv") ≡ true) × IsTableOf found (Csv rows file out utf8)
-IsWorkOf name found (Acks files sent as_json by_place state fail_on utf8) =
-    (bytes_eq name (codes "acks") ≡ true) × IsAcksOf found (Acks files sent as_json by_place state fail_on utf8)
+IsWorkOf name found (Acks files sent as_json by_place state fail_on statuses utf8) =
+    (bytes_eq name (codes "acks") ≡ true) × IsAcksOf found (Acks files sent as_json by_place state fail_on statuses utf8)
 IsWorkOf name found (Write file out line utf8) =
     (bytes_eq name (codes "write") ≡ true) × IsImportOf found (Write file out line utf8)
 IsWorkOf name found (Split transactions file prefix created only_new fail_on) =
@@ -230,6 +251,7 @@ pub record IsAskedBy (matches : ArgMatches) (task : Task) : Type 0 where
   pub work : IsWorkOf name found task.work
   pub limits : bytes_eq name (codes "manual") ≡ false → AreLimitsOf found task.limits
   pub whole : IsFlagOf found (codes "whole") task.whole
+  pub colouring : task.colouring ≡ colouring_given (first_value found (codes "color"))
 
 -- without words: the one on standard input is checked, within the largest limits, and nothing else is wanted of it
 abbrev pub IsPlainWork : Work → Type 0
@@ -240,3 +262,4 @@ pub record IsPlainCheck (task : Task) : Type 0 where
   pub work : IsPlainWork task.work
   pub limits : task.limits ≡ limit_values 99999999 99999 999999
   pub part : task.whole ≡ false
+  pub colouring : task.colouring ≡ colourings.Auto

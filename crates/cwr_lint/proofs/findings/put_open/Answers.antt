@@ -1,4 +1,4 @@
-use Rattle.std.proofs.Common.{ℕ, List, Option, subst, sym}
+use Rattle.std.proofs.Common.{Option, subst, sym}
 use Rattle.cwr_lint.specs.Format.FaultsOfLines.{EndedTransaction, ended_lines}
 use Rattle.cwr_lint.specs.Steps.CutShort.{IsNoneOr, Leaves}
 use Rattle.cwr_lint.specs.Steps.Runs.{asking_of}

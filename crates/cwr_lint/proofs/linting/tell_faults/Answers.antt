@@ -1,6 +1,7 @@
 use Rattle.std.proofs.Common.{[], ◌-◌, subst}
 use Rattle.std.specs.Prelude.{IfOk}
 use Rattle.cwr_lint_lines.specs.declared.states.LintState.{LintState}
+use Rattle.cwr_tools.specs.declared.verdicts.Verdict.TheVariants.{Refused}
 use Rattle.cwr_tools.specs.Format.Reports.{CountsWriterFault}
 use Rattle.cwr_lint_lines.specs.Steps.Fronts.{state_at}
 use Rattle.cwr_lint.specs.Steps.CutShort.{LeavesOrUnread, TellsAfterUpTo, TellsLastUpTo}
@@ -19,7 +20,7 @@ returns-clause-told g c = let told = c.run-told.ensures.tells in
     (begins_at (state_at c.args.last.now.stage c.args.last.now.counts (c.args.refusal.rec - 1)) c.args.findings c.args.advice) c.args.refusal c.args.last.now.bytes
     (g.R.Source.remaining c.args.reader.now)
     (g.R.Source.remaining c.run-told.new.reader)) g.W.Target.contents (g.W.Target.contents
-    c.args.writer) c.finish.result.0 c.args.refusal _ told.0 c.run-told.new.sink c.run-told.result _ _ c.finish.result.1
+    c.args.writer) c.finish.result.0 (Refused c.args.refusal) _ told.0 c.run-told.new.sink c.run-told.result _ _ c.finish.result.1
     (subst (λ (s : LintState). IfOk c.run-told.result (λ (u : Unit {0}). TellsRun (asking_of c.args.asked.now) (begins_at s c.args.findings c.args.advice) c.args.refusal
     c.args.last.now.bytes (g.R.Source.remaining c.args.reader.now) (g.R.Source.remaining c.run-told.new.reader)
     told.0)) c.state_before-begins.ensures.is told.2)
@@ -36,21 +37,21 @@ returns-clause-taken g c = c.run-told.ensures.tells.1.taken
 
 pub returns-clause-answered : goal.returns-clause-answered
 returns-clause-answered g c =
-    ends_answer c.args.refusal _ c.run-told.result c.finish.result.1 _ _ _ _ _ c.run-told.ensures.tells.1.counts c.finish.ensures.answer
+    ends_answer (Refused c.args.refusal) _ c.run-told.result c.finish.result.1 _ _ _ _ _ c.run-told.ensures.tells.1.counts c.finish.ensures.answer
 
 pub returns-clause-reader_failures : goal.returns-clause-reader_failures
 returns-clause-reader_failures g c =
-    ends_reader c.args.refusal _ c.run-told.result c.finish.result.1 _ _ _ _ _ c.run-told.ensures.tells.1.counts c.finish.ensures.answer
+    ends_reader (Refused c.args.refusal) _ c.run-told.result c.finish.result.1 _ _ _ _ _ c.run-told.ensures.tells.1.counts c.finish.ensures.answer
 
 pub returns-clause-writer_failures : goal.returns-clause-writer_failures
 returns-clause-writer_failures g c =
     subst (λ (w : _). CountsWriterFault c.finish.result.1 (g.W.Target.failures w) (g.W.Target.failures c.finish.result.0))
     c.new-sink.ensures.writer
-    (ends_writer c.args.refusal _ c.run-told.result c.finish.result.1 _ _ _ _ _ c.run-told.ensures.tells.1.counts c.finish.ensures.answer)
+    (ends_writer (Refused c.args.refusal) _ c.run-told.result c.finish.result.1 _ _ _ _ _ c.run-told.ensures.tells.1.counts c.finish.ensures.answer)
 
 pub returns-clause-counted : goal.returns-clause-counted
 returns-clause-counted g c = let told = c.run-told.ensures.tells in
-    ends_counted c.args.refusal g.W.Target.contents c.args.writer c.finish.result.0 c.args.before told.0 c.run-told.new.sink
+    ends_counted (Refused c.args.refusal) g.W.Target.contents c.args.writer c.finish.result.0 c.args.before told.0 c.run-told.new.sink
     c.run-told.result _ _ c.finish.result.1 c.finish.ensures.kept
     (told.1.written (g.W.Target.contents c.args.writer) [] c.new-sink.ensures.empty) c.finish.ensures.answer
 
@@ -61,7 +62,7 @@ returns-clause-leaves g c = let told = c.run-told.ensures.tells in
     let begins : LintState = state_at c.args.last.now.stage c.args.last.now.counts (c.args.refusal.rec - 1) in
     ends_cut (TellsAfter (asking_of c.args.asked.now) c.args.last.now c.args.findings c.args.advice c.args.refusal left after)
     (TellsAfterUpTo (asking_of c.args.asked.now) c.args.last.now c.args.findings c.args.advice c.args.refusal left) g.W.Target.contents c.args.writer
-    c.finish.result.0 c.args.refusal _ told.0 c.new-sink.result c.run-told.new.sink c.run-told.result _ _ c.finish.result.1
+    c.finish.result.0 (Refused c.args.refusal) _ told.0 c.new-sink.result c.run-told.new.sink c.run-told.result _ _ c.finish.result.1
     (λ text run. run_whole (asking_of c.args.asked.now) (begins_at begins c.args.findings c.args.advice) c.args.refusal c.args.last.now.bytes left after text run)
     (subst (λ (s : LintState). IfOk c.run-told.result (λ (u : Unit {0}). TellsRun (asking_of c.args.asked.now) (begins_at s c.args.findings c.args.advice) c.args.refusal
     c.args.last.now.bytes left after told.0)) c.state_before-begins.ensures.is told.2)

@@ -1,4 +1,4 @@
-use Rattle.std.proofs.Common.{◌≡◌, ℕ, List, ◌++◌, refl, sym, ap, ◌∙◌, append_assoc}
+use Rattle.std.proofs.Common.{◌≡◌, ℕ, List, ◌++◌, sym, ap, ◌∙◌, append_assoc}
 use Rattle.cwr_advise.specs.Steps.AdviceCounts.{summary_by}
 use Rattle.cwr_lint.specs.Steps.CutShort.{IsFrontOf}
 use Rattle.cwr_lint.specs.Steps.Runs.{sums_text}

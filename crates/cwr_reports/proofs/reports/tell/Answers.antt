@@ -166,7 +166,7 @@ returns-in-Answers-clause-seen g c =
 
 pub returns-in-Answers-clause-looks : goal.returns-in-Answers-clause-looks
 returns-in-Answers-clause-looks g c =
-    looks_told (lines_of_acks (telling_alone c.in-Answers.form) None) c.args.limits (g.R.Source.remaining c.args.reader.now)
+    looks_told (lines_of_acks (telling_alone c.in-Answers.form c.in-Answers.statuses.now) None) c.args.limits (g.R.Source.remaining c.args.reader.now)
     (g.R.Source.remaining c.acks_alone-writer.new.reader) (g.R.Source.remaining c.look_after-look-in-Answers.new.reader)
     g.W.Target.contents
     c.args.writer c.acks_alone-writer.result.0 c.acks_alone-writer.result.1 c.look_after-look-in-Answers.result c.acks_alone-writer.ensures.told
@@ -235,7 +235,7 @@ returns-in-Rows-clause-judged g c =
 
 pub returns-in-Answers-clause-judged : goal.returns-in-Answers-clause-judged
 returns-in-Answers-clause-judged g c =
-    judged_text (lines_of_acks (telling_alone c.in-Answers.form) None) c.args.limits _ _ g.W.Target.contents c.args.writer c.acks_alone-writer.result.0
+    judged_text (lines_of_acks (telling_alone c.in-Answers.form c.in-Answers.statuses.now) None) c.args.limits _ _ g.W.Target.contents c.args.writer c.acks_alone-writer.result.0
     c.acks_alone-writer.result.1 c.acks_alone-writer.ensures.told
 
 pub returns-in-Advice-clause-judged : goal.returns-in-Advice-clause-judged

@@ -1,6 +1,6 @@
 use Rattle.std.proofs.Common.{◌≡◌, ℕ, false, List, [], Option, rules, refl, sym, ap, subst, ◌∙◌, arith}
 use Rattle.std.specs.Prelude.{Result, Ok, Err, IfOk, IfSome, IsSomeAnd}
-use Rattle.cwr_decode.specs.Steps.LastReads.{counts_of_records, stage_of_records}
+use Rattle.cwr_decode.specs.Steps.LastReads.{IsFrontOf}
 use Rattle.cwr_decode.specs.Steps.Machines.{Standing}
 use Rattle.cwr_decode.specs.Steps.Runs.{HasReadAll}
 use Rattle.cwr_decode.proofs.lemmas.ItemsReadSoFar.{none_read, nothing_read_yet}
@@ -372,8 +372,7 @@ returns-in-Err-clause-last g c = λ held.
     = fault_answered c.args.limits _ _ told.given c.read_on.new.reading.last c.last_read-front-in-Err.result c.in-Err.fault
     c.verdict_of.result stop
     (subst (λ (d : Standing). IfSome c.last_read-front-in-Err.result
-    (λ last. (last.stage ≡ stage_of_records d) × (last.counts ≡ counts_of_records d))) (sym
-    same) c.last_read-front-in-Err.ensures.front)
+    (λ last. IsFrontOf last d)) (sym same) c.last_read-front-in-Err.ensures.front)
     (holds_more _ _ _ _ _ (c.items.invariant.last held) c.in-Err.ensures.last) c.last_read-front-in-Err.ensures.bytes
     c.verdict_of.ensures in
     search rules

@@ -15,5 +15,6 @@ returns-in-Some-Some-clause-asked c = λ _. record {
       subst (λ (o : Option Work). IfSome o (λ work. IsWorkOf c.in-Some.name.now (found_of c.in-Some.given.now) work))
       c.in-Some-Some.is-0 c.in_ok-work.ensures;
   whole = (c.get_flag.ensures.value, c.get_flag.ensures.other);
+  colouring = c.colouring_in.ensures;
   limits = c.in-Some-Some.ensures;
 }

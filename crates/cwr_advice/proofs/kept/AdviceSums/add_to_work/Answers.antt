@@ -24,6 +24,7 @@ returns-clause-kept c = λ rs h yes.
       headers = c.with-self-4.ensures rs h.headers;
       collected = c.with_any_collected-self.ensures rs h.collected;
       chain = c.chain_with-self.ensures rs h.chain;
+      writer = c.writer_with-self.ensures rs h.writer;
       territories = c.keep_territory.ensures rs h.territories c.if-not-keep_territory.false;
       publishers =
           c.with-self.ensures (is_a kinds.Swr) (is_a kinds.Pwr) rs r h.publishers controlled_writes c.is_writer-writer.ensures

@@ -14,4 +14,5 @@ returns c = λ rs h no.
           ∙ sym (c.stands_again.ensures rs (subst (AreSinceParty rs) (sym c.as_slice.ensures.value) h.territories))
           ∙ c.if-stands_again.false;
       chain = c.may_begin_chain.ensures rs h.chain no;
+      writer = c.may_name_other.ensures rs h.writer c.if-may_name_other.false;
     }

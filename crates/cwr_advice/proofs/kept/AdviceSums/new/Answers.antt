@@ -10,6 +10,7 @@ returns-clause-none c = record {
   headers = c.none-2.ensures;
   collected = c.nothing.ensures;
   chain = λ sequence e. absurd (cc e);
+  writer = λ number e. absurd (cc e);
   territories = λ number. sym (ap (is_among number) c.new.ensures);
   publishers = c.nobody.ensures (is_a kinds.Swr) (is_a kinds.Pwr);
   collections = c.nobody-2.ensures (is_a kinds.Swr) (is_a kinds.Swt);

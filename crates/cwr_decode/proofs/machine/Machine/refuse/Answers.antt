@@ -16,5 +16,5 @@ returns c = record {
       λ xs st. c.level.ensures ∙ ap (λ (p : Scope). level_of c.args.kind c.args.fault.field c.args.fault.reason p)
       (c.scope.ensures xs (subst (λ (d : Standing). IsTallyOf d.tally xs) (sym c.self.view_is) st));
   reported = refl;
-  stops = c.stop.ensures;
+  stops = c.stop_refused.ensures;
 }

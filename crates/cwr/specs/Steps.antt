@@ -1,0 +1,2 @@
+-- What the code keeps, and what its calls do to that.
+pub mod Cleared

@@ -1,0 +1,5 @@
+-- What is promised, in the words of the format.
+pub mod Breaks
+pub mod Colours
+pub mod Laws
+pub mod Shown

@@ -1,0 +1,2 @@
+-- Statuses by their codes.
+pub mod Statuses
