@@ -233,9 +233,9 @@ impl AdviceRule {
             AdviceRule::A2c =>
                 "no PWR says which publisher stands for this writer: add one after SWR",
             AdviceRule::A2d =>
-                "this writer owns shares, and no SWT says where they are collected: add one after SWR",
+                "this writer owns shares, and no SWT says where they are collected: add one after SWR, or mend its record type where it is there",
             AdviceRule::A2e =>
-                "this writer owns nothing, and no SWT says that something is collected: fill in the shares or add SWT, or write OWR",
+                "this writer owns nothing, and no SWT says that something is collected: fill in the shares or add SWT, or write OWR; if its last name is digits, it is an SWT that is mistyped",
             AdviceRule::A2f =>
                 "this one owns shares and has no IPI name number, by which societies know whom they pay: look it up and fill it in",
             AdviceRule::A2g =>
@@ -255,7 +255,7 @@ impl AdviceRule {
             AdviceRule::A4a =>
                 "this is no IPI name number: it has eleven digits, of which the last two check the others; look it up again",
             AdviceRule::A4b =>
-                "this is no IPI base number: it is I, nine digits and a check digit, with hyphens between; look it up again",
+                "this is no IPI base number: it is I, nine digits and a check digit, with hyphens between; eleven digits are a name number; look it up again",
             AdviceRule::A4c =>
                 "this is no ISRC: it has two letters, three letters or digits and seven digits, without hyphens",
             AdviceRule::A4d =>

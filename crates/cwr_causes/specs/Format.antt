@@ -3,7 +3,9 @@ pub mod ComingTexts
 pub mod Expected
 pub mod GluedLines
 pub mod Handling
+pub mod Heads
 pub mod LongLines
+pub mod LostBlocks
 pub mod Lookings
 pub mod MisplacedTexts
 pub mod Misplacements

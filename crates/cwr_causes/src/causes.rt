@@ -3,43 +3,54 @@
 ghost use Rattle.std.specs.Prelude.{◌≡◌, ◌≤◌, ◌<◌, ◌==◌, ◌++◌, not, true, codes, position, length, option_map, string_bytes, Some, IfSome, OnOk};
 ghost use Rattle.cwr_fields.specs.Steps.Views.{field_view};
 ghost use Rattle.cwr_causes.specs.Format.Refusals.{byte_of_file_words, content_words, end_byte_words, end_of_fields, excess_at, field_name, field_words};
-ghost use Rattle.cwr_causes.specs.Format.Refusals.{found_words, head_words, is_beyond, named_field, number_points_words, place_words, range_beyond_words, refused_field, rest_words};
+ghost use Rattle.cwr_causes.specs.Format.Refusals.{found_words, is_beyond, named_field, number_points_words, place_words, range_beyond_words, refused_field, rest_words};
 ghost use Rattle.cwr_causes.specs.Format.Refusals.{range_words, range_of_file_words, refused_level_words, shown, where_words, without_return};
 ghost use Rattle.cwr_causes.specs.Format.Handling.{handling_of, handling_words};
+ghost use Rattle.cwr_causes.specs.Format.Heads.{are_apart, head_words, is_of_other, numbers_words, work_words};
 ghost use Rattle.cwr_causes.specs.Format.Openings.{note_line, note_words, opening_words, repeats_before};
 ghost use Rattle.cwr_causes.specs.Format.GluedLines.{glued_text, glued_words, has_return};
-ghost use Rattle.cwr_causes.specs.Format.Signs.{cells_signs, end_signs, first_signs, follows_line, further_signs, is_packed_by, return_line, return_words, returns_in, shift_signs};
+ghost use Rattle.cwr_causes.specs.Format.Signs.{cells_signs, end_signs, first_signs, follows_line, further_signs, is_packed_by, moved_signs, return_line, return_words, shift_signs, signs_or_block, text_signs};
 ghost use Rattle.cwr_causes.specs.Format.Signs.{signs_words, whole_line_signs};
-ghost use Rattle.cwr_causes.specs.Format.Misplacements.{belongs, numbers_before, numbers_in};
+ghost use Rattle.cwr_causes.specs.Format.LostBlocks.{lost_block};
+ghost use Rattle.cwr_causes.specs.Format.Misplacements.{belongs, numbers_before, numbers_in, numbers_of};
+ghost use Rattle.cwr_causes.specs.Format.Sequences.{sequence_in};
+ghost use Rattle.cwr_causes.specs.Format.WrongNumbers.{is_one_more};
 ghost use Rattle.cwr_causes.specs.Format.Wanted.{cell_expected_words, end_expected_words, number_expected_words, number_of_field, stands_twice};
 ghost use Rattle.cwr_causes.specs.Format.WrappedLines.{broken_words};
 ghost use Rattle.cwr_causes.specs.Steps.Coming.{words_at};
-ghost use Rattle.cwr_causes.specs.Steps.Misplaced.{misplaced_words, order_words, shown_by};
+ghost use Rattle.cwr_causes.specs.Steps.Misplaced.{misplaced_by, misplaced_words, order_words, shown_by};
 ghost use Rattle.cwr_causes.specs.Steps.Refused.{ExplainsLine, expected_words, refused_line, wanted_words};
 
 use crate::ahead::Ahead;
 use crate::coming_words::add_coming;
 use crate::expected::{add_cell_type, letters_of};
 use crate::glued_lines::{add_glued, add_hidden, first_record, head_in, hidden};
-use crate::handling::{converted_words, has_hard_space, is_separated, is_societies_group};
+use crate::handling::{
+    converted_words, has_hard_space, is_separated, is_societies_group, lacks_party, names_country,
+};
 use crate::lines_at_end::{LineAtEnd, line_again};
 use crate::long_lines::add_long_id;
-use crate::misplaced_words::{LinePlace, add_misplacement, add_mistyped};
-use crate::misplacements::{Misplacement, belongs, misplacement_of, numbers_before, numbers_of};
+use crate::lost_blocks::{add_lost_block, lost_block};
+use crate::misplaced_words::{
+    LinePlace, add_misplacement, add_mistyped, add_roles, are_roles_asked,
+};
+use crate::misplacements::{
+    Misplacement, are_apart, belongs, misplacement_of, numbers_before, numbers_of,
+};
 use crate::next_symbols::closes_at;
 use crate::openings::{is_of_societies, opening_of, societies_words};
-use crate::sequences::{number_in, numbers_in};
+use crate::sequences::{TRANSACTION_SEQUENCE, number_in, numbers_in, sequence_in};
 use crate::shifts::{add_shift, is_moved};
 use crate::texts::{add_beginning, add_cell, add_label};
 use crate::truncated_words::{add_cut_off, kind_of};
-use crate::versions::{add_version, from_byte};
+use crate::versions::{add_moved_version, add_version, from_byte, moved_by};
 use crate::wanted::{
     add_another_type, add_counted, add_end_of_line, add_fault, add_limit, add_rule_of, add_twice,
     is_other_header,
 };
 use crate::works::add_work;
 use crate::wrapped_lines::{add_broken_before, add_broken_here, may_go_on, without_cr};
-use crate::wrong_numbers::WrongNumber;
+use crate::wrong_numbers::{WrongNumber, is_header, is_one_more};
 use cwr_decode::Refusal;
 use cwr_fields::{CellFault, Field, Kind, field, width};
 use cwr_lines::LONGEST_LINE;
@@ -413,14 +424,15 @@ impl Refused<'_> {
         if self.stands_twice() {
             add_twice(text)
         } else if is_other_header(stage, kind) {
-            add_another_type(text, stage, kind)
+            add_another_type(text, stage, self.belongs_here(stage), kind)
         } else {
             let shown = self.shown_by_numbers(stage, kind);
             let place = LinePlace {
                 offset: self.line.offset,
                 is_later: self.is_later,
             };
-            add_misplacement(alloc, text, stage, kind, place, shown)
+            add_misplacement(alloc, text, stage, kind, place, shown)?;
+            add_roles(text, are_roles_asked(stage, shown))
         }
     }
 
@@ -496,6 +508,14 @@ impl Refused<'_> {
     {
         if is_societies_group(self.kind, cell) {
             Some(societies_words())
+        } else if lacks_party(self.kind, self.refusal.field, cell) {
+            Some(
+                "SPU and SWR are those whom the submitter controls, and have numbers; others are OPU and OWR: is the record type mistyped?",
+            )
+        } else if names_country(self.kind, self.refusal.field, cell) {
+            Some(
+                "a territory has a number here (TIS), and no letters: 2136 is the world; blanks would say that there is none",
+            )
         } else if is_separated(self.line.bytes) {
             Some(
                 "a tab, comma or semicolon stands after the record type, as in a table of a spreadsheet: in a line each cell has its place; take the file as it was before that",
@@ -516,6 +536,10 @@ impl Refused<'_> {
     {
         match self.refusal.reason {
             Reason::Cell(_) if self.is_first => add_note_if(text, self.handling(cell)),
+            Reason::Number { .. } if self.is_first && is_separated(self.line.bytes) => add_note_if(
+                text,
+                self.handling(cell),
+            ),
             _ => Ok(()),
         }
     }
@@ -530,17 +554,65 @@ impl Refused<'_> {
         writeln!(text, "{words}")
     }
 
+    /// Whether its transaction sequence is one more than that number.
+    fn is_of_next(&self, expected: u64) -> bool
+        ensures { result ≡ is_one_more (sequence_in 3 self.now.line.bytes.now) expected }
+    {
+        is_one_more(sequence_in(self.line.bytes, TRANSACTION_SEQUENCE), expected)
+    }
+
+    /// Whether by its sequences it is of another transaction than the records before, where it isn't in its place or its transaction
+    /// sequence is one too high: then it isn't known whose it is.
+    fn is_of_other(&self) -> bool
+        ensures { result ≡ is_of_other (refused_line self.now) self.now.refusal.now.reason self.now.kind }
+    {
+        let before = numbers_before(self.before);
+        match (self.refusal.reason, self.kind) {
+            (Reason::Misplaced, Some(kind)) => {
+                !is_header(kind) && are_apart(before, numbers_of(Some(kind), self.line.bytes))
+            }
+            (Reason::Number { expected }, Some(kind)) => {
+                !is_header(kind) && self.refusal.field == 2 && self.is_of_next(expected)
+            }
+            (Reason::UnknownKind, _) => are_apart(before, numbers_in(self.line.bytes)),
+            _ => false,
+        }
+    }
+
+    /// Adds the line on its work, where that is known.
+    fn add_work(&self, text: &mut String) -> Result<(), AllocError>
+        ensures { OnOk result (string_bytes text.new ≡ string_bytes text.old ++ work_words (refused_line self.now)) }
+    {
+        if self.is_of_other() {
+            Ok(())
+        } else {
+            add_work(text, self.work)
+        }
+    }
+
     /// Adds where, in which work and in which field the line is refused, what stands there, and what a wrong number points to.
-    #[tactic(auto, unfolding(crate::specs::Format::Refusals::head_words))]
+    #[tactic(auto, unfolding(crate::specs::Format::Heads::head_words))]
     fn add_head(&self, text: &mut String, cell: Option<&[u8]>) -> Result<(), AllocError>
         ensures { OnOk result (string_bytes text.new ≡ string_bytes text.old
             ++ head_words (refused_line self.now) (option_map (λ c. c.now) cell.entry)) }
     {
         self.add_where(text)?;
-        add_work(text, self.work)?;
+        self.add_work(text)?;
         self.add_field(text)?;
         self.add_found(text, cell)?;
-        self.add_points(text, cell)
+        self.add_numbers(text, cell)
+    }
+
+    /// Adds what a wrong number points to, where the line's cells stand in their places.
+    fn add_numbers(&self, text: &mut String, cell: Option<&[u8]>) -> Result<(), AllocError>
+        ensures { OnOk result (string_bytes text.new ≡ string_bytes text.old
+            ++ numbers_words (refused_line self.now) (option_map (λ c. c.now) cell.entry)) }
+    {
+        if is_separated(self.line.bytes) {
+            Ok(())
+        } else {
+            self.add_points(text, cell)
+        }
     }
 
     /// Adds what a line points to that is misplaced or names no record, and what may stand there.
@@ -605,6 +677,32 @@ impl Refused<'_> {
     }
 
     /// Adds why the cells may stand elsewhere, and that the line may have been broken.
+    fn add_moved(&self, text: &mut String) -> Result<(), AllocError>
+        ensures { OnOk result (string_bytes text.new ≡ string_bytes text.old
+            ++ moved_signs (refused_line self.now)) }
+    {
+        let line = self.without_return();
+        add_shift(text, self.kind, self.refusal.field, self.before, line)?;
+        self.add_broken(text)
+    }
+
+    /// Adds that, or that what stood between the line's front and its rest was lost.
+    fn add_moved_or_block(&self, text: &mut String) -> Result<(), AllocError>
+        ensures { OnOk result (string_bytes text.new ≡ string_bytes text.old
+            ++ signs_or_block (refused_line self.now)
+            (lost_block (numbers_of self.now.kind self.now.line.bytes.now) self.now.line.bytes.now)) }
+    {
+        let line = self.line.bytes;
+        match lost_block(numbers_of(self.kind, line), line) {
+            None => self.add_moved(text),
+            Some(found) => {
+                let at = line.len().saturating_sub(found.len());
+                add_lost_block(text, (at as u64).saturating_add(2))
+            }
+        }
+    }
+
+    /// Adds that, or that a header's version stands further left.
     fn add_cells(&self, text: &mut String) -> Result<(), AllocError>
         ensures { OnOk result (string_bytes text.new ≡ string_bytes text.old
             ++ cells_signs (refused_line self.now)) }
@@ -612,9 +710,10 @@ impl Refused<'_> {
         if self.is_too_long {
             return Ok(());
         }
-        let line = self.without_return();
-        add_shift(text, self.kind, self.refusal.field, self.before, line)?;
-        self.add_broken(text)
+        match moved_by(self.kind, self.without_return()) {
+            0 => self.add_moved_or_block(text),
+            count => add_moved_version(text, 60usize.saturating_sub(count)),
+        }
     }
 
     /// Adds that, or which other line begins in it.
@@ -676,13 +775,25 @@ impl Refused<'_> {
     }
 
     /// Adds a word on its carriage returns, and that it may have been cut off.
-    #[tactic(auto, unfolding(crate::specs::Format::Signs::end_signs))]
+    #[tactic(auto, unfolding(crate::specs::Format::Signs::text_signs))]
+    fn add_text_signs(&self, text: &mut String) -> Result<(), AllocError>
+        ensures { OnOk result (string_bytes text.new ≡ string_bytes text.old
+            ++ text_signs (refused_line self.now)) }
+    {
+        add_returns(text, self.line.bytes)?;
+        add_cut_off(text, &self.line, self.kind)
+    }
+
+    /// Adds these, where it is text.
     fn add_ends(&self, text: &mut String) -> Result<(), AllocError>
         ensures { OnOk result (string_bytes text.new ≡ string_bytes text.old
             ++ end_signs (refused_line self.now)) }
     {
-        self.add_returns_in(text)?;
-        add_cut_off(text, &self.line, self.kind)
+        if self.is_packed() {
+            Ok(())
+        } else {
+            self.add_text_signs(text)
+        }
     }
 
     /// Whether it names no record and begins a file that is no text of one byte a character.
@@ -692,18 +803,6 @@ impl Refused<'_> {
         match self.refusal.reason {
             Reason::UnknownKind => opening_of(self.line.bytes).is_packed(),
             _ => false,
-        }
-    }
-
-    /// Adds a word on its carriage returns, where it is text.
-    fn add_returns_in(&self, text: &mut String) -> Result<(), AllocError>
-        ensures { OnOk result (string_bytes text.new ≡ string_bytes text.old
-            ++ returns_in (refused_line self.now)) }
-    {
-        if self.is_packed() {
-            Ok(())
-        } else {
-            add_returns(text, self.line.bytes)
         }
     }
 

@@ -12,6 +12,7 @@ mod handling;
 pub mod laws;
 mod lines_at_end;
 mod long_lines;
+mod lost_blocks;
 mod misplaced_words;
 mod misplacements;
 mod next_symbols;

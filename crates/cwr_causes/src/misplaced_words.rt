@@ -3,7 +3,7 @@
 ghost use Rattle.std.specs.Prelude.{◌≡◌, ◌++◌, option_map, string_bytes, OnOk};
 ghost use Rattle.cwr_causes.specs.Format.MisplacedTexts.{alternatives, first_head_line, front_gap, gap_words, goes_on_line, goes_on_words, header_gap, header_number_line, here_after, here_start};
 ghost use Rattle.cwr_causes.specs.Format.MisplacedTexts.{here_words, later_head_line, missing_line, missing_words, mistyped_line, mistyped_words, moved_line, numbers_words, one_alternative, place_start};
-ghost use Rattle.cwr_causes.specs.Format.MisplacedTexts.{or_separator, record_gap, records_gap, second_file_line};
+ghost use Rattle.cwr_causes.specs.Format.MisplacedTexts.{are_roles_asked, or_separator, record_gap, records_gap, role_line, role_words, second_file_line};
 ghost use Rattle.cwr_causes.specs.Steps.Coming.{letting_at, preceding_at};
 ghost use Rattle.cwr_causes.specs.Steps.Misplaced.{misplaced_text};
 
@@ -13,7 +13,7 @@ use crate::misplacements::{Gap, Misplacement};
 use crate::next_symbols::{letting_at, preceding_at};
 use crate::sequences::RecordNumbers;
 use crate::texts::add_label;
-use cwr_fields::Kind;
+use cwr_fields::{Kind, TransactionType};
 use cwr_shape::{Stage, Symbol};
 use std::alloc::{AllocError, Global};
 use std::fmt::Write;
@@ -131,7 +131,7 @@ fn add_gap(text: &mut String, gap: Gap) -> Result<(), AllocError>
         Gap::Front { transaction, last } => add_front_gap(text, transaction, last),
         Gap::Records { first, last } => add_records_gap(text, first, last),
         Gap::End => text.push_str(
-            "the last records of the transaction before it are missing before this line, or stand after it",
+            "the last records of the transaction before it are missing before this line, or stand elsewhere",
         ),
         Gap::GroupFoot => {
             text.push_str(
@@ -321,6 +321,37 @@ fn add_mistyped_line(text: &mut String) -> Result<(), AllocError>
     text.push_str(
         "the numbers of this line are those that belong here: its record type is mistyped; don't delete it\n",
     )
+}
+
+/// Whether in an agreement the last records are missing, or the numbers go on.
+pub(crate) fn are_roles_asked(stage: Option<Stage>, shown: Misplacement) -> bool
+    ensures { result ≡ are_roles_asked stage shown }
+{
+    match (stage, shown) {
+        (
+            Some(Stage::Within(TransactionType::Agreement, _)),
+            Misplacement::Missing(Gap::End) | Misplacement::GoesOn,
+        ) => true,
+        _ => false,
+    }
+}
+
+/// Adds which roles a block of IPA has.
+#[tactic(auto, unfolding(crate::specs::Format::MisplacedTexts::role_line))]
+fn add_role_line(text: &mut String) -> Result<(), AllocError>
+    ensures { OnOk result (string_bytes text.new ≡ string_bytes text.old ++ role_line) }
+{
+    add_label(text, "note")?;
+    text.push_str(
+        "each block of IPA has at least one of role AS and one of role AC: if no IPA is missing, the role of one is mistyped\n",
+    )
+}
+
+/// Adds that, where it is asked.
+pub(crate) fn add_roles(text: &mut String, asked: bool) -> Result<(), AllocError>
+    ensures { OnOk result (string_bytes text.new ≡ string_bytes text.old ++ role_words asked) }
+{
+    if asked { add_role_line(text) } else { Ok(()) }
 }
 
 /// Adds what a line points to that names no record, where its numbers belong there or not.

@@ -1,6 +1,7 @@
 //! What a misplaced line and the line before it show by their sequences.
 
 ghost use Rattle.std.specs.Prelude.{◌≡◌, option_map};
+ghost use Rattle.cwr_causes.specs.Format.Heads.{are_apart};
 ghost use Rattle.cwr_causes.specs.Format.Misplacements.{after_group_head, belongs, between, by_numbers, foot_missing, front_missing, go_on_from};
 ghost use Rattle.cwr_causes.specs.Format.Misplacements.{in_same, inside, is_first, misplacement_at, misplacement_of, next_header};
 ghost use Rattle.cwr_causes.specs.Format.Misplacements.{numbers_before, numbers_of, outside_group, second_file_if};
@@ -75,6 +76,16 @@ pub(crate) fn numbers_before(before: Option<&[u8]>) -> Option<RecordNumbers>
     match before {
         Some(before) => numbers_of(kind_of(before), before),
         None => None,
+    }
+}
+
+/// Whether by their sequences two lines are of two transactions.
+pub(crate) fn are_apart(before: Option<RecordNumbers>, here: Option<RecordNumbers>) -> bool
+    ensures { result ≡ are_apart before here }
+{
+    match (before, here) {
+        (Some(before), Some(here)) => here.transaction != before.transaction,
+        _ => false,
     }
 }
 

@@ -364,7 +364,7 @@ impl Opening {
             Opening::Gzip => Some("this is a gzip file: unpack it"),
             Opening::Zip => Some("this is a zip file: unpack it"),
             Opening::LowerCase => Some(
-                "record types are in capital letters: where the whole file is in small ones, turn all of it",
+                "record types are in capital letters: where the whole line is in small ones, its titles and numbers too, turn all of it, or the whole file",
             ),
             Opening::Pdf => Some("this is a PDF file: the transmission itself is wanted"),
             Opening::Rtf => Some("this is a text of a word processor (RTF): save it as plain text"),

@@ -58,7 +58,7 @@ fn add_shifting(text: &mut String, is_long: bool) -> Result<(), AllocError>
 {
     match is_long {
         true => text.push_str(
-            ": it was filled up by characters, and what stands behind them is shifted; fill it up by bytes\n",
+            ": what stands behind them is shifted, as where a line is filled up by characters; fill it up by bytes\n",
         ),
         false => text.push_str(
             ": if it was filled up by characters, what stands behind them is shifted\n",

@@ -2,10 +2,11 @@
 
 ghost use Rattle.std.specs.Prelude.{◌≡◌, ◌++◌, drop, option_map, string_bytes, Some, OnOk};
 ghost use Rattle.cwr_causes.specs.Format.Openings.{first_version, group_version, header_version, later_version, third_version};
+ghost use Rattle.cwr_causes.specs.Format.Openings.{moved_by, moved_text, moved_version_line, version_text};
 ghost use Rattle.cwr_causes.specs.Format.Openings.{version_in, version_line, version_words};
 
 use crate::texts::add_label;
-use cwr_fields::Kind;
+use cwr_fields::{Kind, is_plain};
 use std::alloc::AllocError;
 use std::fmt::Write;
 
@@ -15,7 +16,7 @@ const GROUP_VERSION: usize = 11;
 /// Where a header of 2.2 names its version: the first byte, from 0, after all fields of 2.1.
 const HEADER_VERSION: usize = 101;
 
-/// From where on a header of another version may name it.
+/// Where a header has its version, and from where on one of another version may name that: the first byte, from 0.
 const LATE_IN_HEADER: usize = 59;
 
 /// What a line has from a byte on, from 0.
@@ -99,6 +100,52 @@ fn version_in(kind: Kind, bytes: &[u8]) -> Option<&'static str>
         Kind::Grh => group_version(from_byte(bytes, GROUP_VERSION)),
         _ => None,
     }
+}
+
+/// What a line has from the version of 2.1 on.
+fn version_text(line: &[u8]) -> Option<&[u8]>
+    ensures { option_map (λ text. text.now) result ≡ version_text line.now }
+{
+    let mut rest = line;
+    while let [_, behind @ ..] = rest {
+        if rest.starts_with(b"01.10") {
+            return Some(rest);
+        }
+        rest = behind;
+    }
+    None
+}
+
+/// How many bytes that text, which begins with the version and ends the line, stands before the version's place in a header.
+fn moved_text(line: &[u8], text: Option<&[u8]>) -> usize
+    ensures { result ≡ moved_text line.now (option_map (λ t. t.now) text.entry) }
+{
+    match text {
+        Some(text) => LATE_IN_HEADER.saturating_sub(line.len().saturating_sub(text.len())),
+        None => 0,
+    }
+}
+
+/// How many bytes the version stands before its place in a header in which no control characters are.
+pub(crate) fn moved_by(kind: Option<Kind>, line: &[u8]) -> usize
+    ensures { result ≡ moved_by kind line.now }
+{
+    match kind {
+        Some(Kind::Hdr) if is_plain(line) => moved_text(line, version_text(line)),
+        _ => 0,
+    }
+}
+
+/// Adds that it begins with that byte, from 1.
+#[tactic(auto, unfolding(crate::specs::Format::Openings::moved_version_line))]
+pub(crate) fn add_moved_version(text: &mut String, first: usize) -> Result<(), AllocError>
+    ensures { OnOk result (string_bytes text.new ≡ string_bytes text.old ++ moved_version_line first) }
+{
+    add_label(text, "note")?;
+    writeln!(
+        text,
+        "01.10, the version, begins at byte {first} of the line, and its place is byte 60: blanks or letters were lost before it, and what stands behind has moved with it; take the file as it was before that"
+    )
 }
 
 /// Adds that a line is one of that version of CWR.

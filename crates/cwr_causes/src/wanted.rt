@@ -1,18 +1,21 @@
 //! What may stand in the place of what was found, and what a misplaced line points to, in words.
 
-ghost use Rattle.std.specs.Prelude.{◌≡◌, ◌++◌, true, codes, option_map, string_bytes, Some, OnOk};
+ghost use Rattle.std.specs.Prelude.{◌≡◌, ◌-◌, ◌==◌, ◌++◌, true, codes, drop, length, option_map, string_bytes, Some, OnOk};
 ghost use Rattle.std.specs.List.{list_all, list_any};
 ghost use Rattle.cwr_fields.specs.Format.Layouts.{line_width};
 ghost use Rattle.cwr_shape.specs.declared.symbols.Symbol.{Symbol};
 ghost use Rattle.cwr_shape.specs.Format.NextSymbols.{header_kind, is_header_of};
 ghost use Rattle.cwr_causes.specs.Format.Texts.{hex_words};
 ghost use Rattle.cwr_causes.specs.Format.Wanted.{another_type_line, another_type_words, begins_early, constant_words, control_line, control_place, control_words, counted_number};
-ghost use Rattle.cwr_causes.specs.Format.Wanted.{date_said, date_words, ends_letter, has_letters_o, is_date_mark, is_digit_or_o, time_words, version_said};
-ghost use Rattle.cwr_causes.specs.Format.Wanted.{digit_said, digit_words, end_of_line_words, fault_words, is_digit_or_space, is_letter_o, is_of_another_type, is_other_header, last_byte_words, limit_words, may_be_copy};
+ghost use Rattle.cwr_causes.specs.Format.Wanted.{date_said, date_words, ends_letter, has_letters, has_letters_l, has_letters_o, has_marks, has_points, is_date_mark, is_digit_or_l, is_digit_or_mark};
+ghost use Rattle.cwr_causes.specs.Format.Wanted.{is_digit_or_o, is_digit_or_point, is_letter_l, is_point, is_parted, letter_said, ends_early, other_said, time_words, version_said};
+ghost use Rattle.cwr_fields.specs.Format.Bytes.{is_digit};
+ghost use Rattle.cwr_causes.specs.Format.Wanted.{digit_said, digit_words, end_of_line_words, fault_words, is_digit_or_space, mistyped_type_line, type_line, is_letter_o, is_of_another_type, is_other_header, last_byte_words, limit_words, may_be_copy};
 ghost use Rattle.cwr_causes.specs.Format.Wanted.{most_words, number_in_width, raised_words, rule_words, twice_words};
 
 use crate::expected::{letters_of, number_rule};
 use crate::texts::add_label;
+use crate::versions::from_byte;
 use crate::wrong_numbers::is_header;
 use cwr_fields::{CellFault, Kind, TransactionType, first_control, width};
 use cwr_shape::{LimitKind, Limits, Stage, TransactionStep};
@@ -122,18 +125,145 @@ fn begins_early(cell: &[u8]) -> bool
     }
 }
 
+/// Whether the byte is a small l or a capital I.
+fn is_letter_l(byte: u8) -> bool
+    ensures { result ≡ is_letter_l byte }
+{
+    byte == b'l' || byte == b'I'
+}
+
+/// Whether some byte is one.
+fn have_letter_l(bytes: &[u8]) -> bool
+    ensures { result ≡ list_any is_letter_l bytes.now }
+{
+    bytes.iter().any(|byte| is_letter_l(*byte))
+}
+
+/// Whether the byte is a digit, or such a letter.
+fn is_digit_or_l(byte: u8) -> bool
+    ensures { result ≡ is_digit_or_l byte }
+{
+    is_letter_l(byte) || (b'0' <= byte && byte <= b'9')
+}
+
+/// Whether all bytes are digits or such letters.
+fn are_digits_or_l(bytes: &[u8]) -> bool
+    ensures { result ≡ list_all is_digit_or_l bytes.now }
+{
+    bytes.iter().all(|byte| is_digit_or_l(*byte))
+}
+
+/// Whether the cell has digits alone, but for such letters.
+fn has_letters_l(cell: &[u8]) -> bool
+    ensures { result ≡ has_letters_l cell.now }
+{
+    have_letter_l(cell) && are_digits_or_l(cell)
+}
+
+/// Whether the cell is a number in which letters look like digits.
+fn has_letters(cell: &[u8]) -> bool
+    ensures { result ≡ has_letters cell.now }
+{
+    has_letters_o(cell) || has_letters_l(cell)
+}
+
+/// What is said of letters in a number that look like digits.
+fn letter_said(cell: &[u8]) -> &'static str
+    ensures { result.now ≡ letter_said cell.now }
+{
+    if has_letters_o(cell) {
+        "; the letter O isn't the digit 0"
+    } else if has_letters_l(cell) {
+        "; the letters l and I aren't the digit 1"
+    } else {
+        ""
+    }
+}
+
+/// Whether the byte is a point or a comma.
+fn is_point(byte: u8) -> bool
+    ensures { result ≡ is_point byte }
+{
+    byte == b'.' || byte == b','
+}
+
+/// Whether some byte is one.
+fn have_point(bytes: &[u8]) -> bool
+    ensures { result ≡ list_any is_point bytes.now }
+{
+    bytes.iter().any(|byte| is_point(*byte))
+}
+
+/// Whether the byte is a digit, a space, a point or a comma.
+fn is_digit_or_point(byte: u8) -> bool
+    ensures { result ≡ is_digit_or_point byte }
+{
+    is_point(byte) || is_digit_or_space(byte)
+}
+
+/// Whether all bytes are.
+fn are_digits_or_points(bytes: &[u8]) -> bool
+    ensures { result ≡ list_all is_digit_or_point bytes.now }
+{
+    bytes.iter().all(|byte| is_digit_or_point(*byte))
+}
+
+/// Whether the cell is a number with a point or a comma.
+fn has_points(cell: &[u8]) -> bool
+    ensures { result ≡ has_points cell.now }
+{
+    have_point(cell) && are_digits_or_points(cell)
+}
+
+/// Whether some byte is a digit.
+fn have_digit(bytes: &[u8]) -> bool
+    ensures { result ≡ list_any is_digit bytes.now }
+{
+    bytes.iter().any(|byte| byte.is_ascii_digit())
+}
+
+/// What the bytes have after all but the last one.
+fn last_of(bytes: &[u8]) -> &[u8]
+    ensures { result.now ≡ drop (length bytes.now - 1) bytes.now }
+{
+    &bytes[bytes.len().saturating_sub(1)..]
+}
+
+/// Whether the cell begins with a zero, and ends with a digit, as where bytes were put in between.
+fn is_parted(cell: &[u8]) -> bool
+    ensures { result ≡ is_parted cell.now }
+{
+    match cell {
+        [first, ..] => *first == b'0' && have_digit(last_of(cell)),
+        [] => false,
+    }
+}
+
+/// What else than letters stands in the place of digits, as far as it shows.
+fn other_said(derived: bool, cell: &[u8]) -> &'static str
+    ensures { result.now ≡ other_said derived cell.now }
+{
+    if derived && are_digits_or_spaces(cell) {
+        "; cwr renumber --new FILE OUT writes such numbers in full"
+    } else if has_points(cell) {
+        "; no point and no comma stands in such a number"
+    } else if begins_early(cell) {
+        "; such a number has zeros in front: where some were lost, or a field before it was left out, what stands behind has moved to the left"
+    } else if is_parted(cell) {
+        "; where bytes were put in, what stands behind has moved to the right"
+    } else {
+        ""
+    }
+}
+
 /// Why a cell isn't all digits, as far as it shows.
 fn digits_said(derived: bool, cell: &[u8]) -> &'static str
     ensures { result.now ≡ digit_said derived cell.now }
 {
-    if have_letter_o(cell) {
-        "; the letter O isn't the digit 0"
-    } else if derived && are_digits_or_spaces(cell) {
-        "; cwr renumber --new FILE OUT writes such numbers in full"
-    } else if begins_early(cell) {
-        "; such a number has zeros in front: where some were lost, what stands behind it has moved to the left"
+    if has_letters(cell) {
+        letter_said(cell)
     } else {
-        ""
+        other_said(derived, cell)
     }
 }
 
@@ -188,21 +318,56 @@ fn add_time(text: &mut String, cell: Option<&[u8]>) -> Result<(), AllocError>
     ensures { OnOk result (string_bytes text.new ≡ string_bytes text.old ++ time_words (option_map (λ c. c.now) cell.entry)) }
 {
     match cell {
-        Some(cell) if has_letters_o(cell) => text.push_str("; the letter O isn't the digit 0"),
-        _ => Ok(()),
+        Some(cell) => text.push_str(letter_said(cell)),
+        None => Ok(()),
     }
+}
+
+/// Whether the byte is a digit, or such a mark.
+fn is_digit_or_mark(byte: u8) -> bool
+    ensures { result ≡ is_digit_or_mark byte }
+{
+    is_date_mark(byte) || (b'0' <= byte && byte <= b'9')
+}
+
+/// Whether all bytes are.
+fn are_digits_or_marks(bytes: &[u8]) -> bool
+    ensures { result ≡ list_all is_digit_or_mark bytes.now }
+{
+    bytes.iter().all(|byte| is_digit_or_mark(*byte))
+}
+
+/// Whether the cell has digits with marks between them.
+fn has_marks(cell: &[u8]) -> bool
+    ensures { result ≡ has_marks cell.now }
+{
+    have_date_mark(cell) && are_digits_or_marks(cell)
+}
+
+/// Whether some byte is a space.
+fn have_space(bytes: &[u8]) -> bool
+    ensures { result ≡ list_any (λ b. b == 32) bytes.now }
+{
+    bytes.iter().any(|byte| *byte == b' ')
+}
+
+/// Whether the cell has digits, and spaces after them.
+fn ends_early(cell: &[u8]) -> bool
+    ensures { result ≡ ends_early cell.now }
+{
+    have_space(last_of(cell)) && have_digit(cell) && are_digits_or_spaces(cell)
 }
 
 /// Why a cell isn't a day, as far as it shows.
 fn date_said(cell: &[u8]) -> &'static str
     ensures { result.now ≡ date_said cell.now }
 {
-    if has_letters_o(cell) {
-        "; the letter O isn't the digit 0"
-    } else if have_date_mark(cell) {
+    if has_marks(cell) {
         "; a date has no marks: where it was written in ten bytes, what stands behind it has moved to the right"
+    } else if ends_early(cell) {
+        "; where digits were lost or blanks put in, here or before, what stands behind has moved"
     } else {
-        ""
+        letter_said(cell)
     }
 }
 
@@ -222,8 +387,10 @@ fn version_said(cell: &[u8]) -> &'static str
 {
     if cell.starts_with(b"01.1") || cell.starts_with(b"02.1") {
         "; where its last 0 was lost, what stands behind it has moved to the left"
-    } else {
+    } else if from_byte(cell, 2).starts_with(b".") {
         ""
+    } else {
+        "; where bytes were lost or put in before it, what stands behind has moved with it"
     }
 }
 
@@ -415,6 +582,36 @@ fn add_another_type_line(text: &mut String, found: &str, wanted: &str) -> Result
     )
 }
 
+/// Adds the same of one whose sequences are those that belong there.
+#[tactic(auto, unfolding(crate::specs::Format::Wanted::mistyped_type_line))]
+fn add_mistyped_type(text: &mut String, found: &str, wanted: &str) -> Result<(), AllocError>
+    ensures { OnOk result (string_bytes text.new ≡ string_bytes text.old
+        ++ mistyped_type_line found.now wanted.now) }
+{
+    add_label(text, "points to")?;
+    writeln!(
+        text,
+        "the group's GRH says {wanted} in bytes 4 to 6, and this is the header of a transaction of type {found}, with the sequences that belong here: its kind is mistyped, or it needs a group of its own (a GRT, and a GRH of its type, before this line); if all of the group are such, the type in GRH is wrong"
+    )
+}
+
+/// Adds the one or the other.
+fn add_type_line(
+    text: &mut String,
+    belongs: bool,
+    found: &str,
+    wanted: &str,
+) -> Result<(), AllocError>
+    ensures { OnOk result (string_bytes text.new ≡ string_bytes text.old
+        ++ type_line belongs found.now wanted.now) }
+{
+    if belongs {
+        add_mistyped_type(text, found, wanted)
+    } else {
+        add_another_type_line(text, found, wanted)
+    }
+}
+
 /// Whether it is such a record, where the records before have come to that stage.
 pub(crate) fn is_other_header(stage: Option<Stage>, kind: Kind) -> bool
     ensures { result ≡ is_other_header stage kind }
@@ -429,16 +626,17 @@ pub(crate) fn is_other_header(stage: Option<Stage>, kind: Kind) -> bool
 pub(crate) fn add_another_type(
     text: &mut String,
     stage: Option<Stage>,
+    belongs: bool,
     kind: Kind,
 ) -> Result<(), AllocError>
     ensures { OnOk result (string_bytes text.new ≡ string_bytes text.old
-        ++ another_type_words stage kind) }
+        ++ another_type_words stage belongs kind) }
 {
     let Some(Stage::Within(ty, step)) = stage else {
         return Ok(());
     };
     if is_of_another_type(ty, step, kind) {
-        add_another_type_line(text, letters_of(kind), letters_of(header_of(ty)))
+        add_type_line(text, belongs, letters_of(kind), letters_of(header_of(ty)))
     } else {
         Ok(())
     }

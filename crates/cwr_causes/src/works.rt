@@ -5,9 +5,9 @@ ghost use Rattle.cwr_fields.specs.declared.kinds.Kind.{Kind};
 ghost use Rattle.cwr_fields.specs.Format.Layouts.{FieldLayout, field_at};
 ghost use Rattle.cwr_lines.specs.Steps.Held.{held_cell, held_kind};
 ghost use Rattle.cwr_notes.specs.Format.WorkNames.{name_line};
-ghost use Rattle.cwr_causes.specs.Format.RefusedWorks.{IsWorkHeader, copy_work, open_work, shown_line, work_in_place};
+ghost use Rattle.cwr_causes.specs.Format.RefusedWorks.{IsWorkHeader, copy_work, open_work, shown_line, work_in_place, work_out_of_place};
 ghost use Rattle.cwr_causes.specs.Format.Texts.{byte_words};
-ghost use Rattle.cwr_causes.specs.Steps.Works.{begun_work, is_further, own_work, plain_cell, work_refused};
+ghost use Rattle.cwr_causes.specs.Steps.Works.{begun_work, headed_work, is_further, next_work, own_work, plain_cell, record_number, work_refused};
 
 use crate::sequences::sequence_in;
 use crate::texts::add_bytes;
@@ -64,15 +64,22 @@ pub fn own_work(line: &CutLine<'_>) -> WorkLine
     }
 }
 
+/// The record sequence of the line, where a sequence stands there.
+fn record_number(line: &CutLine<'_>) -> Option<u64>
+    ensures { result ≡ record_number line.now }
+{
+    match line.cell(RECORD_NUMBER) {
+        Some(cell) => sequence_in(cell, 0),
+        None => None,
+    }
+}
+
 /// Whether the line has the record number of a further record of a transaction.
 fn is_further(line: &CutLine<'_>) -> bool
     ensures { result ≡ is_further line.now }
 {
-    match line.cell(RECORD_NUMBER) {
-        Some(cell) => match sequence_in(cell, 0) {
-            Some(number) => number != 0,
-            None => false,
-        },
+    match record_number(line) {
+        Some(number) => number != 0,
         None => false,
     }
 }
@@ -120,12 +127,46 @@ fn work_in_place(header: &Option<Record>, line: &CutLine<'_>) -> WorkLine
     }
 }
 
+/// The line on the work of a header after records of which a transaction with that header is open: where that is of its kind, it isn't
+/// whole, and the line is on its work; else on the header's own.
+fn next_work(header: &Option<Record>, line: &CutLine<'_>) -> WorkLine
+    ensures { result ≡ next_work header.now line.now }
+{
+    match (header, line.kind()) {
+        (Some(head), Some(kind)) if is_of(&head.view(), kind) => WorkLine::by(&head.view()),
+        _ => own_work(line),
+    }
+}
+
+/// The same of one that doesn't stand in its place: its own only where its record sequence is 0.
+#[tactic(auto, unfolding(crate::specs::Format::RefusedWorks::headed_work_by))]
+fn headed_work(header: &Option<Record>, line: &CutLine<'_>) -> WorkLine
+    ensures { result ≡ headed_work header.now line.now }
+{
+    match record_number(line) {
+        None => open_work(header),
+        Some(0) => next_work(header, line),
+        Some(_) => copy_work(header),
+    }
+}
+
+/// The line on the work of a line that doesn't stand in its place, after records of which a transaction with that header is open.
+#[tactic(auto, unfolding(crate::specs::Format::RefusedWorks::work_out_of_place))]
+fn work_out_of_place(header: &Option<Record>, line: &CutLine<'_>) -> WorkLine
+    ensures { result ≡ work_out_of_place header.now (held_kind line.now) (held_cell line.now) }
+{
+    match line.kind() {
+        Some(Kind::Nwr | Kind::Rev | Kind::Ack | Kind::Agr) => headed_work(header, line),
+        _ => open_work(header),
+    }
+}
+
 /// The line on the work of a line that is refused for that reason, after records of which a transaction with that header is open.
 pub fn refused_work(header: &Option<Record>, reason: &Reason, line: &CutLine<'_>) -> WorkLine
     ensures { result ≡ work_refused header.now reason.now line.now }
 {
     match reason {
-        Reason::UnknownKind | Reason::Misplaced => open_work(header),
+        Reason::UnknownKind | Reason::Misplaced => work_out_of_place(header, line),
         _ => work_in_place(header, line),
     }
 }

@@ -1,16 +1,17 @@
 //! What a wrong number points to: records that are missing or stand twice, or a count that wasn't changed.
 
 ghost use Rattle.std.specs.Prelude.{◌≡◌, ◌++◌, ◌==◌, List, [], if◌then◌else◌, option_map, string_bytes, OnOk};
-ghost use Rattle.cwr_causes.specs.Format.WrongNumbers.{begins_group, file_records_words, first_number_words, uncounted_ends};
+ghost use Rattle.cwr_causes.specs.Format.WrongNumbers.{begins_group, file_records_words, heads, first_number_words, uncounted_ends};
+ghost use Rattle.cwr_causes.specs.Format.RefusedWorks.{is_after_header};
 ghost use Rattle.cwr_causes.specs.Format.WrongNumbers.{ahead_words, amount_words, beside_words, breaking_words, comparison_words, count_words, counts_on, difference_words};
-ghost use Rattle.cwr_causes.specs.Format.WrongNumbers.{first_count_words, first_header_words, first_id_words, foot_words, going_on_words, group_records_words, id_words, in_order_words};
-ghost use Rattle.cwr_causes.specs.Format.WrongNumbers.{is_closing, is_header, is_one_more, is_same_line, later_count_words, later_header_words, later_id_words, may_be_cut, meaning_words};
+ghost use Rattle.cwr_causes.specs.Format.WrongNumbers.{first_count_words, first_header_words, first_id_words, foot_words, going_on_words, group_records_words, header_words, id_words, in_order_words, message_words};
+ghost use Rattle.cwr_causes.specs.Format.WrongNumbers.{is_closing, is_header, is_one_more, is_same_line, later_count_words, later_header_words, later_id_words, later_purpose_words, later_used_words, low_words, may_be_cut, plural, meaning_words};
 ghost use Rattle.cwr_causes.specs.Format.WrongNumbers.{missing_words, naming, naming_of, neighbours_at, one_missing_words, place_words, points_words, purpose_words, reason_words};
 ghost use Rattle.cwr_causes.specs.Format.WrongNumbers.{record_words, repeated_words, sequence_words, shifted_words, some_missing_words, stands_after, swapped_words, taken_out_words};
-ghost use Rattle.cwr_causes.specs.Format.WrongNumbers.{trailer_words, transaction_words, uncounted_words, unless_seen, used_words, wrong_value};
+ghost use Rattle.cwr_causes.specs.Format.WrongNumbers.{trailer_words, transaction_words, transactions_words, twice_words, uncounted_words, unless_seen, used_words, wrong_value};
 
 use crate::ahead::Ahead;
-use crate::sequences::{Sequences, sequences_of, start_of_sequence};
+use crate::sequences::{RECORD_SEQUENCE, Sequences, sequence_in, sequences_of, start_of_sequence};
 use crate::texts::add_label;
 use cwr_fields::Kind;
 use std::alloc::AllocError;
@@ -88,11 +89,21 @@ impl Numbered {
     }
 }
 
-/// Whether the record is the header of a transaction.
+/// Whether the record is one that heads transactions.
 pub(crate) fn is_header(kind: Kind) -> bool
     ensures { result ≡ is_header kind }
 {
     matches!(kind, Kind::Agr | Kind::Nwr | Kind::Rev | Kind::Ack)
+}
+
+/// Whether the number is that of a further record of a transaction, whose header has number 0.
+fn is_after_header(number: Option<u64>) -> bool
+    ensures { result ≡ is_after_header number }
+{
+    match number {
+        Some(number) => number != 0,
+        None => false,
+    }
 }
 
 /// Adds that two numbers stand beside each other, where both are known.
@@ -140,7 +151,7 @@ fn add_one_missing(text: &mut String, what: Names, expected: u64) -> Result<(), 
     let Names { one, number, .. } = what;
     write!(
         text,
-        "the {one} with {number} {expected} is missing before this line"
+        "the {one} with {number} {expected} is missing before this line, or stands elsewhere"
     )
 }
 
@@ -161,7 +172,7 @@ fn add_some_missing(
     } = what;
     write!(
         text,
-        "the {several} with {number} {expected} to {last} are missing before this line"
+        "the {several} with {number} {expected} to {last} are missing before this line, or stand elsewhere"
     )
 }
 
@@ -192,11 +203,10 @@ fn add_place(
     if stands_after(after, expected) {
         add_swapped(text, what, expected)
     } else if last == expected {
-        add_one_missing(text, what, expected)?;
-        text.push_str(unless_seen(after, ", or stands after it"))
+        add_one_missing(text, what, expected)
     } else {
         add_some_missing(text, what, expected, last)?;
-        text.push_str(unless_seen(after, ", or stand after it, or the number is mistyped"))
+        text.push_str(unless_seen(after, ", or the number is mistyped"))
     }
 }
 
@@ -236,6 +246,35 @@ fn add_used(text: &mut String, what: Names, found: u64, expected: u64) -> Result
     }
 }
 
+/// Adds that it is too low after other faults: the lines with these may be those that are numbered wrong.
+#[tactic(auto, unfolding(crate::specs::Format::WrongNumbers::later_used_words))]
+fn add_later_used(text: &mut String, what: Names, expected: u64) -> Result<(), AllocError>
+    ensures { OnOk result (string_bytes text.new ≡ string_bytes text.old ++ later_used_words (naming_of what) expected) }
+{
+    let several = what.several;
+    write!(
+        text,
+        "by the lines before it, of which some have faults, {expected} belongs here: mend those first, and look again; else {several} stand twice or elsewhere, or only the number is wrong"
+    )
+}
+
+/// Adds that the number is too low.
+fn add_low(
+    text: &mut String,
+    what: Names,
+    is_later: bool,
+    found: u64,
+    expected: u64,
+) -> Result<(), AllocError>
+    ensures { OnOk result (string_bytes text.new ≡ string_bytes text.old ++ low_words (naming_of what) is_later found expected) }
+{
+    if is_later {
+        add_later_used(text, what, expected)
+    } else {
+        add_used(text, what, found, expected)
+    }
+}
+
 /// Adds which numbers are shifted: this one and so many after it.
 #[tactic(auto, unfolding(crate::specs::Format::WrongNumbers::shifted_words))]
 fn add_shifted(text: &mut String, what: Names, count: u64) -> Result<(), AllocError>
@@ -261,12 +300,12 @@ fn add_taken_out(text: &mut String, what: Names, higher: u64, line: u32) -> Resu
     if higher == 1 {
         write!(
             text,
-            "1 higher: the {one} after line {line} was taken out or stands elsewhere, or, if the counts of GRT and TRL fit, only its number was skipped"
+            "1 higher: the {one} after line {line} was taken out or stands elsewhere, or, where the counts of GRT and TRL fit, only its number may have been skipped"
         )
     } else {
         write!(
             text,
-            "{higher} higher: the {several} after line {line} were taken out or stand elsewhere, or, if the counts of GRT and TRL fit, only numbers were skipped"
+            "{higher} higher: the {several} after line {line} were taken out or stand elsewhere, or, where the counts of GRT and TRL fit, only numbers may have been skipped"
         )
     }
 }
@@ -290,8 +329,8 @@ fn add_amount(
     }
 }
 
-/// Whether the first number after it is one more.
-fn is_one_more(first: Option<u64>, found: u64) -> bool
+/// Whether there is a first number, and it is one more.
+pub(crate) fn is_one_more(first: Option<u64>, found: u64) -> bool
     ensures { result ≡ is_one_more first found }
 {
     match first {
@@ -339,6 +378,16 @@ fn add_difference(text: &mut String, found: u64, expected: u64) -> Result<(), Al
     }
 }
 
+/// The end of what is counted, where there are so many.
+fn plural(count: u64) -> &'static str
+    ensures { result.now ≡ plural count }
+{
+    match count {
+        1 => "",
+        _ => "s",
+    }
+}
+
 /// Adds what a count points to: that of some in the whole.
 #[tactic(auto, unfolding(crate::specs::Format::WrongNumbers::first_count_words))]
 fn add_first_count(
@@ -350,14 +399,15 @@ fn add_first_count(
 ) -> Result<(), AllocError>
     ensures { OnOk result (string_bytes text.new ≡ string_bytes text.old ++ first_count_words whole.now counted.now found expected) }
 {
+    let ending = plural(expected);
     write!(
         text,
-        "the {whole} has {expected} {counted} and says {found}: "
+        "the {whole} has {expected} {counted}{ending} and says {found}: "
     )?;
     add_difference(text, found, expected)
 }
 
-/// Adds the same after other faults: what stands in lines that couldn't be read isn't counted.
+/// Adds the same after other faults: a line that has one may be none of those that are counted.
 #[tactic(auto, unfolding(crate::specs::Format::WrongNumbers::later_count_words))]
 fn add_later_count(
     text: &mut String,
@@ -368,9 +418,10 @@ fn add_later_count(
 ) -> Result<(), AllocError>
     ensures { OnOk result (string_bytes text.new ≡ string_bytes text.old ++ later_count_words whole.now counted.now found expected) }
 {
+    let ending = plural(expected);
     write!(
         text,
-        "as far as the lines before could be read, the {whole} has {expected} {counted} and says {found}: mend the faults before this one, and look again"
+        "by the lines before it, of which some have faults, the {whole} has {expected} {counted}{ending} and says {found}: mend those first, and look again"
     )
 }
 
@@ -381,7 +432,7 @@ fn add_first_header(text: &mut String, found: u64, expected: u64) -> Result<(), 
 {
     write!(
         text,
-        "the header of this transaction has sequence {expected}, and the record {found}: it belongs to another one, or a header is missing before it, or the number is mistyped, or bytes were lost in this line"
+        "the header of this transaction has sequence {expected}, and the record {found}: it belongs to another one, or a header is missing before it or stands after it, or the number is mistyped, or bytes were lost in this line"
     )
 }
 
@@ -392,8 +443,20 @@ fn add_later_header(text: &mut String, found: u64, expected: u64) -> Result<(), 
 {
     write!(
         text,
-        "by the lines before it this record is of transaction {expected}, and it says {found}: if a line before it is at fault, mend that first; else it belongs to another transaction, or a header is missing before it, or the number is mistyped"
+        "by the lines before it this record is of transaction {expected}, and it says {found}: if a line before it is at fault, mend that first; else it belongs to another transaction, or a header is missing before it or stands after it, or the number is mistyped"
     )
+}
+
+/// Adds of which the transaction sequence of a message may come, where it is too high.
+fn add_message(text: &mut String, kind: Kind, is_higher: bool) -> Result<(), AllocError>
+    ensures { OnOk result (string_bytes text.new ≡ string_bytes text.old ++ message_words kind is_higher) }
+{
+    match (kind, is_higher) {
+        (Kind::Msg, true) => text.push_str(
+            "; an MSG has the transaction sequence of its ACK, and isn't counted itself",
+        ),
+        _ => Ok(()),
+    }
 }
 
 /// Adds what a group ID in GRT points to that isn't GRH's.
@@ -416,6 +479,16 @@ fn add_later_id(text: &mut String, found: u64, expected: u64) -> Result<(), Allo
         text,
         "the last GRH that could be read has ID {expected}, and this GRT {found}: if a GRH before it is at fault, mend that first; else a GRT and a GRH are missing between, or one was put in the other's place"
     )
+}
+
+/// Adds which works stand twice, where some are too many.
+fn add_twice(text: &mut String, are_more: bool) -> Result<(), AllocError>
+    ensures { OnOk result (string_bytes text.new ≡ string_bytes text.old ++ twice_words are_more) }
+{
+    match are_more {
+        true => text.push_str("; cwr advise --repeated 100000 FILE tells works that stand twice"),
+        false => Ok(()),
+    }
 }
 
 /// Adds that GRH and GRT themselves weren't counted, where so many are too many.
@@ -452,23 +525,25 @@ fn add_first_number(text: &mut String, found: u64) -> Result<(), AllocError>
     }
 }
 
+/// Adds what a number that is too high may come of else, where faults stand before it.
+fn add_later_purpose(text: &mut String, begins_group: bool) -> Result<(), AllocError>
+    ensures { OnOk result (string_bytes text.new ≡ string_bytes text.old ++ later_purpose_words begins_group) }
+{
+    match begins_group {
+        true => text.push_str(
+            "; or sequences go on from group to group, or what is missing stands in a line with a fault before this one: mend those first, and look again",
+        ),
+        false => text.push_str(
+            "; or what is missing stands in a line with a fault before this one: mend those first, and look again",
+        ),
+    }
+}
+
 /// Whether a record of the kind closes a group or the file: its numbers are counts.
 fn is_closing(kind: Kind) -> bool
     ensures { result ≡ is_closing kind }
 {
     matches!(kind, Kind::Grt | Kind::Trl)
-}
-
-/// Whether the field of a record of the kind is a number that is too high where something was taken out before it.
-fn counts_on(kind: Kind, field: u8) -> bool
-    ensures { result ≡ counts_on kind field }
-{
-    match kind {
-        Kind::Grh | Kind::Trl => true,
-        Kind::Grt => field != 2,
-        _ if is_header(kind) => field == 2,
-        _ => field == 3,
-    }
 }
 
 /// Whether two lines are the same but for their sequences.
@@ -480,6 +555,25 @@ fn is_same_line(line: &[u8], before: &[u8]) -> bool
 }
 
 impl WrongNumber<'_> {
+    /// Whether the record heads its transaction: one that begins the copy in an acknowledgement is a further record of that.
+    fn heads(&self) -> bool
+        ensures { result ≡ heads (wrong_value self.now) }
+    {
+        is_header(self.kind) && !is_after_header(sequence_in(self.line, RECORD_SEQUENCE))
+    }
+
+    /// Whether the number is one that is too high where something was taken out before it.
+    fn counts_on(&self) -> bool
+        ensures { result ≡ counts_on self.now.kind (wrong_value self.now) }
+    {
+        match self.kind {
+            Kind::Grh | Kind::Trl => true,
+            Kind::Grt => self.field != 2,
+            _ if self.heads() => self.field == 2,
+            _ => self.field == 3,
+        }
+    }
+
     /// Adds how the numbers after a wrong one go on.
     #[tactic(auto, unfolding(crate::specs::Format::WrongNumbers::ahead_words))]
     fn add_ahead(&self, text: &mut String, what: Names, ahead: Ahead) -> Result<(), AllocError>
@@ -534,9 +628,9 @@ impl WrongNumber<'_> {
         }
     }
 
-    /// Adds what is missing, or that the number was used before.
+    /// Adds what is missing, or that the number is too low.
     fn add_reason(&self, text: &mut String, what: Names) -> Result<(), AllocError>
-        ensures { OnOk result (string_bytes text.new ≡ string_bytes text.old ++ reason_words (naming_of what) (neighbours_at (wrong_value self.now))
+        ensures { OnOk result (string_bytes text.new ≡ string_bytes text.old ++ reason_words (naming_of what) self.now.is_later (neighbours_at (wrong_value self.now))
             self.now.found self.now.expected self.now.ahead) }
     {
         if self.found > self.expected {
@@ -550,7 +644,7 @@ impl WrongNumber<'_> {
                 self.ahead,
             )
         } else {
-            add_used(text, what, self.found, self.expected)
+            add_low(text, what, self.is_later, self.found, self.expected)
         }
     }
 
@@ -601,21 +695,36 @@ impl WrongNumber<'_> {
                 "the header of a transaction is its first record, which has sequence 0; if all are numbered so, and none is missing: cwr renumber --new FILE OUT",
             );
         }
+        if is_header(self.kind) && self.found == 0 {
+            return text.push_str(
+                "this header begins the copy in an acknowledgement, whose records are numbered on from those of the ACK, and not from 0; if none is missing: cwr renumber --new FILE OUT",
+            );
+        }
         self.add_in_order(text, Numbered::Record)?;
         self.add_repeated(text)
+    }
+
+    /// Adds what a transaction sequence points to that isn't its header's.
+    fn add_header(&self, text: &mut String) -> Result<(), AllocError>
+        ensures { OnOk result (string_bytes text.new ≡ string_bytes text.old ++ header_words (wrong_value self.now)) }
+    {
+        let (found, expected) = (self.found, self.expected);
+        if self.is_later {
+            add_later_header(text, found, expected)?;
+        } else {
+            add_first_header(text, found, expected)?;
+        }
+        add_message(text, self.kind, found > expected)
     }
 
     /// Adds what the sequence of a transaction points to.
     fn add_transaction(&self, text: &mut String) -> Result<(), AllocError>
         ensures { OnOk result (string_bytes text.new ≡ string_bytes text.old ++ transaction_words (wrong_value self.now)) }
     {
-        let (found, expected) = (self.found, self.expected);
-        if is_header(self.kind) {
+        if self.heads() {
             self.add_in_order(text, Numbered::Transaction)
-        } else if self.is_later {
-            add_later_header(text, found, expected)
         } else {
-            add_first_header(text, found, expected)
+            self.add_header(text)
         }
     }
 
@@ -631,11 +740,19 @@ impl WrongNumber<'_> {
         }
     }
 
+    /// Adds what the count of the transactions of the whole points to.
+    fn add_transactions(&self, text: &mut String, whole: &str) -> Result<(), AllocError>
+        ensures { OnOk result (string_bytes text.new ≡ string_bytes text.old ++ transactions_words (wrong_value self.now) whole.now) }
+    {
+        self.add_count(text, whole, "transaction")?;
+        add_twice(text, self.found < self.expected && !self.is_later)
+    }
+
     /// Adds what the count of a group's records points to.
     fn add_group_records(&self, text: &mut String) -> Result<(), AllocError>
         ensures { OnOk result (string_bytes text.new ≡ string_bytes text.old ++ group_records_words (wrong_value self.now)) }
     {
-        self.add_count(text, "group", "records")?;
+        self.add_count(text, "group", "record")?;
         if self.is_later {
             Ok(())
         } else {
@@ -660,7 +777,7 @@ impl WrongNumber<'_> {
     {
         match self.field {
             2 => self.add_id(text),
-            3 => self.add_count(text, "group", "transactions"),
+            3 => self.add_transactions(text, "group"),
             _ => self.add_group_records(text),
         }
     }
@@ -669,7 +786,7 @@ impl WrongNumber<'_> {
     fn add_file_records(&self, text: &mut String) -> Result<(), AllocError>
         ensures { OnOk result (string_bytes text.new ≡ string_bytes text.old ++ file_records_words (wrong_value self.now)) }
     {
-        self.add_count(text, "file", "records")?;
+        self.add_count(text, "file", "record")?;
         if self.is_later {
             Ok(())
         } else {
@@ -682,8 +799,8 @@ impl WrongNumber<'_> {
         ensures { OnOk result (string_bytes text.new ≡ string_bytes text.old ++ trailer_words (wrong_value self.now)) }
     {
         match self.field {
-            2 => self.add_count(text, "file", "groups"),
-            3 => self.add_count(text, "file", "transactions"),
+            2 => self.add_count(text, "file", "group"),
+            3 => self.add_transactions(text, "file"),
             _ => self.add_file_records(text),
         }
     }
@@ -718,7 +835,7 @@ impl WrongNumber<'_> {
         ensures { result ≡ may_be_cut (wrong_value self.now) }
     {
         self.found > self.expected
-            && counts_on(self.kind, self.field)
+            && self.counts_on()
             && !stands_after(self.ahead, self.expected)
             && !(self.is_later && is_closing(self.kind))
     }
@@ -730,7 +847,7 @@ impl WrongNumber<'_> {
         if !self.may_be_cut() {
             Ok(())
         } else if self.is_later {
-            text.push_str("; mend the faults before it first, and look again")
+            add_later_purpose(text, self.begins_group())
         } else if self.begins_group() {
             add_first_number(text, self.found)
         } else {
@@ -742,7 +859,7 @@ impl WrongNumber<'_> {
     fn begins_group(&self) -> bool
         ensures { result ≡ begins_group (wrong_value self.now) }
     {
-        is_header(self.kind) && self.field == 2 && self.expected == 0
+        self.heads() && self.field == 2 && self.expected == 0
     }
 
     /// Adds the line that says what the number points to.

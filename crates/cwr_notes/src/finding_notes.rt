@@ -146,7 +146,7 @@ fn set_total(rule: Rule, count: usize, transaction: &Transaction, lines: &mut No
 {
     lines.set_more(count.saturating_sub(20) as u64);
     match rule {
-        Rule::V3 | Rule::V4 | Rule::V5 => lines.add_total(total_of(rule, transaction)),
+        Rule::V3 | Rule::V4 | Rule::V5 => lines.add_shares(total_of(rule, transaction)),
         Rule::V9 => lines.add_components(count as u64),
         _ => {}
     }

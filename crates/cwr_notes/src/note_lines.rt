@@ -4,7 +4,7 @@ ghost use Rattle.std.specs.Prelude.{◌≡◌, ◌+◌, ◌*◌, ◌≤◌, [], 
 ghost use Rattle.std.specs.Str.{bytes_eq};
 ghost use Rattle.cwr_fields.specs.Steps.Views.{field_view};
 ghost use Rattle.cwr_notes.specs.Format.FindingNotes.{gap, head_lines, level_words, more_line, named_line, noted_cells, noted_line, number_of_field, rule_words};
-ghost use Rattle.cwr_notes.specs.Format.FindingNotes.{value_words, where_line};
+ghost use Rattle.cwr_notes.specs.Format.FindingNotes.{shares_line, value_words, where_line};
 
 use crate::record_lines::{LONGEST, Text, push, push_number};
 use crate::work_lines::WorkLine;
@@ -256,15 +256,22 @@ impl NoteLines {
         }
     }
 
-    /// Adds what the rule adds up.
-    pub(crate) fn add_total(&mut self, total: u64)
+    /// Adds what shares add up to, in hundredths of a percent. Where that is 1 %, they may be in percent.
+    pub(crate) fn add_shares(&mut self, total: u64)
         requires { length self.old ≤ 60 }
-        ensures text { self.new ≡ self.old ++ codes "  total     " ++ decimal total ++ 10 ∷ [] }
+        ensures text { self.new ≡ self.old ++ shares_line total }
         ensures len { length self.new ≤ length self.old + 60 }
     {
-        push(&mut self.text, b"  total     ");
-        push_number(&mut self.text, total);
-        push(&mut self.text, b"\n");
+        if total == 100 {
+            push(
+                &mut self.text,
+                b"  total     100, that is 1 %: are the shares in percent?\n",
+            );
+        } else {
+            push(&mut self.text, b"  total     ");
+            push_number(&mut self.text, total);
+            push(&mut self.text, b"\n");
+        }
     }
 
     /// Adds how many components there are.

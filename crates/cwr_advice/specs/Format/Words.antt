@@ -51,9 +51,9 @@ advice_words A2a =
     "this chain of publishers begins with an administrator or a sub-publisher: put the original publisher (type E) before it"
 advice_words A2b = codes "publishers (SPU) own shares of this work, and no SPT says where they collect: add the SPT records"
 advice_words A2c = codes "no PWR says which publisher stands for this writer: add one after SWR"
-advice_words A2d = codes "this writer owns shares, and no SWT says where they are collected: add one after SWR"
+advice_words A2d = codes "this writer owns shares, and no SWT says where they are collected: add one after SWR, or mend its record type where it is there"
 advice_words A2e =
-    codes "this writer owns nothing, and no SWT says that something is collected: fill in the shares or add SWT, or write OWR"
+    codes "this writer owns nothing, and no SWT says that something is collected: fill in the shares or add SWT, or write OWR; if its last name is digits, it is an SWT that is mistyped"
 advice_words A2f =
     codes "this one owns shares and has no IPI name number, by which societies know whom they pay: look it up and fill it in"
 advice_words A2g = codes "a share in this right is owned, and no society is named for it: fill in its number, as 010"
@@ -73,7 +73,7 @@ advice_words A3e =
 advice_words A4a =
     codes "this is no IPI name number: it has eleven digits, of which the last two check the others; look it up again"
 advice_words A4b =
-    codes "this is no IPI base number: it is I, nine digits and a check digit, with hyphens between; look it up again"
+    codes "this is no IPI base number: it is I, nine digits and a check digit, with hyphens between; eleven digits are a name number; look it up again"
 advice_words A4c = codes "this is no ISRC: it has two letters, three letters or digits and seven digits, without hyphens"
 advice_words A4d =
     codes "this is no EAN or UPC: it has at most 13 digits, of which the last one checks the others; look it up again"

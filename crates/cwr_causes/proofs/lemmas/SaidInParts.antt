@@ -14,7 +14,8 @@ use Rattle.cwr_causes.specs.Format.Signs.{signs_words}
 use Rattle.cwr_causes.specs.Steps.Refused.{ExplainsEnd, truncation_words, wanted_words, whole_words}
 use Rattle.cwr_shape.specs.declared.limits.Limits.{Limits}
 use Rattle.cwr_shape.specs.declared.stages.Stage.{Stage}
-use Rattle.cwr_causes.specs.Format.Refusals.{RefusedLine, first_kind, head_words, refused_level_words}
+use Rattle.cwr_causes.specs.Format.Heads.{head_words}
+use Rattle.cwr_causes.specs.Format.Refusals.{RefusedLine, first_kind, refused_level_words}
 
 -- three parts, one after another
 pub three_said : (old a b new p q r : List ℕ) → a ≡ old ++ p → b ≡ a ++ q → new ≡ b ++ r → new ≡ old ++ ((p ++ q) ++ r)

@@ -1,6 +1,9 @@
 -- What a misplaced line points to, in words.
-use Rattle.std.specs.Prelude.{ℕ, ◌==◌, Bool, true, false, List, [], ◌∷◌, ◌++◌, codes, decimal, if◌then◌else◌}
+use Rattle.std.specs.Prelude.{ℕ, ◌==◌, Bool, true, false, List, [], ◌∷◌, ◌++◌, codes, decimal, Option, Some, if◌then◌else◌}
 use Rattle.std.specs.List.{concat}
+use Rattle.cwr_fields.specs.declared.codes.TransactionType.TheVariants.{Agreement}
+use Rattle.cwr_shape.specs.declared.stages.Stage.{Stage}
+use Rattle.cwr_shape.specs.declared.stages.Stage.TheVariants.{Within}
 use Rattle.cwr_shape.specs.declared.symbols.Symbol.{Symbol}
 use Rattle.cwr_causes.specs.declared.misplacements.Gap.{Gap}
 use Rattle.cwr_causes.specs.declared.misplacements.Gap.TheVariants.{FileHead, Groups, GroupHead, GroupFront, Transactions, Header, Front}
@@ -64,7 +67,7 @@ gap_words Transactions = codes "the transactions of this group are missing befor
 gap_words (Header transaction) = header_gap transaction
 gap_words (Front transaction last) = front_gap transaction last
 gap_words (Records first last) = if first == last then record_gap first else records_gap first last
-gap_words End = codes "the last records of the transaction before it are missing before this line, or stand after it"
+gap_words End = codes "the last records of the transaction before it are missing before this line, or stand elsewhere"
 gap_words GroupFoot = codes "the GRT of the group before it is missing before this line, or stands after it"
 
 -- that a line of the kind with those letters may stand here
@@ -159,6 +162,21 @@ misplacement_words letters place letting preceding (Moved before here) = moved_l
 misplacement_words letters place letting preceding GoesOn = goes_on_line letters preceding
 misplacement_words letters place letting preceding HeaderNumber = header_number_line
 misplacement_words letters place letting preceding Unknown = []
+
+-- in an agreement the last records are missing, or the numbers go on
+abbrev pub are_roles_asked : Option Stage → Misplacement → Bool
+are_roles_asked (Some (Within Agreement step)) (Missing End) = true
+are_roles_asked (Some (Within Agreement step)) GoesOn = true
+are_roles_asked stage shown = false
+
+-- which roles a block of IPA has
+unfoldable pub role_line : List ℕ
+role_line =
+    label_words (codes "note")
+    ++ codes "each block of IPA has at least one of role AS and one of role AC: if no IPA is missing, the role of one is mistyped\n"
+
+abbrev pub role_words : Bool → List ℕ
+role_words asked = if asked then role_line else []
 
 -- what a line points to that names no record, where its numbers belong there or not
 abbrev pub mistyped_words : Bool → List ℕ

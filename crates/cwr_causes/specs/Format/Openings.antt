@@ -1,11 +1,12 @@
 -- What a line that names no record looks like, and which other version of CWR a line names.
-use Rattle.std.specs.Prelude.{ℕ, ◌==◌, ◌&&◌, ◌||◌, nat_eq, nat_le, Bool, true, false, List, [], ◌∷◌, codes, drop, length, Option, None, Some}
-use Rattle.std.specs.Prelude.{if◌then◌else◌}
+use Rattle.std.specs.Prelude.{ℕ, ◌-◌, ◌==◌, ◌&&◌, ◌||◌, nat_eq, nat_le, Bool, true, false, List, [], ◌∷◌, codes, drop, length, Option, None, Some}
+use Rattle.std.specs.Prelude.{decimal, if◌then◌else◌}
 use Rattle.std.specs.List.{concat, list_all, list_any, starts_with}
 use Rattle.std.specs.Option.{is_none, is_some, option_or}
 use Rattle.std.specs.Char.{is_ascii_alphabetic, is_ascii_alphanumeric, is_ascii_lowercase, to_ascii_uppercase}
 use Rattle.cwr_fields.specs.declared.kinds.Kind.{Kind}
 use Rattle.cwr_fields.specs.declared.kinds.Kind.TheVariants.{Hdr, Grh}
+use Rattle.cwr_fields.specs.Format.Bytes.{is_plain}
 use Rattle.cwr_fields.specs.Format.Kinds.{kind_of}
 use Rattle.cwr_shape.specs.declared.reasons.Reason.{Reason}
 use Rattle.cwr_shape.specs.declared.reasons.Reason.TheVariants as reasons
@@ -151,7 +152,7 @@ opening_said Utf16 =
     Some (codes "this looks like UTF-16: save the file in ASCII, or in a character set of one byte a character")
 opening_said Gzip = Some (codes "this is a gzip file: unpack it")
 opening_said Zip = Some (codes "this is a zip file: unpack it")
-opening_said LowerCase = Some (codes "record types are in capital letters: where the whole file is in small ones, turn all of it")
+opening_said LowerCase = Some (codes "record types are in capital letters: where the whole line is in small ones, its titles and numbers too, turn all of it, or the whole file")
 opening_said Pdf = Some (codes "this is a PDF file: the transmission itself is wanted")
 opening_said Rtf = Some (codes "this is a text of a word processor (RTF): save it as plain text")
 opening_said Markup = Some (codes "this looks like HTML or XML: the transmission itself is wanted")
@@ -253,3 +254,27 @@ version_said (Some version) = version_line version
 abbrev pub version_words : Option Kind → List ℕ → List ℕ
 version_words None line = []
 version_words (Some this_kind) line = version_said (version_in this_kind line)
+
+-- ---- a header whose version stands further left
+
+-- what a line has from the version of 2.1 on
+abbrev pub version_text : List ℕ → Option (List ℕ)
+version_text [] = None
+version_text (b ∷ rest) =
+    if starts_with nat_eq (b ∷ rest) (codes "01.10") then Some (b ∷ rest) else version_text rest
+
+-- how many bytes that stands before byte 60, its place in a header in which no control characters are
+abbrev pub moved_text : List ℕ → Option (List ℕ) → ℕ
+moved_text line None = 0
+moved_text line (Some text) = 59 - (length line - length text)
+
+abbrev pub moved_by : Option Kind → List ℕ → ℕ
+moved_by (Some Hdr) line = if is_plain line then moved_text line (version_text line) else 0
+moved_by this_kind line = 0
+
+-- the note on it, by the byte with which it begins, from 1
+unfoldable pub moved_version_line : ℕ → List ℕ
+moved_version_line first =
+    concat
+    (label_words (codes "note") ∷ codes "01.10, the version, begins at byte " ∷ decimal first
+    ∷ codes " of the line, and its place is byte 60: blanks or letters were lost before it, and what stands behind has moved with it; take the file as it was before that\n" ∷ [])

@@ -14,7 +14,6 @@ use Rattle.cwr_notes.specs.Format.FindingNotes.{level_words}
 use Rattle.cwr_causes.specs.declared.ahead.Ahead.{Ahead}
 use Rattle.cwr_causes.specs.Format.Texts.{beginning_words, cell_words, label_words}
 use Rattle.cwr_causes.specs.Format.Sequences.{capped_number}
-use Rattle.cwr_causes.specs.Format.RefusedWorks.{shown_line}
 use Rattle.cwr_causes.specs.Format.WrongNumbers.{points_words}
 
 -- A refused line: the name of its input, where and why it is refused, its bytes before its line feed, whether that was read, how many
@@ -187,9 +186,3 @@ number_points_words r cell = points_at r cell r.refusal.reason
 
 unfoldable pub refused_level_words : RefusedLine → List ℕ
 refused_level_words r = concat (label_words (codes "level") ∷ level_words r.refusal.level ∷ codes "\n" ∷ [])
-
--- ---- all of it
-
--- where, in which work and in which field the line is refused, what stands there, and what a wrong number points to
-unfoldable pub head_words : RefusedLine → Option (List ℕ) → List ℕ
-head_words r cell = where_words r ++ shown_line r.work ++ field_words r ++ found_words r cell ++ number_points_words r cell

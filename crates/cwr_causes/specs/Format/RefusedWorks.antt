@@ -77,10 +77,34 @@ is_out_of_place reasons.UnknownKind = true
 is_out_of_place reasons.Misplaced = true
 is_out_of_place reason = false
 
--- The same of a line that is refused for that reason. Where it isn't in its place it is the open transaction's.
+-- that of a header of that kind after records of which a transaction is open: where that is of its kind, it isn't whole, and the line is
+-- on its work; else on the header's own
+abbrev pub next_work_by : Option RecordValue → Option Kind → Cells → List ℕ
+next_work_by (Some head) (Some this_kind) cell =
+    if is_a this_kind head then work_line head else own_work_by (Some this_kind) cell
+next_work_by header this_kind cell = own_work_by this_kind cell
+
+-- that of a line of a header's kind by its record sequence, where a sequence stands there
+abbrev pub work_by_number : Option RecordValue → Option Kind → Cells → Option ℕ → List ℕ
+work_by_number header this_kind cell None = open_work header
+work_by_number header this_kind cell (Some n) = if n == 0 then next_work_by header this_kind cell else copy_work header
+
+unfoldable pub headed_work_by : Option RecordValue → Option Kind → Cells → List ℕ
+headed_work_by header this_kind cell = work_by_number header this_kind cell (option_and_then (sequence_in 0) (cell 3))
+
+-- The same of a line that doesn't stand in its place: a header's is its own, where it doesn't come too early after one of its kind, and that
+-- of any other is the open transaction's.
+unfoldable pub work_out_of_place : Option RecordValue → Option Kind → Cells → List ℕ
+work_out_of_place header (Some Nwr) cell = headed_work_by header (Some Nwr) cell
+work_out_of_place header (Some Rev) cell = headed_work_by header (Some Rev) cell
+work_out_of_place header (Some Ack) cell = headed_work_by header (Some Ack) cell
+work_out_of_place header (Some Agr) cell = headed_work_by header (Some Agr) cell
+work_out_of_place header this_kind cell = open_work header
+
+-- the same of a line that is refused for that reason
 abbrev pub work_refused_by : Option RecordValue → Reason → Option Kind → Cells → List ℕ
 work_refused_by header reason this_kind cell =
-    if is_out_of_place reason then open_work header else work_in_place header this_kind cell
+    if is_out_of_place reason then work_out_of_place header this_kind cell else work_in_place header this_kind cell
 
 -- The line as it is shown: where its bytes are no text, each that isn't printable by its number.
 abbrev pub shown_line : List ℕ → List ℕ

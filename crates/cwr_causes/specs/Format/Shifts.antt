@@ -38,7 +38,7 @@ several_bytes_words count =
 -- what that does to its cells
 abbrev pub shifting_words : Bool → List ℕ
 shifting_words true =
-    codes ": it was filled up by characters, and what stands behind them is shifted; fill it up by bytes\n"
+    codes ": what stands behind them is shifted, as where a line is filled up by characters; fill it up by bytes\n"
 shifting_words false = codes ": if it was filled up by characters, what stands behind them is shifted\n"
 
 unfoldable pub character_words : Kind → List ℕ → ℕ → List ℕ

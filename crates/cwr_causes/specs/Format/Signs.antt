@@ -6,8 +6,10 @@ use Rattle.cwr_shape.specs.declared.reasons.Reason.TheVariants as reasons
 use Rattle.cwr_causes.specs.Format.Texts.{label_words}
 use Rattle.cwr_causes.specs.Format.GluedLines.{glued_text, glued_words}
 use Rattle.cwr_causes.specs.Format.LongLines.{long_id_words}
-use Rattle.cwr_causes.specs.Format.Openings.{is_packed, opening_of, opening_words, version_words}
-use Rattle.cwr_causes.specs.Format.Refusals.{RefusedLine, without_return}
+use Rattle.cwr_causes.specs.Format.LostBlocks.{lost_block, lost_block_line}
+use Rattle.cwr_causes.specs.Format.Misplacements.{numbers_of}
+use Rattle.cwr_causes.specs.Format.Openings.{is_packed, moved_by, moved_version_line, opening_of, opening_words, version_words}
+use Rattle.cwr_causes.specs.Format.Refusals.{RefusedLine, up_to_largest, without_return}
 use Rattle.cwr_causes.specs.Format.Shifts.{is_moved, shift_words}
 use Rattle.cwr_causes.specs.Format.TruncatedTexts.{cut_off_words}
 use Rattle.cwr_causes.specs.Format.WrappedLines.{broken_words}
@@ -33,9 +35,21 @@ first_signs r =
     opening_words r.refusal.reason r.bytes r.refusal.rec ++ version_words r.kind r.bytes ++ long_id_words r.kind r.bytes
 
 -- that its cells may stand elsewhere, or a mail program broke it, which is said with the first fault of a line
+abbrev pub moved_signs : RefusedLine → List ℕ
+moved_signs r = shift_words r.kind r.refusal.field r.before (without_return r) ++ broken_words r
+
+-- or that what stood between its front and its rest was lost
+abbrev pub signs_or_block : RefusedLine → Option (List ℕ) → List ℕ
+signs_or_block r None = moved_signs r
+signs_or_block r (Some found) = lost_block_line (up_to_largest (length r.bytes - length found + 2))
+
+-- or that a header's version stands further left
+abbrev pub signs_by : RefusedLine → ℕ → List ℕ
+signs_by r moved =
+    if moved == 0 then signs_or_block r (lost_block (numbers_of r.kind r.bytes) r.bytes) else moved_version_line (60 - moved)
+
 abbrev pub cells_signs : RefusedLine → List ℕ
-cells_signs r =
-    if r.is_too_long then [] else shift_words r.kind r.refusal.field r.before (without_return r) ++ broken_words r
+cells_signs r = if r.is_too_long then [] else signs_by r (moved_by r.kind (without_return r))
 
 abbrev pub whole_line_of : RefusedLine → Option (List ℕ) → List ℕ
 whole_line_of r None = cells_signs r
@@ -60,13 +74,13 @@ abbrev pub is_packed_by : Reason → List ℕ → Bool
 is_packed_by reasons.UnknownKind line = is_packed (opening_of line)
 is_packed_by reason line = false
 
--- a carriage return within it, where it is text
-abbrev pub returns_in : RefusedLine → List ℕ
-returns_in r = if is_packed_by r.refusal.reason r.bytes then [] else return_words r.bytes
+-- a carriage return within it, and that it may have been cut off
+unfoldable pub text_signs : RefusedLine → List ℕ
+text_signs r = return_words r.bytes ++ cut_off_words r.bytes r.ended r.kind
 
--- what stands last: a carriage return within it, and that it may have been cut off
-unfoldable pub end_signs : RefusedLine → List ℕ
-end_signs r = returns_in r ++ cut_off_words r.bytes r.ended r.kind
+-- what stands last, where it is text
+abbrev pub end_signs : RefusedLine → List ℕ
+end_signs r = if is_packed_by r.refusal.reason r.bytes then [] else text_signs r
 
 -- all notes on the line
 unfoldable pub signs_words : RefusedLine → List ℕ

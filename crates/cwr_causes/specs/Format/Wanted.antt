@@ -10,7 +10,7 @@ use Rattle.cwr_fields.specs.declared.cell_types.CellFault.TheVariants as cell_fa
 use Rattle.cwr_fields.specs.declared.codes.TransactionType.{TransactionType}
 use Rattle.cwr_fields.specs.declared.codes.TransactionType.TheVariants.{Acknowledgement}
 use Rattle.cwr_fields.specs.declared.kinds.Kind.{Kind}
-use Rattle.cwr_fields.specs.Format.Bytes.{is_control}
+use Rattle.cwr_fields.specs.Format.Bytes.{is_control, is_digit}
 use Rattle.cwr_fields.specs.Format.Kinds.{letters}
 use Rattle.cwr_fields.specs.Format.Layouts.{FieldLayout, line_width}
 use Rattle.cwr_shape.specs.declared.limits.LimitKind.{LimitKind}
@@ -64,15 +64,6 @@ abbrev pub begins_early : List ℕ → Bool
 begins_early [] = false
 begins_early (b ∷ rest) = (nat_le 49 b && nat_le b 57) || ((b == 48) && ends_letter (b ∷ rest))
 
--- why a cell isn't all digits, as far as it shows: letters stand for zeros, in a number of the file's own spaces do, or in another one zeros
--- may have been lost in front
-abbrev pub digit_said : Bool → List ℕ → List ℕ
-digit_said derived cell =
-    if list_any is_letter_o cell then codes "; the letter O isn't the digit 0"
-    else (if derived && list_all is_digit_or_space cell then codes "; cwr renumber --new FILE OUT writes such numbers in full"
-    else (if begins_early cell
-    then codes "; such a number has zeros in front: where some were lost, what stands behind it has moved to the left" else []))
-
 -- a digit, or the letter O
 abbrev pub is_digit_or_o : ℕ → Bool
 is_digit_or_o b = is_letter_o b || (nat_le 48 b && nat_le b 57)
@@ -81,31 +72,107 @@ is_digit_or_o b = is_letter_o b || (nat_le 48 b && nat_le b 57)
 abbrev pub has_letters_o : List ℕ → Bool
 has_letters_o cell = list_any is_letter_o cell && list_all is_digit_or_o cell
 
+-- a small l or a capital I
+abbrev pub is_letter_l : ℕ → Bool
+is_letter_l b = (b == 108) || (b == 73)
+
+-- a digit, or one of these
+abbrev pub is_digit_or_l : ℕ → Bool
+is_digit_or_l b = is_letter_l b || (nat_le 48 b && nat_le b 57)
+
+-- digits alone, but for these
+abbrev pub has_letters_l : List ℕ → Bool
+has_letters_l cell = list_any is_letter_l cell && list_all is_digit_or_l cell
+
+-- letters in a number that look like digits
+abbrev pub letter_said : List ℕ → List ℕ
+letter_said cell =
+    if has_letters_o cell then codes "; the letter O isn't the digit 0"
+    else (if has_letters_l cell then codes "; the letters l and I aren't the digit 1" else [])
+
+-- a point or a comma
+abbrev pub is_point : ℕ → Bool
+is_point b = (b == 46) || (b == 44)
+
+-- a digit, a space, a point or a comma
+abbrev pub is_digit_or_point : ℕ → Bool
+is_digit_or_point b = is_point b || is_digit_or_space b
+
+-- a number with a point or a comma
+abbrev pub has_points : List ℕ → Bool
+has_points cell = list_any is_point cell && list_all is_digit_or_point cell
+
+-- its last byte is a digit
+abbrev pub ends_digit : List ℕ → Bool
+ends_digit cell = list_any is_digit (drop (length cell - 1) cell)
+
+-- it begins with a zero, and ends with a digit, as where bytes were put in between
+abbrev pub is_parted : List ℕ → Bool
+is_parted [] = false
+is_parted (b ∷ rest) = (b == 48) && ends_digit (b ∷ rest)
+
+-- what else than letters stands in the place of digits: in a number of the file's own spaces do for zeros, a point or a comma, or zeros may
+-- have been lost in front, or bytes put in
+abbrev pub other_said : Bool → List ℕ → List ℕ
+other_said derived cell =
+    if derived && list_all is_digit_or_space cell then codes "; cwr renumber --new FILE OUT writes such numbers in full"
+    else (if has_points cell then codes "; no point and no comma stands in such a number"
+    else (if begins_early cell
+    then codes "; such a number has zeros in front: where some were lost, or a field before it was left out, what stands behind has moved to the left"
+    else (if is_parted cell then codes "; where bytes were put in, what stands behind has moved to the right" else [])))
+
+-- it has letters that look like digits
+abbrev pub has_letters : List ℕ → Bool
+has_letters cell = has_letters_o cell || has_letters_l cell
+
+-- why a cell isn't all digits, as far as it shows
+abbrev pub digit_said : Bool → List ℕ → List ℕ
+digit_said derived cell = if has_letters cell then letter_said cell else other_said derived cell
+
 -- a mark between the parts of a date: a full stop, a hyphen or a slash
 abbrev pub is_date_mark : ℕ → Bool
 is_date_mark b = (b == 46) || ((b == 45) || (b == 47))
 
--- why a cell isn't a time, as far as it shows: letters stand for zeros
+-- a digit, or such a mark
+abbrev pub is_digit_or_mark : ℕ → Bool
+is_digit_or_mark b = is_date_mark b || (nat_le 48 b && nat_le b 57)
+
+-- digits with marks between them
+abbrev pub has_marks : List ℕ → Bool
+has_marks cell = list_any is_date_mark cell && list_all is_digit_or_mark cell
+
+-- why a cell isn't a time, as far as it shows: letters stand for digits
 abbrev pub time_words : Option (List ℕ) → List ℕ
 time_words None = []
-time_words (Some cell) = if has_letters_o cell then codes "; the letter O isn't the digit 0" else []
+time_words (Some cell) = letter_said cell
 
--- why a cell isn't a day: the same, or it is written with marks
+-- its last byte is a space
+abbrev pub ends_space : List ℕ → Bool
+ends_space cell = list_any (λ b. b == 32) (drop (length cell - 1) cell)
+
+-- digits, and spaces after them
+abbrev pub ends_early : List ℕ → Bool
+ends_early cell = ends_space cell && (list_any is_digit cell && list_all is_digit_or_space cell)
+
+-- why a cell isn't a day: it is written with marks, or too short, or letters stand for digits
 abbrev pub date_said : List ℕ → List ℕ
 date_said cell =
-    if has_letters_o cell then codes "; the letter O isn't the digit 0"
-    else (if list_any is_date_mark cell
-    then codes "; a date has no marks: where it was written in ten bytes, what stands behind it has moved to the right" else [])
+    if has_marks cell
+    then codes "; a date has no marks: where it was written in ten bytes, what stands behind it has moved to the right"
+    else (if ends_early cell then codes "; where digits were lost or blanks put in, here or before, what stands behind has moved"
+    else letter_said cell)
 
 abbrev pub date_words : Option (List ℕ) → List ℕ
 date_words None = []
 date_words (Some cell) = date_said cell
 
--- why a cell isn't the version that belongs there: its last digit may be lost
+-- why a cell isn't the version that belongs there: its last digit may be lost, or where it is none, bytes before it
 abbrev pub version_said : List ℕ → List ℕ
 version_said cell =
     if starts_with nat_eq cell (codes "01.1") || starts_with nat_eq cell (codes "02.1")
-    then codes "; where its last 0 was lost, what stands behind it has moved to the left" else []
+    then codes "; where its last 0 was lost, what stands behind it has moved to the left"
+    else (if starts_with nat_eq (drop 2 cell) (codes ".") then []
+    else codes "; where bytes were lost or put in before it, what stands behind has moved with it")
 
 abbrev pub constant_words : Option (List ℕ) → List ℕ
 constant_words None = []
@@ -223,10 +290,21 @@ another_type_line found wanted =
     ∷ codes " in bytes 4 to 6, and this is the header of a transaction of type " ∷ found
     ∷ codes ": the type in GRH is wrong, or a GRT and a GRH are missing before this line, or a transaction of another group was put in, or its kind is mistyped\n" ∷ [])
 
-abbrev pub another_type_words : Option Stage → Kind → List ℕ
-another_type_words (Some (Within ty step)) this_kind =
-    if is_of_another_type ty step this_kind then another_type_line (letters this_kind) (letters (header_kind ty)) else []
-another_type_words stage this_kind = []
+-- the same of one whose sequences are those that belong there
+unfoldable pub mistyped_type_line : List ℕ → List ℕ → List ℕ
+mistyped_type_line found wanted =
+    concat
+    (label_words (codes "points to") ∷ codes "the group's GRH says " ∷ wanted
+    ∷ codes " in bytes 4 to 6, and this is the header of a transaction of type " ∷ found
+    ∷ codes ", with the sequences that belong here: its kind is mistyped, or it needs a group of its own (a GRT, and a GRH of its type, before this line); if all of the group are such, the type in GRH is wrong\n" ∷ [])
+
+abbrev pub type_line : Bool → List ℕ → List ℕ → List ℕ
+type_line belongs found wanted = if belongs then mistyped_type_line found wanted else another_type_line found wanted
+
+abbrev pub another_type_words : Option Stage → Bool → Kind → List ℕ
+another_type_words (Some (Within ty step)) belongs this_kind =
+    if is_of_another_type ty step this_kind then type_line belongs (letters this_kind) (letters (header_kind ty)) else []
+another_type_words stage belongs this_kind = []
 
 -- where the records before have come to that stage, if it is known
 abbrev pub is_other_header : Option Stage → Kind → Bool

@@ -4,9 +4,10 @@ use Rattle.std.specs.Prelude.{drop, take, Option, None, Some, if◌then◌else�
 use Rattle.std.specs.List.{concat}
 use Rattle.std.specs.Str.{bytes_eq}
 use Rattle.std.specs.Option.{option_and_then, option_map, option_or}
+use Rattle.cwr_causes.specs.Format.RefusedWorks.{is_after_header}
 use Rattle.cwr_causes.specs.Format.Sequences.{sequence_in, start_of_sequence}
 use Rattle.cwr_fields.specs.declared.kinds.Kind.{Kind}
-use Rattle.cwr_fields.specs.declared.kinds.Kind.TheVariants.{Agr, Nwr, Rev, Ack, Grh, Grt, Trl}
+use Rattle.cwr_fields.specs.declared.kinds.Kind.TheVariants.{Agr, Nwr, Rev, Ack, Msg, Grh, Grt, Trl}
 use Rattle.cwr_causes.specs.declared.ahead.Ahead.{Ahead}
 use Rattle.cwr_causes.specs.declared.sequences.Sequences.{Sequences}
 use Rattle.cwr_causes.specs.declared.wrong_numbers.Names.{Names}
@@ -66,27 +67,33 @@ unfoldable pub one_missing_words : Naming → ℕ → List ℕ
 one_missing_words what expected =
     concat
     (codes "the " ∷ what.one ∷ codes " with " ∷ what.number ∷ codes " " ∷ decimal expected
-    ∷ codes " is missing before this line" ∷ [])
+    ∷ codes " is missing before this line, or stands elsewhere" ∷ [])
 
 -- that some are missing, up to the last
 unfoldable pub some_missing_words : Naming → ℕ → ℕ → List ℕ
 some_missing_words what expected last =
     concat
     (codes "the " ∷ what.several ∷ codes " with " ∷ what.number ∷ codes " " ∷ decimal expected ∷ codes " to " ∷ decimal last
-    ∷ codes " are missing before this line" ∷ [])
+    ∷ codes " are missing before this line, or stand elsewhere" ∷ [])
 
 -- where the missing ones are
 unfoldable pub place_words : Naming → ℕ → ℕ → Option Ahead → List ℕ
 place_words what found expected after =
     if stands_after after expected then swapped_words what expected
-    else (if found - 1 == expected then one_missing_words what expected ++ unless_seen after (codes ", or stands after it")
-    else some_missing_words what expected (found - 1)
-    ++ unless_seen after (codes ", or stand after it, or the number is mistyped"))
+    else (if found - 1 == expected then one_missing_words what expected
+    else some_missing_words what expected (found - 1) ++ unless_seen after (codes ", or the number is mistyped"))
 
 -- which ones are missing between the one before and this one
 unfoldable pub missing_words : Naming → Sequences → ℕ → ℕ → Option Ahead → List ℕ
 missing_words what neighbours found expected after =
     beside_words what neighbours.before neighbours.here ++ place_words what found expected after
+
+-- that it is too low after other faults: the lines with these may be those that are numbered wrong
+unfoldable pub later_used_words : Naming → ℕ → List ℕ
+later_used_words what expected =
+    concat
+    (codes "by the lines before it, of which some have faults, " ∷ decimal expected ∷ codes " belongs here: mend those first, and look again; else " ∷ what.several
+    ∷ codes " stand twice or elsewhere, or only the number is wrong" ∷ [])
 
 -- that the number was used before
 unfoldable pub used_words : Naming → ℕ → ℕ → List ℕ
@@ -109,9 +116,9 @@ shifted_words what count =
 -- by how much they are higher, and what was taken out after that line
 unfoldable pub taken_out_words : Naming → ℕ → ℕ → List ℕ
 taken_out_words what higher line =
-    if higher == 1 then concat (codes "1 higher: the " ∷ what.one ∷ codes " after line " ∷ decimal line ∷ codes " was taken out or stands elsewhere, or, if the counts of GRT and TRL fit, only its number was skipped" ∷ [])
+    if higher == 1 then concat (codes "1 higher: the " ∷ what.one ∷ codes " after line " ∷ decimal line ∷ codes " was taken out or stands elsewhere, or, where the counts of GRT and TRL fit, only its number may have been skipped" ∷ [])
     else concat
-    (decimal higher ∷ codes " higher: the " ∷ what.several ∷ codes " after line " ∷ decimal line ∷ codes " were taken out or stand elsewhere, or, if the counts of GRT and TRL fit, only numbers were skipped" ∷ [])
+    (decimal higher ∷ codes " higher: the " ∷ what.several ∷ codes " after line " ∷ decimal line ∷ codes " were taken out or stand elsewhere, or, where the counts of GRT and TRL fit, only numbers may have been skipped" ∷ [])
 
 -- by how much they are higher or lower on the line of that number
 unfoldable pub amount_words : Naming → ℕ → ℕ → ℕ → List ℕ
@@ -145,15 +152,20 @@ going_on_words what found expected line None = []
 going_on_words what found expected line (Some ahead) =
     if nat_lt expected found && is_number ahead.first expected then [] else ahead_words what found expected line ahead
 
--- what is missing, or that the number was used before
-abbrev pub reason_words : Naming → Sequences → ℕ → ℕ → Option Ahead → List ℕ
-reason_words what neighbours found expected after =
-    if nat_lt expected found then missing_words what neighbours found expected after else used_words what found expected
+-- that the number is too low
+abbrev pub low_words : Naming → Bool → ℕ → ℕ → List ℕ
+low_words what is_later found expected =
+    if is_later then later_used_words what expected else used_words what found expected
+
+-- what is missing, or that the number is too low
+abbrev pub reason_words : Naming → Bool → Sequences → ℕ → ℕ → Option Ahead → List ℕ
+reason_words what is_later neighbours found expected after =
+    if nat_lt expected found then missing_words what neighbours found expected after else low_words what is_later found expected
 
 -- what a number points to that is one more with each of what it numbers
-unfoldable pub order_words : Naming → Sequences → ℕ → ℕ → ℕ → Option Ahead → List ℕ
-order_words what neighbours found expected line after =
-    reason_words what neighbours found expected after ++ going_on_words what found expected line after
+unfoldable pub order_words : Naming → Bool → Sequences → ℕ → ℕ → ℕ → Option Ahead → List ℕ
+order_words what is_later neighbours found expected line after =
+    reason_words what is_later neighbours found expected after ++ going_on_words what found expected line after
 
 -- ---- counts
 
@@ -164,20 +176,24 @@ difference_words found expected =
     then decimal (found - expected) ++ codes " missing, or the count is mistyped or wasn't changed when some were taken out"
     else decimal (expected - found) ++ codes " too many, or the count is mistyped or wasn't changed when some were put in"
 
+-- the end of what is counted, where there are so many
+abbrev pub plural : ℕ → List ℕ
+plural n = if n == 1 then [] else codes "s"
+
 -- what a count points to: that of some in the whole
 unfoldable pub first_count_words : List ℕ → List ℕ → ℕ → ℕ → List ℕ
 first_count_words whole counted found expected =
     concat
-    (codes "the " ∷ whole ∷ codes " has " ∷ decimal expected ∷ codes " " ∷ counted ∷ codes " and says " ∷ decimal found
+    (codes "the " ∷ whole ∷ codes " has " ∷ decimal expected ∷ codes " " ∷ counted ∷ plural expected ∷ codes " and says " ∷ decimal found
     ∷ codes ": " ∷ [])
     ++ difference_words found expected
 
--- the same after other faults: what stands in lines that couldn't be read isn't counted
+-- the same after other faults: a line that has one may be none of those that are counted
 unfoldable pub later_count_words : List ℕ → List ℕ → ℕ → ℕ → List ℕ
 later_count_words whole counted found expected =
     concat
-    (codes "as far as the lines before could be read, the " ∷ whole ∷ codes " has " ∷ decimal expected ∷ codes " " ∷ counted
-    ∷ codes " and says " ∷ decimal found ∷ codes ": mend the faults before this one, and look again" ∷ [])
+    (codes "by the lines before it, of which some have faults, the " ∷ whole ∷ codes " has " ∷ decimal expected ∷ codes " " ∷ counted ∷ plural expected
+    ∷ codes " and says " ∷ decimal found ∷ codes ": mend those first, and look again" ∷ [])
 
 -- ---- the sequences of lines
 
@@ -215,7 +231,7 @@ comparison_words line (Some before) =
 
 -- ---- the number that isn't the one that belongs there
 
--- the record is the header of a transaction
+-- the record is one that heads transactions
 abbrev pub is_header : Kind → Bool
 is_header Agr = true
 is_header Nwr = true
@@ -251,13 +267,17 @@ wrong_value wrong =
       is_later = wrong.is_later;
     }
 
+-- it heads its transaction: one that begins the copy in an acknowledgement is a further record of that
+abbrev pub heads : WrongValue → Bool
+heads wrong = is_header wrong.kind && not (is_after_header (sequence_in 11 wrong.line))
+
 abbrev pub neighbours_at : WrongValue → Sequences
 neighbours_at wrong = neighbours_of wrong.kind wrong.field wrong.found wrong.expected wrong.line wrong.before
 
 -- what it points to where it is one more with each of what it numbers
 unfoldable pub in_order_words : Numbered → WrongValue → List ℕ
 in_order_words what wrong =
-    order_words (naming what) (neighbours_at wrong) wrong.found wrong.expected wrong.number wrong.ahead
+    order_words (naming what) wrong.is_later (neighbours_at wrong) wrong.found wrong.expected wrong.number wrong.ahead
 
 -- how the line compares where its number is one less than the one that belongs here
 abbrev pub repeated_words : WrongValue → List ℕ
@@ -269,37 +289,55 @@ unfoldable pub record_words : WrongValue → List ℕ
 record_words wrong =
     if is_header wrong.kind && (wrong.expected == 0)
     then codes "the header of a transaction is its first record, which has sequence 0; if all are numbered so, and none is missing: cwr renumber --new FILE OUT"
-    else in_order_words numbered.Record wrong ++ repeated_words wrong
+    else (if is_header wrong.kind && (wrong.found == 0)
+    then codes "this header begins the copy in an acknowledgement, whose records are numbered on from those of the ACK, and not from 0; if none is missing: cwr renumber --new FILE OUT"
+    else in_order_words numbered.Record wrong ++ repeated_words wrong)
 
 -- what a transaction sequence points to that isn't its header's
 unfoldable pub first_header_words : ℕ → ℕ → List ℕ
 first_header_words found expected =
     concat
     (codes "the header of this transaction has sequence " ∷ decimal expected ∷ codes ", and the record " ∷ decimal found
-    ∷ codes ": it belongs to another one, or a header is missing before it, or the number is mistyped, or bytes were lost in this line" ∷ [])
+    ∷ codes ": it belongs to another one, or a header is missing before it or stands after it, or the number is mistyped, or bytes were lost in this line" ∷ [])
 
 -- the same after other faults: the header may be one of the lines that couldn't be read
 unfoldable pub later_header_words : ℕ → ℕ → List ℕ
 later_header_words found expected =
     concat
     (codes "by the lines before it this record is of transaction " ∷ decimal expected ∷ codes ", and it says " ∷ decimal found
-    ∷ codes ": if a line before it is at fault, mend that first; else it belongs to another transaction, or a header is missing before it, or the number is mistyped" ∷ [])
+    ∷ codes ": if a line before it is at fault, mend that first; else it belongs to another transaction, or a header is missing before it or stands after it, or the number is mistyped" ∷ [])
+
+-- of which a message's number may come that is too high
+abbrev pub message_words : Kind → Bool → List ℕ
+message_words Msg true = codes "; an MSG has the transaction sequence of its ACK, and isn't counted itself"
+message_words this_kind is_higher = []
 
 abbrev pub header_words : WrongValue → List ℕ
 header_words wrong =
-    if wrong.is_later then later_header_words wrong.found wrong.expected
-    else first_header_words wrong.found wrong.expected
+    (if wrong.is_later then later_header_words wrong.found wrong.expected
+    else first_header_words wrong.found wrong.expected)
+    ++ message_words wrong.kind (nat_lt wrong.expected wrong.found)
 
 -- what the sequence of a transaction points to
 abbrev pub transaction_words : WrongValue → List ℕ
 transaction_words wrong =
-    if is_header wrong.kind then in_order_words numbered.Transaction wrong else header_words wrong
+    if heads wrong then in_order_words numbered.Transaction wrong else header_words wrong
 
 -- what a count points to: that of some in the whole
 abbrev pub count_words : WrongValue → List ℕ → List ℕ → List ℕ
 count_words wrong whole counted =
     if wrong.is_later then later_count_words whole counted wrong.found wrong.expected
     else first_count_words whole counted wrong.found wrong.expected
+
+-- which works stand twice, where some are too many
+abbrev pub twice_words : Bool → List ℕ
+twice_words true = codes "; cwr advise --repeated 100000 FILE tells works that stand twice"
+twice_words false = []
+
+-- what the count of the transactions of the whole points to
+abbrev pub transactions_words : WrongValue → List ℕ → List ℕ
+transactions_words wrong whole =
+    count_words wrong whole (codes "transaction") ++ twice_words (nat_lt wrong.found wrong.expected && not wrong.is_later)
 
 -- that GRH and GRT themselves weren't counted, where so many are too many
 abbrev pub uncounted_words : ℕ → List ℕ
@@ -308,7 +346,7 @@ uncounted_words more = if more == 2 then codes ", or GRH and GRT weren't counted
 -- what the count of a group's records points to
 abbrev pub group_records_words : WrongValue → List ℕ
 group_records_words wrong =
-    count_words wrong (codes "group") (codes "records")
+    count_words wrong (codes "group") (codes "record")
     ++ (if wrong.is_later then [] else uncounted_words (wrong.expected - wrong.found))
 
 -- what a group ID in GRT points to that isn't GRH's
@@ -333,7 +371,7 @@ id_words wrong =
 abbrev pub foot_words : WrongValue → List ℕ
 foot_words wrong =
     if wrong.field == 2 then id_words wrong
-    else (if wrong.field == 3 then count_words wrong (codes "group") (codes "transactions") else group_records_words wrong)
+    else (if wrong.field == 3 then transactions_words wrong (codes "group") else group_records_words wrong)
 
 -- that HDR and TRL themselves weren't counted, where so many are too many
 abbrev pub uncounted_ends : ℕ → List ℕ
@@ -342,14 +380,14 @@ uncounted_ends more = if more == 2 then codes ", or HDR and TRL weren't counted"
 -- what the count of the file's records points to
 abbrev pub file_records_words : WrongValue → List ℕ
 file_records_words wrong =
-    count_words wrong (codes "file") (codes "records")
+    count_words wrong (codes "file") (codes "record")
     ++ (if wrong.is_later then [] else uncounted_ends (wrong.expected - wrong.found))
 
 -- what a number of the trailer points to
 abbrev pub trailer_words : WrongValue → List ℕ
 trailer_words wrong =
-    if wrong.field == 2 then count_words wrong (codes "file") (codes "groups")
-    else (if wrong.field == 3 then count_words wrong (codes "file") (codes "transactions") else file_records_words wrong)
+    if wrong.field == 2 then count_words wrong (codes "file") (codes "group")
+    else (if wrong.field == 3 then transactions_words wrong (codes "file") else file_records_words wrong)
 
 -- what a sequence points to
 unfoldable pub sequence_words : WrongValue → List ℕ
@@ -365,11 +403,11 @@ meaning_words this_kind wrong = sequence_words wrong
 -- ---- what helps where records were taken out on purpose
 
 -- the field is a number that is then higher than it should be
-abbrev pub counts_on : Kind → ℕ → Bool
-counts_on Grh field = true
-counts_on Grt field = not (field == 2)
-counts_on Trl field = true
-counts_on this_kind field = if is_header this_kind then field == 2 else field == 3
+abbrev pub counts_on : Kind → WrongValue → Bool
+counts_on Grh wrong = true
+counts_on Grt wrong = not (wrong.field == 2)
+counts_on Trl wrong = true
+counts_on this_kind wrong = if heads wrong then wrong.field == 2 else wrong.field == 3
 
 -- the record closes a group or the file: its numbers are counts
 abbrev pub is_closing : Kind → Bool
@@ -382,12 +420,12 @@ is_closing this_kind = false
 abbrev pub may_be_cut : WrongValue → Bool
 may_be_cut wrong =
     nat_lt wrong.expected wrong.found
-    && (counts_on wrong.kind wrong.field
+    && (counts_on wrong.kind wrong
     && (not (stands_after wrong.ahead wrong.expected) && not (wrong.is_later && is_closing wrong.kind)))
 
 -- it is the first transaction of a group
 abbrev pub begins_group : WrongValue → Bool
-begins_group wrong = is_header wrong.kind && ((wrong.field == 2) && (wrong.expected == 0))
+begins_group wrong = heads wrong && ((wrong.field == 2) && (wrong.expected == 0))
 
 -- what else than a cut the first transaction of a group with that number may come of
 abbrev pub first_number_words : ℕ → List ℕ
@@ -395,10 +433,17 @@ first_number_words found =
     if found == 1 then codes "; if you took it out on purpose, or the file counts from 1: cwr renumber --new FILE OUT"
     else codes "; if you took it out on purpose, or sequences go on from group to group: cwr renumber --new FILE OUT"
 
+-- what it may come of else where faults stand before it
+abbrev pub later_purpose_words : Bool → List ℕ
+later_purpose_words true =
+    codes "; or sequences go on from group to group, or what is missing stands in a line with a fault before this one: mend those first, and look again"
+later_purpose_words false =
+    codes "; or what is missing stands in a line with a fault before this one: mend those first, and look again"
+
 -- what is said of a cut on purpose: where faults stand before it, what it comes of isn't known yet
 abbrev pub purpose_words : WrongValue → List ℕ
 purpose_words wrong =
-    if may_be_cut wrong then (if wrong.is_later then codes "; mend the faults before it first, and look again"
+    if may_be_cut wrong then (if wrong.is_later then later_purpose_words (begins_group wrong)
     else (if begins_group wrong then first_number_words wrong.found
     else codes "; if you took it out on purpose: cwr renumber --new FILE OUT")) else []
 

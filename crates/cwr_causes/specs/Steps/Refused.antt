@@ -25,7 +25,8 @@ use Rattle.cwr_causes.specs.Steps.Coming.{coming_at, words_at}
 use Rattle.cwr_causes.specs.Steps.LinesAtEnd.{EndsInLine, EndsWithLine, IsLineAtEnd, NoLineKnown}
 use Rattle.cwr_decode.specs.Steps.LastReads.{HoldsLast}
 use Rattle.cwr_causes.specs.declared.causes.Refused.{Refused}
-use Rattle.cwr_causes.specs.Format.Refusals.{RefusedLine, first_kind, head_words, refused_field, refused_level_words}
+use Rattle.cwr_causes.specs.Format.Heads.{head_words}
+use Rattle.cwr_causes.specs.Format.Refusals.{RefusedLine, first_kind, refused_field, refused_level_words}
 use Rattle.cwr_causes.specs.Format.Handling.{handling_words}
 use Rattle.cwr_causes.specs.Format.Openings.{note_line, repeats_before}
 use Rattle.cwr_causes.specs.Format.Signs.{signs_words}

@@ -167,11 +167,17 @@ most_others = 20
 abbrev pub more_line : ℕ → List ℕ
 more_line n = if n == 0 then [] else codes "  more      records like these: " ++ decimal n ++ 10 ∷ []
 
+-- What shares add up to, in hundredths of a percent. Where that is 1 %, they may be in percent.
+abbrev pub shares_line : ℕ → List ℕ
+shares_line total =
+    if total == 100 then codes "  total     100, that is 1 %: are the shares in percent?\n"
+    else codes "  total     " ++ decimal total ++ 10 ∷ []
+
 -- what the rule adds up or counts
 abbrev pub total_line : Rule → ℕ → List RecordValue → List ℕ
-total_line V3 count t = codes "  total     " ++ decimal (ownership (right_of V3) t) ++ 10 ∷ []
-total_line V4 count t = codes "  total     " ++ decimal (ownership (right_of V4) t) ++ 10 ∷ []
-total_line V5 count t = codes "  total     " ++ decimal (ownership (right_of V5) t) ++ 10 ∷ []
+total_line V3 count t = shares_line (ownership (right_of V3) t)
+total_line V4 count t = shares_line (ownership (right_of V4) t)
+total_line V5 count t = shares_line (ownership (right_of V5) t)
 total_line V9 count t = codes "  total     COM records: " ++ decimal count ++ 10 ∷ []
 total_line rule count t = []
 
