@@ -24,12 +24,16 @@ use cwr_files::{
 };
 use cwr_json::Encoding;
 use cwr_reports::{Asked, Telling, export, report_input, report_several, telling_of};
-use cwr_shape::Limits;
+use cwr_shape::Level;
 use cwr_terminal::{Style, Styled};
 use cwr_transform::{
     Cut, Import, Repair, Union, import_file, import_input, join_files, repair_numbers, split_file,
 };
-use cwr_words::{Rows, Task, Work, task_of};
+use cwr_words::{
+    AcksWords, AdviseWords, CsvWords, JoinWords, JsonWords, Judging, LintWords, RenumberWords,
+    Rows, ShowWords, SplitWords, Task, Work, WriteWords, task_of,
+};
+use std::alloc::Global;
 use std::cell::Cell;
 use std::convert::AsStr;
 use std::io;
@@ -156,39 +160,126 @@ fn refuse_twice(names: &[&str]) -> Result<(), Fault<'static>> {
     }
 }
 
+/// What a task wants of a transmission, where a finding of that level, or of a worse one, ends the run as a refusal does.
+fn wanted_by(task: &Task<'_>, fail_on: Option<Level>) -> Wanted
+    ensures { result ≡ record { whole = task.now.whole; fail_on = fail_on } }
+{
+    Wanted {
+        whole: task.whole,
+        fail_on,
+    }
+}
+
+/// How a task judges an input, where a finding of that level, or of a worse one, ends the run as a refusal does.
+fn asked_by(alloc: Global, task: &Task<'_>, fail_on: Option<Level>) -> Asked
+    ensures limits { result.limits ≡ task.now.limits }
+    ensures wanted { result.wanted ≡ record { whole = task.now.whole; fail_on = fail_on } }
+    ensures faults { result.faults ≡ false }
+    ensures advised { result.advised ≡ false }
+{
+    Asked {
+        alloc,
+        limits: task.limits,
+        wanted: wanted_by(task, fail_on),
+        quiet: false,
+        faults: false,
+        advised: false,
+        all: false,
+        repeated: 0,
+    }
+}
+
 /// Writes the transmission that an input's lines are, to the file of that name, which is another one, or to the output. The input is the
 /// file of its name, or standard input.
 fn import_lines<'a, R: Files + AllocGlobal, I: Read + Drop, P: Pace, O: Write + Drop, E: Write>(
     rt: &R,
-    import: &Import,
-    file: Option<&'a str>,
-    out: Option<&'a str>,
+    task: &Task<'a>,
+    words: &WriteWords<'a>,
     standard: I,
     pace: &mut P,
     output: O,
     error: &mut E,
 ) -> Result<Status, Fault<'a>> {
-    if let Some(name) = out {
-        refuse_out(rt, name, false, &[file.unwrap_or(DASH)])?;
+    let import = Import {
+        limits: task.limits,
+        encoding: encoding_of(words.utf8),
+        most: words.line as usize,
+    };
+    if let Some(name) = words.out {
+        refuse_out(rt, name, false, &[words.file.unwrap_or(DASH)])?;
     }
-    let input = open_input(rt, file, &mut Some(standard), pace)?;
-    match out {
-        Some(name) => import_file(rt, import, input, name, error),
-        None => import_input(rt.alloc(), import, input, output, error),
+    let input = open_input(rt, words.file, &mut Some(standard), pace)?;
+    match words.out {
+        Some(name) => import_file(rt, &import, input, name, error),
+        None => import_input(rt.alloc(), &import, input, output, error),
     }
 }
 
 /// Cuts the transmission of the file to be cut, or that on standard input.
 fn split_input<'a, R: Files + AllocGlobal, I: Read + Drop, P: Pace, O: Write + Drop, E: Write>(
     rt: &R,
-    cut: &Cut<'a>,
+    task: &Task<'a>,
+    words: &SplitWords<'a>,
     standard: I,
     pace: &mut P,
     output: O,
     error: &mut E,
 ) -> Result<Status, Fault<'a>> {
-    let input = open_input(rt, Some(cut.file), &mut Some(standard), pace)?;
-    split_file(rt, cut, input, output, error)
+    let cut = Cut {
+        limits: task.limits,
+        wanted: wanted_by(task, words.fail_on),
+        transactions: words.transactions,
+        file: words.file,
+        prefix: words.prefix,
+        created: words.created,
+        only_new: words.only_new,
+    };
+    let input = open_input(rt, Some(words.file), &mut Some(standard), pace)?;
+    split_file(rt, &cut, input, output, error)
+}
+
+/// Joins the transmissions of files to one, of which one may be that on standard input.
+fn join_inputs<'a, R: Files + AllocGlobal, I: Read + Drop, P: Pace, O: Write + Drop, E: Write>(
+    rt: &R,
+    task: &Task<'a>,
+    words: &JoinWords<'a>,
+    standard: I,
+    pace: &mut P,
+    output: O,
+    error: &mut E,
+) -> Result<Status, Fault<'a>> {
+    let union = Union {
+        limits: task.limits,
+        wanted: wanted_by(task, words.fail_on),
+        out: words.out,
+        only_new: words.only_new,
+        same_sender: words.same_sender,
+        repeated: words.repeated,
+    };
+    let files = words.files.as_slice();
+    refuse_twice(files)?;
+    join_files(rt, &union, files, standard, pace, output, error)
+}
+
+/// Puts the numbers of a transmission right.
+fn renumber<'a, R: Files + AllocGlobal, I: Read + Drop, P: Pace, O: Write + Drop, E: Write>(
+    rt: &R,
+    task: &Task<'a>,
+    words: &RenumberWords<'a>,
+    standard: I,
+    pace: &mut P,
+    output: O,
+    error: &mut E,
+) -> Result<Status, Fault<'a>> {
+    let repair = Repair {
+        limits: task.limits,
+        wanted: wanted_by(task, words.fail_on),
+        file: words.file,
+        out: words.out,
+        only_new: words.only_new,
+        anyway: words.anyway,
+    };
+    repair_numbers(rt, &repair, standard, pace, output, error)
 }
 
 /// Reports on the transmission of the file of that name, or on that on standard input.
@@ -282,7 +373,7 @@ fn judge<'a, R: Files + AllocGlobal, I: Read + Drop, P: Pace, O: Write + Drop, E
 }
 
 /// Tells what the acknowledgements of files say, or those on standard input, or what became of what was sent.
-fn tell_acks<'a, R: Files + AllocGlobal, I: Read + Drop, P: Pace, O: Write + Drop, E: Write>(
+fn tell_answers<'a, R: Files + AllocGlobal, I: Read + Drop, P: Pace, O: Write + Drop, E: Write>(
     rt: &R,
     asked: &Asked,
     answering: &Answering<'_, 'a>,
@@ -327,6 +418,182 @@ fn print_manual<'a, O: Write + Drop>(output: O) -> Result<Status, Fault<'a>>
     }
 }
 
+/// Shows the records of a transmission.
+fn show_records<'a, R: Files + AllocGlobal, I: Read + Drop, P: Pace, O: Write + Drop, E: Write>(
+    rt: &R,
+    task: &Task<'a>,
+    words: &ShowWords<'a>,
+    standard: I,
+    pace: &mut P,
+    output: O,
+    error: &mut E,
+) -> Result<Status, Fault<'a>>
+    ensures { IsOfInput (Work.Show words.now) → EndsOnInput (advice_of (Work.Show words.now)) task.now.limits
+        (wanted_in task.now.whole (Work.Show words.now)) (I.remaining standard) result }
+{
+    let asked = asked_by(rt.alloc(), task, words.fail_on);
+    let told = Telling::Records;
+    report_file(rt, &asked, told, words.file, standard, pace, output, error)
+}
+
+/// Tells every fault of transmissions.
+fn tell_faults<'a, R: Files + AllocGlobal, I: Read + Drop, P: Pace, O: Write + Drop, E: Write>(
+    rt: &R,
+    task: &Task<'a>,
+    words: &LintWords<'a>,
+    standard: I,
+    pace: &mut P,
+    output: O,
+    error: &mut E,
+) -> Result<Status, Fault<'a>>
+    ensures { IsOfInput (Work.Lint words.now) → EndsOnInput (advice_of (Work.Lint words.now)) task.now.limits
+        (wanted_in task.now.whole (Work.Lint words.now)) (I.remaining standard) result }
+{
+    let asked = Asked {
+        quiet: words.quiet,
+        faults: true,
+        advised: words.advised,
+        all: words.all,
+        ..asked_by(rt.alloc(), task, None)
+    };
+    let names = words.files.as_slice();
+    judge(
+        rt,
+        &asked,
+        words.explained,
+        names,
+        standard,
+        pace,
+        output,
+        error,
+    )
+}
+
+/// Judges transmissions, and advises on them.
+fn advise<'a, R: Files + AllocGlobal, I: Read + Drop, P: Pace, O: Write + Drop, E: Write>(
+    rt: &R,
+    task: &Task<'a>,
+    words: &AdviseWords<'a>,
+    standard: I,
+    pace: &mut P,
+    output: O,
+    error: &mut E,
+) -> Result<Status, Fault<'a>>
+    ensures { IsOfInput (Work.Advise words.now) → EndsOnInput (advice_of (Work.Advise words.now)) task.now.limits
+        (wanted_in task.now.whole (Work.Advise words.now)) (I.remaining standard) result }
+{
+    let judging = &words.judging;
+    let asked = Asked {
+        quiet: judging.quiet,
+        advised: true,
+        all: words.all,
+        repeated: words.repeated,
+        ..asked_by(rt.alloc(), task, judging.fail_on)
+    };
+    let names = judging.files.as_slice();
+    judge(rt, &asked, false, names, standard, pace, output, error)
+}
+
+/// Writes the data of a transmission.
+fn write_json<'a, R: Files + AllocGlobal, I: Read + Drop, P: Pace, O: Write + Drop, E: Write>(
+    rt: &R,
+    task: &Task<'a>,
+    words: &JsonWords<'a>,
+    standard: I,
+    pace: &mut P,
+    output: O,
+    error: &mut E,
+) -> Result<Status, Fault<'a>>
+    ensures { IsOfInput (Work.Json words.now) → EndsOnInput (advice_of (Work.Json words.now)) task.now.limits
+        (wanted_in task.now.whole (Work.Json words.now)) (I.remaining standard) result }
+{
+    let asked = asked_by(rt.alloc(), task, None);
+    let telling = Telling::Data {
+        encoding: encoding_of(words.utf8),
+        numbers: words.numbers,
+    };
+    let (file, out) = (words.file, words.out);
+    write_data(
+        rt, &asked, telling, file, out, standard, pace, output, error,
+    )
+}
+
+/// Writes a table of a transmission.
+fn write_table<'a, R: Files + AllocGlobal, I: Read + Drop, P: Pace, O: Write + Drop, E: Write>(
+    rt: &R,
+    task: &Task<'a>,
+    words: &CsvWords<'a>,
+    standard: I,
+    pace: &mut P,
+    output: O,
+    error: &mut E,
+) -> Result<Status, Fault<'a>>
+    ensures { IsOfInput (Work.Csv words.now) → EndsOnInput (advice_of (Work.Csv words.now)) task.now.limits
+        (wanted_in task.now.whole (Work.Csv words.now)) (I.remaining standard) result }
+{
+    let asked = asked_by(rt.alloc(), task, None);
+    let telling = Telling::Rows {
+        encoding: encoding_of(words.utf8),
+        table: table_of(words.rows),
+    };
+    let (file, out) = (words.file, words.out);
+    write_data(
+        rt, &asked, telling, file, out, standard, pace, output, error,
+    )
+}
+
+/// Tells what acknowledgements say, or what became of what was sent.
+fn tell_acks<'a, R: Files + AllocGlobal, I: Read + Drop, P: Pace, O: Write + Drop, E: Write>(
+    rt: &R,
+    task: &Task<'a>,
+    words: &AcksWords<'a>,
+    standard: I,
+    pace: &mut P,
+    output: O,
+    error: &mut E,
+) -> Result<Status, Fault<'a>>
+    ensures { IsOfInput (Work.Acks words.now) → EndsOnInput (advice_of (Work.Acks words.now)) task.now.limits
+        (wanted_in task.now.whole (Work.Acks words.now)) (I.remaining standard) result }
+{
+    let asked = asked_by(rt.alloc(), task, None);
+    let answering = Answering {
+        alloc: rt.alloc(),
+        limits: task.limits,
+        whole: task.whole,
+        form: form_of(words.as_json, words.utf8),
+        statuses: words.statuses.as_slice(),
+        encoding: encoding_of(words.utf8),
+        files: words.files.as_slice(),
+        sent: words.sent.as_slice(),
+        by_place: words.by_place,
+        state: words.state,
+        fail_on: words.fail_on,
+    };
+    tell_answers(rt, &asked, &answering, standard, pace, output, error)
+}
+
+/// Judges transmissions, and explains what is found where that is asked for.
+fn judge_by<'a, R: Files + AllocGlobal, I: Read + Drop, P: Pace, O: Write + Drop, E: Write>(
+    rt: &R,
+    task: &Task<'a>,
+    explained: bool,
+    judging: &Judging<'a>,
+    standard: I,
+    pace: &mut P,
+    output: O,
+    error: &mut E,
+) -> Result<Status, Fault<'a>>
+    ensures { are_standard (map (λ name. name.now) judging.now.files.items) ≡ true → EndsOnInput None task.now.limits
+        (record { whole = task.now.whole; fail_on = judging.now.fail_on }) (I.remaining standard) result }
+{
+    let asked = Asked {
+        quiet: judging.quiet,
+        ..asked_by(rt.alloc(), task, judging.fail_on)
+    };
+    let names = judging.files.as_slice();
+    judge(rt, &asked, explained, names, standard, pace, output, error)
+}
+
 /// Does what is asked for, and tells of a fault. The answer is the status.
 fn carry_out<'a, R: Files + AllocGlobal, I: Read + Drop, P: Pace, O: Write + Drop, E: Write>(
     rt: &R,
@@ -357,188 +624,19 @@ fn perform<'a, R: Files + AllocGlobal, I: Read + Drop, P: Pace, O: Write + Drop,
     ensures { IsOfInput task.now.work → EndsOnInput (advice_of task.now.work) task.now.limits
         (wanted_in task.now.whole task.now.work) (I.remaining standard) result }
 {
-    let mut asked = Asked {
-        alloc: rt.alloc(),
-        limits: task.limits,
-        wanted: Wanted {
-            whole: task.whole,
-            fail_on: None,
-        },
-        quiet: false,
-        faults: false,
-        advised: false,
-        all: false,
-        repeated: 0,
-    };
-    let (judging, explained) = match &task.work {
-        Work::Check(judging) => (judging, false),
-        Work::Explain(judging) => (judging, true),
-        Work::Show { file, fail_on } => {
-            let told = Telling::Records;
-            asked.wanted.fail_on = *fail_on;
-            return report_file(rt, &asked, told, *file, standard, pace, output, error);
-        }
-        Work::Lint {
-            files,
-            quiet,
-            explained,
-            advised,
-            all,
-        } => {
-            asked.quiet = *quiet;
-            asked.faults = true;
-            asked.advised = *advised;
-            asked.all = *all;
-            let names = files.as_slice();
-            return judge(rt, &asked, *explained, names, standard, pace, output, error);
-        }
-        Work::Advise {
-            judging,
-            all,
-            repeated,
-        } => {
-            asked.wanted.fail_on = judging.fail_on;
-            asked.quiet = judging.quiet;
-            asked.advised = true;
-            asked.all = *all;
-            asked.repeated = *repeated;
-            let names = judging.files.as_slice();
-            return judge(rt, &asked, false, names, standard, pace, output, error);
-        }
-        Work::Json {
-            file,
-            out,
-            numbers,
-            utf8,
-        } => {
-            let telling = Telling::Data {
-                encoding: encoding_of(*utf8),
-                numbers: *numbers,
-            };
-            return write_data(
-                rt, &asked, telling, *file, *out, standard, pace, output, error,
-            );
-        }
-        Work::Csv {
-            rows,
-            file,
-            out,
-            utf8,
-        } => {
-            let telling = Telling::Rows {
-                encoding: encoding_of(*utf8),
-                table: table_of(*rows),
-            };
-            return write_data(
-                rt, &asked, telling, *file, *out, standard, pace, output, error,
-            );
-        }
-        Work::Acks {
-            files,
-            sent,
-            as_json,
-            by_place,
-            state,
-            fail_on,
-            statuses,
-            utf8,
-        } => {
-            let answering = Answering {
-                alloc: rt.alloc(),
-                limits: task.limits,
-                whole: task.whole,
-                form: form_of(*as_json, *utf8),
-                statuses: statuses.as_slice(),
-                encoding: encoding_of(*utf8),
-                files: files.as_slice(),
-                sent: sent.as_slice(),
-                by_place: *by_place,
-                state: *state,
-                fail_on: *fail_on,
-            };
-            return tell_acks(rt, &asked, &answering, standard, pace, output, error);
-        }
-        Work::Write {
-            file,
-            out,
-            line,
-            utf8,
-        } => {
-            let import = Import {
-                limits: task.limits,
-                encoding: encoding_of(*utf8),
-                most: *line as usize,
-            };
-            return import_lines(rt, &import, *file, *out, standard, pace, output, error);
-        }
-        Work::Split {
-            transactions,
-            file,
-            prefix,
-            created,
-            only_new,
-            fail_on,
-        } => {
-            let cut = Cut {
-                limits: task.limits,
-                wanted: Wanted {
-                    whole: task.whole,
-                    fail_on: *fail_on,
-                },
-                transactions: *transactions,
-                file: *file,
-                prefix: *prefix,
-                created: *created,
-                only_new: *only_new,
-            };
-            return split_input(rt, &cut, standard, pace, output, error);
-        }
-        Work::Join {
-            out,
-            files,
-            only_new,
-            fail_on,
-            same_sender,
-            repeated,
-        } => {
-            let union = Union {
-                limits: task.limits,
-                wanted: Wanted {
-                    whole: task.whole,
-                    fail_on: *fail_on,
-                },
-                out: *out,
-                only_new: *only_new,
-                same_sender: *same_sender,
-                repeated: *repeated,
-            };
-            refuse_twice(files.as_slice())?;
-            return join_files(rt, &union, files.as_slice(), standard, pace, output, error);
-        }
-        Work::Renumber {
-            file,
-            out,
-            only_new,
-            fail_on,
-            anyway,
-        } => {
-            let repair = Repair {
-                limits: task.limits,
-                wanted: Wanted {
-                    whole: task.whole,
-                    fail_on: *fail_on,
-                },
-                file: *file,
-                out: *out,
-                only_new: *only_new,
-                anyway: *anyway,
-            };
-            return repair_numbers(rt, &repair, standard, pace, output, error);
-        }
-        Work::Manual => return print_manual(output),
-    };
-    asked.wanted.fail_on = judging.fail_on;
-    asked.quiet = judging.quiet;
-    let names = judging.files.as_slice();
-    judge(rt, &asked, explained, names, standard, pace, output, error)
+    match &task.work {
+        Work::Check(words) => judge_by(rt, task, false, words, standard, pace, output, error),
+        Work::Show(words) => show_records(rt, task, words, standard, pace, output, error),
+        Work::Explain(words) => judge_by(rt, task, true, words, standard, pace, output, error),
+        Work::Lint(words) => tell_faults(rt, task, words, standard, pace, output, error),
+        Work::Advise(words) => advise(rt, task, words, standard, pace, output, error),
+        Work::Json(words) => write_json(rt, task, words, standard, pace, output, error),
+        Work::Csv(words) => write_table(rt, task, words, standard, pace, output, error),
+        Work::Acks(words) => tell_acks(rt, task, words, standard, pace, output, error),
+        Work::Write(words) => import_lines(rt, task, words, standard, pace, output, error),
+        Work::Split(words) => split_input(rt, task, words, standard, pace, output, error),
+        Work::Join(words) => join_inputs(rt, task, words, standard, pace, output, error),
+        Work::Renumber(words) => renumber(rt, task, words, standard, pace, output, error),
+        Work::Manual => print_manual(output),
+    }
 }

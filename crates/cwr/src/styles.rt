@@ -35,10 +35,9 @@ fn lines_of(work: &Work<'_>) -> Option<Lines>
     ensures { result ≡ lines_of work.now }
 {
     match work {
-        Work::Check(judging) | Work::Explain(judging) | Work::Advise { judging, .. } => Some(
-            lines_on(judging.files.len()),
-        ),
-        Work::Lint { files, .. } => Some(lines_on(files.len())),
+        Work::Check(judging) | Work::Explain(judging) => Some(lines_on(judging.files.len())),
+        Work::Lint(words) => Some(lines_on(words.files.len())),
+        Work::Advise(words) => Some(lines_on(words.judging.files.len())),
         _ => None,
     }
 }

@@ -6,7 +6,7 @@ ghost use Rattle.cwr_tools.specs.Format.Reports.{CountsReaderFault, CountsWriter
 ghost use Rattle.cwr_acks.specs.Format.AckLines.{IsToldSo, Matched, Telling, lines_of_acks};
 ghost use Rattle.cwr_acks.specs.Steps.AckSteps.{IsKept, KeepsAnswers, LeavesHeld, ReportsAcks, held_if, lines_of_held};
 ghost use Rattle.cwr_acks.specs.Format.AckLines.{telling_of};
-ghost use Rattle.cwr_tools.specs.Steps.Reports.{Reports};
+ghost use Rattle.cwr_tools.specs.Steps.Runs.{Runs};
 
 use crate::counts::Answers;
 use crate::forms::Manner;
@@ -103,14 +103,11 @@ fn write_answers<B: Before, R: Source, W: Target + Drop>(
     writer: W,
 ) -> (W, Option<Delivery>, Answers, Result<Verdict, ToolFault>)
     requires { held_if delivery ≡ B.held }
-    ensures reported { Reports (lines_of_held (telling_of manner.entry) B.held) limits
-        (R.remaining reader.old) (R.remaining reader.new) W.contents writer result.0 result.3 }
+    ensures runs { Runs (lines_of_held (telling_of manner.entry) B.held) limits R.remaining
+        R.failures reader.old reader.new W.contents W.failures W.handed_on writer result.0
+        result.3 }
     ensures kept { LeavesHeld B.held limits (R.remaining reader.old) (R.remaining reader.new)
         result.3 (held_if result.1) result.2 }
-    ensures reader_failures { CountsReaderFault result.3 (R.failures reader.old)
-        (R.failures reader.new) }
-    ensures writer_failures { CountsWriterFault result.3 (W.failures writer) (W.failures result.0) }
-    ensures handed_on { OnOk result.3 (W.handed_on result.0 ≡ true) }
 {
     let mut lines: AnswerLines<'_, B> = AnswerLines {
         manner,

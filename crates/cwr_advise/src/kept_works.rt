@@ -10,7 +10,7 @@ use cwr_lines::RecordRef;
 /// What is kept of the records of a transaction in place of them. It tells of most transactions that surely there is neither a finding
 /// in them nor advice on them.
 #[derive(Drop)]
-pub(crate) struct AdvisedSums {
+pub struct AdvisedSums {
     findings: Sums,
     advice: AdviceSums,
 }

@@ -1,8 +1,8 @@
 //! The text that a check, a show, an explanation, an export or a lint of a text in memory writes.
 
-ghost use Rattle.std.specs.Prelude.{◌≡◌, false, true};
+ghost use Rattle.std.specs.Prelude.{◌≡◌, [], false, true};
 ghost use Rattle.cwr_lint.specs.Format.Wanted.{wanting};
-ghost use Rattle.cwr_tools.specs.Format.Reports.{lines_of_data, lines_of_findings, lines_of_records};
+ghost use Rattle.cwr_tools.specs.Format.Reports.{ItemLines, lines_of_data, lines_of_findings, lines_of_records};
 ghost use Rattle.cwr_calls.specs.Format.Copies.{CopiesOut};
 ghost use Rattle.cwr_calls.specs.Steps.Reported.{IsExplainedOn, IsJudged, IsLintOn, IsReportOn, IsTextOn, IsWritten, asked_by};
 
@@ -11,7 +11,7 @@ use cwr_explain::explain;
 use cwr_json::Encoding;
 use cwr_lint::lint;
 use cwr_shape::Limits;
-use cwr_tools::{ToolFault, Verdict, Watch, check, json, show};
+use cwr_tools::{DataLines, FindingLines, Report, ShownRecords, ToolFault, Verdict, write_report};
 use std::alloc::Global;
 
 /// What is written of a text.
@@ -49,46 +49,48 @@ pub(crate) fn what_is_asked(number: u32) -> Option<Asked>
     }
 }
 
-/// The report of a check.
+// Each report is a call that stays one: else the buffers of all stand on the stack of whoever asks for one.
+
+/// The report that these lines are, and the verdict.
+fn report_of<L: Report>(
+    alloc: Global,
+    limits: Limits,
+    lines: &mut L,
+    text: &[u8],
+) -> (Vec<u8>, Result<Verdict, ToolFault>)
+    requires { (of : ItemLines) × L.stands lines.old of [] }
+    ensures judged { IsJudged limits text.now result.1 }
+    ensures written { (of : ItemLines) → L.stands lines.old of []
+        → IsWritten (IsTextOn of limits text.now result.0.items) result.1 }
+{
+    let mut reader = InMemory::new(text);
+    let writer = Counted::new(Vec::new(alloc));
+    let (writer, verdict, _) = write_report(lines, false, alloc, limits, &mut reader, writer);
+    (writer.into_inner(), verdict)
+}
+
+/// The findings and the verdict.
+#[inline(never)]
 fn check_report(alloc: Global, limits: Limits, text: &[u8]) -> (Vec<u8>, Result<Verdict, ToolFault>)
     ensures judged { IsJudged limits text.now result.1 }
     ensures written { IsWritten (IsTextOn lines_of_findings limits text.now result.0.items) result.1 }
 {
-    let mut reader = InMemory::new(text);
-    let writer = Counted::new(Vec::new(alloc));
-    let (writer, verdict) = check(alloc, limits, &mut reader, writer);
-    (writer.into_inner(), verdict)
+    let mut findings = FindingLines::new();
+    report_of(alloc, limits, &mut findings, text)
 }
 
-/// The report of a show.
+/// The records and the verdict.
+#[inline(never)]
 fn show_report(alloc: Global, limits: Limits, text: &[u8]) -> (Vec<u8>, Result<Verdict, ToolFault>)
     ensures judged { IsJudged limits text.now result.1 }
     ensures written { IsWritten (IsTextOn lines_of_records limits text.now result.0.items) result.1 }
 {
-    let mut reader = InMemory::new(text);
-    let writer = Counted::new(Vec::new(alloc));
-    let (writer, verdict) = show(alloc, limits, &mut reader, writer);
-    (writer.into_inner(), verdict)
-}
-
-/// The report of an explanation, in which the text has that name.
-fn explain_report(
-    alloc: Global,
-    limits: Limits,
-    name: &str,
-    text: &[u8],
-) -> (Vec<u8>, Result<Verdict, ToolFault>)
-    ensures judged { IsJudged limits text.now result.1 }
-    ensures written { IsWritten (IsExplainedOn limits text.now result.0.items) result.1 }
-{
-    let mut reader = InMemory::new(text);
-    let mut watch = Watch::new(None);
-    let writer = Counted::new(Vec::new(alloc));
-    let (writer, verdict, _, _) = explain(alloc, limits, name, &mut watch, &mut reader, writer);
-    (writer.into_inner(), verdict)
+    let mut records = ShownRecords::new();
+    report_of(alloc, limits, &mut records, text)
 }
 
 /// The data of the items, as lines of JSON.
+#[inline(never)]
 fn data_report(
     alloc: Global,
     limits: Limits,
@@ -99,13 +101,29 @@ fn data_report(
     ensures written { IsWritten
         (IsTextOn (lines_of_data Encoding.Latin1 noted) limits text.now result.0.items) result.1 }
 {
+    let mut data = DataLines::new(Encoding::Latin1, noted);
+    report_of(alloc, limits, &mut data, text)
+}
+
+/// The report of an explanation, in which the text has that name.
+#[inline(never)]
+fn explain_report(
+    alloc: Global,
+    limits: Limits,
+    name: &str,
+    text: &[u8],
+) -> (Vec<u8>, Result<Verdict, ToolFault>)
+    ensures judged { IsJudged limits text.now result.1 }
+    ensures written { IsWritten (IsExplainedOn limits text.now result.0.items) result.1 }
+{
     let mut reader = InMemory::new(text);
     let writer = Counted::new(Vec::new(alloc));
-    let (writer, verdict) = json(alloc, limits, Encoding::Latin1, noted, &mut reader, writer);
+    let (writer, verdict, _, _) = explain(alloc, limits, name, &mut reader, writer);
     (writer.into_inner(), verdict)
 }
 
 /// The report of a lint.
+#[inline(never)]
 fn lint_report(alloc: Global, limits: Limits, text: &[u8]) -> (Vec<u8>, Result<Verdict, ToolFault>)
     ensures judged { IsJudged limits text.now result.1 }
     ensures written { IsWritten (IsLintOn (wanting false false false) limits text.now result.0.items) result.1 }
@@ -117,6 +135,7 @@ fn lint_report(alloc: Global, limits: Limits, text: &[u8]) -> (Vec<u8>, Result<V
 }
 
 /// The report of a lint that explains, in which the text has that name.
+#[inline(never)]
 fn explained_lint_report(
     alloc: Global,
     limits: Limits,

@@ -1,9 +1,10 @@
 //! The rows of items, put to a sink.
 
-ghost use Rattle.std.specs.Prelude.{◌≡◌, ◌+◌, ◌≤◌, false, length};
+ghost use Rattle.std.specs.Prelude.{◌≡◌, ◌+◌, ◌≤◌, [], false, length};
 ghost use Rattle.cwr_devices.specs.Steps.Sinks.{has_failed};
 ghost use Rattle.cwr_judge.specs.Format.Items.{item_records};
 ghost use Rattle.cwr_tools.specs.Steps.Reports.{PutsLines};
+ghost use Rattle.cwr_csv.specs.Format.TableLines.{lines_of_table};
 ghost use Rattle.cwr_csv.specs.Steps.ItemRows.{place_at, rows_at, table_heading};
 
 use crate::tables::Table;
@@ -77,9 +78,10 @@ fn put_item<W: Target>(
     }
 }
 
-/// A table of the items, and nothing for the verdict.
+/// A table of the items, as RFC 4180 has it: a heading and the rows, and nothing for the verdict. It holds the text of one row.
 #[derive(Drop)]
-pub(crate) struct TableRows {
+pub struct TableRows {
+    /// How its cells are shown.
     encoding: Encoding,
     table: Table,
     /// In which a row is made.
@@ -87,10 +89,9 @@ pub(crate) struct TableRows {
 }
 
 impl TableRows {
-    /// Before its heading.
-    pub(crate) fn new(encoding: Encoding, table: Table) -> TableRows
-        ensures encoding { result.encoding ≡ encoding }
-        ensures table { result.table ≡ table }
+    /// Before its heading. Cells are shown by the encoding.
+    pub fn new(encoding: Encoding, table: Table) -> TableRows
+        ensures stands { ⟦<TableRows as Report>⟧.stands result (lines_of_table encoding table) [] }
     {
         TableRows {
             encoding,

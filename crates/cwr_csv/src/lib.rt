@@ -2,8 +2,7 @@
 #![tactic(auto)]
 
 mod item_rows;
-mod running;
 mod tables;
 
-pub use running::csv;
+pub use item_rows::TableRows;
 pub use tables::Table;

@@ -1,9 +1,12 @@
 //! Checking a transmission, and explaining what was found.
 
 ghost use Rattle.std.specs.Prelude.{◌≡◌, true, string_bytes, IfOk, IsSomeAnd, OnOk};
+ghost use Rattle.std.specs.Io.KnownBytes.{GrowsBy};
 ghost use Rattle.cwr_tools.specs.Format.Verdicts.{IsAnswerTo, JudgesText};
-ghost use Rattle.cwr_tools.specs.Format.Reports.{CountsAfter, CountsReaderFault, CountsWriterFault, CountsWritten};
-ghost use Rattle.cwr_tools.specs.Format.Watching.{CountsAccepted, SeesAccepted};
+ghost use Rattle.cwr_tools.specs.Format.Reports.{CountsAfter, CountsReaderFault, CountsWriterFault, CountsWritten, lines_of_explained};
+ghost use Rattle.cwr_tools.specs.Format.Watching.{CountsAccepted};
+ghost use Rattle.cwr_tools.specs.Steps.Runs.{Runs};
+ghost use Rattle.cwr_tools.specs.Steps.Verdicts.{IsReadLast};
 ghost use Rattle.cwr_causes.specs.Format.Trailing.{CountsRead, IsTrailing, TakesMore};
 ghost use Rattle.cwr_explain.specs.Format.Explained.{ExplainsText, FindsAfter, ReadsOnly, WritesOnly};
 ghost use Rattle.cwr_explain.specs.Steps.Explained.{AddsExplanation, AddsText, Explains, Looks, SaysVerdict, is_good};
@@ -15,7 +18,7 @@ use cwr_causes::{
 use cwr_decode::LastRead;
 use cwr_devices::{DeviceFault, Sink, Source, Target};
 use cwr_shape::Limits;
-use cwr_tools::{FindingCount, Front, ToolFault, Verdict, Watch, check_explained};
+use cwr_tools::{FindingCount, FindingLines, Front, ToolFault, Verdict, write_report};
 use std::alloc::{AllocError, Global};
 
 /// Looks at what the reader has after the run: all of it after a transmission, and what tells more of a refused line.
@@ -150,10 +153,29 @@ fn add_explanation<R: Source, W: Target>(
     }
 }
 
+/// Checks a transmission as `check` does, and writes what that writes, with lines under each finding. How far it came is answered too, and
+/// the findings that were told.
+fn check_explained<R: Source, W: Target + Drop>(
+    alloc: Global,
+    limits: Limits,
+    reader: &mut R,
+    writer: W,
+) -> (W, Result<Verdict, ToolFault>, Front, FindingCount)
+    ensures runs { Runs lines_of_explained limits R.remaining R.failures reader.old reader.new
+        W.contents W.failures W.handed_on writer result.0 result.1 }
+    ensures told_of { OnOk result.1 (CountsAccepted limits (R.remaining reader.old) result.3) }
+    ensures counted { GrowsBy (W.contents writer) (W.contents result.0) result.2.written }
+    ensures last { IfOk result.1 (λ verdict. IsSomeAnd result.2.last
+        (IsReadLast limits (R.remaining reader.old) (R.remaining reader.new) verdict)) }
+{
+    let mut lines = FindingLines::explained();
+    let (writer, outcome, front) = write_report(&mut lines, true, alloc, limits, reader, writer);
+    (writer, outcome, front, lines.told())
+}
+
 /// Checks a transmission as `check` does, and writes what that writes. Then it writes lines that explain the verdict: of a
 /// refusal where it is, what stands there and what may; of an input that ends too early what may come next; of a transmission
-/// what stands after it, which is answered too. `name` is that of the input in these lines. The watch sees the findings that are
-/// told, and they are counted.
+/// what stands after it, which is answered too. `name` is that of the input in these lines. The findings that are told are counted.
 ///
 /// Where the reader or memory fails after the verdict, the lines of `check` are written, and where the writer fails, the first of the
 /// bytes that would be: so many as the fault says.
@@ -161,7 +183,6 @@ pub fn explain<R: Source, W: Target + Drop>(
     alloc: Global,
     limits: Limits,
     name: &str,
-    watch: &mut Watch,
     reader: &mut R,
     writer: W,
 ) -> (
@@ -178,10 +199,10 @@ pub fn explain<R: Source, W: Target + Drop>(
     ensures told { ExplainsText limits name.now (R.remaining reader.old) (R.remaining reader.new)
         W.contents writer result.0 result.1 }
     ensures judged { JudgesText limits (R.remaining reader.old) result.1 }
-    // Where the text is accepted, the watch saw the findings in its transmission, and what stands after that was found.
-    ensures seen { OnOk result.1 (SeesAccepted limits (R.remaining reader.old) watch.old watch.new) }
+    // Where the text is accepted, what stands after its transmission was found.
     ensures found { OnOk result.1
         (FindsAfter limits (R.remaining reader.old) (R.remaining reader.new) result.2) }
+    // Then the findings are those in it.
     ensures told_of { OnOk result.1 (CountsAccepted limits (R.remaining reader.old) result.3) }
     // Where the writer failed, the fault says how many bytes were written in all.
     ensures written { CountsWritten W.contents writer result.0 result.1 }
@@ -192,8 +213,8 @@ pub fn explain<R: Source, W: Target + Drop>(
     // All that was written was handed on.
     ensures handed_on { OnOk result.1 (W.handed_on result.0 ≡ true) }
 {
-    let (writer, checked, front, count) = check_explained(alloc, limits, watch, reader, writer);
-    let Front { last, written, .. } = front;
+    let (writer, checked, front, count) = check_explained(alloc, limits, reader, writer);
+    let Front { last, written } = front;
     match checked {
         Err(fault) => (writer, Err(fault), None, count),
         Ok(verdict) => match last {

@@ -1,19 +1,19 @@
 //! Every fault of a transmission in one pass.
 
-ghost use Rattle.std.specs.Prelude.{◌≡◌, ◌==◌, ◌&&◌, ◌+◌, ◌^◌, ◌-◌, ◌<◌, ◌≤◌, ℕ, min, true, false, List, IfOk, OnOk, IsSome, IsSomeAnd};
+ghost use Rattle.std.specs.Prelude.{◌≡◌, ◌==◌, ◌&&◌, ◌+◌, ◌-◌, ◌<◌, ◌≤◌, ℕ, true, false, IfOk, OnOk, IsSomeAnd};
 ghost use Rattle.std.specs.Option.{is_some};
-ghost use Rattle.std.specs.Io.KnownBytes.{Appends, GrowsBy, Keeps};
+ghost use Rattle.std.specs.Io.KnownBytes.{GrowsBy, Keeps};
 ghost use Rattle.cwr_devices.specs.Steps.Sinks.{counted_up, has_failed, writer_of, written_of};
 ghost use Rattle.cwr_causes.specs.Format.Trailing.{TakesMore};
 ghost use Rattle.cwr_tools.specs.Format.Reports.{AddsWords, CountsAfter, CountsReaderFault, CountsWriterFault, CountsWritten, JudgesAccepted};
+ghost use Rattle.cwr_tools.specs.Format.Reports.{lines_up_to_fault};
 ghost use Rattle.cwr_tools.specs.Format.Verdicts.{IsAnswerTo, JudgesText};
 ghost use Rattle.cwr_lines.specs.Steps.Held.{held_body, held_kind};
-ghost use Rattle.cwr_tools.specs.Format.Watching.{findings_with};
-ghost use Rattle.cwr_tools.specs.Steps.Reports.{Reports, StandsAfter};
+ghost use Rattle.cwr_tools.specs.Steps.Reports.{StandsAfter};
+ghost use Rattle.cwr_tools.specs.Steps.Runs.{Runs};
 ghost use Rattle.cwr_tools.specs.Steps.Verdicts.{IsReadLast};
-ghost use Rattle.cwr_advise.specs.Format.AdviceLines.{said_in};
-ghost use Rattle.cwr_advise.specs.Steps.AdviceCounts.{counts_of};
-ghost use Rattle.cwr_lint.specs.Format.Wanted.{advice_when, lines_before_fault, lines_linted, said_when, wanting};
+ghost use Rattle.cwr_advise.specs.Format.AdviceLines.{lines_advised};
+ghost use Rattle.cwr_lint.specs.Format.Wanted.{lines_before_fault, lines_linted, wanting};
 ghost use Rattle.cwr_lint_lines.specs.Format.FaultsAtFields.{fields_end, one_more_line};
 ghost use Rattle.cwr_lint_lines.specs.Steps.Fronts.{state_at};
 ghost use Rattle.cwr_lint.specs.Steps.Walks.{AfterJudged, counts_ended, ended_by, findings_after, judged_in, state_by, told_ended};
@@ -22,7 +22,7 @@ ghost use Rattle.cwr_fields.specs.Format.Bytes.{is_spaces};
 ghost use Rattle.cwr_lint_lines.specs.Steps.JudgedLines.{IsFaultFrom, IsJudged, ends_by, judged_at, scope_by};
 ghost use Rattle.cwr_lint_lines.specs.Steps.Cells.{held_cut};
 ghost use Rattle.cwr_lint.specs.Steps.LinesRead.{IsOfLine, held_raw};
-ghost use Rattle.cwr_lint.specs.Steps.Lints.{AddsEnd, EndsRun, Lints, Tells, counted};
+ghost use Rattle.cwr_lint.specs.Steps.Lints.{AddsEnd, EndsRun, HasBegun, Lints, Tells, counted};
 ghost use Rattle.cwr_lint.specs.Steps.Puts.{TellsWith, AppendsSuch, PutsWith, TellsRead};
 ghost use Rattle.cwr_lint.specs.Steps.Runs.{BeginsAt, TakesAll, TakesFirst, TakesFrom, TakesLine, TakesNextIf, TakesRead, TellsJudged, TellsRun, TellsSoMany};
 ghost use Rattle.cwr_lint.specs.Steps.CutShort.{AppendsUpTo, IsFirstPart, Leaves, LeavesOrUnread, TakesFromPart, TakesNextPart, TakesSome};
@@ -33,7 +33,7 @@ use crate::findings::{after_line, put_ended};
 use crate::puts::{Asked, Shown, put_end, put_end_words, report_number};
 use crate::raw_lines::RawLine;
 use cwr_advice::Said;
-use cwr_advise::{AdviceCounts, Manner, advise_up_to_fault};
+use cwr_advise::{AdviceCounts, AdviceLines, Manner};
 use cwr_causes::{Ahead, before_last, open_work, own_work, refused_work};
 use cwr_decode::{LastRead, Refusal};
 use cwr_devices::{Sink, Source, Target};
@@ -41,7 +41,7 @@ use cwr_lines::{CutLine, LineBuf, Record};
 use cwr_lint_lines::{Judged, LintState, Taking};
 use cwr_notes::WorkLine;
 use cwr_shape::{Limits, level};
-use cwr_tools::{CheckedFront, ToolFault, Verdict, check_up_to_fault};
+use cwr_tools::{FindingLines, Front, ToolFault, Verdict, write_report};
 use cwr_values::Transaction;
 use std::alloc::{AllocError, Global};
 
@@ -642,8 +642,85 @@ fn explain_end<W: Target>(
     finish(Verdict::Truncated { records }, told, before, sink)
 }
 
+/// What is known where the check has ended with which a lint begins.
+#[derive(Drop)]
+struct Begun {
+    /// What was read last, where there is a verdict.
+    last: Option<LastRead>,
+    /// The bytes that were written. It stays at `u64::MAX`.
+    written: u64,
+    /// The findings that were told. It stays at `u64::MAX`.
+    findings: u64,
+    /// What the header says, where advice is wanted.
+    said: Option<Said>,
+    /// How much advice came from each rule.
+    advice: AdviceCounts,
+}
+
+/// Checks a transmission up to its first fault, and explains its findings where that is wanted.
+fn check_alone<R: Source, W: Target + Drop>(
+    alloc: Global,
+    limits: Limits,
+    explained: bool,
+    reader: &mut R,
+    writer: W,
+) -> (W, Result<Verdict, ToolFault>, Begun)
+    ensures runs { Runs (lines_up_to_fault explained) limits R.remaining R.failures reader.old
+        reader.new W.contents W.failures W.handed_on writer result.0 result.1 }
+    ensures counted { GrowsBy (W.contents writer) (W.contents result.0) result.2.written }
+    ensures said { IfOk result.1 (StandsAfter (HasBegun false result.2.said result.2.findings
+        result.2.advice) limits (R.remaining reader.old) (R.remaining reader.new)) }
+    ensures last { IfOk result.1 (λ verdict. IsSomeAnd result.2.last
+        (IsReadLast limits (R.remaining reader.old) (R.remaining reader.new) verdict)) }
+{
+    let mut lines = FindingLines::up_to_fault(explained);
+    let (writer, checked, front) = write_report(&mut lines, true, alloc, limits, reader, writer);
+    let Front { last, written } = front;
+    let told = lines.told();
+    let begun = Begun {
+        last,
+        written,
+        findings: told.findings,
+        said: None,
+        advice: AdviceCounts::nothing(),
+    };
+    (writer, checked, begun)
+}
+
+/// Checks a transmission up to its first fault, and advises on it in that manner.
+fn check_advised<R: Source, W: Target + Drop>(
+    alloc: Global,
+    limits: Limits,
+    manner: Manner,
+    reader: &mut R,
+    writer: W,
+) -> (W, Result<Verdict, ToolFault>, Begun)
+    ensures runs { Runs (lines_advised manner true 0) limits R.remaining R.failures reader.old
+        reader.new W.contents W.failures W.handed_on writer result.0 result.1 }
+    ensures counted { GrowsBy (W.contents writer) (W.contents result.0) result.2.written }
+    ensures said { IfOk result.1 (StandsAfter (HasBegun true result.2.said result.2.findings
+        result.2.advice) limits (R.remaining reader.old) (R.remaining reader.new)) }
+    ensures last { IfOk result.1 (λ verdict. IsSomeAnd result.2.last
+        (IsReadLast limits (R.remaining reader.old) (R.remaining reader.new) verdict)) }
+{
+    let mut lines = AdviceLines::up_to_fault(alloc, manner);
+    let (writer, checked, front) = write_report(&mut lines, true, alloc, limits, reader, writer);
+    let Front { last, written } = front;
+    let findings = lines.findings();
+    let said = lines.said();
+    let advice = lines.counts();
+    let begun = Begun {
+        last,
+        written,
+        findings,
+        said: Some(said),
+        advice,
+    };
+    (writer, checked, begun)
+}
+
 /// Checks a transmission up to its first fault, and advises on it where that is wanted: all advice is told, or of each rule the first
-/// three pieces. How far it came is answered too, what the header says where there is advice, and how much came from each rule.
+/// three pieces.
 fn check_front<R: Source, W: Target + Drop>(
     alloc: Global,
     limits: Limits,
@@ -652,26 +729,12 @@ fn check_front<R: Source, W: Target + Drop>(
     all: bool,
     reader: &mut R,
     writer: W,
-) -> (
-    W,
-    Result<Verdict, ToolFault>,
-    CheckedFront,
-    Option<Said>,
-    AdviceCounts,
-)
-    ensures reported { Reports (lines_before_fault advised explained all) limits
-        (R.remaining reader.old) (R.remaining reader.new) W.contents writer result.0 result.1 }
-    ensures judged { JudgesText limits (R.remaining reader.old) result.1 }
+) -> (W, Result<Verdict, ToolFault>, Begun)
+    ensures runs { Runs (lines_before_fault advised explained all) limits R.remaining R.failures
+        reader.old reader.new W.contents W.failures W.handed_on writer result.0 result.1 }
     ensures counted { GrowsBy (W.contents writer) (W.contents result.0) result.2.written }
-    ensures said { IfOk result.1 (StandsAfter
-        (λ given. (result.3 ≡ said_when advised (said_in given))
-        × (result.2.findings ≡ findings_with 0 given)
-        × (result.4 ≡ counts_of (advice_when advised given))) limits (R.remaining reader.old)
-        (R.remaining reader.new)) }
-    ensures reader_failures { CountsReaderFault result.1 (R.failures reader.old)
-        (R.failures reader.new) }
-    ensures writer_failures { CountsWriterFault result.1 (W.failures writer) (W.failures result.0) }
-    ensures handed_on { OnOk result.1 (W.handed_on result.0 ≡ true) }
+    ensures said { IfOk result.1 (StandsAfter (HasBegun advised result.2.said result.2.findings
+        result.2.advice) limits (R.remaining reader.old) (R.remaining reader.new)) }
     ensures last { IfOk result.1 (λ verdict. IsSomeAnd result.2.last
         (IsReadLast limits (R.remaining reader.old) (R.remaining reader.new) verdict)) }
 {
@@ -682,17 +745,9 @@ fn check_front<R: Source, W: Target + Drop>(
                 apart: explained,
                 all,
             };
-            let (writer, checked, front, said, advice) = advise_up_to_fault(
-                alloc, limits, manner, reader, writer,
-            );
-            (writer, checked, front, Some(said), advice)
+            check_advised(alloc, limits, manner, reader, writer)
         }
-        false => {
-            let (writer, checked, front) = check_up_to_fault(
-                alloc, limits, explained, reader, writer,
-            );
-            (writer, checked, front, None, AdviceCounts::nothing())
-        }
+        false => check_alone(alloc, limits, explained, reader, writer),
     }
 }
 
@@ -735,7 +790,7 @@ pub fn lint<R: Source, W: Target + Drop>(
     // All that was written was handed on.
     ensures handed_on { OnOk result.1 (W.handed_on result.0 ≡ true) }
 {
-    let (writer, checked, front, said, advice) = check_front(
+    let (writer, checked, begun) = check_front(
         alloc,
         limits,
         name.is_some(),
@@ -744,11 +799,13 @@ pub fn lint<R: Source, W: Target + Drop>(
         reader,
         writer,
     );
-    let CheckedFront {
+    let Begun {
         last,
-        findings,
         written,
-    } = front;
+        findings,
+        said,
+        advice,
+    } = begun;
     match checked {
         Err(fault) => (writer, Err(fault)),
         Ok(verdict) => match verdict {

@@ -5,7 +5,7 @@ use crate::works::{TWO_GROUPS_WITH_A_FINDING, ended, largest, text_of};
 use cwr_devices::{Counted, InMemory};
 use cwr_explain::explain;
 use cwr_parts::{join, split};
-use cwr_tools::{JoinFault, JoinReport, SplitReport, ToolFault, Verdict, Watch, check, show};
+use cwr_tools::{JoinFault, JoinReport, SplitReport, ToolFault, Verdict, check, show};
 use cwr_worked::texts::{ONE_ACKNOWLEDGEMENT, TWO_GROUPS, WORK_OF_ELEVEN};
 use std::process::Abort;
 use std::test::Fail;
@@ -35,15 +35,7 @@ fn shown(rt: &impl AllocGlobal, text: &[u8]) -> Result<Verdict, ToolFault> {
 fn explained(rt: &impl AllocGlobal, text: &[u8]) -> Result<Verdict, ToolFault> {
     let mut reader = InMemory::new(text);
     let writer = Counted::new(Nowhere);
-    explain(
-        rt.alloc(),
-        largest(),
-        "it",
-        &mut Watch::new(None),
-        &mut reader,
-        writer,
-    )
-    .1
+    explain(rt.alloc(), largest(), "it", &mut reader, writer).1
 }
 
 /// What a run answers. `None` where that is out of memory.

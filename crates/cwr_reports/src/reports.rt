@@ -1,21 +1,22 @@
 //! Transmissions that are judged, shown, or written as data.
 
-ghost use Rattle.std.specs.Prelude.{◌≡◌, ◌||◌, true, false, not, IfOk, Ok, OnOk, None};
+ghost use Rattle.std.specs.Prelude.{◌≡◌, [], Option, true, false, not, IfOk, Ok, OnOk, None};
 ghost use Rattle.cwr_acks.specs.Format.AckLines.{lines_of_acks};
-ghost use Rattle.cwr_tools.specs.Format.Reports.{CountsReaderFault, CountsWriterFault, ReportsText};
+ghost use Rattle.cwr_shape.specs.declared.reasons.Level.{Level};
+ghost use Rattle.cwr_tools.specs.Format.Reports.{CountsReaderFault, CountsWriterFault, ItemLines, ReportsText};
 ghost use Rattle.cwr_tools.specs.Steps.Reports.{Reports};
 ghost use Rattle.cwr_tools.specs.Format.Verdicts.{JudgesText};
-ghost use Rattle.cwr_tools.specs.Format.Watching.{is_reached};
+ghost use Rattle.cwr_tools.specs.Format.Watching.{StandsAccepted, is_reached};
 ghost use Rattle.cwr_reports.specs.Format.Endings.{EndsOnInput, advice_asked, advice_in};
 ghost use Rattle.cwr_files.specs.Steps.Inputs.{remaining_of};
-ghost use Rattle.cwr_reports.specs.Steps.Tellings.{CountsFindings, CountsInput, CountsReading, CountsWriting, TellsText, telling_alone};
-ghost use Rattle.cwr_reports.specs.Steps.Looks.{JudgesOn, LooksAfter, SeesCounted, look_of, tells_findings};
+ghost use Rattle.cwr_reports.specs.Steps.Tellings.{CountsFindings, CountsInput, CountsReading, CountsWriting, ReportsUpTo, TellsText, telling_alone};
+ghost use Rattle.cwr_reports.specs.Steps.Looks.{JudgesOn, LooksAfter, SeesFound, look_of, tells_findings};
 
 use crate::exports::tell_cut;
 use cwr_acks::{Form, Manner, acks};
-use cwr_advise::advise;
+use cwr_advise::AdviceLines;
 use cwr_causes::Trailing;
-use cwr_csv::{Table, csv};
+use cwr_csv::{Table, TableRows};
 use cwr_devices::{ReadAhead, Sink, SinkFault, Source, Target};
 use cwr_endings::{
     Judgement, Look, Status, Wanted, judgement_of, look_after, tell_characters, tell_findings,
@@ -28,7 +29,8 @@ use cwr_json::Encoding;
 use cwr_lint::lint;
 use cwr_shape::{Level, Limits, Reason};
 use cwr_tools::{
-    FindingCount, ToolFault, Verdict, Watch, check_watched, json, put_verdict_line, show_watched,
+    CountedRecords, DataLines, FindingCount, FindingLines, Report, ToolFault, Verdict,
+    put_verdict_line, write_report,
 };
 use std::alloc::Global;
 use std::io::{Read, Write};
@@ -133,25 +135,67 @@ impl Asked {
 pub(crate) struct Count {
     /// The findings, where these are told or counted.
     pub(crate) findings: FindingCount,
+    /// The worst level of what counts for the status: of these, or where advice is told of all that is told.
+    worst: Option<Level>,
     /// The acknowledgements, where what they say is told.
     pub(crate) answers: Option<u64>,
 }
 
 impl Count {
     /// Nothing was.
-    fn nothing() -> Count {
+    fn nothing() -> Count
+        ensures worst { result.worst ≡ None }
+    {
         Count {
             findings: FindingCount::new(),
+            worst: None,
+            answers: None,
+        }
+    }
+
+    /// These findings were.
+    fn of_findings(findings: FindingCount) -> Count
+        ensures findings { result.findings ≡ findings }
+        ensures worst { result.worst ≡ findings.worst }
+    {
+        Count {
+            findings,
+            worst: findings.worst,
+            answers: None,
+        }
+    }
+
+    /// Something was told of which that is the worst level.
+    fn of_advice(worst: Option<Level>) -> Count
+        ensures worst { result.worst ≡ worst }
+    {
+        Count {
+            findings: FindingCount::new(),
+            worst,
             answers: None,
         }
     }
 
     /// So many acknowledgements were.
-    fn of_answers(answers: u64) -> Count {
+    fn of_answers(answers: u64) -> Count
+        ensures worst { result.worst ≡ None }
+    {
         Count {
             findings: FindingCount::new(),
+            worst: None,
             answers: Some(answers),
         }
+    }
+
+    /// Whether something that counts for the status has the level, or a worse one; where no level is given, nothing has.
+    fn reaches(&self, from: Option<Level>) -> bool
+        ensures { result ≡ is_reached from self.now.worst }
+    {
+        let told = FindingCount {
+            findings: 0,
+            worst: self.worst,
+        };
+        told.reaches(from)
     }
 }
 
@@ -193,29 +237,45 @@ fn acks_alone<R: Source, W: Target + Drop>(
     (writer, outcome, answers.all)
 }
 
-/// Notes whether the worst level of all that was told is the one that is watched for, or a worse one.
-fn note_worst(watch: &mut Watch, worst: Option<Level>)
-    ensures { watch.new
-        ≡ record watch.old { found = watch.old.found || is_reached watch.old.from worst } }
+/// Writes a report on a transmission, and looks what stands after it. The writer comes back.
+fn report_and_look<L: Report, R: Source, W: Target + Drop>(
+    alloc: Global,
+    limits: Limits,
+    lines: &mut L,
+    reader: &mut R,
+    writer: W,
+) -> (W, Result<Verdict, ToolFault>, Look)
+    requires { (of : ItemLines) × L.stands lines.old of [] }
+    ensures judged { JudgesText limits (R.remaining reader.old) result.1 }
+    ensures looks { OnOk result.1 (LooksAfter limits (R.remaining reader.old) result.2) }
+    ensures told { (of : ItemLines) → L.stands lines.old of [] → ReportsUpTo of limits
+        (R.remaining reader.old) W.contents writer result.0 result.1 }
+    // Where the text is accepted, it is as its transmission's items leave it.
+    ensures stands { (of : ItemLines) → L.stands lines.old of [] → OnOk result.1
+        (StandsAccepted (L.stands lines.new of) limits (R.remaining reader.old)) }
+    ensures handed_on { OnOk result.1 (W.handed_on result.0 ≡ true) }
+    ensures reader_failures { CountsReading result.1 result.2 (R.failures reader.old)
+        (R.failures reader.new) }
+    ensures writer_failures { CountsWriterFault result.1 (W.failures writer) (W.failures result.0) }
 {
-    let told = FindingCount { findings: 0, worst };
-    watch.found = watch.found || told.reaches(watch.from);
+    let (writer, outcome, _) = write_report(lines, false, alloc, limits, reader, writer);
+    let look = look_after(reader, &outcome);
+    (writer, outcome, look)
 }
 
-/// Reads a transmission, writes what is told of it, and looks what stands after it. The writer comes back, and how many
-/// findings were told, where these are all that is.
+/// Reads a transmission, writes what is told of it, and looks what stands after it. The writer comes back, and what was counted.
 fn tell<R: Source, W: Target + Drop>(
     alloc: Global,
     limits: Limits,
     telling: Telling<'_>,
-    watch: &mut Watch,
     reader: &mut R,
     writer: W,
 ) -> (W, Result<Verdict, ToolFault>, Look, Count)
-    requires { tells_findings telling ≡ false → watch.old.from ≡ None }
     ensures judged { JudgesText limits (R.remaining reader.old) result.1 }
-    ensures seen { OnOk result.1
-        (SeesCounted (advice_in telling.entry) limits (R.remaining reader.old) watch.old watch.new) }
+    // Where the text is accepted, the worst level is that of what counts of its transmission. Where nothing does, no level is asked for.
+    ensures seen { (from : Option Level) → (tells_findings telling.entry ≡ false → from ≡ None)
+        → OnOk result.1 (SeesFound (advice_in telling.entry) from limits (R.remaining reader.old)
+        (is_reached from result.3.worst)) }
     ensures looks { OnOk result.1 (LooksAfter limits (R.remaining reader.old) result.2) }
     ensures counted { OnOk result.1
         (CountsFindings telling.entry limits (R.remaining reader.old) result.3.findings) }
@@ -230,23 +290,24 @@ fn tell<R: Source, W: Target + Drop>(
 {
     match telling {
         Telling::Findings => {
-            let (writer, outcome, findings) = check_watched(alloc, limits, watch, reader, writer);
-            let look = look_after(reader, &outcome);
-            let count = Count {
-                findings,
-                answers: None,
-            };
-            (writer, outcome, look, count)
+            let mut findings = FindingLines::new();
+            let (writer, outcome, look) = report_and_look(
+                alloc,
+                limits,
+                &mut findings,
+                reader,
+                writer,
+            );
+            (writer, outcome, look, Count::of_findings(findings.told()))
         }
         Telling::Explained(name) => {
-            let (writer, outcome, found, findings) = explain(
-                alloc, limits, name, watch, reader, writer,
-            );
-            let count = Count {
-                findings,
-                answers: None,
-            };
-            (writer, outcome, look_of(found), count)
+            let (writer, outcome, found, findings) = explain(alloc, limits, name, reader, writer);
+            (
+                writer,
+                outcome,
+                look_of(found),
+                Count::of_findings(findings),
+            )
         }
         Telling::Faults { name, advised, all } => {
             let (writer, outcome) = lint(alloc, limits, name, advised, all, reader, writer);
@@ -254,22 +315,24 @@ fn tell<R: Source, W: Target + Drop>(
             (writer, outcome, look, Count::nothing())
         }
         Telling::Records => {
-            let (writer, outcome, findings) = show_watched(alloc, limits, watch, reader, writer);
-            let look = look_after(reader, &outcome);
-            let count = Count {
-                findings,
-                answers: None,
-            };
-            (writer, outcome, look, count)
+            let mut records = CountedRecords::new();
+            let (writer, outcome, look) = report_and_look(
+                alloc,
+                limits,
+                &mut records,
+                reader,
+                writer,
+            );
+            (writer, outcome, look, Count::of_findings(records.found()))
         }
         Telling::Data { encoding, numbers } => {
-            let (writer, outcome) = json(alloc, limits, encoding, numbers, reader, writer);
-            let look = look_after(reader, &outcome);
+            let mut data = DataLines::new(encoding, numbers);
+            let (writer, outcome, look) = report_and_look(alloc, limits, &mut data, reader, writer);
             (writer, outcome, look, Count::nothing())
         }
         Telling::Rows { encoding, table } => {
-            let (writer, outcome) = csv(alloc, limits, encoding, table, reader, writer);
-            let look = look_after(reader, &outcome);
+            let mut rows = TableRows::new(encoding, table);
+            let (writer, outcome, look) = report_and_look(alloc, limits, &mut rows, reader, writer);
             (writer, outcome, look, Count::nothing())
         }
         Telling::Answers { form, statuses } => {
@@ -280,10 +343,15 @@ fn tell<R: Source, W: Target + Drop>(
             (writer, outcome, look, Count::of_answers(answers))
         }
         Telling::Advice { all, repeated } => {
-            let (writer, outcome, worst) = advise(alloc, limits, all, repeated, reader, writer);
-            note_worst(watch, worst);
-            let look = look_after(reader, &outcome);
-            (writer, outcome, look, Count::nothing())
+            let mut advice = AdviceLines::new(alloc, all, repeated);
+            let (writer, outcome, look) = report_and_look(
+                alloc,
+                limits,
+                &mut advice,
+                reader,
+                writer,
+            );
+            (writer, outcome, look, Count::of_advice(advice.worst()))
         }
     }
 }
@@ -307,16 +375,9 @@ fn judge_source<R: Source, W: Target + Drop>(
     ensures reader_failures { CountsInput result.1 (R.failures reader.old) (R.failures reader.new) }
     ensures writer_failures { CountsWriting result.1 (W.failures writer) (W.failures result.0) }
 {
-    let mut watch = Watch::new(asked.wanted.fail_on);
-    let (writer, outcome, look, count) = tell(
-        asked.alloc,
-        asked.limits,
-        telling,
-        &mut watch,
-        reader,
-        writer,
-    );
-    let judged = judgement_of(asked.wanted, outcome, look, watch.found);
+    let (writer, outcome, look, count) = tell(asked.alloc, asked.limits, telling, reader, writer);
+    let found = count.reaches(asked.wanted.fail_on);
+    let judged = judgement_of(asked.wanted, outcome, look, found);
     (writer, judged, count)
 }
 

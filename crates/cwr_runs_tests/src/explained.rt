@@ -4,7 +4,7 @@ use crate::devices::Bounded;
 use cwr_devices::{Counted, InMemory};
 use cwr_explain::explain;
 use cwr_shape::Limits;
-use cwr_tools::{ToolFault, Verdict, Watch};
+use cwr_tools::{ToolFault, Verdict};
 use cwr_worked::texts::{ONE_ACKNOWLEDGEMENT, canonical};
 use std::process::Abort;
 
@@ -20,20 +20,12 @@ fn explained(
     room: usize,
 ) -> (Vec<u8>, Result<Verdict, ToolFault>) {
     let limits = Limits::new(99_999_999, 99_999, 999_999).expect(&rt, "largest limits");
-    let mut watch = Watch::new(None);
     let mut reader = InMemory::new(text);
     let writer = Counted::new(Bounded {
         text: Vec::new(rt.alloc()),
         room,
     });
-    let (writer, answer, _, _) = explain(
-        rt.alloc(),
-        limits,
-        "a.cwr",
-        &mut watch,
-        &mut reader,
-        writer,
-    );
+    let (writer, answer, _, _) = explain(rt.alloc(), limits, "a.cwr", &mut reader, writer);
     (writer.into_inner().text, answer)
 }
 

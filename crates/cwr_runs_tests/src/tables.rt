@@ -1,12 +1,12 @@
 //! Tests of what is written and answered.
 
 use crate::devices::{Bounded, FailsAfter};
-use cwr_csv::{Table, csv};
+use cwr_csv::{Table, TableRows};
 use cwr_devices::{Counted, ReadAhead};
 use cwr_fields::Kind;
 use cwr_json::Encoding;
 use cwr_shape::Limits;
-use cwr_tools::{ToolFault, Verdict};
+use cwr_tools::{ToolFault, Verdict, write_report};
 use cwr_worked::texts::{ONE_ACKNOWLEDGEMENT, TWO_GROUPS, canonical};
 use std::process::Abort;
 
@@ -31,11 +31,12 @@ fn tabled(
         text: Vec::new(rt.alloc()),
         room,
     });
-    let (writer, answer) = csv(
+    let mut rows = TableRows::new(Encoding::Latin1, table);
+    let (writer, answer, _) = write_report(
+        &mut rows,
+        false,
         rt.alloc(),
         limits,
-        Encoding::Latin1,
-        table,
         &mut reader,
         writer,
     );

@@ -16,7 +16,7 @@ pub mod RightReports
 pub mod ToldTexts
 -- What is watched for comes among items as among each.
 pub mod FindingsWatched
--- What stands at the end of a run, and what was watched for, came in the items before its verdict.
+-- What stands at the end of a run came in the items before its verdict.
 pub mod WatchedRuns
 -- What is written of explained findings is what a check writes of them, with indented lines put in.
 pub mod NotedTexts

@@ -2,5 +2,6 @@
 pub mod Counts
 pub mod Passing
 pub mod Reports
+pub mod Runs
 pub mod Verdicts
 pub mod Watching

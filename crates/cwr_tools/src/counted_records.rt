@@ -2,16 +2,16 @@
 
 ghost use Rattle.std.specs.Prelude.{◌≡◌, ◌++◌, ◌∷◌, [], List, true, IfErr, OnOk};
 ghost use Rattle.cwr_values.specs.declared.items.Item.{Item};
-ghost use Rattle.cwr_tools.specs.Format.Reports.{has_findings};
+ghost use Rattle.cwr_tools.specs.Format.Reports.{ItemLines, has_findings, lines_of_counted};
 ghost use Rattle.cwr_tools.specs.Format.Watching.{AreFindingsIn};
 
+use crate::finding_counts::FindingCount;
 use crate::finding_lines::writer_fault;
 use crate::reporting::put_verdict_line;
 use crate::reports::{NothingKept, Report};
 use crate::shown_records::put_records;
 use crate::totals::Totals;
 use crate::verdicts::{ToolFault, Verdict};
-use crate::watch::FindingCount;
 use cwr_devices::{Sink, SinkFault, Target};
 use cwr_levels::findings;
 use cwr_notes::RecordLines;
@@ -37,24 +37,32 @@ fn count_findings(alloc: Global, item: &Item, count: &mut FindingCount) -> Resul
     }
 }
 
-/// Each record with its cells, and the line of the verdict. The findings are counted, and not written.
+/// Each record with its cells, and the line of the verdict. The findings are counted, none of which is written.
 #[derive(Drop)]
-pub(crate) struct CountedRecords {
+pub struct CountedRecords {
     /// In which the lines of a record are made.
     lines: RecordLines,
     /// The findings in the items so far.
-    pub(crate) found: FindingCount,
+    found: FindingCount,
 }
 
 impl CountedRecords {
     /// Before the first item.
-    pub(crate) fn new() -> CountedRecords
-        ensures { AreFindingsIn result.found [] }
+    pub fn new() -> CountedRecords
+        ensures stands { ⟦<CountedRecords as Report>⟧.stands result lines_of_counted [] }
     {
         CountedRecords {
             lines: RecordLines::new(),
             found: FindingCount::new(),
         }
+    }
+
+    /// The findings that were counted.
+    pub fn found(&self) -> FindingCount
+        ensures found { (of : ItemLines) (given : List Item)
+            → ⟦<CountedRecords as Report>⟧.stands self.now of given → AreFindingsIn result given }
+    {
+        self.found
     }
 }
 

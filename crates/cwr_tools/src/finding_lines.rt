@@ -1,20 +1,21 @@
 //! The lines of findings, put to a sink.
 
-ghost use Rattle.std.specs.Prelude.{◌≡◌, ◌+◌, ◌≤◌, ◌∷◌, [], length, true, false, IfErr, OnOk};
+ghost use Rattle.std.specs.Prelude.{◌≡◌, ◌+◌, ◌≤◌, ◌∷◌, [], List, length, true, false, IfErr, OnOk};
 ghost use Rattle.std.specs.List.{flat_map};
 ghost use Rattle.cwr_devices.specs.Steps.Sinks.{Puts, has_failed, written_of};
-ghost use Rattle.cwr_judge.specs.Format.Items.{item_records};
 ghost use Rattle.cwr_levels.specs.Format.ReportLines.{finding_line};
-ghost use Rattle.cwr_tools.specs.Format.Reports.{has_findings, transaction_lines};
-ghost use Rattle.cwr_tools.specs.Format.Watching.{findings_with};
+ghost use Rattle.cwr_tools.specs.Format.Reports.{ItemLines, has_findings, lines_of_explained, lines_of_findings, lines_up_to_fault};
+ghost use Rattle.cwr_tools.specs.Format.Reports.{transaction_lines};
+ghost use Rattle.cwr_tools.specs.Format.Watching.{AreFindingsIn, findings_with};
 ghost use Rattle.cwr_tools.specs.Steps.Watching.{Sees};
-ghost use Rattle.cwr_tools.specs.Steps.Reports.{PutsLines};
+ghost use Rattle.cwr_tools.specs.Steps.Reports.{PutsLines, lines_told};
+ghost use Rattle.cwr_values.specs.declared.items.Item.{Item};
 
+use crate::finding_counts::FindingCount;
 use crate::reporting::{put_unrefused_line, put_verdict_line};
 use crate::reports::Report;
 use crate::totals::Totals;
 use crate::verdicts::{ToolFault, Verdict};
-use crate::watch::FindingCount;
 use cwr_decode::Keeper;
 use cwr_devices::{Sink, SinkFault, Target};
 use cwr_levels::{Finding, Sums, finding_line, findings};
@@ -137,22 +138,19 @@ pub fn put_transaction_findings<W: Target>(
 
 /// The findings in each transaction, a line each, and the line of the verdict.
 #[derive(Drop)]
-pub(crate) struct FindingLines {
+pub struct FindingLines {
     /// With the rule under each finding, and the cells that it speaks of.
     explained: bool,
     /// Without the line of a refusal: who goes on after it tells it. Findings that are explained then stand apart.
     up_to_fault: bool,
     /// Those that were told.
-    pub(crate) told: FindingCount,
+    told: FindingCount,
 }
 
 impl FindingLines {
-    /// Before the first item.
-    pub(crate) fn new(explained: bool, up_to_fault: bool) -> FindingLines
-        ensures explained { result.explained ≡ explained }
-        ensures up_to_fault { result.up_to_fault ≡ up_to_fault }
-        ensures none { result.told.findings ≡ 0 }
-        ensures told { result.told.worst ≡ None }
+    /// None was told yet.
+    fn beginning(explained: bool, up_to_fault: bool) -> FindingLines
+        ensures { ⟦<FindingLines as Report>⟧.stands result (lines_told explained up_to_fault) [] }
     {
         FindingLines {
             explained,
@@ -160,11 +158,42 @@ impl FindingLines {
             told: FindingCount::new(),
         }
     }
+
+    /// A line for each finding, and that of the verdict.
+    pub fn new() -> FindingLines
+        ensures stands { ⟦<FindingLines as Report>⟧.stands result lines_of_findings [] }
+    {
+        FindingLines::beginning(false, false)
+    }
+
+    /// The same, with lines under each finding: where its record stands, the rule in words, how much it rejects, and the cells that it
+    /// speaks of. These lines begin with two spaces.
+    pub fn explained() -> FindingLines
+        ensures stands { ⟦<FindingLines as Report>⟧.stands result lines_of_explained [] }
+    {
+        FindingLines::beginning(true, false)
+    }
+
+    /// Either of these without the line of a refusal: who goes on after that tells it. An empty line stands after each finding that is
+    /// explained.
+    pub fn up_to_fault(explained: bool) -> FindingLines
+        ensures stands { ⟦<FindingLines as Report>⟧.stands result (lines_up_to_fault explained) [] }
+    {
+        FindingLines::beginning(explained, true)
+    }
+
+    /// The findings that were told.
+    pub fn told(&self) -> FindingCount
+        ensures told { (of : ItemLines) (given : List Item)
+            → ⟦<FindingLines as Report>⟧.stands self.now of given → AreFindingsIn result given }
+    {
+        self.told
+    }
 }
 
 /// Keeps the sums of a work in place of its records, so that works without findings are passed over.
 #[derive(Drop)]
-pub(crate) struct FindingSums(Sums);
+pub struct FindingSums(Sums);
 
 impl Keeper for FindingSums {
     ghost use Rattle.std.specs.Prelude.{◌≡◌, []};

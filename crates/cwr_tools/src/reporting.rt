@@ -11,6 +11,7 @@ ghost use Rattle.cwr_tools.specs.Format.Reports.{CountsReaderFault, CountsWriter
 ghost use Rattle.cwr_tools.specs.Format.Texts.{verdict_line};
 ghost use Rattle.cwr_tools.specs.Format.Verdicts.{IsVerdictOf};
 ghost use Rattle.cwr_tools.specs.Steps.Reports.{PutsReport, Reports, StandsAtEnd, StandsPut};
+ghost use Rattle.cwr_tools.specs.Steps.Runs.{Runs};
 ghost use Rattle.cwr_tools.specs.Steps.Verdicts.{IsReadLast};
 
 use crate::finding_lines::writer_fault;
@@ -173,13 +174,8 @@ fn put_report<L: Report, R: Source, W: Target>(
     }
 }
 
-/// Reads a transmission up to its end or to where it is refused or ends too early, writes the lines of its items and what stands for
-/// the verdict, and has the writer hand it on. The writer comes back, and how far the run came. The last bytes that were read are held
-/// where they are asked for.
-///
-/// It answers `ToolFault::Reader` or `ToolFault::Writer` where that device failed, and `ToolFault::Memory` where memory for a
-/// transaction or for its lines was refused. It holds one transaction.
-pub fn write_report<L: Report, R: Source, W: Target>(
+/// Reads a transmission as `write_report` does, and writes what that writes.
+fn write_lines<L: Report, R: Source, W: Target>(
     lines: &mut L,
     holds_last: bool,
     alloc: Global,
@@ -190,16 +186,12 @@ pub fn write_report<L: Report, R: Source, W: Target>(
     requires { (of : ItemLines) × L.stands lines.old of [] }
     ensures reported { (of : ItemLines) → L.stands lines.old of [] → Reports of limits
         (R.remaining reader.old) (R.remaining reader.new) W.contents writer result.0 result.1 }
-    // So many bytes were written after what the writer had.
     ensures counted { GrowsBy (W.contents writer) (W.contents result.0) result.2.written }
-    // It is as the items leave it that were handed out before the verdict, or before the reader failed.
     ensures stands { (of : ItemLines) → L.stands lines.old of [] → StandsAtEnd
         (L.stands lines.new of) limits (R.remaining reader.old) (R.remaining reader.new) result.1 }
-    // No failure is passed over: a device failed only where that is the answer.
     ensures reader_failures { CountsReaderFault result.1 (R.failures reader.old)
         (R.failures reader.new) }
     ensures writer_failures { CountsWriterFault result.1 (W.failures writer) (W.failures result.0) }
-    // All that was written was handed on.
     ensures handed_on { OnOk result.1 (W.handed_on result.0 ≡ true) }
     ensures last { holds_last ≡ true → IfOk result.1 (λ verdict. IsSomeAnd result.2.last
         (IsReadLast limits (R.remaining reader.old) (R.remaining reader.new) verdict)) }
@@ -222,4 +214,33 @@ pub fn write_report<L: Report, R: Source, W: Target>(
             Err(_) => (writer, Err(ToolFault::Writer { written }), front),
         },
     }
+}
+
+/// Reads a transmission up to its end or to where it is refused or ends too early, writes the lines of its items and what stands for
+/// the verdict, and has the writer hand it on. The writer comes back, and how far the run came. The last bytes that were read are held
+/// where they are asked for.
+///
+/// It answers `ToolFault::Reader` or `ToolFault::Writer` where that device failed, and `ToolFault::Memory` where memory for a
+/// transaction or for its lines was refused. It holds one transaction.
+pub fn write_report<L: Report, R: Source, W: Target>(
+    lines: &mut L,
+    holds_last: bool,
+    alloc: Global,
+    limits: Limits,
+    reader: &mut R,
+    writer: W,
+) -> (W, Result<Verdict, ToolFault>, Front)
+    requires { (of : ItemLines) × L.stands lines.old of [] }
+    ensures runs { (of : ItemLines) → L.stands lines.old of [] → Runs of limits R.remaining
+        R.failures reader.old reader.new W.contents W.failures W.handed_on writer result.0
+        result.1 }
+    // It is as the items leave it that were handed out before the verdict, or before the reader failed.
+    ensures stands { (of : ItemLines) → L.stands lines.old of [] → StandsAtEnd
+        (L.stands lines.new of) limits (R.remaining reader.old) (R.remaining reader.new) result.1 }
+    // So many bytes were written after what the writer had.
+    ensures counted { GrowsBy (W.contents writer) (W.contents result.0) result.2.written }
+    ensures last { holds_last ≡ true → IfOk result.1 (λ verdict. IsSomeAnd result.2.last
+        (IsReadLast limits (R.remaining reader.old) (R.remaining reader.new) verdict)) }
+{
+    write_lines(lines, holds_last, alloc, limits, reader, writer)
 }

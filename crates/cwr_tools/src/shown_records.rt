@@ -1,10 +1,11 @@
 //! The lines of records, put to a sink.
 
-ghost use Rattle.std.specs.Prelude.{◌≡◌, ◌+◌, ◌≤◌, length, false, IfErr};
+ghost use Rattle.std.specs.Prelude.{◌≡◌, ◌+◌, ◌≤◌, [], length, false, IfErr};
 ghost use Rattle.cwr_devices.specs.Steps.Sinks.{Puts, has_failed, written_of};
 ghost use Rattle.cwr_judge.specs.Format.Items.{item_records};
 ghost use Rattle.cwr_values.specs.Format.Rows.{trailer};
 ghost use Rattle.cwr_notes.specs.Format.RecordTexts.{numbered_records, record_lines};
+ghost use Rattle.cwr_tools.specs.Format.Reports.{lines_of_records};
 
 use crate::finding_lines::writer_fault;
 use crate::reporting::put_verdict_line;
@@ -93,14 +94,16 @@ pub(crate) fn put_records<W: Target>(
 
 /// Each record with its cells, and the line of the verdict.
 #[derive(Drop)]
-pub(crate) struct ShownRecords {
+pub struct ShownRecords {
     /// In which the lines of a record are made.
     lines: RecordLines,
 }
 
 impl ShownRecords {
     /// Before the first item.
-    pub(crate) fn new() -> ShownRecords {
+    pub fn new() -> ShownRecords
+        ensures stands { ⟦<ShownRecords as Report>⟧.stands result lines_of_records [] }
+    {
         ShownRecords {
             lines: RecordLines::new(),
         }

@@ -7,7 +7,7 @@ ghost use Rattle.cwr_levels.specs.Format.Findings.{findings};
 ghost use Rattle.cwr_levels.specs.Steps.Sums.{StandFor};
 ghost use Rattle.cwr_tools.specs.Format.Watching.{AreFindingsIn};
 
-use crate::watch::FindingCount;
+use crate::finding_counts::FindingCount;
 use cwr_fields::Kind;
 use cwr_levels::{Sums, findings};
 use cwr_lines::RecordRef;

@@ -3,4 +3,7 @@
 
 mod words;
 
-pub use words::{Colouring, Judging, Rows, Task, Work, task_of};
+pub use words::{
+    AcksWords, AdviseWords, Colouring, CsvWords, JoinWords, JsonWords, Judging, LintWords,
+    RenumberWords, Rows, ShowWords, SplitWords, Task, Work, WriteWords, task_of,
+};

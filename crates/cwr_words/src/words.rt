@@ -5,7 +5,8 @@ ghost use Rattle.std.specs.Str.{bytes_eq};
 ghost use Rattle.clap.specs.Words.{first_value, found_of, has_subcommand};
 ghost use Rattle.cwr_fields.specs.Format.MessageCodes.{status_code};
 ghost use Rattle.cwr_shape.specs.Format.Ranges.{limit_values};
-ghost use Rattle.cwr_words.specs.Format.Words.{AreLimitsOf, AreNamesOf, AreStatusesOf, AreValuesOf, IsAskedBy, IsCreatedBy, IsJoinOfNames, IsJudgingOf, IsOwnWork, IsPlainCheck, IsWorkOf, colouring_given, colouring_named, level_given, level_named, named_out, rows_named, states_given, written_in};
+ghost use Rattle.cwr_words.specs.Format.Words.{IsRenumberingOf, IsShowOf, IsSplitOf, IsTableOf};
+ghost use Rattle.cwr_words.specs.Format.Words.{AreLimitsOf, AreNamesOf, AreStatusesOf, AreValuesOf, IsAcksOf, IsAdviceOf, IsAskedBy, IsCreatedBy, IsExportOf, IsImportOf, IsLintOf, IsJoinOf, IsJoinOfNames, IsJudgingOf, IsPlainCheck, IsWorkOf, colouring_given, colouring_named, level_given, level_named, named_out, rows_named, states_given, written_in};
 
 use clap::error::ErrorKind;
 use clap::{ArgMatches, Error};
@@ -43,137 +44,177 @@ pub enum Rows {
     Works,
 }
 
+/// What the words of `cwr show` ask for.
+#[derive(Debug, PartialEq, Eq, Drop)]
+pub struct ShowWords<'a> {
+    /// The name of the transmission's file, or none for that on standard input.
+    pub file: Option<&'a str>,
+    /// A finding of this level, or of a worse one, ends the run as a refusal does.
+    pub fail_on: Option<Level>,
+}
+
+/// What the words of `cwr lint` ask for.
+#[derive(Debug, PartialEq, Eq, Drop)]
+pub struct LintWords<'a> {
+    /// The names of the transmissions' files; without one standard input is read.
+    pub files: Vec<&'a str>,
+    /// Only what isn't good is printed.
+    pub quiet: bool,
+    /// With an explanation of each.
+    pub explained: bool,
+    /// With advice.
+    pub advised: bool,
+    /// With all advice, where else of each rule the first three pieces are told.
+    pub all: bool,
+}
+
+/// What the words of `cwr advise` ask for.
+#[derive(Debug, PartialEq, Eq, Drop)]
+pub struct AdviseWords<'a> {
+    /// Which transmissions. Advice ends the run as a finding of its level does, and quiet lines leave none out.
+    pub judging: Judging<'a>,
+    /// All advice is told, where else of each rule the first three pieces are.
+    pub all: bool,
+    /// The numbers of so many works are kept, and those that stand twice are told.
+    pub repeated: u32,
+}
+
+/// What the words of `cwr json` ask for.
+#[derive(Debug, PartialEq, Eq, Drop)]
+pub struct JsonWords<'a> {
+    /// The name of the transmission's file, or none for that on standard input.
+    pub file: Option<&'a str>,
+    /// The name of the file that is written, or none for standard output.
+    pub out: Option<&'a str>,
+    /// With the numbers of groups, transactions and lines.
+    pub numbers: bool,
+    /// Cells in UTF-8 are shown as their texts.
+    pub utf8: bool,
+}
+
+/// What the words of `cwr csv` ask for.
+#[derive(Debug, PartialEq, Eq, Drop)]
+pub struct CsvWords<'a> {
+    /// What the table has rows of.
+    pub rows: Rows,
+    /// The name of the transmission's file, or none for that on standard input.
+    pub file: Option<&'a str>,
+    /// The name of the file that is written, or none for standard output.
+    pub out: Option<&'a str>,
+    /// Cells in UTF-8 are shown as their texts.
+    pub utf8: bool,
+}
+
+/// What the words of `cwr acks` ask for.
+#[derive(Debug, PartialEq, Eq, Drop)]
+pub struct AcksWords<'a> {
+    /// The names of the transmissions' files, in their order; without one standard input is read.
+    pub files: Vec<&'a str>,
+    /// The names of the files of the transmissions that they answer, in their order; without one they are matched with none.
+    pub sent: Vec<&'a str>,
+    /// As lines of JSON.
+    pub as_json: bool,
+    /// Each may answer any of the transmissions that were sent, whatever creation date and time it has.
+    pub by_place: bool,
+    /// As a table of what became of each transaction that was sent.
+    pub state: bool,
+    /// A row of that table with one of these states ends the run as a refusal does.
+    pub fail_on: States,
+    /// Those with one of these statuses are told; without one all are.
+    pub statuses: Vec<TransactionStatus>,
+    /// Cells in UTF-8 are shown as their texts.
+    pub utf8: bool,
+}
+
+/// What the words of `cwr write` ask for.
+#[derive(Debug, PartialEq, Eq, Drop)]
+pub struct WriteWords<'a> {
+    /// The name of the file of lines, or none for those on standard input.
+    pub file: Option<&'a str>,
+    /// The name of the file that is written, or none for standard output.
+    pub out: Option<&'a str>,
+    /// The most bytes of a line.
+    pub line: u32,
+    /// Cells are in UTF-8.
+    pub utf8: bool,
+}
+
+/// What the words of `cwr split` ask for.
+#[derive(Debug, PartialEq, Eq, Drop)]
+pub struct SplitWords<'a> {
+    /// The transactions of a part; the last may have fewer.
+    pub transactions: NonZeroU32,
+    /// The name of the transmission's file.
+    pub file: &'a str,
+    /// What the names of the parts' files begin with.
+    pub prefix: &'a str,
+    /// When the first part was created, and each other one a second later; without it when the transmission was.
+    pub created: Option<Moment>,
+    /// No part may replace a file.
+    pub only_new: bool,
+    /// A finding of this level, or of a worse one, ends the run as a refusal does.
+    pub fail_on: Option<Level>,
+}
+
+/// What the words of `cwr join` ask for.
+#[derive(Debug, PartialEq, Eq, Drop)]
+pub struct JoinWords<'a> {
+    /// The name of the file that is written.
+    pub out: &'a str,
+    /// The names of the transmissions' files, in their order.
+    pub files: Vec<&'a str>,
+    /// The file that is written may replace none.
+    pub only_new: bool,
+    /// A finding of this level, or of a worse one, ends the run as a refusal does.
+    pub fail_on: Option<Level>,
+    /// A sender that is another than that of the first transmission is refused.
+    pub same_sender: bool,
+    /// The numbers of so many works are kept, and those that stand twice are told.
+    pub repeated: u32,
+}
+
+/// What the words of `cwr renumber` ask for.
+#[derive(Debug, PartialEq, Eq, Drop)]
+pub struct RenumberWords<'a> {
+    /// The name of the transmission's file, or none for that on standard input.
+    pub file: Option<&'a str>,
+    /// The name of the file that is written, or none for standard output.
+    pub out: Option<&'a str>,
+    /// The file that is written may replace none.
+    pub only_new: bool,
+    /// A finding of this level, or of a worse one, ends the run as a refusal does.
+    pub fail_on: Option<Level>,
+    /// The numbers are put right also where records may have come into the transaction or the group before theirs.
+    pub anyway: bool,
+}
+
 /// What is done. Each file that is read may be called `-`, which is standard input.
 #[derive(Debug, PartialEq, Eq, Drop)]
 pub enum Work<'a> {
     /// Transmissions are checked.
     Check(Judging<'a>),
     /// The records of one are shown.
-    Show {
-        /// The name of the transmission's file, or none for that on standard input.
-        file: Option<&'a str>,
-        /// A finding of this level, or of a worse one, ends the run as a refusal does.
-        fail_on: Option<Level>,
-    },
+    Show(ShowWords<'a>),
     /// They are checked, and what is found is explained.
     Explain(Judging<'a>),
     /// Every fault of them is told.
-    Lint {
-        /// The names of the transmissions' files; without one standard input is read.
-        files: Vec<&'a str>,
-        /// Only what isn't good is printed.
-        quiet: bool,
-        /// With an explanation of each.
-        explained: bool,
-        /// With advice.
-        advised: bool,
-        /// With all advice, where else of each rule the first three pieces are told.
-        all: bool,
-    },
+    Lint(LintWords<'a>),
     /// They are checked, and there is advice on them.
-    Advise {
-        /// Which transmissions. Advice ends the run as a finding of its level does, and quiet lines leave none out.
-        judging: Judging<'a>,
-        /// All advice is told, where else of each rule the first three pieces are.
-        all: bool,
-        /// The numbers of so many works are kept, and those that stand twice are told.
-        repeated: u32,
-    },
+    Advise(AdviseWords<'a>),
     /// The data of one is written as JSON.
-    Json {
-        /// The name of the transmission's file, or none for that on standard input.
-        file: Option<&'a str>,
-        /// The name of the file that is written, or none for standard output.
-        out: Option<&'a str>,
-        /// With the numbers of groups, transactions and lines.
-        numbers: bool,
-        /// Cells in UTF-8 are shown as their texts.
-        utf8: bool,
-    },
+    Json(JsonWords<'a>),
     /// A table of one is written.
-    Csv {
-        /// What the table has rows of.
-        rows: Rows,
-        /// The name of the transmission's file, or none for that on standard input.
-        file: Option<&'a str>,
-        /// The name of the file that is written, or none for standard output.
-        out: Option<&'a str>,
-        /// Cells in UTF-8 are shown as their texts.
-        utf8: bool,
-    },
+    Csv(CsvWords<'a>),
     /// What the acknowledgements of transmissions say is told.
-    Acks {
-        /// The names of the transmissions' files, in their order; without one standard input is read.
-        files: Vec<&'a str>,
-        /// The names of the files of the transmissions that they answer, in their order; without one they are matched with none.
-        sent: Vec<&'a str>,
-        /// As lines of JSON.
-        as_json: bool,
-        /// Each may answer any of the transmissions that were sent, whatever creation date and time it has.
-        by_place: bool,
-        /// As a table of what became of each transaction that was sent.
-        state: bool,
-        /// A row of that table with one of these states ends the run as a refusal does.
-        fail_on: States,
-        /// Those with one of these statuses are told; without one all are.
-        statuses: Vec<TransactionStatus>,
-        /// Cells in UTF-8 are shown as their texts.
-        utf8: bool,
-    },
+    Acks(AcksWords<'a>),
     /// A transmission is written from lines of JSON.
-    Write {
-        /// The name of the file of lines, or none for those on standard input.
-        file: Option<&'a str>,
-        /// The name of the file that is written, or none for standard output.
-        out: Option<&'a str>,
-        /// The most bytes of a line.
-        line: u32,
-        /// Cells are in UTF-8.
-        utf8: bool,
-    },
+    Write(WriteWords<'a>),
     /// A transmission is cut into parts.
-    Split {
-        /// The transactions of a part; the last may have fewer.
-        transactions: NonZeroU32,
-        /// The name of the transmission's file.
-        file: &'a str,
-        /// What the names of the parts' files begin with.
-        prefix: &'a str,
-        /// When the first part was created, and each other one a second later; without it when the transmission was.
-        created: Option<Moment>,
-        /// No part may replace a file.
-        only_new: bool,
-        /// A finding of this level, or of a worse one, ends the run as a refusal does.
-        fail_on: Option<Level>,
-    },
+    Split(SplitWords<'a>),
     /// Transmissions are joined to one.
-    Join {
-        /// The name of the file that is written.
-        out: &'a str,
-        /// The names of the transmissions' files, in their order.
-        files: Vec<&'a str>,
-        /// The file that is written may replace none.
-        only_new: bool,
-        /// A finding of this level, or of a worse one, ends the run as a refusal does.
-        fail_on: Option<Level>,
-        /// A sender that is another than that of the first transmission is refused.
-        same_sender: bool,
-        /// The numbers of so many works are kept, and those that stand twice are told.
-        repeated: u32,
-    },
+    Join(JoinWords<'a>),
     /// The numbers of one are put right.
-    Renumber {
-        /// The name of the transmission's file, or none for that on standard input.
-        file: Option<&'a str>,
-        /// The name of the file that is written, or none for standard output.
-        out: Option<&'a str>,
-        /// The file that is written may replace none.
-        only_new: bool,
-        /// A finding of this level, or of a worse one, ends the run as a refusal does.
-        fail_on: Option<Level>,
-        /// The numbers are put right also where records may have come into the transaction or the group before theirs.
-        anyway: bool,
-    },
+    Renumber(RenumberWords<'a>),
     /// The manual is printed.
     Manual,
 }
@@ -302,20 +343,20 @@ fn judging_in<'a>(alloc: Global, given: &ArgMatches<'a>) -> Result<Judging<'a>, 
 }
 
 /// The work of showing.
-fn show_in<'a>(given: &ArgMatches<'a>) -> Work<'a>
-    ensures { IsOwnWork (codes "show") (found_of given.now) result }
+fn show_in<'a>(given: &ArgMatches<'a>) -> ShowWords<'a>
+    ensures { IsShowOf (found_of given.now) result }
 {
-    Work::Show {
+    ShowWords {
         file: given.get_str(FILE),
         fail_on: fail_on_in(given),
     }
 }
 
 /// The work of a lint.
-fn lint_in<'a>(alloc: Global, given: &ArgMatches<'a>) -> Result<Work<'a>, AllocError>
-    ensures { IfOk result (IsOwnWork (codes "lint") (found_of given.now)) }
+fn lint_in<'a>(alloc: Global, given: &ArgMatches<'a>) -> Result<LintWords<'a>, AllocError>
+    ensures { IfOk result (IsLintOf (found_of given.now)) }
 {
-    Ok(Work::Lint {
+    Ok(LintWords {
         files: names_in(alloc, given)?,
         quiet: given.get_flag(QUIET),
         explained: given.get_flag(EXPLAINED),
@@ -325,13 +366,16 @@ fn lint_in<'a>(alloc: Global, given: &ArgMatches<'a>) -> Result<Work<'a>, AllocE
 }
 
 /// The work of advice. `None` where the number of works is missing or out of its range.
-fn advice_in<'a>(alloc: Global, given: &ArgMatches<'a>) -> Result<Option<Work<'a>>, AllocError>
-    ensures { IfOk result (λ found. IfSome found (IsOwnWork (codes "advise") (found_of given.now))) }
+fn advice_in<'a>(
+    alloc: Global,
+    given: &ArgMatches<'a>,
+) -> Result<Option<AdviseWords<'a>>, AllocError>
+    ensures { IfOk result (λ found. IfSome found (IsAdviceOf (found_of given.now))) }
 {
     let Some(repeated) = given.get_one::<u32>(REPEATED) else {
         return Ok(None);
     };
-    Ok(Some(Work::Advise {
+    Ok(Some(AdviseWords {
         judging: judging_in(alloc, given)?,
         all: given.get_flag(ALL),
         repeated,
@@ -339,10 +383,10 @@ fn advice_in<'a>(alloc: Global, given: &ArgMatches<'a>) -> Result<Option<Work<'a
 }
 
 /// The work of an export.
-fn export_in<'a>(given: &ArgMatches<'a>) -> Work<'a>
-    ensures { IsOwnWork (codes "json") (found_of given.now) result }
+fn export_in<'a>(given: &ArgMatches<'a>) -> JsonWords<'a>
+    ensures { IsExportOf (found_of given.now) result }
 {
-    Work::Json {
+    JsonWords {
         file: given.get_str(FILE),
         out: named_out(given.get_str(OUT)),
         numbers: given.get_flag(NUMBERS),
@@ -361,10 +405,10 @@ fn rows_of(word: &str) -> Option<Rows>
 }
 
 /// The work of a table. `None` where what it has rows of is missing.
-fn table_in<'a>(given: &ArgMatches<'a>) -> Option<Work<'a>>
-    ensures { IfSome result (IsOwnWork (codes "csv") (found_of given.now)) }
+fn table_in<'a>(given: &ArgMatches<'a>) -> Option<CsvWords<'a>>
+    ensures { IfSome result (IsTableOf (found_of given.now)) }
 {
-    Some(Work::Csv {
+    Some(CsvWords {
         rows: rows_of(given.get_str(KIND)?)?,
         file: given.get_str(FILE),
         out: named_out(given.get_str(OUT)),
@@ -408,8 +452,8 @@ fn statuses_in<'a>(
 }
 
 /// The work of telling what acknowledgements say. `None` where the name of a state is none, or the code of a status.
-fn acks_in<'a>(alloc: Global, given: &ArgMatches<'a>) -> Result<Option<Work<'a>>, AllocError>
-    ensures { IfOk result (λ found. IfSome found (IsOwnWork (codes "acks") (found_of given.now))) }
+fn acks_in<'a>(alloc: Global, given: &ArgMatches<'a>) -> Result<Option<AcksWords<'a>>, AllocError>
+    ensures { IfOk result (λ found. IfSome found (IsAcksOf (found_of given.now))) }
 {
     let Some(fail_on) = states_in(given) else {
         return Ok(None);
@@ -417,7 +461,7 @@ fn acks_in<'a>(alloc: Global, given: &ArgMatches<'a>) -> Result<Option<Work<'a>>
     let Some(statuses) = statuses_in(alloc, given)? else {
         return Ok(None);
     };
-    Ok(Some(Work::Acks {
+    Ok(Some(AcksWords {
         files: names_in(alloc, given)?,
         sent: values_of(alloc, given, SENT)?,
         as_json: given.get_flag(AS_JSON),
@@ -430,10 +474,10 @@ fn acks_in<'a>(alloc: Global, given: &ArgMatches<'a>) -> Result<Option<Work<'a>>
 }
 
 /// The work of an import. `None` where the bound on lines is missing or out of its range.
-fn import_in<'a>(given: &ArgMatches<'a>) -> Option<Work<'a>>
-    ensures { IfSome result (IsOwnWork (codes "write") (found_of given.now)) }
+fn import_in<'a>(given: &ArgMatches<'a>) -> Option<WriteWords<'a>>
+    ensures { IfSome result (IsImportOf (found_of given.now)) }
 {
-    Some(Work::Write {
+    Some(WriteWords {
         file: given.get_str(FILE),
         out: named_out(given.get_str(OUT)),
         line: given.get_one::<u32>(LINE)?,
@@ -452,11 +496,11 @@ fn created_in(given: &ArgMatches<'_>) -> Option<Option<Moment>>
 }
 
 /// The work of a split. `None` where a word is missing or out of its range.
-fn split_in<'a>(given: &ArgMatches<'a>) -> Option<Work<'a>>
-    ensures { IfSome result (IsOwnWork (codes "split") (found_of given.now)) }
+fn split_in<'a>(given: &ArgMatches<'a>) -> Option<SplitWords<'a>>
+    ensures { IfSome result (IsSplitOf (found_of given.now)) }
 {
     let number = given.get_one::<u32>(NUMBER)?;
-    Some(Work::Split {
+    Some(SplitWords {
         transactions: NonZeroU32::new(number)?,
         file: given.get_str(FILE)?,
         prefix: written_in(given, PREFIX)?,
@@ -490,8 +534,8 @@ fn joined_in<'a>(
 }
 
 /// The work of a join. `None` where a word is missing or out of its range.
-fn join_in<'a>(alloc: Global, given: &ArgMatches<'a>) -> Result<Option<Work<'a>>, AllocError>
-    ensures { IfOk result (λ found. IfSome found (IsOwnWork (codes "join") (found_of given.now))) }
+fn join_in<'a>(alloc: Global, given: &ArgMatches<'a>) -> Result<Option<JoinWords<'a>>, AllocError>
+    ensures { IfOk result (λ found. IfSome found (IsJoinOf (found_of given.now))) }
 {
     let Some(repeated) = given.get_one::<u32>(REPEATED) else {
         return Ok(None);
@@ -499,7 +543,7 @@ fn join_in<'a>(alloc: Global, given: &ArgMatches<'a>) -> Result<Option<Work<'a>>
     let Some((out, files)) = joined_in(alloc, given)? else {
         return Ok(None);
     };
-    Ok(Some(Work::Join {
+    Ok(Some(JoinWords {
         out,
         files,
         only_new: given.get_flag(NEW),
@@ -510,10 +554,10 @@ fn join_in<'a>(alloc: Global, given: &ArgMatches<'a>) -> Result<Option<Work<'a>>
 }
 
 /// The work of a renumbering.
-fn renumber_in<'a>(given: &ArgMatches<'a>) -> Work<'a>
-    ensures { IsOwnWork (codes "renumber") (found_of given.now) result }
+fn renumber_in<'a>(given: &ArgMatches<'a>) -> RenumberWords<'a>
+    ensures { IsRenumberingOf (found_of given.now) result }
 {
-    Work::Renumber {
+    RenumberWords {
         file: given.get_str(FILE),
         out: named_out(written_in(given, OUT)),
         only_new: given.get_flag(NEW),
@@ -532,27 +576,30 @@ fn work_in<'a>(
         (λ found. IfSome found (λ work. IsWorkOf name.now (found_of given.now) work)) }
 {
     if name == SPLIT {
-        Ok(split_in(given))
+        Ok(split_in(given).map(Work::Split))
     } else if name == LINT {
-        Ok(Some(lint_in(alloc, given)?))
+        Ok(Some(Work::Lint(lint_in(alloc, given)?)))
     } else if name == ADVISE {
-        advice_in(alloc, given)
+        Ok(advice_in(alloc, given)?.map(Work::Advise))
     } else if name == JSON {
-        Ok(Some(export_in(given)))
+        Ok(Some(Work::Json(export_in(given))))
     } else if name == CSV {
-        Ok(table_in(given))
+        match table_in(given) {
+            Some(words) => Ok(Some(Work::Csv(words))),
+            None => Ok(None),
+        }
     } else if name == ACKS {
-        acks_in(alloc, given)
+        Ok(acks_in(alloc, given)?.map(Work::Acks))
     } else if name == WRITE {
-        Ok(import_in(given))
+        Ok(import_in(given).map(Work::Write))
     } else if name == JOIN {
-        join_in(alloc, given)
+        Ok(join_in(alloc, given)?.map(Work::Join))
     } else if name == RENUMBER {
-        Ok(Some(renumber_in(given)))
+        Ok(Some(Work::Renumber(renumber_in(given))))
     } else if name == MANUAL {
         Ok(Some(Work::Manual))
     } else if name == SHOW {
-        Ok(Some(show_in(given)))
+        Ok(Some(Work::Show(show_in(given))))
     } else if name == EXPLAIN {
         Ok(Some(Work::Explain(judging_in(alloc, given)?)))
     } else {

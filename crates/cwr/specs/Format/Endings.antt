@@ -21,27 +21,26 @@ StatusOnInput advice limits wanted input status = IfSome input (λ text. IsStatu
 abbrev pub IsOfInput : Work → Type 0
 IsOfInput (Check judging) = are_standard (map (λ name. name.now) judging.files.items) ≡ true
 IsOfInput (Explain judging) = are_standard (map (λ name. name.now) judging.files.items) ≡ true
-IsOfInput (Show file fail_on) = is_standard (option_map (λ name. name.now) file) ≡ true
-IsOfInput (Json file out numbers utf8) = (is_standard (option_map (λ name. name.now) file) ≡ true) × (out ≡ None)
-IsOfInput (Csv rows file out utf8) = (is_standard (option_map (λ name. name.now) file) ≡ true) × (out ≡ None)
-IsOfInput (Acks files sent as_json by_place state fail_on statuses utf8) =
-    (are_standard (map (λ name. name.now) files.items) ≡ true) × (sent.items ≡ [])
-IsOfInput (Lint files quiet explained advised all) = are_standard (map (λ name. name.now) files.items) ≡ true
-IsOfInput (Advise judging all repeated) = are_standard (map (λ name. name.now) judging.files.items) ≡ true
+IsOfInput (Show words) = is_standard (option_map (λ name. name.now) words.file) ≡ true
+IsOfInput (Json words) = (is_standard (option_map (λ name. name.now) words.file) ≡ true) × (words.out ≡ None)
+IsOfInput (Csv words) = (is_standard (option_map (λ name. name.now) words.file) ≡ true) × (words.out ≡ None)
+IsOfInput (Acks words) = (are_standard (map (λ name. name.now) words.files.items) ≡ true) × (words.sent.items ≡ [])
+IsOfInput (Lint words) = are_standard (map (λ name. name.now) words.files.items) ≡ true
+IsOfInput (Advise words) = are_standard (map (λ name. name.now) words.judging.files.items) ≡ true
 IsOfInput work = ⊥
 
 -- whether all advice is told, and of how many works the numbers are kept, where advice is asked for: it counts for the status as findings do
 abbrev pub advice_of : Work → Option (Bool × ℕ)
-advice_of (Advise judging all repeated) = Some (all, repeated)
+advice_of (Advise words) = Some (words.all, words.repeated)
 advice_of work = None
 
 -- what is wanted of the transmission: the options of a judgement say which findings end it
 abbrev pub wanted_in : Bool → Work → Wanted
 wanted_in whole (Check judging) = record { whole = whole; fail_on = judging.fail_on }
 wanted_in whole (Explain judging) = record { whole = whole; fail_on = judging.fail_on }
-wanted_in whole (Show file fail_on) = record { whole = whole; fail_on = fail_on }
-wanted_in whole (Lint files quiet explained advised all) = record { whole = whole; fail_on = None }
-wanted_in whole (Advise judging all repeated) = record { whole = whole; fail_on = judging.fail_on }
+wanted_in whole (Show words) = record { whole = whole; fail_on = words.fail_on }
+wanted_in whole (Lint words) = record { whole = whole; fail_on = None }
+wanted_in whole (Advise words) = record { whole = whole; fail_on = words.judging.fail_on }
 wanted_in whole work = record { whole = whole; fail_on = None }
 
 -- the status of a fault: what was to be written may not be, or what was to be read can't be, or a file, a device or memory failed

@@ -1,5 +1,5 @@
 -- How lines are shown on terminals.
-use Rattle.std.specs.Prelude.{◌≡◌, ℕ, Bool, true, false, ◌&&◌, ◌||◌, nat_lt, is_some, length, List, Option, Some, None, if◌then◌else◌}
+use Rattle.std.specs.Prelude.{ℕ, Bool, true, false, ◌&&◌, ◌||◌, nat_lt, is_some, length, Option, Some, None, if◌then◌else◌}
 use Rattle.cwr_terminal.specs.declared.styles.Lines.{Lines}
 use Rattle.cwr_terminal.specs.declared.styles.Lines.TheVariants.{Told, Named, Help}
 use Rattle.cwr_terminal.specs.declared.styles.Style.{Style}
@@ -17,8 +17,8 @@ lines_on count = if nat_lt 1 count then Named else Told
 abbrev pub lines_of : Work → Option Lines
 lines_of (Check judging) = Some (lines_on (length judging.files.items))
 lines_of (Explain judging) = Some (lines_on (length judging.files.items))
-lines_of (Lint files quiet explained advised all) = Some (lines_on (length files.items))
-lines_of (Advise judging all repeated) = Some (lines_on (length judging.files.items))
+lines_of (Lint words) = Some (lines_on (length words.files.items))
+lines_of (Advise words) = Some (lines_on (length words.judging.files.items))
 lines_of work = None
 
 -- their first words have colours

@@ -1,8 +1,6 @@
 -- A report of advice before its first item, and what it knows after its last.
 use Rattle.std.proofs.Common.{◌≡◌, ℕ, Bool, true, false, List, [], ◌∷◌, ◌++◌, Option, None, refl, sym, subst, ap, ap₂, ◌∙◌, arith}
 use Rattle.std.proofs.lemmas.List.Sums.{sum_by-append, sum_by-cons}
-use Rattle.std.specs.Prelude.{Result, Ok, Err, IfOk}
-use Rattle.cwr_shape.specs.declared.limits.Limits.{Limits}
 use Rattle.cwr_shape.specs.declared.reasons.Level.{Level}
 use Rattle.cwr_values.specs.declared.items.Item.{Item}
 use Rattle.cwr_values.specs.declared.items.Item.TheVariants.{Opened, GroupOpened, Transaction, GroupClosed, Ended}
@@ -11,13 +9,11 @@ use Rattle.cwr_shape.specs.declared.reasons.Level.TheVariants.{E}
 use Rattle.cwr_shape.specs.declared.reasons.Reason.TheVariants.{Misplaced}
 use Rattle.cwr_judge.specs.declared.refusals.Refusal.{Refusal}
 use Rattle.cwr_tools.specs.Format.Reports.{ItemLines}
-use Rattle.cwr_tools.specs.declared.verdicts.ToolFault.{ToolFault}
 use Rattle.cwr_tools.specs.declared.verdicts.Verdict.{Verdict}
 use Rattle.cwr_tools.specs.declared.verdicts.Verdict.TheVariants.{Good, Refused, Truncated}
 use Rattle.cwr_tools.specs.Format.Texts.{verdict_line}
-use Rattle.cwr_tools.specs.Steps.Reports.{StandsAfter, StandsAtEnd}
 use Rattle.cwr_advise.specs.declared.item_advice.Manner.{Manner}
-use Rattle.cwr_advise.specs.declared.running.AdviceLines.{AdviceLines}
+use Rattle.cwr_advise.specs.declared.advice_lines.AdviceLines.{AdviceLines}
 use Rattle.cwr_advise.specs.Format.AdviceLevels.{any_reaches}
 use Rattle.cwr_advise.specs.Format.AdviceLines.{advice_on, last_lines, lines_advised}
 use Rattle.cwr_advise.specs.Format.RepeatedWorks.{works_in}
@@ -70,13 +66,6 @@ told_more old new given (Opened r) before adds = adds ∙ none_told old given (O
 told_more old new given (GroupOpened r) before adds = adds ∙ none_told old given (GroupOpened r) refl before
 told_more old new given (GroupClosed r) before adds = adds ∙ none_told old given (GroupClosed r) refl before
 told_more old new given Ended before adds = adds ∙ none_told old given Ended refl before
-
--- what stands after the items, another thing does
-pub said_after : (result : Result Verdict ToolFault) (limits : Limits) (before after : Option (List ℕ)) (P Q : List Item → Type 0)
-    → ((given : List Item) → P given → Q given)
-    → StandsAtEnd P limits before after result → IfOk result (StandsAfter Q limits before after)
-said_after (Ok verdict) limits before after P Q f h = (h.0, h.1, f h.0 h.2)
-said_after (Err fault) limits before after P Q f h = tt
 
 -- what is put at the end, by the counts, is what stands there
 pub last_same : (up_to_fault all : Bool) (limit : ℕ) (given : List Item) (told : List ℕ) (verdict : Verdict)

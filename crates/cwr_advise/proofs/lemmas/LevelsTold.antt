@@ -1,27 +1,16 @@
 -- Whether something that is told has a level, among items as among each.
 use Rattle.std.proofs.Common.{◌≡◌, ℕ, suc, ◌+◌, Bool, false, ◌||◌, List, [], ◌∷◌, ◌++◌, drop, take, Option, Some, None}
-use Rattle.std.proofs.Common.{slice_get, length, refl, sym, ap, ap₂, subst, ◌∙◌, arith, append_assoc, append-nil}
+use Rattle.std.proofs.Common.{slice_get, refl, sym, ap, ap₂, ◌∙◌, arith, append_assoc, append-nil}
 use Rattle.std.specs.Prelude.{◌&&◌, Result, Ok, Err, OnOk}
 use Rattle.std.specs.List.{list_any}
 use Rattle.std.specs.Option.{is_some}
 use Rattle.cwr_lines.specs.Format.Records.{RecordValue}
-use Rattle.cwr_shape.specs.declared.limits.Limits.{Limits}
 use Rattle.cwr_shape.specs.declared.reasons.Level.{Level}
 use Rattle.cwr_values.specs.declared.items.Item.{Item}
 use Rattle.cwr_values.specs.declared.items.Item.TheVariants.{Transaction}
-use Rattle.cwr_values.specs.Format.Values.{TransmissionValue}
-use Rattle.cwr_judge.specs.Format.Ends.{IsAccepted}
-use Rattle.cwr_judge.specs.Format.Items.{value_items}
-use Rattle.cwr_judge.proofs.lemmas.Accepted.{accepted_once}
 use Rattle.cwr_levels.specs.declared.rules.Finding.{Finding}
 use Rattle.cwr_levels.specs.Format.Findings.{findings}
-use Rattle.cwr_tools.specs.declared.verdicts.ToolFault.{ToolFault}
-use Rattle.cwr_tools.specs.declared.verdicts.Verdict.{Verdict}
-use Rattle.cwr_tools.specs.declared.verdicts.Verdict.TheVariants.{Good, Refused, Truncated}
-use Rattle.cwr_tools.specs.Format.Reports.{ItemLines}
 use Rattle.cwr_tools.specs.Format.Watching.{has_from, is_reached}
-use Rattle.cwr_tools.specs.Steps.Reports.{StandsAtEnd}
-use Rattle.cwr_tools.specs.Steps.Verdicts.{IsRightVerdict}
 use Rattle.cwr_tools.proofs.lemmas.FindingsWatched.{any_at, or_assoc, or_false}
 use Rattle.cwr_advice.specs.declared.rules.Advice.{Advice}
 use Rattle.cwr_advice.specs.declared.said.Said.{Said}
@@ -29,7 +18,6 @@ use Rattle.cwr_advice.specs.Format.Rules.{advice_of, cell_at}
 use Rattle.cwr_advise.specs.declared.repeats.Place.{Place}
 use Rattle.cwr_advise.specs.declared.repeats.Repeated.{Repeated}
 use Rattle.cwr_advise.specs.Format.AdviceLevels.{advice_reaches, any_reaches, any_reaches_after, item_reaches, own_reaches}
-use Rattle.cwr_advise.specs.Format.AdviceLevels.{IsWorstTold, SeesTold}
 use Rattle.cwr_advise.specs.Format.AdviceLines.{said_in}
 use Rattle.cwr_advise.specs.Format.RepeatedWorks.{is_repeated, place_of, repeated_advice, work_header, works_in}
 use Rattle.cwr_advise.specs.Steps.KeptWorks.{reaches_at}
@@ -151,26 +139,3 @@ worst_passed worst limit given t zero none quiet is asked =
     ∙ or_false (any_reaches limit asked given))
 
 -- ---- after a run
-
-told_right : (of : ItemLines) (limits : Limits) (before after : Option (List ℕ)) (worst : Option Level) (verdict : Verdict)
-    (given : List Item) → IsRightVerdict limits before verdict after given → IsWorstTold of worst given
-    → SeesTold of limits before worst
-told_right of limits None after worst verdict given right is = tt
-told_right of limits (Some text) after worst verdict given right is = λ v n a. by verdict v n a right
-  where
-    by : (it : Verdict) (v : TransmissionValue) (n : ℕ) → IsAccepted limits text v n
-        → IsRightVerdict limits (Some text) it after given → IsWorstTold of worst (value_items v)
-    by (Good groups transactions records) v n a t =
-        subst (λ (items : List Item). IsWorstTold of worst items)
-        (t.2 ∙ ap value_items (accepted_once limits text t.0 v (length t.1.input) n t.1.front.0 a).0) is
-    by (Refused refusal) v n a t = absurd (t.0.right.ends.unaccepted v n a)
-    by (Truncated records) v n a t = absurd (t.0.right.ends.unaccepted v n a)
-
--- so it was in the transmission, where the text is accepted
-pub sees_told : (of : ItemLines) (limits : Limits) (before after : Option (List ℕ)) (worst : Option Level)
-    (stands : List Item → Type 0) (result : Result Verdict ToolFault)
-    → ((given : List Item) → stands given → IsWorstTold of worst given) → StandsAtEnd stands limits before after result
-    → OnOk result (SeesTold of limits before worst)
-sees_told of limits before after worst stands (Ok verdict) is h =
-    told_right of limits before after worst verdict h.0 h.1 (is h.0 h.2)
-sees_told of limits before after worst stands (Err fault) is h = tt

@@ -1,13 +1,9 @@
 -- Whether something that is told of items has a level, or a worse one.
-use Rattle.std.specs.Prelude.{ℕ, Bool, false, ◌&&◌, ◌||◌, List, [], ◌∷◌, ◌++◌, Option, IfSome, ◌≡◌}
+use Rattle.std.specs.Prelude.{ℕ, Bool, false, ◌&&◌, ◌||◌, List, [], ◌∷◌, ◌++◌, Option, ◌≡◌}
 use Rattle.std.specs.List.{list_any}
-use Rattle.cwr_shape.specs.declared.limits.Limits.{Limits}
 use Rattle.cwr_shape.specs.declared.reasons.Level.{Level}
 use Rattle.cwr_values.specs.declared.items.Item.{Item}
 use Rattle.cwr_values.specs.declared.items.Item.TheVariants.{Transaction}
-use Rattle.cwr_values.specs.Format.Values.{TransmissionValue}
-use Rattle.cwr_judge.specs.Format.Ends.{IsAccepted}
-use Rattle.cwr_judge.specs.Format.Items.{value_items}
 use Rattle.cwr_levels.specs.Format.Findings.{findings}
 use Rattle.cwr_tools.specs.Format.Reports.{ItemLines}
 use Rattle.cwr_tools.specs.Format.Watching.{has_from, is_reached, is_reached_by}
@@ -54,8 +50,3 @@ abbrev pub IsWorstTold : ItemLines → Option Level → List Item → Type 0
 IsWorstTold of worst items =
     (manner : Manner) × (up_to_fault : Bool) × (limit : ℕ) × (of ≡ lines_advised manner up_to_fault limit)
     × ((asked : Option Level) → is_reached asked worst ≡ any_reaches limit asked items)
-
--- where a text is accepted, it is that of its transmission
-abbrev pub SeesTold : ItemLines → Limits → Option (List ℕ) → Option Level → Type 0
-SeesTold of limits before worst =
-    IfSome before (λ text. (v : TransmissionValue) (n : ℕ) → IsAccepted limits text v n → IsWorstTold of worst (value_items v))

@@ -6,21 +6,19 @@ use Rattle.cwr_levels.specs.Format.Findings.{findings}
 use Rattle.cwr_lines.specs.Format.Records.{RecordValue}
 use Rattle.cwr_tools.specs.declared.totals.Totals.{Totals}
 use Rattle.cwr_devices.specs.declared.sinks.Sink.{Sink}
-use Rattle.cwr_shape.specs.declared.limits.Limits.{Limits}
 use Rattle.cwr_tools.specs.declared.verdicts.ToolFault.{ToolFault}
 use Rattle.cwr_tools.specs.declared.verdicts.Verdict.{Verdict}
 use Rattle.cwr_tools.specs.declared.verdicts.Verdict.TheVariants.{Refused}
 use Rattle.cwr_tools.specs.Format.Reports.{transaction_lines}
 use Rattle.cwr_tools.specs.Format.Texts.{verdict_line}
-use Rattle.cwr_tools.specs.Format.Watching.{findings_with}
-use Rattle.cwr_tools.specs.Steps.Reports.{PutsLines, StandsAfter}
+use Rattle.cwr_tools.specs.Steps.Reports.{PutsLines}
 use Rattle.cwr_advice.specs.declared.said.Said.{Said}
 use Rattle.cwr_advice.specs.Format.Rules.{advice_of}
 use Rattle.cwr_advise.specs.declared.before.Before.{Before}
 use Rattle.cwr_advise.specs.declared.item_advice.Manner.{Manner}
-use Rattle.cwr_advise.specs.Format.AdviceLines.{advice_on, has_advice, said_in}
+use Rattle.cwr_advise.specs.Format.AdviceLines.{has_advice, said_in}
 use Rattle.cwr_advise.specs.Format.AdviceTexts.{noted_advice}
-use Rattle.cwr_advise.specs.Steps.AdviceCounts.{counts_of, summary_by, told_by}
+use Rattle.cwr_advise.specs.Steps.AdviceCounts.{summary_by, told_by}
 
 -- it is what the items so far leave behind
 abbrev pub IsBefore : Before → List Item → Type 0
@@ -53,9 +51,3 @@ advised_at manner told said counts item = []
 abbrev pub last_by : Bool → Bool → List ℕ → Verdict → List ℕ
 last_by true all told (Refused refusal) = []
 last_by up_to_fault all told verdict = summary_by all told ++ verdict_line verdict
-
--- what the items before the verdict say, how many findings they have, and how much advice of each rule there is on them
-abbrev pub LeavesAdvised : Limits → Option (List ℕ) → Option (List ℕ) → Said → ℕ → List ℕ → Verdict → Type 0
-LeavesAdvised limits before after said found told verdict =
-    StandsAfter (λ given. (said ≡ said_in given) × (found ≡ findings_with 0 given) × (told ≡ counts_of (advice_on 0 given))) limits before
-    after verdict

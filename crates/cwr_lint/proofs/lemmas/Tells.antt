@@ -16,11 +16,11 @@ use Rattle.cwr_decode.specs.Steps.Runs.{StopsRun}
 use Rattle.cwr_decode.proofs.lemmas.ClosedTexts.{text_of-push}
 use Rattle.cwr_causes.proofs.lemmas.RefusedLines.{refused_last}
 use Rattle.cwr_tools.specs.Steps.Verdicts.{IsReadLast, IsRightVerdict, StopsAfter, StopsAt}
-use Rattle.cwr_advise.specs.Format.AdviceLines.{advice_on, said_in}
+use Rattle.cwr_advise.specs.Format.AdviceLines.{said_in}
 use Rattle.cwr_advise.specs.Steps.AdviceCounts.{counts_of}
 use Rattle.cwr_lint.specs.Format.FaultsOfLines.{Asking}
 use Rattle.cwr_lint.specs.Format.Wanted.{Wanted, advice_when, asking_for, lines_before_fault, lines_linted, lines_up_to}
-use Rattle.cwr_lint.specs.Format.Wanted.{lines_with, said_when}
+use Rattle.cwr_lint.specs.Format.Wanted.{lines_with}
 use Rattle.cwr_lint.specs.declared.raw_lines.RawLine.{RawLine}
 use Rattle.cwr_lint.specs.Steps.CutShort.{AppendsUpTo, IsToldUpTo, IsUnread, TellsAfterUpTo, TellsLastUpTo}
 use Rattle.cwr_lint.specs.Steps.LinesRead.{GoesOn, HoldsRaw, IsAllRead, IsTextOf, ReadsLast, spelled}
@@ -48,7 +48,7 @@ use Rattle.cwr_judge.proofs.lemmas.Accepted.{accepted_once}
 use Rattle.cwr_tools.specs.Steps.Reports.{Reports, StandsAfter}
 use Rattle.cwr_advice.specs.declared.said.Said.{Said}
 use Rattle.cwr_lines.specs.Format.Lines.{is_lf}
-use Rattle.cwr_lint.specs.Steps.Lints.{AddsEnd, AreLinesRead, AreWordsUpTo, Lints, Tells, TellsFaults, TellsUpToFault}
+use Rattle.cwr_lint.specs.Steps.Lints.{AddsEnd, AreLinesRead, AreWordsUpTo, HasBegun, Lints, Tells, TellsFaults, TellsUpToFault}
 use Rattle.cwr_lint.proofs.lemmas.CutShort.{cut_as}
 
 -- nothing follows a verdict that is no refusal: what was written is what a check writes
@@ -567,20 +567,14 @@ known_ok checked v w p q = subst (λ (x : Verdict). checked ≡ Ok x) q p
 
 -- ---- what the header says, the findings and the advice
 
--- what was said, how many findings were told, and how much advice came from each rule, by the items before the stop
-abbrev pub SaysAfter : Bool → Option Said → ℕ → List ℕ → List Item → Type 0
-SaysAfter advised said found advice given =
-    (said ≡ said_when advised (said_in given)) × (found ≡ findings_with 0 given)
-    × (advice ≡ counts_of (advice_when advised given))
-
 said_at : (verdict : Verdict) (refusal : Refusal) (wanted : Wanted) (limits : Limits) (before left : Option (List ℕ))
     (asking : Asking) (said : Option Said) (found : ℕ) (advice : List ℕ) → verdict ≡ Refused refusal → asking ≡ record
     { explained = wanted.explained; said = said; all = wanted.all }
-    → StandsAfter (SaysAfter wanted.advised said found advice) limits before left verdict
+    → StandsAfter (HasBegun wanted.advised said found advice) limits before left verdict
     → Hears wanted limits before left refusal asking found advice
 said_at verdict refusal wanted limits before left asking said found advice e asks h =
-    let stands : StandsAfter (SaysAfter wanted.advised said found advice) limits before left (Refused refusal) =
-    subst (λ (v : Verdict). StandsAfter (SaysAfter wanted.advised said found advice) limits before left v) e h in
+    let stands : StandsAfter (HasBegun wanted.advised said found advice) limits before left (Refused refusal) =
+    subst (λ (v : Verdict). StandsAfter (HasBegun wanted.advised said found advice) limits before left v) e h in
     record {
       heard = stands.0;
       stopped = stands.1;
@@ -594,25 +588,9 @@ pub hears : (checked : Result Verdict ToolFault) (refusal : Refusal) (wanted : W
     (before left : Option (List ℕ)) (asking : Asking) (said : Option Said) (found : ℕ) (advice : List ℕ)
     → checked ≡ Ok (Refused refusal)
     → asking ≡ record { explained = wanted.explained; said = said; all = wanted.all }
-    → IfOk checked (StandsAfter (SaysAfter wanted.advised said found advice) limits before left)
+    → IfOk checked (StandsAfter (HasBegun wanted.advised said found advice) limits before left)
     → Hears wanted limits before left refusal asking found advice
 hears checked refusal wanted limits before left asking said found advice e asks h =
     said_at (Refused refusal) refusal wanted limits before left asking said found advice refl asks
-    (subst (λ (r : Result Verdict ToolFault). IfOk r (StandsAfter (SaysAfter wanted.advised said found advice) limits before left))
+    (subst (λ (r : Result Verdict ToolFault). IfOk r (StandsAfter (HasBegun wanted.advised said found advice) limits before left))
     e h)
-
--- where no advice is wanted nothing is said, and none is counted
-pub nothing_said_when : (checked : Result Verdict ToolFault) (limits : Limits) (before left : Option (List ℕ)) (found : ℕ)
-    (advice : List ℕ) → advice ≡ counts_of []
-    → IfOk checked (StandsAfter (λ (given : List Item). found ≡ findings_with 0 given) limits before left)
-    → IfOk checked (StandsAfter (SaysAfter false None found advice) limits before left)
-nothing_said_when (Ok verdict) limits before left found advice none h = (h.0, h.1, (refl, h.2, none))
-nothing_said_when (Err fault) limits before left found advice none h = tt
-
-pub something_said_when : (checked : Result Verdict ToolFault) (limits : Limits) (before left : Option (List ℕ)) (said : Said)
-    (found : ℕ) (advice : List ℕ)
-    → IfOk checked (StandsAfter (λ (given : List Item). (said ≡ said_in given) × (found ≡ findings_with 0 given)
-    × (advice ≡ counts_of (advice_on 0 given))) limits before left)
-    → IfOk checked (StandsAfter (SaysAfter true (Some said) found advice) limits before left)
-something_said_when (Ok verdict) limits before left said found advice h = (h.0, h.1, (ap Some h.2.0, h.2.1, h.2.2))
-something_said_when (Err fault) limits before left said found advice h = tt

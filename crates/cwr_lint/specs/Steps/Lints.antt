@@ -24,11 +24,19 @@ use Rattle.cwr_advise.specs.Steps.AdviceCounts.{counts_of}
 use Rattle.cwr_tools.specs.Steps.Reports.{Reports}
 use Rattle.cwr_tools.specs.Steps.Verdicts.{StopsAfter}
 use Rattle.cwr_lint_lines.specs.Steps.Fronts.{state_at}
-use Rattle.cwr_lint.specs.Format.Wanted.{Wanted, advice_when, asking_for, lines_linted, lines_up_to}
+use Rattle.cwr_advice.specs.declared.said.Said.{Said}
+use Rattle.cwr_lint.specs.Format.Wanted.{Wanted, advice_when, asking_for, lines_linted, lines_up_to, said_when}
 use Rattle.cwr_lint.specs.Steps.CutShort.{IsCutText, IsToldUpTo, IsUnread, UnlessWriter}
 use Rattle.cwr_lint.specs.Steps.LinesRead.{IsTextOf}
 use Rattle.cwr_lint.specs.Steps.Runs.{AreWords, EndsAtTrl}
 use Rattle.cwr_lint.specs.Steps.Walks.{IsTold, begins_at}
+
+-- What is known where a check has ended after these items: what the header says, where advice is wanted, how many findings there are, and
+-- how much advice of each rule.
+abbrev pub HasBegun : Bool → Option Said → ℕ → List ℕ → List Item → Type 0
+HasBegun advised said found advice given =
+    (said ≡ said_when advised (said_in given)) × (found ≡ findings_with 0 given)
+    × (advice ≡ counts_of (advice_when advised given))
 
 -- These bytes were read: the text of lines, of which this one is refused, and those follow it. The lines before it are those of records, which
 -- the tally counts.

@@ -1,6 +1,6 @@
 -- A run over a text ends as that text does.
-use Rattle.std.proofs.Common.{◌≡◌, ℕ, ◌<◌, Bool, true, false, ◌||◌, List, [], ◌∷◌, length, drop}
-use Rattle.std.proofs.Common.{Option, Some, None, refl, sym, ap, subst, ◌∙◌, inl, inr, arith, true≢false}
+use Rattle.std.proofs.Common.{◌≡◌, ℕ, Bool, true, false, ◌||◌, List, drop}
+use Rattle.std.proofs.Common.{Option, Some, None, refl, sym, ap, subst, ◌∙◌, inl, inr}
 use Rattle.std.specs.Prelude.{if◌then◌else◌, IfOk, IfSome, IsSomeAnd, OnErr, OnOk, Result, Ok, Err}
 use Rattle.cwr_shape.specs.declared.limits.Limits.{Limits}
 use Rattle.cwr_shape.specs.declared.reasons.Level.{Level}
@@ -10,24 +10,22 @@ use Rattle.cwr_tools.specs.declared.verdicts.Verdict.{Verdict}
 use Rattle.cwr_tools.specs.declared.verdicts.Verdict.TheVariants as verdicts
 use Rattle.cwr_tools.specs.declared.verdicts.ToolFault.{ToolFault}
 use Rattle.cwr_tools.specs.declared.verdicts.ToolFault.TheVariants as tool_faults
-use Rattle.cwr_tools.specs.declared.watch.Watch.{Watch}
 use Rattle.cwr_tools.specs.Format.Reports.{CountsReaderFault, CountsWriterFault, ItemLines, JudgesAccepted, ReportsText}
 use Rattle.cwr_tools.specs.Format.Verdicts.{IsVerdictOn, JudgesText}
-use Rattle.cwr_tools.specs.Format.Watching.{SeesAccepted, any_from, is_reached, watched}
-use Rattle.cwr_tools.specs.declared.watch.FindingCount.{FindingCount}
+use Rattle.cwr_tools.specs.Format.Watching.{CountsAccepted, StandsAccepted, any_from, is_reached}
+use Rattle.cwr_tools.specs.declared.finding_counts.FindingCount.{FindingCount}
 use Rattle.cwr_tools.proofs.lemmas.RightReports.{accepted_text}
 use Rattle.cwr_causes.specs.declared.trailing.Trailing.{Trailing}
 use Rattle.cwr_causes.specs.Format.Trailing.{IsTrailing}
 use Rattle.cwr_explain.specs.Format.Explained.{FindsAfter}
 use Rattle.cwr_files.specs.declared.faults.Told.{Told}
-use Rattle.cwr_files.specs.declared.faults.Fault.{Fault}
 use Rattle.cwr_files.specs.declared.faults.Fault.TheVariants as faults
 use Rattle.cwr_endings.specs.declared.endings.Look.{Look}
 use Rattle.cwr_endings.specs.declared.endings.Look.TheVariants as looks
 use Rattle.cwr_endings.specs.declared.endings.Status.{Status}
 use Rattle.cwr_endings.specs.declared.endings.Status.TheVariants as statuses
 use Rattle.cwr_endings.specs.declared.endings.Wanted.{Wanted}
-use Rattle.cwr_advise.specs.Format.AdviceLevels.{SeesTold}
+use Rattle.cwr_advise.specs.Format.AdviceLevels.{IsWorstTold}
 use Rattle.cwr_advise.specs.Format.AdviceLines.{lines_of_advice}
 use Rattle.cwr_endings.specs.Format.Endings.{IsStatusBy}
 use Rattle.cwr_endings.specs.Steps.Looks.{CountsLook, IsLook, LooksOnce, follows, good_status, judged_with, judgement_in, status_after, status_in}
@@ -36,82 +34,78 @@ use Rattle.cwr_endings.specs.declared.judgements.Judgement.{Judgement}
 use Rattle.cwr_reports.specs.declared.reports.Telling.{Telling}
 use Rattle.cwr_reports.specs.Format.Endings.{Counts, EndsOnInput}
 use Rattle.cwr_reports.specs.Steps.Tellings.{CountsFindings, CountsInput, CountsReading, CountsWriting, TellsText, TellsUpTo}
-use Rattle.cwr_reports.specs.Steps.Looks.{JudgesOn, LooksAfter, SeesCounted, look_of}
+use Rattle.cwr_reports.specs.Steps.Looks.{JudgesOn, LooksAfter, SeesFound, look_of}
 
 -- ---- the status of a verdict
 
-status_on : (advice : Option (Bool × ℕ)) (limits : Limits) (wanted : Wanted) (text : List ℕ) (verdict : Verdict) (look : Look) (old new : Watch)
-    (status : Status) → old ≡ record { from = wanted.fail_on; found = false } → IsVerdictOn limits text verdict
-    → SeesCounted advice limits (Some text) old new → LooksAfter limits (Some text) look
-    → status_in wanted verdict look new.found ≡ Some status → IsStatusBy (Counts advice) limits wanted text status
-status_on advice limits wanted text (verdicts.Good groups transactions records) look old new status fresh judged seen looked e =
+status_on : (advice : Option (Bool × ℕ)) (limits : Limits) (wanted : Wanted) (text : List ℕ) (verdict : Verdict) (look : Look)
+    (found : Bool) (status : Status) → IsVerdictOn limits text verdict
+    → SeesFound advice wanted.fail_on limits (Some text) found → LooksAfter limits (Some text) look
+    → status_in wanted verdict look found ≡ Some status → IsStatusBy (Counts advice) limits wanted text status
+status_on advice limits wanted text (verdicts.Good groups transactions records) look found status judged seen looked e =
     let v = judged.0 in
     let n = judged.1 in
-    let saw = seen v n judged.2 in
-    let same : saw.0 ≡ new.found =
-    sym (ap (λ (w : Watch). w.found) (saw.2 ∙ ap (λ (w : Watch). record w { found = w.found || saw.0 }) fresh)) in
-    let counts : Counts advice wanted.fail_on (value_items v) new.found =
-    subst (λ (found : Bool). Counts advice wanted.fail_on (value_items v) found) same
-    (subst (λ (from : Option Level). Counts advice from (value_items v) saw.0) (ap (λ (w : Watch). w.from) fresh) saw.1) in
-    status_good (Counts advice) limits wanted text v n look new.found status judged.2 counts (looked v n judged.2).0 (looked v n judged.2).1 e
-status_on advice limits wanted text (verdicts.Refused refusal) look old new status fresh judged seen looked e =
+    status_good (Counts advice) limits wanted text v n look found status judged.2 (seen v n judged.2) (looked v n judged.2).0
+    (looked v n judged.2).1 e
+status_on advice limits wanted text (verdicts.Refused refusal) look found status judged seen looked e =
     let refused : statuses.Refused ≡ status = cc e in
     subst (IsStatusBy (Counts advice) limits wanted text) refused (inl (refusal, judged))
-status_on advice limits wanted text (verdicts.Truncated records) look old new status fresh judged seen looked e =
+status_on advice limits wanted text (verdicts.Truncated records) look found status judged seen looked e =
     let refused : statuses.Refused ≡ status = cc e in
     subst (IsStatusBy (Counts advice) limits wanted text) refused (inr (inl (records, judged)))
 
 -- where its bytes are known
-pub status_on_input : (advice : Option (Bool × ℕ)) (limits : Limits) (wanted : Wanted) (before : Option (List ℕ)) (verdict : Verdict) (look : Look)
-    (old new : Watch) (status : Status) → old ≡ record { from = wanted.fail_on; found = false }
-    → JudgesText limits before (Ok verdict) → SeesCounted advice limits before old new → LooksAfter limits before look
-    → status_in wanted verdict look new.found ≡ Some status → IfSome before (λ text. IsStatusBy (Counts advice) limits wanted text status)
-status_on_input advice limits wanted None verdict look old new status fresh judged seen looked e = tt
-status_on_input advice limits wanted (Some text) verdict look old new status fresh judged seen looked e =
-    status_on advice limits wanted text verdict look old new status fresh judged seen looked e
+pub status_on_input : (advice : Option (Bool × ℕ)) (limits : Limits) (wanted : Wanted) (before : Option (List ℕ)) (verdict : Verdict)
+    (look : Look) (found : Bool) (status : Status) → JudgesText limits before (Ok verdict)
+    → SeesFound advice wanted.fail_on limits before found → LooksAfter limits before look
+    → status_in wanted verdict look found ≡ Some status → IfSome before (λ text. IsStatusBy (Counts advice) limits wanted text status)
+status_on_input advice limits wanted None verdict look found status judged seen looked e = tt
+status_on_input advice limits wanted (Some text) verdict look found status judged seen looked e =
+    status_on advice limits wanted text verdict look found status judged seen looked e
 
 -- ---- what is seen and looked for
 
-or_false : (b : Bool) → (b || false) ≡ b
-or_false true = refl
-or_false false = refl
+-- what follows from what stands after the items of an accepted text stands after them too
+pub stands_so : (limits : Limits) (before : Option (List ℕ)) (stands other : List Item → Type 0)
+    (outcome : Result Verdict ToolFault) → ((given : List Item) → stands given → other given)
+    → OnOk outcome (StandsAccepted stands limits before) → OnOk outcome (StandsAccepted other limits before)
+stands_so limits before stands other (Err fault) so here = tt
+stands_so limits None stands other (Ok verdict) so here = tt
+stands_so limits (Some text) stands other (Ok verdict) so here = λ v n a. so (value_items v) (here v n a)
 
-watched_same : (watch : Watch) (from : Option Level) (given : List Item) → watch.from ≡ from → from ≡ None
-    → watch ≡ watched watch given
-watched_same watch from given e none =
-    ap (λ (b : Bool). record watch {
-      found =
-          b;
-    }) (sym (ap (λ (b : Bool). watch.found || b) (ap (λ (l : Option Level). any_from l given) (e ∙ none) ∙ none_from given)
-    ∙ or_false watch.found))
+-- without a level nothing is seen
+pub sees_nothing : (advice : Option (Bool × ℕ)) (limits : Limits) (before : Option (List ℕ)) (from worst : Option Level)
+    (outcome : Result Verdict ToolFault) → advice ≡ None → worst ≡ None → from ≡ None
+    → OnOk outcome (SeesFound advice from limits before (is_reached from worst))
+sees_nothing advice limits before from worst (Err fault) none nothing unasked = tt
+sees_nothing advice limits None from worst (Ok verdict) none nothing unasked = tt
+sees_nothing advice limits (Some text) from worst (Ok verdict) none nothing unasked =
+    subst (λ (a : Option (Bool × ℕ)). SeesFound a from limits (Some text) (is_reached from worst)) (sym none)
+    (λ v n accepted. ap (λ (l : Option Level). any_from l (value_items v)) unasked ∙ none_from (value_items v)
+    ∙ sym (ap (is_reached from) nothing))
 
--- a watch without a level sees nothing
-pub sees_nothing : (limits : Limits) (before : Option (List ℕ)) (watch : Watch) (outcome : Result Verdict ToolFault)
-    → watch.from ≡ None → OnOk outcome (SeesAccepted limits before watch watch)
-sees_nothing limits before watch (Err fault) none = tt
-sees_nothing limits None watch (Ok verdict) none = tt
-sees_nothing limits (Some text) watch (Ok verdict) none = λ v n a. watched_same watch watch.from (value_items v) refl none
+-- where no advice is told, the findings are
+pub sees_found : (advice : Option (Bool × ℕ)) (limits : Limits) (before : Option (List ℕ)) (from worst : Option Level)
+    (count : FindingCount) (outcome : Result Verdict ToolFault) → advice ≡ None → worst ≡ count.worst
+    → OnOk outcome (CountsAccepted limits before count)
+    → OnOk outcome (SeesFound advice from limits before (is_reached from worst))
+sees_found advice limits before from worst count (Err fault) none is counted = tt
+sees_found advice limits None from worst count (Ok verdict) none is counted = tt
+sees_found advice limits (Some text) from worst count (Ok verdict) none is counted =
+    subst (λ (a : Option (Bool × ℕ)). SeesFound a from limits (Some text) (is_reached from worst)) (sym none)
+    (λ v n accepted. sym (ap (is_reached from) is ∙ (counted v n accepted).worst from))
 
--- where no advice is told, it saw the findings
-pub sees_found : (advice : Option (Bool × ℕ)) (limits : Limits) (before : Option (List ℕ)) (old new : Watch) (outcome : Result Verdict ToolFault)
-    → advice ≡ None → OnOk outcome (SeesAccepted limits before old new) → OnOk outcome (SeesCounted advice limits before old new)
-sees_found advice limits before old new (Err fault) none seen = tt
-sees_found advice limits None old new (Ok verdict) none seen = tt
-sees_found advice limits (Some text) old new (Ok verdict) none seen =
-    subst (λ (a : Option (Bool × ℕ)). SeesCounted a limits (Some text) old new) (sym none)
-    (λ v n accepted. (any_from old.from (value_items v), refl, seen v n accepted))
-
--- where advice is told, it saw the worst level of all that is told
-pub sees_advice : (advice : Option (Bool × ℕ)) (all : Bool) (limit : ℕ) (limits : Limits) (before : Option (List ℕ)) (old new : Watch) (worst : Option Level)
-    (outcome : Result Verdict ToolFault) → advice ≡ Some (all, limit)
-    → new ≡ record old { found = old.found || is_reached old.from worst }
-    → OnOk outcome (SeesTold (lines_of_advice all limit) limits before worst) → OnOk outcome (SeesCounted advice limits before old new)
-sees_advice advice all limit limits before old new worst (Err fault) some is seen = tt
-sees_advice advice all limit limits None old new worst (Ok verdict) some is seen = tt
-sees_advice advice all limit limits (Some text) old new worst (Ok verdict) some is seen =
-    subst (λ (a : Option (Bool × ℕ)). SeesCounted a limits (Some text) old new) (sym some)
-    (λ v n accepted. let told = seen v n accepted in
-    (is_reached old.from worst, (told.0, told.1, told.2, told.3, told.4 old.from), is))
+-- where advice is told, all that is told is
+pub sees_advice : (advice : Option (Bool × ℕ)) (all : Bool) (limit : ℕ) (limits : Limits) (before : Option (List ℕ))
+    (from told worst : Option Level) (outcome : Result Verdict ToolFault) → advice ≡ Some (all, limit) → told ≡ worst
+    → OnOk outcome (StandsAccepted (IsWorstTold (lines_of_advice all limit) worst) limits before)
+    → OnOk outcome (SeesFound advice from limits before (is_reached from told))
+sees_advice advice all limit limits before from told worst (Err fault) some is seen = tt
+sees_advice advice all limit limits None from told worst (Ok verdict) some is seen = tt
+sees_advice advice all limit limits (Some text) from told worst (Ok verdict) some is seen =
+    subst (λ (a : Option (Bool × ℕ)). SeesFound a from limits (Some text) (is_reached from told)) (sym some)
+    (λ v n accepted. let it = seen v n accepted in
+    (it.0, it.1, it.2, it.3, ap (is_reached from) is ∙ it.4 from))
 
 -- after a report that left what stands after the transmission
 pub looks_after : {W : Type 0} (of : ItemLines) (limits : Limits) (before mid after : Option (List ℕ))
@@ -148,24 +142,23 @@ looks_found limits (Some text) after (Ok verdict) found h = λ v n a. (after, by
   by left (Some t) s = s
 
 -- what is made of an input is right of its bytes
-pub judges_on : (advice : Option (Bool × ℕ)) (limits : Limits) (wanted : Wanted) (before : Option (List ℕ)) (outcome : Result Verdict ToolFault) (look : Look)
-    (old new : Watch) → old ≡ record { from = wanted.fail_on; found = false }
-    → JudgesText limits before outcome → OnOk outcome (SeesCounted advice limits before old new)
-    → OnOk outcome (LooksAfter limits before look)
-    → JudgesOn advice limits wanted before (judgement_in wanted outcome look new.found)
-judges_on advice limits wanted before (Ok verdict) look old new fresh judged seen looked =
-    by (status_in wanted verdict look new.found) refl where
-      by : (o : Option Status) → status_in wanted verdict look new.found ≡ o
+pub judges_on : (advice : Option (Bool × ℕ)) (limits : Limits) (wanted : Wanted) (before : Option (List ℕ))
+    (outcome : Result Verdict ToolFault) (look : Look) (found : Bool) → JudgesText limits before outcome
+    → OnOk outcome (SeesFound advice wanted.fail_on limits before found) → OnOk outcome (LooksAfter limits before look)
+    → JudgesOn advice limits wanted before (judgement_in wanted outcome look found)
+judges_on advice limits wanted before (Ok verdict) look found judged seen looked =
+    by (status_in wanted verdict look found) refl where
+      by : (o : Option Status) → status_in wanted verdict look found ≡ o
           → JudgesOn advice limits wanted before (judged_with verdict look o)
       by None e = tt
-      by (Some status) e = status_on_input advice limits wanted before verdict look old new status fresh judged seen looked e
-judges_on advice limits wanted before (Err tool_faults.Reader) look old new fresh judged seen looked = tt
-judges_on advice limits wanted before (Err (tool_faults.Writer written)) look old new fresh judged seen looked = tt
-judges_on advice limits wanted before (Err tool_faults.Memory) look old new fresh judged seen looked = tt
-judges_on advice limits wanted before (Err (tool_faults.Refused refusal)) look old new fresh judged seen looked = absurd judged
-judges_on advice limits wanted before (Err (tool_faults.Truncated records)) look old new fresh judged seen looked = absurd judged
-judges_on advice limits wanted before (Err (tool_faults.Limit limit)) look old new fresh judged seen looked = absurd judged
-judges_on advice limits wanted before (Err tool_faults.Output) look old new fresh judged seen looked = absurd judged
+      by (Some status) e = status_on_input advice limits wanted before verdict look found status judged seen looked e
+judges_on advice limits wanted before (Err tool_faults.Reader) look found judged seen looked = tt
+judges_on advice limits wanted before (Err (tool_faults.Writer written)) look found judged seen looked = tt
+judges_on advice limits wanted before (Err tool_faults.Memory) look found judged seen looked = tt
+judges_on advice limits wanted before (Err (tool_faults.Refused refusal)) look found judged seen looked = absurd judged
+judges_on advice limits wanted before (Err (tool_faults.Truncated records)) look found judged seen looked = absurd judged
+judges_on advice limits wanted before (Err (tool_faults.Limit limit)) look found judged seen looked = absurd judged
+judges_on advice limits wanted before (Err tool_faults.Output) look found judged seen looked = absurd judged
 
 -- ---- what is told, and counted
 
@@ -176,6 +169,13 @@ pub told_as : {W : Type 0} (telling by : Telling) (limits : Limits) (before afte
     → TellsText telling limits before contents old new outcome
 told_as telling by limits before after contents old new outcome is told =
     (after, subst (λ (t : Telling). TellsUpTo t limits before after contents old new outcome) (sym is) told)
+
+-- and so are the lines of a report
+pub told_by : {W : Type 0} (telling by : Telling) (limits : Limits) (before : Option (List ℕ)) (contents : W → Option (List ℕ))
+    (old new : W) (outcome : Result Verdict ToolFault) → telling ≡ by → TellsText by limits before contents old new outcome
+    → TellsText telling limits before contents old new outcome
+told_by telling by limits before contents old new outcome is told =
+    subst (λ (t : Telling). TellsText t limits before contents old new outcome) (sym is) told
 
 -- after a run the look is made only where there is a verdict
 pub counts_reading : (outcome : Result Verdict ToolFault) (look : Look) (old mid new : ℕ) → CountsReaderFault outcome old mid

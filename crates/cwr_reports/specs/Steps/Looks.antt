@@ -1,12 +1,12 @@
 -- What was seen of a transmission, and after it.
-use Rattle.std.specs.Prelude.{◌≡◌, ℕ, Bool, true, false, ◌||◌, List, drop, Option, Some, None, IfSome, Result, Ok, Err}
+use Rattle.std.specs.Prelude.{ℕ, Bool, true, false, List, drop, Option, Some, None, IfSome, Result, Ok, Err}
 use Rattle.cwr_shape.specs.declared.limits.Limits.{Limits}
+use Rattle.cwr_shape.specs.declared.reasons.Level.{Level}
 use Rattle.cwr_values.specs.Format.Values.{TransmissionValue}
 use Rattle.cwr_judge.specs.Format.Ends.{IsAccepted}
-use Rattle.cwr_judge.specs.Format.Items.{value_items}
 use Rattle.cwr_tools.specs.declared.verdicts.ToolFault.{ToolFault}
 use Rattle.cwr_tools.specs.declared.verdicts.ToolFault.TheVariants as tool_faults
-use Rattle.cwr_tools.specs.declared.watch.Watch.{Watch}
+use Rattle.cwr_tools.specs.Format.Watching.{StandsAccepted}
 use Rattle.cwr_causes.specs.declared.trailing.Trailing.{Trailing}
 use Rattle.cwr_endings.specs.declared.endings.Look.{Look}
 use Rattle.cwr_endings.specs.declared.endings.Look.TheVariants as looks
@@ -40,11 +40,9 @@ tells_findings (tellings.Rows encoding table) = false
 tells_findings (tellings.Answers form statuses) = false
 tells_findings (tellings.Advice all repeated) = true
 
--- where a text is accepted, the watch saw what counts of its transmission
-abbrev pub SeesCounted : Option (Bool × ℕ) → Limits → Option (List ℕ) → Watch → Watch → Type 0
-SeesCounted advice limits before old new =
-    IfSome before (λ text. (v : TransmissionValue) (n : ℕ) → IsAccepted limits text v n
-    → (found : Bool) × Counts advice old.from (value_items v) found × (new ≡ record old { found = old.found || found }))
+-- where a text is accepted, something that counts of its transmission has the level or a worse one, or nothing has
+abbrev pub SeesFound : Option (Bool × ℕ) → Option Level → Limits → Option (List ℕ) → Bool → Type 0
+SeesFound advice from limits before found = StandsAccepted (λ given. Counts advice from given found) limits before
 
 -- an input whose bytes are known has the status on them, or a device or memory failed
 abbrev pub JudgesOn : Option (Bool × ℕ) → Limits → Wanted → Option (List ℕ) → Result Judgement ToolFault → Type 0

@@ -4,11 +4,11 @@ use Rattle.std.specs.Option.{is_some}
 use Rattle.cwr_devices.specs.Format.Failures.{one_more_failure}
 use Rattle.cwr_fields.specs.declared.message_codes.TransactionStatus.{TransactionStatus}
 use Rattle.cwr_shape.specs.declared.limits.Limits.{Limits}
-use Rattle.cwr_tools.specs.declared.watch.FindingCount.{FindingCount}
+use Rattle.cwr_tools.specs.declared.finding_counts.FindingCount.{FindingCount}
 use Rattle.cwr_tools.specs.declared.verdicts.Verdict.{Verdict}
 use Rattle.cwr_tools.specs.declared.verdicts.ToolFault.{ToolFault}
 use Rattle.cwr_tools.specs.declared.verdicts.ToolFault.TheVariants.{Writer}
-use Rattle.cwr_tools.specs.Format.Reports.{CountsReaderFault, lines_of_data, lines_of_counted, lines_of_findings}
+use Rattle.cwr_tools.specs.Format.Reports.{CountsReaderFault, ItemLines, lines_of_counted, lines_of_data, lines_of_findings}
 use Rattle.cwr_tools.specs.Format.Watching.{CountsAccepted}
 use Rattle.cwr_tools.specs.Steps.Reports.{Reports}
 use Rattle.cwr_acks.specs.declared.forms.Form.{Form}
@@ -55,7 +55,13 @@ TellsUpTo (tellings.Answers form statuses) limits before after contents old new 
 TellsUpTo (tellings.Advice all repeated) limits before after contents old new outcome =
     Reports (lines_of_advice all repeated) limits before after contents old new outcome
 
--- so it was, before what follows the transmission was looked at
+-- these lines were written, before what follows the transmission was looked at
+abbrev pub ReportsUpTo : {W : Type 0} → ItemLines → Limits → Option (List ℕ) → (W → Option (List ℕ)) → W → W
+    → Result Verdict ToolFault → Type 0
+ReportsUpTo of limits before contents old new outcome =
+    (after : Option (List ℕ)) × Reports of limits before after contents old new outcome
+
+-- so were those that are asked for
 abbrev pub TellsText : {W : Type 0} → Telling → Limits → Option (List ℕ) → (W → Option (List ℕ)) → W → W
     → Result Verdict ToolFault → Type 0
 TellsText telling limits before contents old new outcome =

@@ -1,9 +1,8 @@
--- What stands at the end of a run, and what was watched for, came in the items before its verdict.
-use Rattle.std.proofs.Common.{◌≡◌, ℕ, Bool, ◌||◌, List, length, Option, Some, None, sym, ap, subst, ◌∙◌}
+-- What stands at the end of a run came in the items before its verdict.
+use Rattle.std.proofs.Common.{◌≡◌, ℕ, Bool, List, length, Option, Some, None, sym, ap, subst, ◌∙◌}
 use Rattle.std.specs.Prelude.{Result, Ok, Err, IfOk, OnOk}
 use Rattle.cwr_devices.specs.declared.sinks.Sink.{Sink}
 use Rattle.cwr_shape.specs.declared.limits.Limits.{Limits}
-use Rattle.cwr_shape.specs.declared.reasons.Level.{Level}
 use Rattle.cwr_values.specs.declared.items.Item.{Item}
 use Rattle.cwr_values.specs.Format.Values.{TransmissionValue}
 use Rattle.cwr_judge.specs.Format.Ends.{IsAccepted}
@@ -20,14 +19,11 @@ use Rattle.cwr_tools.specs.declared.verdicts.Verdict.TheVariants.{Good, Refused,
 use Rattle.cwr_tools.specs.declared.verdicts.ToolFault.{ToolFault}
 use Rattle.cwr_tools.specs.declared.verdicts.ToolFault.TheVariants as tool_faults
 use Rattle.cwr_tools.specs.declared.verdicts.ToolFault.TheVariants.{Reader, Writer, Memory, Output, Limit}
-use Rattle.cwr_tools.specs.declared.watch.FindingCount.{FindingCount}
-use Rattle.cwr_tools.specs.declared.watch.Watch.{Watch}
 use Rattle.cwr_tools.specs.Format.Verdicts.{IsVerdictOf}
-use Rattle.cwr_tools.specs.Format.Watching.{AreFindingsIn, CountsAccepted, SeesAccepted, findings_with, is_reached, watched}
+use Rattle.cwr_tools.specs.Format.Watching.{StandsAccepted}
 use Rattle.cwr_tools.specs.Steps.Verdicts.{IsRightVerdict, StopsAfter}
 use Rattle.cwr_tools.specs.Steps.Counts.{IsCount}
 use Rattle.cwr_tools.specs.Steps.Reports.{PutsLines, StandsAfter, StandsAtEnd}
-use Rattle.cwr_tools.specs.Steps.Watching.{IsWorst}
 use Rattle.cwr_tools.proofs.lemmas.CountedTotals.{good_count}
 
 -- the verdict after all items
@@ -77,61 +73,31 @@ put_tells contents failures take_memory text fault old new limits before after s
     subst (λ (r : Result Verdict ToolFault). StandsAtEnd stands limits before after r) (sym e)
     (put_stops contents failures take_memory text fault old new limits before after stands put)
 
-sees : (limits : Limits) (before after : Option (List ℕ)) (old new : Watch) (verdict : Verdict) (given : List Item)
-    → IsRightVerdict limits before verdict after given → new ≡ watched old given → SeesAccepted limits before old new
-sees limits None after old new verdict given right e = tt
-sees limits (Some text) after old new verdict given right e = λ v n a. by verdict v n a right
+-- ---- what stands at the end
+
+-- what follows from what stands after the items stands after them too
+pub stands_after : (limits : Limits) (before after : Option (List ℕ)) (stands other : List Item → Type 0)
+    (result : Result Verdict ToolFault) → ((given : List Item) → stands given → other given)
+    → StandsAtEnd stands limits before after result → IfOk result (StandsAfter other limits before after)
+stands_after limits before after stands other (Ok verdict) so h = (h.0, h.1, so h.0 h.2)
+stands_after limits before after stands other (Err fault) so h = tt
+
+-- where the text is accepted, the items are those of its transmission
+accepted_items : (limits : Limits) (before after : Option (List ℕ)) (stands : List Item → Type 0) (verdict : Verdict)
+    (given : List Item) → IsRightVerdict limits before verdict after given → stands given → StandsAccepted stands limits before
+accepted_items limits None after stands verdict given right here = tt
+accepted_items limits (Some text) after stands verdict given right here = λ v n a. by verdict v n a right
   where
     by : (it : Verdict) (v : TransmissionValue) (n : ℕ) → IsAccepted limits text v n
-        → IsRightVerdict limits (Some text) it after given → new ≡ watched old (value_items v)
+        → IsRightVerdict limits (Some text) it after given → stands (value_items v)
     by (Good groups transactions records) v n a t =
-        let same = accepted_once limits text t.0 v (length t.1.input) n t.1.front.0 a in
-        e ∙ ap (watched old) (t.2 ∙ ap value_items same.0)
+        subst stands (t.2 ∙ ap value_items (accepted_once limits text t.0 v (length t.1.input) n t.1.front.0 a).0) here
     by (Refused refusal) v n a t = absurd (t.0.right.ends.unaccepted v n a)
     by (Truncated records) v n a t = absurd (t.0.right.ends.unaccepted v n a)
 
--- what was told in the run: the watch sees the worst of it
-sees_worst : (old : Watch) (worst : Option Level) (given : List Item) → IsWorst worst given
-    → (record old { found = old.found || is_reached old.from worst }) ≡ watched old given
-sees_worst old worst given is = ap (λ (b : Bool). record old { found = old.found || b }) (is old.from)
-
--- so it came in the transmission, where the text is accepted
-pub sees_accepted : (limits : Limits) (before after : Option (List ℕ)) (old new : Watch) (worst : Option Level)
-    (stands : List Item → Type 0) (result : Result Verdict ToolFault) → new ≡ record old
-    { found = old.found || is_reached old.from worst }
-    → ((given : List Item) → stands given → IsWorst worst given) → StandsAtEnd stands limits before after result
-    → OnOk result (SeesAccepted limits before old new)
-sees_accepted limits before after old new worst stands (Ok verdict) e is h =
-    sees limits before after old new verdict h.0 h.1 (e ∙ sees_worst old worst h.0 (is h.0 h.2))
-sees_accepted limits before after old new worst stands (Err fault) e is h = tt
-
--- ---- how many findings were told
-
--- so many after the verdict
-pub findings_after : (limits : Limits) (before after : Option (List ℕ)) (count : ℕ) (stands : List Item → Type 0)
-    (result : Result Verdict ToolFault) → ((given : List Item) → stands given → count ≡ findings_with 0 given)
-    → StandsAtEnd stands limits before after result
-    → IfOk result (StandsAfter (λ given. count ≡ findings_with 0 given) limits before after)
-findings_after limits before after count stands (Ok verdict) is h = (h.0, h.1, is h.0 h.2)
-findings_after limits before after count stands (Err fault) is h = tt
-
--- where the text is accepted, they are those of its transmission
-counts : (limits : Limits) (before after : Option (List ℕ)) (count : FindingCount) (verdict : Verdict) (given : List Item)
-    → IsRightVerdict limits before verdict after given → AreFindingsIn count given → CountsAccepted limits before count
-counts limits None after count verdict given right are = tt
-counts limits (Some text) after count verdict given right are = λ v n a. by verdict v n a right
-  where
-    by : (it : Verdict) (v : TransmissionValue) (n : ℕ) → IsAccepted limits text v n
-        → IsRightVerdict limits (Some text) it after given → AreFindingsIn count (value_items v)
-    by (Good groups transactions records) v n a t =
-        subst (λ (items : List Item). AreFindingsIn count items)
-        (t.2 ∙ ap value_items (accepted_once limits text t.0 v (length t.1.input) n t.1.front.0 a).0) are
-    by (Refused refusal) v n a t = absurd (t.0.right.ends.unaccepted v n a)
-    by (Truncated records) v n a t = absurd (t.0.right.ends.unaccepted v n a)
-
-pub counts_accepted : (limits : Limits) (before after : Option (List ℕ)) (count : FindingCount) (stands : List Item → Type 0)
-    (result : Result Verdict ToolFault) → ((given : List Item) → stands given → AreFindingsIn count given)
-    → StandsAtEnd stands limits before after result → OnOk result (CountsAccepted limits before count)
-counts_accepted limits before after count stands (Ok verdict) are h =
-    counts limits before after count verdict h.0 h.1 (are h.0 h.2)
-counts_accepted limits before after count stands (Err fault) are h = tt
+pub stands_accepted : (limits : Limits) (before after : Option (List ℕ)) (stands other : List Item → Type 0)
+    (result : Result Verdict ToolFault) → ((given : List Item) → stands given → other given)
+    → StandsAtEnd stands limits before after result → OnOk result (StandsAccepted other limits before)
+stands_accepted limits before after stands other (Ok verdict) so h =
+    accepted_items limits before after other verdict h.0 h.1 (so h.0 h.2)
+stands_accepted limits before after stands other (Err fault) so h = tt

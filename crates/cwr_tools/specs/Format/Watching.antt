@@ -1,5 +1,5 @@
 -- How many findings items have, and whether one has a level, or a worse one.
-use Rattle.std.specs.Prelude.{◌≡◌, ℕ, ◌+◌, ◌-◌, ◌^◌, min, Bool, false, nat_le, ◌||◌, List, length, sum_by, Option, Some, None, IfSome}
+use Rattle.std.specs.Prelude.{◌≡◌, ℕ, ◌+◌, ◌-◌, ◌^◌, min, Bool, false, nat_le, List, length, sum_by, Option, Some, None, IfSome}
 use Rattle.std.specs.List.{list_any}
 use Rattle.cwr_shape.specs.declared.limits.Limits.{Limits}
 use Rattle.cwr_shape.specs.declared.reasons.Level.{Level}
@@ -11,8 +11,7 @@ use Rattle.cwr_judge.specs.Format.Ends.{IsAccepted}
 use Rattle.cwr_judge.specs.Format.Items.{value_items}
 use Rattle.cwr_levels.specs.declared.rules.Finding.{Finding}
 use Rattle.cwr_levels.specs.Format.Findings.{findings}
-use Rattle.cwr_tools.specs.declared.watch.FindingCount.{FindingCount}
-use Rattle.cwr_tools.specs.declared.watch.Watch.{Watch}
+use Rattle.cwr_tools.specs.declared.finding_counts.FindingCount.{FindingCount}
 
 -- how far what a level rejects goes: a field, a record, a transaction, a group, a file
 abbrev pub reach : Level → ℕ
@@ -49,15 +48,6 @@ item_findings item = 0
 abbrev pub findings_with : ℕ → List Item → ℕ
 findings_with before items = min (before + sum_by item_findings items) (2 ^ 64 - 1)
 
--- with what came in these items
-abbrev pub watched : Watch → List Item → Watch
-watched watch items = record watch { found = watch.found || any_from watch.from items }
-
--- where a text is accepted, what came in its transmission was seen
-abbrev pub SeesAccepted : Limits → Option (List ℕ) → Watch → Watch → Type 0
-SeesAccepted limits before old new =
-    IfSome before (λ text. (v : TransmissionValue) (n : ℕ) → IsAccepted limits text v n → new ≡ watched old (value_items v))
-
 -- the level is that which is asked for, or a worse one
 abbrev pub is_reached_by : Option Level → Level → Bool
 is_reached_by None level = false
@@ -73,7 +63,11 @@ pub record AreFindingsIn (count : FindingCount) (items : List Item) : Type 0 whe
   pub counted : count.findings ≡ findings_with 0 items
   pub worst : (asked : Option Level) → is_reached asked count.worst ≡ any_from asked items
 
+-- where a text is accepted, it stands after the items of its transmission
+abbrev pub StandsAccepted : (List Item → Type 0) → Limits → Option (List ℕ) → Type 0
+StandsAccepted stands limits before =
+    IfSome before (λ text. (v : TransmissionValue) (n : ℕ) → IsAccepted limits text v n → stands (value_items v))
+
 -- where a text is accepted, they are those of its transmission
 abbrev pub CountsAccepted : Limits → Option (List ℕ) → FindingCount → Type 0
-CountsAccepted limits before count =
-    IfSome before (λ text. (v : TransmissionValue) (n : ℕ) → IsAccepted limits text v n → AreFindingsIn count (value_items v))
+CountsAccepted limits before count = StandsAccepted (AreFindingsIn count) limits before

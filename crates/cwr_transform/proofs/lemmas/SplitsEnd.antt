@@ -6,7 +6,7 @@ use Rattle.cwr_judge.specs.declared.refusals.Refusal.{Refusal}
 use Rattle.cwr_tools.specs.declared.verdicts.SplitReport.{SplitReport}
 use Rattle.cwr_tools.specs.declared.verdicts.ToolFault.{ToolFault}
 use Rattle.cwr_tools.specs.declared.verdicts.ToolFault.TheVariants as tool_faults
-use Rattle.cwr_tools.specs.declared.watch.FindingCount.{FindingCount}
+use Rattle.cwr_tools.specs.declared.finding_counts.FindingCount.{FindingCount}
 use Rattle.cwr_tools.specs.declared.viewing.FindingView.{FindingView}
 use Rattle.cwr_tools.specs.Format.Viewing.{SeesText}
 use Rattle.cwr_tools.specs.Format.Watching.{AreFindingsIn, CountsAccepted, is_reached}

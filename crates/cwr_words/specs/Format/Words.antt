@@ -21,6 +21,16 @@ use Rattle.cwr_states.specs.Format.StateSets.{no_states, states_in}
 use Rattle.cwr_words.specs.declared.words.Colouring.{Colouring}
 use Rattle.cwr_words.specs.declared.words.Colouring.TheVariants as colourings
 use Rattle.cwr_words.specs.declared.words.Judging.{Judging}
+use Rattle.cwr_words.specs.declared.words.AcksWords.{AcksWords}
+use Rattle.cwr_words.specs.declared.words.AdviseWords.{AdviseWords}
+use Rattle.cwr_words.specs.declared.words.CsvWords.{CsvWords}
+use Rattle.cwr_words.specs.declared.words.JoinWords.{JoinWords}
+use Rattle.cwr_words.specs.declared.words.JsonWords.{JsonWords}
+use Rattle.cwr_words.specs.declared.words.LintWords.{LintWords}
+use Rattle.cwr_words.specs.declared.words.RenumberWords.{RenumberWords}
+use Rattle.cwr_words.specs.declared.words.ShowWords.{ShowWords}
+use Rattle.cwr_words.specs.declared.words.SplitWords.{SplitWords}
+use Rattle.cwr_words.specs.declared.words.WriteWords.{WriteWords}
 use Rattle.cwr_words.specs.declared.words.Rows.{Rows}
 use Rattle.cwr_words.specs.declared.words.Rows.TheVariants.{Records, Works}
 use Rattle.cwr_words.specs.declared.words.Task.{Task}
@@ -91,61 +101,51 @@ abbrev pub IsCreatedBy : Option (List ℕ) → Option Moment → Type 0
 IsCreatedBy None created = created ≡ None
 IsCreatedBy (Some text) created = IsSomeAnd created (λ moment. moment_text moment ≡ text)
 
+-- the records of the file FILE
+abbrev pub IsShowOf : Found → ShowWords → Type 0
+IsShowOf found words =
+    (option_map (λ f. f.now) words.file ≡ first_value found (codes "FILE"))
+    × (words.fail_on ≡ level_given (first_value found (codes "fail-on")))
+
 -- a split into parts of so many transactions as N says, of the file FILE to files whose names begin with PREFIX
-abbrev pub IsSplitOf : Found → Work → Type 0
-IsSplitOf found (Check judging) = ⊥
-IsSplitOf found (Show file fail_on) = ⊥
-IsSplitOf found (Explain judging) = ⊥
-IsSplitOf found (Lint files quiet explained advised all) = ⊥
-IsSplitOf found (Advise judging all repeated) = ⊥
-IsSplitOf found (Json file out numbers utf8) = ⊥
-IsSplitOf found (Csv rows file out utf8) = ⊥
-IsSplitOf found (Acks files sent as_json by_place state fail_on statuses utf8) = ⊥
-IsSplitOf found (Write file out line utf8) = ⊥
-IsSplitOf found (Split transactions file prefix created only_new fail_on) =
+abbrev pub IsSplitOf : Found → SplitWords → Type 0
+IsSplitOf found words =
     ((text : List ℕ) → one_text found (codes "N") ≡ Some text
-    → non_zero_u32_get transactions ≡ digits_value 10 (without_leading_plus text))
-    × (first_value found (codes "FILE") ≡ Some file.now) × (written_in found (codes "PREFIX") ≡ Some prefix.now)
-    × IsCreatedBy (first_value found (codes "created")) created × IsFlagOf found (codes "new") only_new
-    × (fail_on ≡ level_given (first_value found (codes "fail-on")))
-IsSplitOf found (Join out files only_new fail_on same_sender repeated) = ⊥
-IsSplitOf found (Renumber file out only_new fail_on anyway) = ⊥
-IsSplitOf found Manual = ⊥
+    → non_zero_u32_get words.transactions ≡ digits_value 10 (without_leading_plus text))
+    × (first_value found (codes "FILE") ≡ Some words.file.now) × (written_in found (codes "PREFIX") ≡ Some words.prefix.now)
+    × IsCreatedBy (first_value found (codes "created")) words.created × IsFlagOf found (codes "new") words.only_new
+    × (words.fail_on ≡ level_given (first_value found (codes "fail-on")))
 
 -- every fault of the files FILE, explained where that flag is given, with advice where that one is, and with all advice where that one is
-abbrev pub IsLintOf : Found → Work → Type 0
-IsLintOf found (Lint files quiet explained advised all) =
-    AreNamesOf found (map (λ name. name.now) files.items) × IsFlagOf found (codes "quiet") quiet
-    × IsFlagOf found (codes "explain") explained × IsFlagOf found (codes "advice") advised × IsFlagOf found (codes "all") all
-IsLintOf found work = ⊥
+abbrev pub IsLintOf : Found → LintWords → Type 0
+IsLintOf found words =
+    AreNamesOf found (map (λ name. name.now) words.files.items) × IsFlagOf found (codes "quiet") words.quiet
+    × IsFlagOf found (codes "explain") words.explained × IsFlagOf found (codes "advice") words.advised × IsFlagOf found (codes "all") words.all
 
 -- advice on the transmissions of the files FILE, with what the options of a judgement say, all of it where that flag is given, where the
 -- numbers of so many works are kept as that option says
-abbrev pub IsAdviceOf : Found → Work → Type 0
-IsAdviceOf found (Advise judging all repeated) =
-    IsJudgingOf found judging × IsFlagOf found (codes "all") all × ((text : List ℕ) → one_text found (codes "repeated") ≡ Some text
-    → repeated ≡ digits_value 10 (without_leading_plus text))
-IsAdviceOf found work = ⊥
+abbrev pub IsAdviceOf : Found → AdviseWords → Type 0
+IsAdviceOf found words =
+    IsJudgingOf found words.judging × IsFlagOf found (codes "all") words.all × ((text : List ℕ) → one_text found (codes "repeated") ≡ Some text
+    → words.repeated ≡ digits_value 10 (without_leading_plus text))
 
 -- the data of the file FILE to the file OUT, with numbers where that flag is given, and in UTF-8 where that one is
-abbrev pub IsExportOf : Found → Work → Type 0
-IsExportOf found (Json file out numbers utf8) =
-    (option_map (λ f. f.now) file ≡ first_value found (codes "FILE"))
-    × (option_map (λ f. f.now) out ≡ named_out (first_value found (codes "OUT"))) × IsFlagOf found (codes "numbers") numbers
-    × IsFlagOf found (codes "utf8") utf8
-IsExportOf found work = ⊥
+abbrev pub IsExportOf : Found → JsonWords → Type 0
+IsExportOf found words =
+    (option_map (λ f. f.now) words.file ≡ first_value found (codes "FILE"))
+    × (option_map (λ f. f.now) words.out ≡ named_out (first_value found (codes "OUT"))) × IsFlagOf found (codes "numbers") words.numbers
+    × IsFlagOf found (codes "utf8") words.utf8
 
 -- what a table has rows of, by the word that names it
 abbrev pub rows_named : List ℕ → Option Rows
 rows_named word = if bytes_eq word (codes "works") then Some Works else option_map Records (kind_of word)
 
 -- the table that KIND names, of the file FILE to the file OUT, in UTF-8 where that flag is given
-abbrev pub IsTableOf : Found → Work → Type 0
-IsTableOf found (Csv rows file out utf8) =
-    (option_and_then rows_named (first_value found (codes "KIND")) ≡ Some rows)
-    × (option_map (λ f. f.now) file ≡ first_value found (codes "FILE"))
-    × (option_map (λ f. f.now) out ≡ named_out (first_value found (codes "OUT"))) × IsFlagOf found (codes "utf8") utf8
-IsTableOf found work = ⊥
+abbrev pub IsTableOf : Found → CsvWords → Type 0
+IsTableOf found words =
+    (option_and_then rows_named (first_value found (codes "KIND")) ≡ Some words.rows)
+    × (option_map (λ f. f.now) words.file ≡ first_value found (codes "FILE"))
+    × (option_map (λ f. f.now) words.out ≡ named_out (first_value found (codes "OUT"))) × IsFlagOf found (codes "utf8") words.utf8
 
 -- the states whose names the option's text has, with commas between them, or no states without the option
 abbrev pub states_given : Option (List ℕ) → Option States
@@ -159,23 +159,21 @@ AreStatusesOf found statuses = AreValuesOf found (codes "status") (map status_co
 -- what the acknowledgements of the files FILE say, those of the statuses that are named, matched with the transmissions of the files that SENT names, in their
 -- order: as JSON, by place alone, as a table of states and in UTF-8 where those flags are given; a row of that table ends the run as a refusal does where it has
 -- one of the states that are named
-abbrev pub IsAcksOf : Found → Work → Type 0
-IsAcksOf found (Acks files sent as_json by_place state fail_on statuses utf8) =
-    AreNamesOf found (map (λ name. name.now) files.items) × AreValuesOf found (codes "sent") (map (λ name. name.now) sent.items)
-    × IsFlagOf found (codes "json") as_json × IsFlagOf found (codes "by-place") by_place × IsFlagOf found (codes "state") state
-    × (states_given (first_value found (codes "fail-on")) ≡ Some fail_on) × AreStatusesOf found statuses.items
-    × IsFlagOf found (codes "utf8") utf8
-IsAcksOf found work = ⊥
+abbrev pub IsAcksOf : Found → AcksWords → Type 0
+IsAcksOf found words =
+    AreNamesOf found (map (λ name. name.now) words.files.items) × AreValuesOf found (codes "sent") (map (λ name. name.now) words.sent.items)
+    × IsFlagOf found (codes "json") words.as_json × IsFlagOf found (codes "by-place") words.by_place × IsFlagOf found (codes "state") words.state
+    × (states_given (first_value found (codes "fail-on")) ≡ Some words.fail_on) × AreStatusesOf found words.statuses.items
+    × IsFlagOf found (codes "utf8") words.utf8
 
 -- a transmission from the lines of the file FILE to the file OUT, where lines may have so many bytes as that option says, in UTF-8 where that flag
 -- is given
-abbrev pub IsImportOf : Found → Work → Type 0
-IsImportOf found (Write file out line utf8) =
-    (option_map (λ f. f.now) file ≡ first_value found (codes "FILE"))
-    × (option_map (λ f. f.now) out ≡ named_out (first_value found (codes "OUT")))
-    × ((text : List ℕ) → one_text found (codes "line") ≡ Some text → line ≡ digits_value 10 (without_leading_plus text))
-    × IsFlagOf found (codes "utf8") utf8
-IsImportOf found work = ⊥
+abbrev pub IsImportOf : Found → WriteWords → Type 0
+IsImportOf found words =
+    (option_map (λ f. f.now) words.file ≡ first_value found (codes "FILE"))
+    × (option_map (λ f. f.now) words.out ≡ named_out (first_value found (codes "OUT")))
+    × ((text : List ℕ) → one_text found (codes "line") ≡ Some text → words.line ≡ digits_value 10 (without_leading_plus text))
+    × IsFlagOf found (codes "utf8") words.utf8
 
 -- what a join writes and reads: OUT and the files FILE, or with the option -o what that names, and all the others
 abbrev pub IsJoinOfNames : Found → List ℕ → List (List ℕ) → Type 0
@@ -185,20 +183,18 @@ IsJoinOfNames found out names =
     × (names ≡ first ∷ others) × (first_value found (codes "OUT") ≡ Some first) × AreNamesOf found others)
 
 -- a join of files, in their order, to a file; the numbers of so many works are kept as that option says
-abbrev pub IsJoinOf : Found → Work → Type 0
-IsJoinOf found (Join out files only_new fail_on same_sender repeated) =
-    IsJoinOfNames found out.now (map (λ name. name.now) files.items) × IsFlagOf found (codes "new") only_new
-    × (fail_on ≡ level_given (first_value found (codes "fail-on"))) × IsFlagOf found (codes "same-sender") same_sender
-    × ((text : List ℕ) → one_text found (codes "repeated") ≡ Some text → repeated ≡ digits_value 10 (without_leading_plus text))
-IsJoinOf found work = ⊥
+abbrev pub IsJoinOf : Found → JoinWords → Type 0
+IsJoinOf found words =
+    IsJoinOfNames found words.out.now (map (λ name. name.now) words.files.items) × IsFlagOf found (codes "new") words.only_new
+    × (words.fail_on ≡ level_given (first_value found (codes "fail-on"))) × IsFlagOf found (codes "same-sender") words.same_sender
+    × ((text : List ℕ) → one_text found (codes "repeated") ≡ Some text → words.repeated ≡ digits_value 10 (without_leading_plus text))
 
 -- the file FILE with its numbers put right, to the file OUT, whatever they show or not
-abbrev pub IsRenumberingOf : Found → Work → Type 0
-IsRenumberingOf found (Renumber file out only_new fail_on anyway) =
-    (option_map (λ f. f.now) file ≡ first_value found (codes "FILE"))
-    × (option_map (λ f. f.now) out ≡ named_out (written_in found (codes "OUT"))) × IsFlagOf found (codes "new") only_new
-    × (fail_on ≡ level_given (first_value found (codes "fail-on"))) × IsFlagOf found (codes "anyway") anyway
-IsRenumberingOf found work = ⊥
+abbrev pub IsRenumberingOf : Found → RenumberWords → Type 0
+IsRenumberingOf found words =
+    (option_map (λ f. f.now) words.file ≡ first_value found (codes "FILE"))
+    × (option_map (λ f. f.now) words.out ≡ named_out (written_in found (codes "OUT"))) × IsFlagOf found (codes "new") words.only_new
+    × (words.fail_on ≡ level_given (first_value found (codes "fail-on"))) × IsFlagOf found (codes "anyway") words.anyway
 
 -- Work of the subcommand of that name: transmissions are checked, explained, linted or advised on; one is shown, or written as JSON or as a table, that of the
 -- first file that FILE names, if it names one; what the acknowledgements of some say is told; one is written from lines of JSON, one is split, some are joined,
@@ -206,32 +202,18 @@ IsRenumberingOf found work = ⊥
 abbrev pub IsWorkOf : List ℕ → Found → Work → Type 0
 IsWorkOf name found (Check judging) =
     (bytes_eq name (codes "show") ≡ false) × (bytes_eq name (codes "explain") ≡ false) × IsJudgingOf found judging
-IsWorkOf name found (Show file fail_on) =
-    (bytes_eq name (codes "show") ≡ true) × (option_map (λ f. f.now) file ≡ first_value found (codes "FILE"))
-    × (fail_on ≡ level_given (first_value found (codes "fail-on")))
+IsWorkOf name found (Show words) = (bytes_eq name (codes "show") ≡ true) × IsShowOf found words
 IsWorkOf name found (Explain judging) = (bytes_eq name (codes "explain") ≡ true) × IsJudgingOf found judging
-IsWorkOf name found (Lint files quiet explained advised all) =
-    (bytes_eq name (codes "lint") ≡ true) × IsLintOf found (Lint files quiet explained advised all)
-IsWorkOf name found (Advise judging all repeated) =
-    (bytes_eq name (codes "advise") ≡ true) × IsAdviceOf found (Advise judging all repeated)
-IsWorkOf name found (Json file out numbers utf8) =
-    (bytes_eq name (codes "json") ≡ true) × IsExportOf found (Json file out numbers utf8)
-IsWorkOf name found (Csv rows file out utf8) = (bytes_eq name (codes "csv") ≡ true) × IsTableOf found (Csv rows file out utf8)
-IsWorkOf name found (Acks files sent as_json by_place state fail_on statuses utf8) =
-    (bytes_eq name (codes "acks") ≡ true) × IsAcksOf found (Acks files sent as_json by_place state fail_on statuses utf8)
-IsWorkOf name found (Write file out line utf8) =
-    (bytes_eq name (codes "write") ≡ true) × IsImportOf found (Write file out line utf8)
-IsWorkOf name found (Split transactions file prefix created only_new fail_on) =
-    (bytes_eq name (codes "split") ≡ true) × IsSplitOf found (Split transactions file prefix created only_new fail_on)
-IsWorkOf name found (Join out files only_new fail_on same_sender repeated) =
-    (bytes_eq name (codes "join") ≡ true) × IsJoinOf found (Join out files only_new fail_on same_sender repeated)
-IsWorkOf name found (Renumber file out only_new fail_on anyway) =
-    (bytes_eq name (codes "renumber") ≡ true) × IsRenumberingOf found (Renumber file out only_new fail_on anyway)
+IsWorkOf name found (Lint words) = (bytes_eq name (codes "lint") ≡ true) × IsLintOf found words
+IsWorkOf name found (Advise words) = (bytes_eq name (codes "advise") ≡ true) × IsAdviceOf found words
+IsWorkOf name found (Json words) = (bytes_eq name (codes "json") ≡ true) × IsExportOf found words
+IsWorkOf name found (Csv words) = (bytes_eq name (codes "csv") ≡ true) × IsTableOf found words
+IsWorkOf name found (Acks words) = (bytes_eq name (codes "acks") ≡ true) × IsAcksOf found words
+IsWorkOf name found (Write words) = (bytes_eq name (codes "write") ≡ true) × IsImportOf found words
+IsWorkOf name found (Split words) = (bytes_eq name (codes "split") ≡ true) × IsSplitOf found words
+IsWorkOf name found (Join words) = (bytes_eq name (codes "join") ≡ true) × IsJoinOf found words
+IsWorkOf name found (Renumber words) = (bytes_eq name (codes "renumber") ≡ true) × IsRenumberingOf found words
 IsWorkOf name found Manual = bytes_eq name (codes "manual") ≡ true
-
--- so it is of the subcommand of that name
-abbrev pub IsOwnWork : List ℕ → Found → Work → Type 0
-IsOwnWork own found work = (name : List ℕ) → bytes_eq name own ≡ true → IsWorkOf name found work
 
 -- the limits are the numbers that the options of a subcommand say
 pub record AreLimitsOf (found : Found) (limits : Limits) : Type 0 where

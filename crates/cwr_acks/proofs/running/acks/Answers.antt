@@ -13,7 +13,7 @@ returns-clause-reported g c = λ telling matched so kept.
     subst (λ (of : ItemLines). Reports of c.args.limits (g.R.Source.remaining c.args.reader.now)
     (g.R.Source.remaining c.write_answers.new.reader) g.W.Target.contents c.args.writer c.write_answers.result.0
     c.write_answers.result.3) (same_lines telling (telling_of c.args.manner) matched (held_if c.args.delivery) so kept)
-    c.write_answers.ensures.reported
+    c.write_answers.ensures.runs.reported
 
 pub returns-clause-told : goal.returns-clause-told
 returns-clause-told g c = λ telling matched so kept.
@@ -24,3 +24,12 @@ pub returns-clause-kept : goal.returns-clause-kept
 returns-clause-kept g c = λ matched kept.
     keeps_answers (held_if c.args.delivery) (held_if c.write_answers.result.1) matched c.args.limits _ _ c.write_answers.result.3
     c.write_answers.result.2 kept c.write_answers.ensures.kept
+
+pub returns-clause-reader_failures : goal.returns-clause-reader_failures
+returns-clause-reader_failures g c = c.write_answers.ensures.runs.reader_failures
+
+pub returns-clause-writer_failures : goal.returns-clause-writer_failures
+returns-clause-writer_failures g c = c.write_answers.ensures.runs.writer_failures
+
+pub returns-clause-handed_on : goal.returns-clause-handed_on
+returns-clause-handed_on g c = c.write_answers.ensures.runs.all_handed_on

@@ -8,9 +8,9 @@ pub write_report-writer-requires : goal.write_report-writer-requires
 write_report-writer-requires g c =
     (lines_of_held (telling_of c.args.manner) g.B.Before.held, (refl, c.requires, c.new.ensures))
 
-pub returns-clause-reported : goal.returns-clause-reported
-returns-clause-reported g c =
-    c.write_report-writer.ensures.reported (lines_of_held (telling_of c.args.manner) g.B.Before.held)
+pub returns-clause-runs : goal.returns-clause-runs
+returns-clause-runs g c =
+    c.write_report-writer.ensures.runs (lines_of_held (telling_of c.args.manner) g.B.Before.held)
     (refl, c.requires, c.new.ensures)
 
 pub returns-clause-kept : goal.returns-clause-kept

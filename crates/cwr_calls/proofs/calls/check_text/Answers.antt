@@ -21,7 +21,7 @@ returns-in-Ok-checked-clause-told c =
     c.check-checked.result.1 (search rules)
     (judged_text lines_of_findings c.in-Ok.limits
     (Some c.new-reader.result.left.now) _
-    (λ w. None) (record { handed_on = true }) c.check-checked.result.0 c.check-checked.result.1 c.check-checked.ensures.told) in
+    (λ w. None) (record { handed_on = true }) c.check-checked.result.0 c.check-checked.result.1 c.check-checked.ensures.runs.told) in
     let found : IsVerdictOn c.in-Ok.limits c.args.text.now c.in-Ok-checked.found =
     subst (IsJudged c.in-Ok.limits c.args.text.now) c.in-Ok-checked.is judged in
     inr (inr (
@@ -47,6 +47,6 @@ returns-in-Err-clause-told c =
     subst (λ (r : Result Verdict ToolFault). IfErr r (λ fault. MayLackMemory lines_of_findings c.in-Ok.limits c.args.text.now)) c.in-Err.is
     (lacks lines_of_findings c.in-Ok.limits
     (Some c.new-reader.result.left.now) _ c.args.text.now
-    (λ w. None) (record { handed_on = true }) c.check-checked.result.0 c.check-checked.result.1 (search rules) c.check-checked.ensures.reported
-    c.check-checked.ensures.reader_failures c.check-checked.ensures.writer_failures) in
+    (λ w. None) (record { handed_on = true }) c.check-checked.result.0 c.check-checked.result.1 (search rules) c.check-checked.ensures.runs.reported
+    c.check-checked.ensures.runs.reader_failures c.check-checked.ensures.runs.writer_failures) in
     inr (inl (c.ended-in-Err.ensures, subst (λ (l : Limits). MayLackMemory lines_of_findings l c.args.text.now) c.in-Ok.ensures.0 it))

@@ -1,13 +1,6 @@
-use Rattle.std.proofs.Common.{Some, rules}
 use Rattle.cwr_tools.specs.Format.Reports.{lines_of_data}
 use Rattle.cwr_json.specs.declared.encodings.Encoding.TheVariants.{Latin1}
-use Rattle.cwr_calls.proofs.lemmas.ReportedTexts.{text_reported}
 use Rattle.cwr_calls.proofs.reports.data_report.Goals as goal
 
 pub returns-clause-written : goal.returns-clause-written
-returns-clause-written c =
-    text_reported (lines_of_data Latin1 c.args.noted) c.args.limits
-    (Some c.new-reader.result.left.now) _ c.args.text.now
-    c.into_inner.result.items
-    (λ w. Some w.inner.items) c.new-writer.result
-    c.json-writer.result.0 c.json-writer.result.1 c.json-writer.ensures.reported (search rules) (search rules) (search rules)
+returns-clause-written c = c.report_of.ensures.written (lines_of_data Latin1 c.args.noted) c.new-data.ensures.stands
