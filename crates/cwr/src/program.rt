@@ -16,7 +16,6 @@ use crate::terminal::{Cleared, Shown, Terminals};
 use clap::error::ErrorKind;
 use cwr_acks::{Cells, Form};
 use cwr_answers::{Answering, match_answers};
-use cwr_csv::Table;
 use cwr_endings::{Status, Wanted, refuse_out};
 use cwr_files::{
     DASH, Fault, Name, Pace, Progress, ShellWord, is_standard, open_input, print, shown_name,
@@ -25,6 +24,7 @@ use cwr_files::{
 use cwr_json::Encoding;
 use cwr_reports::{Asked, Telling, export, report_input, report_several, telling_of};
 use cwr_shape::Level;
+use cwr_tables::Table;
 use cwr_terminal::{Style, Styled};
 use cwr_transform::{
     Cut, Import, Repair, Union, import_file, import_input, join_files, repair_numbers, split_file,

@@ -17,8 +17,8 @@ use cwr_delivery::{
     RECORD_TYPE, STATUS, SUBMITTER_NUMBER, TITLE, VALIDATION, group_of, sequence_of, status_of,
 };
 use cwr_fields::{Coded, Kind, MessageLevel, TransactionStatus, is_spaces, letters, trimmed};
+use cwr_findings::cell;
 use cwr_json::{Encoding, push_escaped_characters};
-use cwr_levels::cell;
 use cwr_lines::RecordRef;
 use cwr_sent::SentFacts;
 

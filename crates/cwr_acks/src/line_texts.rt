@@ -15,8 +15,8 @@ use cwr_delivery::{
     SEQUENCE, STATUS, SUBMITTER_NUMBER, TITLE, VALIDATION, status_of,
 };
 use cwr_fields::{Coded, MessageLevel, TransactionStatus, is_spaces, letters, trimmed};
+use cwr_findings::{cell, number_of};
 use cwr_json::push_characters;
-use cwr_levels::{cell, number_of};
 use cwr_lines::RecordRef;
 use cwr_sent::SentFacts;
 use itoa::Buffer;

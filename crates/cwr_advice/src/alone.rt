@@ -11,7 +11,7 @@ use crate::judging::breaks_alone;
 use crate::rules::AdviceRule;
 use crate::said::Said;
 use cwr_fields::Kind;
-use cwr_levels::cell;
+use cwr_findings::cell;
 use cwr_lines::RecordRef;
 
 /// Whether the record may break the rule by itself, whatever is said of the transmission.

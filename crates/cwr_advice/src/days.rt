@@ -2,11 +2,11 @@
 
 ghost use Rattle.std.specs.Prelude.{◌≡◌, ◌≤◌, length};
 ghost use Rattle.std.specs.Option.{is_some};
-ghost use Rattle.cwr_levels.specs.Format.Findings.{is_day};
+ghost use Rattle.cwr_findings.specs.Format.Findings.{is_day};
 ghost use Rattle.cwr_advice.specs.Format.Days.{day_in, is_to_come};
 
 use cwr_fields::is_spaces;
-use cwr_levels::number_of;
+use cwr_findings::number_of;
 
 /// Whether the cell of a date names a day: it isn't blank, and not all zeros.
 fn is_day(cell: &[u8]) -> bool

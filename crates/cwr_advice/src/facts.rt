@@ -2,7 +2,7 @@
 
 ghost use Rattle.std.specs.Prelude.{◌≡◌, ◌||◌, ◌++◌, ◌∷◌, [], List, false};
 ghost use Rattle.cwr_lines.specs.Format.Records.{RecordValue};
-ghost use Rattle.cwr_levels.specs.Format.Findings.{is_owner};
+ghost use Rattle.cwr_findings.specs.Format.Findings.{is_owner};
 ghost use Rattle.cwr_advice.specs.Format.Rules.{has_few_territories, is_territory, states_nothing, writers_own_less};
 ghost use Rattle.cwr_advice.specs.Steps.Facts.{AreFacts, AreOwnedBy};
 
@@ -10,7 +10,7 @@ use crate::owners::{Owned, is_writer, owned_by};
 use crate::stated::Stated;
 use crate::territory_cells::count_of_territory;
 use cwr_fields::Kind;
-use cwr_levels::is_of;
+use cwr_findings::is_of;
 use cwr_lines::RecordRef;
 use cwr_values::Transaction;
 

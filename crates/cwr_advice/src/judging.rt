@@ -19,7 +19,7 @@ use crate::societies::lacks_society;
 use crate::territories::{goes_over, stands_twice};
 use crate::writers::{has_no_publisher, has_no_territory, has_nothing, names_other_writer};
 use cwr_fields::{Kind, is_spaces};
-use cwr_levels::{cell, is_of};
+use cwr_findings::{cell, is_of};
 use cwr_lines::RecordRef;
 use cwr_values::Transaction;
 

@@ -3,7 +3,7 @@
 ghost use Rattle.std.specs.Prelude.{◌≡◌, ◌≤◌, ◌++◌, ◌∷◌, [], List, length, option_map, true, false, IfSome, IsTrue, IsFalse};
 ghost use Rattle.cwr_lines.specs.Format.Records.{RecordValue};
 ghost use Rattle.cwr_advice.specs.declared.said.Said.{Said};
-ghost use Rattle.cwr_levels.specs.Format.Findings.{is_owner};
+ghost use Rattle.cwr_findings.specs.Format.Findings.{is_owner};
 ghost use Rattle.cwr_advice.specs.Format.Rules.{advice_of, begins_with_agent, is_territory};
 ghost use Rattle.cwr_advice.specs.Steps.Kept.{AreAllCollected, AreCollectedAnywhere, AreKept, AreSinceParty, is_among, IsBegun, IsCalm};
 ghost use Rattle.cwr_advice.specs.Steps.Kept.{may_break_some, stands_again, StandsFor};
@@ -19,7 +19,7 @@ use crate::said::Said;
 use crate::territory_cells::{code_of, collection_of, is_territory};
 use arrayvec::ArrayVec;
 use cwr_fields::{Kind, is_spaces};
-use cwr_levels::{cell, is_of, is_owner};
+use cwr_findings::{cell, is_of, is_owner};
 use cwr_lines::RecordRef;
 
 /// The bytes of a publisher sequence.

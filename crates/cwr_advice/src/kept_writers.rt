@@ -8,7 +8,7 @@ ghost use Rattle.cwr_advice.specs.Steps.Kept.{IsLastWriter};
 use crate::owners::is_writer;
 use crate::writers::{NAMED_WRITER, WRITER_NUMBER};
 use cwr_fields::{Kind, is_spaces};
-use cwr_levels::{cell, is_of};
+use cwr_findings::{cell, is_of};
 use cwr_lines::RecordRef;
 
 /// The bytes of a party's number.

@@ -7,7 +7,7 @@ ghost use Rattle.cwr_advice.specs.Format.Numbers.{base_weights, checks, ean_weig
 ghost use Rattle.cwr_advice.specs.Format.Numbers.{is_language, is_letter, is_society, is_territory_number, is_zero, name_weights, weighted};
 
 use cwr_fields::trimmed;
-use cwr_levels::number_of;
+use cwr_findings::number_of;
 
 /// The weights of the nine digits of an IPI name number.
 const NAME_WEIGHTS: [u8; 9] = [10, 9, 8, 7, 6, 5, 4, 3, 2];

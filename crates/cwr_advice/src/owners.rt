@@ -1,13 +1,13 @@
 //! Who owns what of a work.
 
 ghost use Rattle.std.specs.Prelude.{◌≡◌, ◌+◌, ◌<◌, nat_lt, true, if◌then◌else◌};
-ghost use Rattle.cwr_levels.specs.Format.Fields.{HasSharesFrom};
-ghost use Rattle.cwr_levels.specs.Format.Findings.{is_owner};
+ghost use Rattle.cwr_findings.specs.Format.Fields.{HasSharesFrom};
+ghost use Rattle.cwr_findings.specs.Format.Findings.{is_owner};
 ghost use Rattle.cwr_advice.specs.Format.Rules.{is_publisher, is_writer, lacks_number, owns_over_half, owns_shares};
 ghost use Rattle.cwr_advice.specs.Steps.Facts.{AreOwnedBy, AreSharesOf, AreSmall};
 
 use cwr_fields::{Kind, is_spaces};
-use cwr_levels::{PUBLISHER_SHARES, WRITER_SHARES, cell, is_of, is_owner, number_of};
+use cwr_findings::{PUBLISHER_SHARES, WRITER_SHARES, cell, is_of, is_owner, number_of};
 use cwr_lines::RecordRef;
 
 /// Shares in the three rights, in hundredths of a percent.

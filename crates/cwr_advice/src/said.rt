@@ -5,7 +5,7 @@ ghost use Rattle.cwr_advice.specs.Format.Said.{nothing_said, said_by};
 
 use crate::characters::Characters;
 use crate::days::day_in;
-use cwr_levels::cell;
+use cwr_findings::cell;
 use cwr_lines::RecordRef;
 
 /// HDR: transmission date.

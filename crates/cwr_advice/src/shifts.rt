@@ -6,7 +6,7 @@ ghost use Rattle.cwr_advice.specs.Format.Shifts.{begins_with_letter, ends_with_l
 
 use crate::numbers::is_letter;
 use cwr_fields::fields;
-use cwr_levels::cell;
+use cwr_findings::cell;
 use cwr_lines::RecordRef;
 
 /// Whether a letter ends the cell.

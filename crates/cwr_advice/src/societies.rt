@@ -5,7 +5,7 @@ ghost use Rattle.cwr_advice.specs.Format.Rules.{is_share, lacks_society};
 
 use crate::numbers::is_zero;
 use cwr_fields::{fields, is_spaces};
-use cwr_levels::cell;
+use cwr_findings::cell;
 use cwr_lines::RecordRef;
 
 /// Whether the cell of a share is filled in, and not with zero.

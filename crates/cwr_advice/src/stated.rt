@@ -2,13 +2,13 @@
 
 ghost use Rattle.std.specs.Prelude.{◌≡◌, ◌<◌, ◌++◌, ◌∷◌, [], List, false, true};
 ghost use Rattle.cwr_lines.specs.Format.Records.{RecordValue};
-ghost use Rattle.cwr_levels.specs.Format.Fields.{HasSharesFrom};
-ghost use Rattle.cwr_levels.specs.Format.Findings.{is_owner};
+ghost use Rattle.cwr_findings.specs.Format.Fields.{HasSharesFrom};
+ghost use Rattle.cwr_findings.specs.Format.Findings.{is_owner};
 ghost use Rattle.cwr_advice.specs.Steps.Facts.{AreFilledIn, AreStated, AreStatedBy};
 
 use crate::owners::is_publisher;
 use cwr_fields::is_spaces;
-use cwr_levels::{PUBLISHER_SHARES, WRITER_SHARES, cell, is_owner};
+use cwr_findings::{PUBLISHER_SHARES, WRITER_SHARES, cell, is_owner};
 use cwr_lines::RecordRef;
 
 /// In which of the three rights a share is filled in.

@@ -3,7 +3,7 @@
 ghost use Rattle.std.specs.Prelude.{◌≡◌, ◌+◌, ◌<◌, ◌^◌, ℕ, List, take, true, [], ◌++◌, ◌∷◌};
 ghost use Rattle.std.specs.List.{list_any, after_last};
 ghost use Rattle.cwr_lines.specs.Format.Records.{RecordValue};
-ghost use Rattle.cwr_levels.specs.Format.Findings.{is_owner};
+ghost use Rattle.cwr_findings.specs.Format.Findings.{is_owner};
 ghost use Rattle.cwr_advice.specs.Format.Rules.{are_over_in, goes_over, is_compared, is_territory_of, stands_twice};
 ghost use Rattle.cwr_advice.specs.Steps.Facts.{AreCollectedIn, AreFacts};
 
@@ -11,7 +11,7 @@ use crate::facts::Facts;
 use crate::owners::Owned;
 use crate::territory_cells::{code_of, collected_by, is_territory, is_territory_of};
 use cwr_fields::is_spaces;
-use cwr_levels::is_owner;
+use cwr_findings::is_owner;
 use cwr_lines::RecordRef;
 use cwr_values::Transaction;
 

@@ -7,7 +7,7 @@ ghost use Rattle.cwr_advice.specs.Steps.Facts.{AreCollectedBy, AreCollectedIf, H
 
 use crate::owners::Owned;
 use cwr_fields::Kind;
-use cwr_levels::{cell, is_of, number_of};
+use cwr_findings::{cell, is_of, number_of};
 use cwr_lines::RecordRef;
 
 /// SPT: pr collection share. Those of the other rights follow it.

@@ -2,7 +2,7 @@
 
 ghost use Rattle.std.specs.Prelude.{◌≡◌, ◌+◌, ◌<◌, ◌^◌, Some, slice_get, take};
 ghost use Rattle.std.specs.List.{list_any};
-ghost use Rattle.cwr_levels.specs.Format.Findings.{has_party_number, is_a};
+ghost use Rattle.cwr_findings.specs.Format.Findings.{has_party_number, is_a};
 ghost use Rattle.cwr_advice.specs.Format.Rules.{has_no_publisher, has_no_territory, has_nothing, last_writer, names_other_writer};
 ghost use Rattle.cwr_advice.specs.Format.Rules.{records_of_writer};
 ghost use Rattle.cwr_advice.specs.Steps.Facts.{AreFacts};
@@ -10,7 +10,7 @@ ghost use Rattle.cwr_advice.specs.Steps.Facts.{AreFacts};
 use crate::facts::Facts;
 use crate::owners::{is_writer, owns_shares};
 use cwr_fields::{Kind, is_spaces};
-use cwr_levels::{cell, is_of};
+use cwr_findings::{cell, is_of};
 use cwr_lines::RecordRef;
 use cwr_values::Transaction;
 

@@ -4,7 +4,7 @@ ghost use Rattle.std.specs.Prelude.{◌≡◌, ◌++◌, ◌∷◌, [], List, Is
 
 use cwr_advice::AdviceSums;
 use cwr_decode::Keeper;
-use cwr_levels::Sums;
+use cwr_findings::Sums;
 use cwr_lines::RecordRef;
 
 /// What is kept of the records of a transaction in place of them. It tells of most transactions that surely there is neither a finding
@@ -27,8 +27,8 @@ impl AdvisedSums {
 
 impl Keeper for AdvisedSums {
     ghost use Rattle.std.specs.Prelude.{◌≡◌, []};
-    ghost use Rattle.cwr_levels.specs.Format.Findings.{findings};
-    ghost use Rattle.cwr_levels.specs.Steps.Sums.{StandFor};
+    ghost use Rattle.cwr_findings.specs.Format.Findings.{findings};
+    ghost use Rattle.cwr_findings.specs.Steps.Sums.{StandFor};
     ghost use Rattle.cwr_advice.specs.declared.said.Said.{Said};
     ghost use Rattle.cwr_advice.specs.Format.Rules.{advice_of};
     ghost use Rattle.cwr_advice.specs.Steps.Kept.{StandsFor};

@@ -11,7 +11,7 @@ ghost use Rattle.cwr_advise.specs.Steps.KeptWorks.{AreKeptOf, FindsRepeated, Tel
 ghost use Rattle.cwr_advice.specs.Format.Rules.{is_header};
 
 use cwr_fields::Kind;
-use cwr_levels::{cell, is_of};
+use cwr_findings::{cell, is_of};
 use cwr_lines::RecordRef;
 use cwr_tools::Totals;
 use cwr_values::Item;

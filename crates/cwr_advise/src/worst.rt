@@ -10,7 +10,7 @@ ghost use Rattle.cwr_advise.specs.Format.RepeatedWorks.{repeated_advice};
 
 use crate::repeats::Repeated;
 use cwr_advice::{Advice, AdviceRule};
-use cwr_levels::Finding;
+use cwr_findings::Finding;
 use cwr_shape::Level;
 use cwr_tools::FindingCount;
 

@@ -10,7 +10,7 @@ ghost use Rattle.cwr_decode.specs.Steps.TakenLines.{PutsAt};
 use crate::verdicts::level_letter;
 use cwr_decode::{ReadFault, Reading};
 use cwr_devices::{InMemory, Source};
-use cwr_levels::{Finding, Rule, findings};
+use cwr_findings::{Finding, Rule, findings};
 use cwr_shape::Limits;
 use cwr_tools::{ToolFault, Verdict};
 use cwr_values::{Item, Transaction};

@@ -12,7 +12,7 @@ ghost use Rattle.cwr_causes.specs.Steps.Works.{begun_work, headed_work, is_furth
 use crate::sequences::sequence_in;
 use crate::texts::add_bytes;
 use cwr_fields::{Kind, is_plain};
-use cwr_levels::{AGREEMENT_NUMBER, CREATION_NUMBER, CREATION_TITLE, TITLE, WORK_NUMBER, is_of};
+use cwr_findings::{AGREEMENT_NUMBER, CREATION_NUMBER, CREATION_TITLE, TITLE, WORK_NUMBER, is_of};
 use cwr_lines::{CutLine, Record};
 use cwr_notes::WorkLine;
 use cwr_shape::Reason;

@@ -10,7 +10,7 @@ ghost use Rattle.cwr_delivery.specs.Format.Answering.{group_of, sequence_of};
 ghost use Rattle.cwr_delivery.specs.Format.Told.{named_check};
 
 use cwr_fields::{Cell, Coded, Kind, MessageLevel, TransactionStatus, trimmed};
-use cwr_levels::{cell, is_of, number_of};
+use cwr_findings::{cell, is_of, number_of};
 use cwr_lines::RecordRef;
 use cwr_sent::title_check;
 use cwr_values::Transaction;

@@ -12,7 +12,7 @@ use crate::acknowledgements::{
     PROCESSING_DATE, RECIPIENT_NUMBER, group_of, sequence_of, status_of, worst_level,
 };
 use crate::outcomes::{Notes, Outcome, is_retitled, is_unkeyed, outcome_of};
-use cwr_levels::cell;
+use cwr_findings::cell;
 use cwr_lines::RecordRef;
 use cwr_sent::{AnsweringFile, KeptAnswer, Sent, small_number};
 use cwr_values::Transaction;

@@ -12,7 +12,7 @@ use crate::acknowledgements::{
     sequence_of,
 };
 use cwr_fields::{Kind, is_spaces, letters, trimmed};
-use cwr_levels::{cell, number_of};
+use cwr_findings::{cell, number_of};
 use cwr_lines::RecordRef;
 use cwr_sent::{Created, Sent, SentFacts, small_number};
 

@@ -4,7 +4,7 @@ ghost use Rattle.std.specs.Prelude.{◌≡◌, ◌⊎◌, ◌&&◌, ◌++◌, �
 ghost use Rattle.cwr_devices.specs.Steps.Sinks.{has_failed};
 ghost use Rattle.cwr_lines.specs.Steps.Held.{held_record};
 ghost use Rattle.cwr_values.specs.Format.Begun.{BeginsWithOneMore};
-ghost use Rattle.cwr_levels.specs.Format.Findings.{findings};
+ghost use Rattle.cwr_findings.specs.Format.Findings.{findings};
 ghost use Rattle.cwr_advise.specs.Steps.AdviceCounts.{counts_after, told_by};
 ghost use Rattle.cwr_lint.specs.Format.FaultsOfLines.{advice_if, ended_lines, said_if, told_lines};
 ghost use Rattle.cwr_lint.specs.Steps.Runs.{asking_of};

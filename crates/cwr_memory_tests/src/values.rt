@@ -4,7 +4,7 @@ use crate::checks::check_equal;
 use crate::works::{TWO_GROUPS_WITH_A_FINDING, ended, largest, text_of};
 use cwr_decode::{ReadFault, Reading};
 use cwr_devices::{InMemory, Source};
-use cwr_levels::findings;
+use cwr_findings::findings;
 use cwr_values::{
     Group, GroupFault, Item, PushFault, Transaction, Transmission, TransmissionFault,
 };

@@ -13,7 +13,7 @@ use crate::passed::Passed;
 use crate::work_lines::WorkLine;
 use cwr_devices::{Sink, SinkFault, Target};
 use cwr_fields::Kind;
-use cwr_levels::{Finding, Rule, finding_line};
+use cwr_findings::{Finding, Rule, finding_line};
 use cwr_lines::RecordRef;
 use cwr_values::Transaction;
 

@@ -10,7 +10,7 @@ use crate::record_lines::{LONGEST, Text, push, push_number};
 use crate::work_lines::WorkLine;
 use arrayvec::ArrayVec;
 use cwr_fields::{Field, Kind, field, fields, is_spaces, letters, trimmed};
-use cwr_levels::{Finding, Rule};
+use cwr_findings::{Finding, Rule};
 use cwr_lines::RecordRef;
 use cwr_shape::Level;
 use std::marker::Model;

@@ -2,14 +2,14 @@
 
 ghost use Rattle.std.specs.Prelude.{◌≡◌, ◌+◌, ◌<◌, ◌≤◌, ◌^◌, ◌++◌, ◌∷◌, ℕ, List, [], false, drop, length, if◌then◌else◌};
 ghost use Rattle.std.specs.Option.{option_to_list};
-ghost use Rattle.cwr_levels.specs.Format.Fields.{HasSharesFrom};
-ghost use Rattle.cwr_levels.specs.Format.Findings.{is_owner, ownership, share_of};
+ghost use Rattle.cwr_findings.specs.Format.Fields.{HasSharesFrom};
+ghost use Rattle.cwr_findings.specs.Format.Findings.{is_owner, ownership, share_of};
 ghost use Rattle.cwr_notes.specs.Format.FindingNotes.{parties_from, positions, right_of};
 ghost use Rattle.cwr_notes.specs.Steps.OtherRecords.{AreListed, is_other};
 
 use arrayvec::ArrayVec;
 use cwr_fields::Kind;
-use cwr_levels::{PUBLISHER_SHARES, Rule, WRITER_SHARES, cell, is_of, is_owner, number_of};
+use cwr_findings::{PUBLISHER_SHARES, Rule, WRITER_SHARES, cell, is_of, is_owner, number_of};
 use cwr_lines::RecordRef;
 use cwr_values::Transaction;
 

@@ -6,7 +6,7 @@ ghost use Rattle.cwr_notes.specs.Format.WorkNames.{name_label, name_line, name_w
 
 use arrayvec::ArrayVec;
 use cwr_fields::{Kind, is_spaces, trimmed};
-use cwr_levels::{is_of, work_number, work_title};
+use cwr_findings::{is_of, work_number, work_title};
 use cwr_lines::RecordRef;
 use cwr_values::Transaction;
 use std::marker::Model;

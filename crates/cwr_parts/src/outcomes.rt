@@ -5,7 +5,7 @@ ghost use Rattle.cwr_devices.specs.Steps.Sinks.{Puts, has_failed, written_of};
 ghost use Rattle.cwr_parts.specs.Format.Outcomes.{input_line, is_of_input, join_outcome, split_outcome};
 
 use cwr_devices::{Sink, SinkFault, Target};
-use cwr_levels::{input_mark, joined_line, limit_line, refusal_line, split_line, truncated_line};
+use cwr_findings::{input_mark, joined_line, limit_line, refusal_line, split_line, truncated_line};
 use cwr_tools::{JoinFault, JoinReport, SplitReport, ToolFault};
 
 /// Puts the line on an input that is refused, that ended too early, or with which the result would pass a limit. Where a

@@ -5,7 +5,7 @@ ghost use Rattle.cwr_devices.specs.Steps.Sinks.{Puts, has_failed, written_of};
 ghost use Rattle.cwr_renumber.specs.Format.Outcomes.{renumber_outcome};
 
 use cwr_devices::{Sink, SinkFault, Target};
-use cwr_levels::good_line;
+use cwr_findings::good_line;
 use cwr_parts::put_split_outcome;
 use cwr_tools::{JoinReport, SplitReport, ToolFault};
 

@@ -16,7 +16,6 @@ use crate::exports::tell_cut;
 use cwr_acks::{Form, Manner, acks};
 use cwr_advise::AdviceLines;
 use cwr_causes::Trailing;
-use cwr_csv::{Table, TableRows};
 use cwr_devices::{ReadAhead, Sink, SinkFault, Source, Target};
 use cwr_endings::{
     Judgement, Look, Status, Wanted, judgement_of, look_after, tell_characters, tell_findings,
@@ -28,6 +27,7 @@ use cwr_files::{Fault, FileLines, Gathered, Input, Name, Pace, Passing, Told, ga
 use cwr_json::Encoding;
 use cwr_lint::lint;
 use cwr_shape::{Level, Limits, Reason};
+use cwr_tables::{Table, TableRows};
 use cwr_tools::{
     CountedRecords, DataLines, FindingCount, FindingLines, Report, ToolFault, Verdict,
     put_verdict_line, write_report,

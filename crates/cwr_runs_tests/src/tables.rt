@@ -1,11 +1,11 @@
 //! Tests of what is written and answered.
 
 use crate::devices::{Bounded, FailsAfter};
-use cwr_csv::{Table, TableRows};
 use cwr_devices::{Counted, ReadAhead};
 use cwr_fields::Kind;
 use cwr_json::Encoding;
 use cwr_shape::Limits;
+use cwr_tables::{Table, TableRows};
 use cwr_tools::{ToolFault, Verdict, write_report};
 use cwr_worked::texts::{ONE_ACKNOWLEDGEMENT, TWO_GROUPS, canonical};
 use std::process::Abort;

@@ -8,7 +8,7 @@ ghost use Rattle.cwr_sent.specs.Steps.Links.{counting_kept};
 
 use crate::created::{Created, NEVER};
 use cwr_fields::{Kind, MessageLevel, TransactionStatus};
-use cwr_levels::{cell, is_of};
+use cwr_findings::{cell, is_of};
 use cwr_lines::RecordRef;
 
 /// A transmission of acknowledgements: who sent it, and when it was created.

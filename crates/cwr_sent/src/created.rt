@@ -6,7 +6,7 @@ ghost use Rattle.cwr_sent.specs.Format.Answers.{is_before};
 ghost use Rattle.cwr_sent.specs.Format.SentFacts.{created_of};
 
 use cwr_fields::Kind;
-use cwr_levels::{cell, is_of, number_of};
+use cwr_findings::{cell, is_of, number_of};
 use cwr_lines::RecordRef;
 
 /// HDR: creation date.

@@ -5,7 +5,7 @@ ghost use Rattle.cwr_fields.specs.Format.Bytes.{trimmed};
 ghost use Rattle.cwr_sent.specs.Format.SentFacts.{facts_of, header_check, header_number, is_work_header, submitter_number, title_check, title_of};
 
 use cwr_fields::{Kind, trimmed};
-use cwr_levels::{cell, is_of};
+use cwr_findings::{cell, is_of};
 use cwr_lines::RecordRef;
 use cwr_values::Transaction;
 

@@ -29,3 +29,5 @@ pub mod WorkFields
 pub mod NamedOwners
 -- Rows are read back as their cells.
 pub mod ReadBack
+-- The rows of items are those of all but the last, and then those of the last.
+pub mod RowsOfItems

@@ -4,3 +4,4 @@ pub mod RecordTables
 pub mod WorkTables
 pub mod Headers
 pub mod Laws
+pub mod TableLines

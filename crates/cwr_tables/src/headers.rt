@@ -4,7 +4,7 @@ ghost use Rattle.std.specs.Prelude.{◌≡◌};
 ghost use Rattle.cwr_tables.specs.Format.WorkTables.{is_header};
 
 use cwr_fields::Kind;
-use cwr_levels::is_of;
+use cwr_findings::is_of;
 use cwr_lines::RecordRef;
 
 /// NWR, REV: title.

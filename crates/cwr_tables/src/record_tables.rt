@@ -10,8 +10,8 @@ use crate::places::{Place, RowNumbers};
 use crate::rows::RowText;
 use cwr_devices::{Sink, SinkFault, Target};
 use cwr_fields::Kind;
+use cwr_findings::is_of;
 use cwr_json::Encoding;
-use cwr_levels::is_of;
 use cwr_lines::RecordRef;
 use cwr_values::{Item, Transaction};
 

@@ -12,8 +12,8 @@ use crate::rows::{RowText, push_first_number, push_next, push_next_number, push_
 use crate::works::{Side, Sums, name_of_owner};
 use arrayvec::ArrayVec;
 use cwr_fields::letters;
+use cwr_findings::cell;
 use cwr_json::Encoding;
-use cwr_levels::cell;
 use cwr_lines::RecordRef;
 use itoa::Buffer;
 

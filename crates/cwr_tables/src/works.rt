@@ -2,15 +2,15 @@
 
 ghost use Rattle.std.specs.Prelude.{◌≡◌, ◌+◌, ◌*◌, ◌<◌, ◌≤◌, ◌^◌, length, true, None, Some, unwrap_or, if◌then◌else◌};
 ghost use Rattle.cwr_fields.specs.Format.Bytes.{is_spaces, number_of};
-ghost use Rattle.cwr_levels.specs.Format.Fields.{HasSharesFrom};
+ghost use Rattle.cwr_findings.specs.Format.Fields.{HasSharesFrom};
 ghost use Rattle.cwr_tables.specs.Format.WorkTables.{is_on, name_of_owner, sums};
 ghost use Rattle.cwr_tables.specs.Steps.WorkTexts.{AddsShares, AreSharesOf, both, name_needs_quotes, quotes};
 
 use crate::cells::needs_quotes;
 use crate::rows::{Characters, characters_of};
 use cwr_fields::{Kind, is_spaces, trimmed};
+use cwr_findings::{PUBLISHER_SHARES, WRITER_SHARES, cell, is_of, number_of};
 use cwr_json::{Encoding, push_characters};
-use cwr_levels::{PUBLISHER_SHARES, WRITER_SHARES, cell, is_of, number_of};
 use cwr_lines::RecordRef;
 use cwr_values::Transaction;
 

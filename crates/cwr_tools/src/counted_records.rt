@@ -13,7 +13,7 @@ use crate::shown_records::put_records;
 use crate::totals::Totals;
 use crate::verdicts::{ToolFault, Verdict};
 use cwr_devices::{Sink, SinkFault, Target};
-use cwr_levels::findings;
+use cwr_findings::findings;
 use cwr_notes::RecordLines;
 use cwr_values::Item;
 use std::alloc::Global;

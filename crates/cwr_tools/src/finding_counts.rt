@@ -4,7 +4,7 @@ ghost use Rattle.std.specs.Prelude.{◌≡◌, ◌+◌, ◌-◌, ◌^◌, ◌||�
 ghost use Rattle.cwr_shape.specs.declared.reasons.Level.{Level};
 ghost use Rattle.cwr_tools.specs.Format.Watching.{has_from, is_reached, is_reached_by, reach};
 
-use cwr_levels::Finding;
+use cwr_findings::Finding;
 use cwr_shape::Level;
 
 /// How far what a level rejects goes: from 0 for a field to 4 for a file.

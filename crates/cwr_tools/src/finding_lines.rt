@@ -3,7 +3,7 @@
 ghost use Rattle.std.specs.Prelude.{◌≡◌, ◌+◌, ◌≤◌, ◌∷◌, [], List, length, true, false, IfErr, OnOk};
 ghost use Rattle.std.specs.List.{flat_map};
 ghost use Rattle.cwr_devices.specs.Steps.Sinks.{Puts, has_failed, written_of};
-ghost use Rattle.cwr_levels.specs.Format.ReportLines.{finding_line};
+ghost use Rattle.cwr_findings.specs.Format.ReportLines.{finding_line};
 ghost use Rattle.cwr_tools.specs.Format.Reports.{ItemLines, has_findings, lines_of_explained, lines_of_findings, lines_up_to_fault};
 ghost use Rattle.cwr_tools.specs.Format.Reports.{transaction_lines};
 ghost use Rattle.cwr_tools.specs.Format.Watching.{AreFindingsIn, findings_with};
@@ -18,7 +18,7 @@ use crate::totals::Totals;
 use crate::verdicts::{ToolFault, Verdict};
 use cwr_decode::Keeper;
 use cwr_devices::{Sink, SinkFault, Target};
-use cwr_levels::{Finding, Sums, finding_line, findings};
+use cwr_findings::{Finding, Sums, finding_line, findings};
 use cwr_lines::RecordRef;
 use cwr_notes::put_all_explained;
 use cwr_values::{Item, Transaction};
@@ -197,8 +197,8 @@ pub struct FindingSums(Sums);
 
 impl Keeper for FindingSums {
     ghost use Rattle.std.specs.Prelude.{◌≡◌, []};
-    ghost use Rattle.cwr_levels.specs.Format.Findings.{findings};
-    ghost use Rattle.cwr_levels.specs.Steps.Sums.{StandFor};
+    ghost use Rattle.cwr_findings.specs.Format.Findings.{findings};
+    ghost use Rattle.cwr_findings.specs.Steps.Sums.{StandFor};
 
     ghost stands_for = { λ kept records. StandFor kept.0 records };
 

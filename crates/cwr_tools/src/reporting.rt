@@ -6,7 +6,7 @@ ghost use Rattle.cwr_decode.specs.Steps.Decoding.{final_answer, has_ended, limit
 ghost use Rattle.cwr_decode.specs.Steps.LastReads.{AreHeld};
 ghost use Rattle.cwr_decode.specs.Steps.Represents.{Represents};
 ghost use Rattle.cwr_devices.specs.Steps.Sinks.{HasWritten, has_failed, writer_of};
-ghost use Rattle.cwr_levels.specs.Steps.Putting.{PutsText};
+ghost use Rattle.cwr_findings.specs.Steps.Putting.{PutsText};
 ghost use Rattle.cwr_tools.specs.Format.Reports.{CountsReaderFault, CountsWriterFault, ItemLines, unrefused_line};
 ghost use Rattle.cwr_tools.specs.Format.Texts.{verdict_line};
 ghost use Rattle.cwr_tools.specs.Format.Verdicts.{IsVerdictOf};
@@ -21,7 +21,7 @@ use crate::totals::Totals;
 use crate::verdicts::{ToolFault, Verdict};
 use cwr_decode::{LastRead, ReadFault, Reading};
 use cwr_devices::{Sink, SinkFault, Source, Target};
-use cwr_levels::{good_line, refusal_line, truncated_line};
+use cwr_findings::{good_line, refusal_line, truncated_line};
 use cwr_shape::Limits;
 use std::alloc::Global;
 

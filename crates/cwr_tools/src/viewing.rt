@@ -3,13 +3,13 @@
 ghost use Rattle.std.specs.Prelude.{◌≡◌, ◌++◌, ◌∷◌, [], List, false, IsTrue};
 ghost use Rattle.cwr_lines.specs.Format.Records.{RecordValue};
 ghost use Rattle.cwr_values.specs.declared.items.Item.{Item};
-ghost use Rattle.cwr_levels.specs.Format.Findings.{findings};
-ghost use Rattle.cwr_levels.specs.Steps.Sums.{StandFor};
+ghost use Rattle.cwr_findings.specs.Format.Findings.{findings};
+ghost use Rattle.cwr_findings.specs.Steps.Sums.{StandFor};
 ghost use Rattle.cwr_tools.specs.Format.Watching.{AreFindingsIn};
 
 use crate::finding_counts::FindingCount;
 use cwr_fields::Kind;
-use cwr_levels::{Sums, findings};
+use cwr_findings::{Sums, findings};
 use cwr_lines::RecordRef;
 use cwr_values::{Item, Transaction};
 use std::alloc::Global;

@@ -11,11 +11,11 @@ use Rattle.cwr_values.specs.Format.Rows.{rows}
 use Rattle.cwr_judge.specs.Format.Items.{items, items_after}
 use Rattle.cwr_shape.specs.declared.reasons.Level.{Level}
 use Rattle.cwr_shape.specs.declared.reasons.Level.TheVariants.{T, R, F}
-use Rattle.cwr_levels.specs.declared.rules.Rule.{Rule}
-use Rattle.cwr_levels.specs.declared.rules.Rule.TheVariants.{V1, V2, V3, V4, V5, V6, V7, V8, V9, V10, V11}
-use Rattle.cwr_levels.specs.declared.rules.Finding.{Finding}
-use Rattle.cwr_levels.specs.Format.Findings.{findings, findings_after}
-use Rattle.cwr_levels.specs.Format.ReportLines.{input_mark, joined_line, limit_line, refusal_line, split_line, truncated_line}
+use Rattle.cwr_findings.specs.declared.rules.Rule.{Rule}
+use Rattle.cwr_findings.specs.declared.rules.Rule.TheVariants.{V1, V2, V3, V4, V5, V6, V7, V8, V9, V10, V11}
+use Rattle.cwr_findings.specs.declared.rules.Finding.{Finding}
+use Rattle.cwr_findings.specs.Format.Findings.{findings, findings_after}
+use Rattle.cwr_findings.specs.Format.ReportLines.{input_mark, joined_line, limit_line, refusal_line, split_line, truncated_line}
 use Rattle.cwr_tools.specs.Format.Texts.{check_text, check_lines, good_verdict}
 use Rattle.cwr_fields.specs.declared.cell_types.CellFault.TheVariants as cell_faults
 use Rattle.cwr_shape.specs.declared.limits.LimitKind.TheVariants as limit_kinds

@@ -18,7 +18,7 @@ use Rattle.cwr_values.specs.Format.Rows.{rows, records_of, canonical_text, lengt
 use Rattle.cwr_values.specs.Format.Fits.{value_fault}
 use Rattle.cwr_values.specs.declared.items.Item.TheVariants.{Opened, GroupOpened, Transaction, GroupClosed, Ended}
 use Rattle.cwr_judge.specs.Format.Items.{items, items_after}
-use Rattle.cwr_levels.specs.Format.Findings.{findings, findings_after}
+use Rattle.cwr_findings.specs.Format.Findings.{findings, findings_after}
 use Rattle.cwr_notes.specs.Format.RecordTexts.{cell_lines}
 use Rattle.cwr_tools.specs.Format.Texts.{check_text, check_lines, show_text, show_lines, good_verdict}
 use Rattle.cwr_parts.specs.Format.Splits.{split_of, join_of}

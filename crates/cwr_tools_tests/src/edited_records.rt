@@ -5,7 +5,7 @@ ghost use Rattle.cwr_lines.specs.declared.lines.LineEnd.TheVariants.{Open};
 
 use crate::checks::check_equal;
 use cwr_fields::fields;
-use cwr_levels::{Finding, Rule, findings};
+use cwr_findings::{Finding, Rule, findings};
 use cwr_lines::{Draft, LineBuf, LineEnd, Record, RecordRef};
 use cwr_shape::Level;
 use cwr_values::Transaction;

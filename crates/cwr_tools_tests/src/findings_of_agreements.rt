@@ -1,7 +1,7 @@
 //! Tests of the rules on agreements, and of acknowledgements, on which there are none.
 
 use crate::edited_records::{Case, check_findings};
-use cwr_levels::Rule;
+use cwr_findings::Rule;
 use cwr_shape::Level;
 use cwr_worked::lines::*;
 

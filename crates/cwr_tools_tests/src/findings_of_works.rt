@@ -1,7 +1,7 @@
 //! Tests of the rules on works.
 
 use crate::edited_records::{Case, check_findings};
-use cwr_levels::Rule;
+use cwr_findings::Rule;
 use cwr_shape::Level;
 use cwr_worked::lines::*;
 use cwr_worked::texts::ELEVEN_RECORDS;

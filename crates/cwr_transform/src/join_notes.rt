@@ -2,7 +2,7 @@
 
 use crate::join_views::JoinView;
 use crate::joins::name_of;
-use cwr_levels::cell;
+use cwr_findings::cell;
 use cwr_lines::{ControlRecord, RecordRef};
 use std::io;
 use std::io::Write;

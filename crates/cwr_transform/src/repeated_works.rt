@@ -1,7 +1,7 @@
 //! Works whose numbers stand in two transmissions.
 
 use cwr_fields::Kind;
-use cwr_levels::{cell, is_of};
+use cwr_findings::{cell, is_of};
 use cwr_values::Transaction;
 use std::alloc::Global;
 use std::collections::BTreeMap;

@@ -2,8 +2,8 @@
 use Rattle.std.specs.Prelude.{Bool, true, false, if◌then◌else◌}
 use Rattle.cwr_words.specs.declared.words.Rows.{Rows}
 use Rattle.cwr_words.specs.declared.words.Rows.TheVariants as rows
-use Rattle.cwr_csv.specs.declared.tables.Table.{Table}
-use Rattle.cwr_csv.specs.declared.tables.Table.TheVariants as tables
+use Rattle.cwr_tables.specs.declared.tables.Table.{Table}
+use Rattle.cwr_tables.specs.declared.tables.Table.TheVariants as tables
 use Rattle.cwr_json.specs.declared.encodings.Encoding.{Encoding}
 use Rattle.cwr_json.specs.declared.encodings.Encoding.TheVariants.{Latin1, Utf8}
 use Rattle.cwr_acks.specs.declared.forms.Cells.TheVariants.{Bytes, Characters}

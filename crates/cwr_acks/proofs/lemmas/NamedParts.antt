@@ -11,7 +11,7 @@ use Rattle.cwr_lines.specs.Format.Carried.{carried_before, record_cell}
 use Rattle.cwr_fields.specs.Format.Layouts.{FieldLayout, field_at, field_with_start}
 use Rattle.cwr_fields.proofs.lemmas.FieldStarts.{field_at-start}
 use Rattle.cwr_encode.proofs.lemmas.Numbered.{numbered}
-use Rattle.cwr_levels.specs.Format.Fields.{IsField}
+use Rattle.cwr_findings.specs.Format.Fields.{IsField}
 use Rattle.cwr_delivery.proofs.lemmas.NamedCells.{cell_long}
 use Rattle.cwr_json.proofs.lemmas.FieldsShown.{length-trimmed-le, short_line}
 

@@ -5,12 +5,12 @@ use Rattle.cwr_fields.specs.declared.kinds.Kind.{Kind}
 use Rattle.cwr_fields.specs.declared.kinds.Kind.TheVariants as kinds
 use Rattle.cwr_fields.specs.Format.Bytes.{is_spaces}
 use Rattle.cwr_lines.specs.Format.Records.{RecordValue, IsRecord, cell_named}
-use Rattle.cwr_levels.specs.Format.Fields.{HasSharesFrom, IsField}
-use Rattle.cwr_levels.specs.Format.Findings.{is_a, is_blank, is_owner}
-use Rattle.cwr_levels.proofs.lemmas.KindTests.{kind_of}
-use Rattle.cwr_levels.proofs.lemmas.NamedCells.{named_cell}
-use Rattle.cwr_levels.proofs.lemmas.RuleTests.{cell_of_field}
-use Rattle.cwr_levels.proofs.lemmas.RuleFields.{shares_of_opu, shares_of_owr, shares_of_spu, shares_of_swr}
+use Rattle.cwr_findings.specs.Format.Fields.{HasSharesFrom, IsField}
+use Rattle.cwr_findings.specs.Format.Findings.{is_a, is_blank, is_owner}
+use Rattle.cwr_findings.proofs.lemmas.KindTests.{kind_of}
+use Rattle.cwr_findings.proofs.lemmas.NamedCells.{named_cell}
+use Rattle.cwr_findings.proofs.lemmas.RuleTests.{cell_of_field}
+use Rattle.cwr_findings.proofs.lemmas.RuleFields.{shares_of_opu, shares_of_owr, shares_of_spu, shares_of_swr}
 use Rattle.cwr_advice.specs.Format.Rules.{is_header, is_publisher, is_writer}
 
 -- ---- tests joined

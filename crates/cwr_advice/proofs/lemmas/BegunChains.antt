@@ -5,8 +5,8 @@ use Rattle.std.specs.Prelude.{Some, None, slice_get}
 use Rattle.std.specs.List.{list_any}
 use Rattle.std.proofs.lemmas.Bool.{or_from}
 use Rattle.std.proofs.lemmas.List.{drop_all}
-use Rattle.cwr_levels.proofs.lemmas.OneMore.{drop_more, none_there_is_end}
-use Rattle.cwr_levels.proofs.lemmas.RuleTests.{or_none}
+use Rattle.cwr_findings.proofs.lemmas.OneMore.{drop_more, none_there_is_end}
+use Rattle.cwr_findings.proofs.lemmas.RuleTests.{or_none}
 
 -- a record among the first ones is the same there
 pub found_in_front : {X : Type 0} → (t : List X) (i n : ℕ) (r : X) → slice_get t i ≡ Some r → i < n

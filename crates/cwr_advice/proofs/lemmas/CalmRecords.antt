@@ -10,8 +10,8 @@ use Rattle.std.proofs.lemmas.List.Folds.{list_any-append}
 use Rattle.std.proofs.lemmas.Slice.Eq.{bytes_eq-Decides}
 use Rattle.cwr_lines.specs.Format.Records.{RecordValue, IsRecord, cell_named}
 use Rattle.cwr_fields.specs.declared.kinds.Kind.TheVariants as kinds
-use Rattle.cwr_levels.specs.Format.Findings.{has_party_number, is_a, is_blank, is_owner}
-use Rattle.cwr_levels.proofs.lemmas.RuleTests.{cell_of_field, or_none}
+use Rattle.cwr_findings.specs.Format.Findings.{has_party_number, is_a, is_blank, is_owner}
+use Rattle.cwr_findings.proofs.lemmas.RuleTests.{cell_of_field, or_none}
 use Rattle.cwr_advice.specs.Format.Rules.{begins_with_agent, in_chain, is_agent, is_publisher, is_territory, is_territory_of}
 use Rattle.cwr_advice.specs.Format.Rules.{is_writer, last_writer}
 use Rattle.cwr_advice.specs.Steps.Kept.{AreCalm, AreSinceParty, IsBegun, IsCalm, is_among, stands_again}

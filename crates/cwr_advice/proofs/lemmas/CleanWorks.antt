@@ -10,9 +10,9 @@ use Rattle.std.proofs.lemmas.Option.{slice_get_within}
 use Rattle.std.proofs.lemmas.List.{take_all}
 use Rattle.cwr_fields.specs.declared.kinds.Kind.TheVariants as kinds
 use Rattle.cwr_lines.specs.Format.Records.{RecordValue, cell_named}
-use Rattle.cwr_levels.specs.Format.Findings.{is_a, is_blank, share_of}
-use Rattle.cwr_levels.specs.Steps.Walks.{capped}
-use Rattle.cwr_levels.proofs.lemmas.OneMore.{any_there}
+use Rattle.cwr_findings.specs.Format.Findings.{is_a, is_blank, share_of}
+use Rattle.cwr_findings.specs.Steps.Walks.{capped}
+use Rattle.cwr_findings.proofs.lemmas.OneMore.{any_there}
 use Rattle.cwr_advice.specs.declared.rules.AdviceRule.{AdviceRule}
 use Rattle.cwr_advice.specs.declared.rules.AdviceRule.TheVariants.{A1a, A1b, A2a, A2b, A2c, A2d, A2e, A2f, A2g, A2h, A3a, A3b}
 use Rattle.cwr_advice.specs.declared.rules.AdviceRule.TheVariants.{A3c, A3d, A3e, A4a, A4b, A4c, A4d, A5a, A6a, A6b, A6c, A7a}

@@ -7,9 +7,9 @@ use Rattle.std.proofs.lemmas.List.Elements.{filter-append}
 use Rattle.std.proofs.lemmas.List.Folds.{list_any-append}
 use Rattle.std.proofs.lemmas.List.Sums.{sum_by-append, sum_by_push}
 use Rattle.cwr_lines.specs.Format.Records.{RecordValue}
-use Rattle.cwr_levels.specs.Format.Findings.{share_of}
-use Rattle.cwr_levels.specs.Steps.Walks.{capped}
-use Rattle.cwr_levels.proofs.lemmas.RuleTests.{or_none}
+use Rattle.cwr_findings.specs.Format.Findings.{share_of}
+use Rattle.cwr_findings.specs.Steps.Walks.{capped}
+use Rattle.cwr_findings.proofs.lemmas.RuleTests.{or_none}
 
 pub any_more : (p : RecordValue → Bool) (rs : List RecordValue) (r : RecordValue) (a b : Bool) → a ≡ list_any p rs → b ≡ p r
     → (a || b) ≡ list_any p (rs ++ r ∷ [])

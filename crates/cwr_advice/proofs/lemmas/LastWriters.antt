@@ -10,9 +10,9 @@ use Rattle.std.proofs.lemmas.Slice.Eq.{bytes_eq-Decides}
 use Rattle.cwr_fields.specs.declared.kinds.Kind.TheVariants as kinds
 use Rattle.cwr_fields.specs.Format.Bytes.{is_spaces}
 use Rattle.cwr_lines.specs.Format.Records.{RecordValue, IsRecord, cell_named}
-use Rattle.cwr_levels.specs.Format.Findings.{has_party_number, is_a, is_blank}
-use Rattle.cwr_levels.proofs.lemmas.OneMore.{take_more}
-use Rattle.cwr_levels.proofs.lemmas.RuleTests.{cell_of_field}
+use Rattle.cwr_findings.specs.Format.Findings.{has_party_number, is_a, is_blank}
+use Rattle.cwr_findings.proofs.lemmas.OneMore.{take_more}
+use Rattle.cwr_findings.proofs.lemmas.RuleTests.{cell_of_field}
 use Rattle.cwr_advice.specs.Format.Rules.{is_writer, last_writer, names_other_writer}
 use Rattle.cwr_advice.specs.Steps.Kept.{IsLastWriter}
 use Rattle.cwr_advice.proofs.lemmas.AdvisedFields.{all_three, named_number, named_writer}

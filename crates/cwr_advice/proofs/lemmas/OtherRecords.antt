@@ -6,9 +6,9 @@ use Rattle.std.specs.List.{list_any, sum_by}
 use Rattle.std.proofs.lemmas.Bool.{or_from, or_parts}
 use Rattle.cwr_fields.specs.declared.kinds.Kind.TheVariants as kinds
 use Rattle.cwr_lines.specs.Format.Records.{RecordValue}
-use Rattle.cwr_levels.specs.Format.Findings.{is_a, is_owner, share_of}
-use Rattle.cwr_levels.specs.Steps.Walks.{capped}
-use Rattle.cwr_levels.proofs.lemmas.RuleTests.{or_none}
+use Rattle.cwr_findings.specs.Format.Findings.{is_a, is_owner, share_of}
+use Rattle.cwr_findings.specs.Steps.Walks.{capped}
+use Rattle.cwr_findings.proofs.lemmas.RuleTests.{or_none}
 use Rattle.cwr_advice.specs.declared.owners.Owned.{Owned}
 use Rattle.cwr_advice.specs.Format.Rules.{is_publisher, is_territory, is_writer}
 use Rattle.cwr_advice.specs.Steps.Kept.{AreAllCollected}

@@ -3,7 +3,7 @@ use Rattle.std.proofs.Common.{◌≡◌, ℕ, ◌+◌, Bool, true, false, cond, 
 use Rattle.std.specs.Prelude.{nat_lt, ◌&&◌}
 use Rattle.cwr_lines.specs.Format.Records.{RecordValue}
 use Rattle.cwr_fields.specs.declared.kinds.Kind.TheVariants as kinds
-use Rattle.cwr_levels.specs.Format.Findings.{is_a, is_owner, share_of}
+use Rattle.cwr_findings.specs.Format.Findings.{is_a, is_owner, share_of}
 use Rattle.cwr_advice.specs.declared.owners.Owned.{Owned}
 use Rattle.cwr_advice.specs.Format.Rules.{is_owning_publisher, is_writer, owns_shares}
 use Rattle.cwr_advice.specs.Steps.Facts.{AreOwnedBy}

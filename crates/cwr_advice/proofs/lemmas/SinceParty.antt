@@ -7,9 +7,9 @@ use Rattle.std.proofs.lemmas.Bool.{and_parts}
 use Rattle.std.proofs.lemmas.List.{drop-append-le, drop_all, length-append, reverse-append, take_all}
 use Rattle.std.proofs.lemmas.List.Folds.{list_any-append}
 use Rattle.cwr_lines.specs.Format.Records.{RecordValue}
-use Rattle.cwr_levels.specs.Format.Findings.{is_blank}
-use Rattle.cwr_levels.proofs.lemmas.OneMore.{take_more}
-use Rattle.cwr_levels.proofs.lemmas.RuleTests.{or_none}
+use Rattle.cwr_findings.specs.Format.Findings.{is_blank}
+use Rattle.cwr_findings.proofs.lemmas.OneMore.{take_more}
+use Rattle.cwr_findings.proofs.lemmas.RuleTests.{or_none}
 use Rattle.cwr_advice.specs.Format.Rules.{has_few_territories, is_compared, is_territory}
 
 -- what stands after the last that passes, with one element more

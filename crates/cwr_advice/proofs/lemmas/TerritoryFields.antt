@@ -3,11 +3,11 @@ use Rattle.std.proofs.Common.{◌≡◌, ℕ, Bool, true, false, List, refl, sym
 use Rattle.std.specs.Prelude.{◌||◌}
 use Rattle.cwr_fields.specs.declared.kinds.Kind.TheVariants as kinds
 use Rattle.cwr_lines.specs.Format.Records.{RecordValue, IsRecord, cell_named}
-use Rattle.cwr_levels.specs.Format.Fields.{IsField}
-use Rattle.cwr_levels.specs.Format.Findings.{is_a}
-use Rattle.cwr_levels.proofs.lemmas.KindTests.{kind_of}
-use Rattle.cwr_levels.proofs.lemmas.NamedCells.{named_cell}
-use Rattle.cwr_levels.proofs.lemmas.RuleTests.{cell_of_field}
+use Rattle.cwr_findings.specs.Format.Fields.{IsField}
+use Rattle.cwr_findings.specs.Format.Findings.{is_a}
+use Rattle.cwr_findings.proofs.lemmas.KindTests.{kind_of}
+use Rattle.cwr_findings.proofs.lemmas.NamedCells.{named_cell}
+use Rattle.cwr_findings.proofs.lemmas.RuleTests.{cell_of_field}
 use Rattle.cwr_advice.specs.Format.Rules.{is_territory}
 use Rattle.cwr_advice.specs.Steps.Facts.{HasCollectionFrom}
 

@@ -4,7 +4,7 @@ use Rattle.std.specs.Prelude.{Some, slice_get, take_while, ◌||◌}
 use Rattle.std.specs.List.{list_any}
 use Rattle.std.proofs.lemmas.List.{drop_all}
 use Rattle.std.proofs.lemmas.List.Sums.{take_while-cons}
-use Rattle.cwr_levels.proofs.lemmas.OneMore.{drop_more}
+use Rattle.cwr_findings.proofs.lemmas.OneMore.{drop_more}
 
 -- some record passes, up to the first that isn't kept
 abbrev pub some_kept : {X : Type 0} → (X → Bool) → (X → Bool) → List X → Bool

@@ -1,7 +1,7 @@
 -- Days that cells of dates name.
 use Rattle.std.specs.Prelude.{ℕ, Bool, false, ◌&&◌, ◌==◌, nat_lt, List, length, Option, Some, None, if◌then◌else◌}
 use Rattle.cwr_fields.specs.Format.Bytes.{number_of}
-use Rattle.cwr_levels.specs.Format.Findings.{is_day}
+use Rattle.cwr_findings.specs.Format.Findings.{is_day}
 
 -- the day that a cell names, as the number of its eight digits: their order is that of days; spaces and zeros name none
 abbrev pub day_in : List ℕ → Option ℕ

@@ -4,9 +4,9 @@ use Rattle.std.specs.List.{list_any, sum_by}
 use Rattle.cwr_fields.specs.declared.kinds.Kind.{Kind}
 use Rattle.cwr_fields.specs.declared.kinds.Kind.TheVariants as kinds
 use Rattle.cwr_lines.specs.Format.Records.{RecordValue}
-use Rattle.cwr_levels.specs.Format.Fields.{IsField}
-use Rattle.cwr_levels.specs.Format.Findings.{is_a, is_blank, is_owner, share_of}
-use Rattle.cwr_levels.specs.Steps.Walks.{capped}
+use Rattle.cwr_findings.specs.Format.Fields.{IsField}
+use Rattle.cwr_findings.specs.Format.Findings.{is_a, is_blank, is_owner, share_of}
+use Rattle.cwr_findings.specs.Steps.Walks.{capped}
 use Rattle.cwr_advice.specs.declared.owners.Owned.{Owned}
 use Rattle.cwr_advice.specs.declared.facts.Facts.{Facts}
 use Rattle.cwr_advice.specs.declared.stated.Stated.{Stated}

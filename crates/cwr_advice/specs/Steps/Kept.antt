@@ -6,8 +6,8 @@ use Rattle.std.specs.Option.{is_some}
 use Rattle.std.specs.Str.{bytes_eq}
 use Rattle.cwr_fields.specs.declared.kinds.Kind.TheVariants as kinds
 use Rattle.cwr_lines.specs.Format.Records.{RecordValue, cell_named}
-use Rattle.cwr_levels.specs.Format.Findings.{has_party_number, is_a, is_blank, is_owner, share_of}
-use Rattle.cwr_levels.specs.Steps.Walks.{capped}
+use Rattle.cwr_findings.specs.Format.Findings.{has_party_number, is_a, is_blank, is_owner, share_of}
+use Rattle.cwr_findings.specs.Steps.Walks.{capped}
 use Rattle.cwr_advice.specs.declared.kept.AdviceSums.{AdviceSums}
 use Rattle.cwr_advice.specs.declared.kept_headers.Headers.{Headers}
 use Rattle.cwr_advice.specs.declared.owing.Owing.{Owing}

@@ -8,9 +8,9 @@ use Rattle.cwr_lines.specs.Format.Records.{RecordValue}
 use Rattle.cwr_values.specs.declared.items.Item.{Item}
 use Rattle.cwr_values.specs.declared.items.Item.TheVariants.{Ended, GroupClosed, GroupOpened, Opened, Transaction}
 use Rattle.cwr_judge.specs.Format.Items.{is_transaction, opens_group, records_in}
-use Rattle.cwr_levels.specs.declared.rules.Finding.{Finding}
-use Rattle.cwr_levels.specs.Format.Findings.{findings}
-use Rattle.cwr_levels.specs.Format.ReportLines.{finding_line}
+use Rattle.cwr_findings.specs.declared.rules.Finding.{Finding}
+use Rattle.cwr_findings.specs.Format.Findings.{findings}
+use Rattle.cwr_findings.specs.Format.ReportLines.{finding_line}
 use Rattle.cwr_tools.specs.declared.totals.Totals.{Totals}
 use Rattle.cwr_notes.specs.Format.FindingNotes.{explained_finding}
 use Rattle.cwr_tools.specs.Format.Reports.{transaction_lines}

@@ -6,7 +6,7 @@ use Rattle.std.specs.List.{flat_map}
 use Rattle.cwr_devices.specs.declared.sinks.Sink.{Sink}
 use Rattle.cwr_devices.specs.declared.sinks.SinkFault.{SinkFault}
 use Rattle.cwr_devices.specs.Steps.Sinks.{writer_of, written_of, has_failed, HasWritten, Puts, CountsOn}
-use Rattle.cwr_levels.specs.Steps.Putting.{PutsText}
+use Rattle.cwr_findings.specs.Steps.Putting.{PutsText}
 use Rattle.cwr_encode.proofs.lemmas.Numbered.{numbered, puts_as, step_more, steps_refused, steps_whole}
 
 -- a text that was made is put

@@ -17,8 +17,8 @@ use Rattle.std.proofs.lemmas.Slice.Eq.{bytes_eq-Decides}
 use Rattle.cwr_fields.specs.declared.kinds.Kind.{Kind}
 use Rattle.cwr_fields.specs.declared.kinds.Kind.TheVariants as kinds
 use Rattle.cwr_lines.specs.Format.Records.{IsRecord, RecordValue}
-use Rattle.cwr_levels.specs.Format.Fields.{IsField}
-use Rattle.cwr_levels.proofs.lemmas.NamedCells.{cell_width}
+use Rattle.cwr_findings.specs.Format.Fields.{IsField}
+use Rattle.cwr_findings.proofs.lemmas.NamedCells.{cell_width}
 use Rattle.cwr_values.specs.declared.items.Item.{Item}
 use Rattle.cwr_values.specs.declared.items.Item.TheVariants as items
 use Rattle.cwr_tools.specs.declared.totals.Totals.{Totals}

@@ -4,7 +4,7 @@ use Rattle.std.specs.List.{list_any}
 use Rattle.cwr_shape.specs.declared.reasons.Level.{Level}
 use Rattle.cwr_values.specs.declared.items.Item.{Item}
 use Rattle.cwr_values.specs.declared.items.Item.TheVariants.{Transaction}
-use Rattle.cwr_levels.specs.Format.Findings.{findings}
+use Rattle.cwr_findings.specs.Format.Findings.{findings}
 use Rattle.cwr_tools.specs.Format.Reports.{ItemLines}
 use Rattle.cwr_tools.specs.Format.Watching.{has_from, is_reached, is_reached_by}
 use Rattle.cwr_advice.specs.declared.rules.Advice.{Advice}

@@ -6,7 +6,7 @@ use Rattle.cwr_lines.specs.Format.Records.{RecordValue}
 use Rattle.cwr_values.specs.declared.items.Item.{Item}
 use Rattle.cwr_values.specs.declared.items.Item.TheVariants.{Opened, Transaction}
 use Rattle.cwr_judge.specs.Format.Items.{is_transaction, opens_group, records_in}
-use Rattle.cwr_levels.specs.Format.Findings.{findings}
+use Rattle.cwr_findings.specs.Format.Findings.{findings}
 use Rattle.cwr_tools.specs.declared.verdicts.Verdict.{Verdict}
 use Rattle.cwr_tools.specs.declared.verdicts.Verdict.TheVariants.{Refused}
 use Rattle.cwr_tools.specs.Format.Reports.{ItemLines, transaction_lines}

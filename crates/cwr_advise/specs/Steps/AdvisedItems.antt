@@ -2,7 +2,7 @@
 use Rattle.std.specs.Prelude.{◌≡◌, ℕ, ◌+◌, ◌-◌, ◌^◌, min, Bool, true, List, [], ◌++◌, length, flat_map, Option, Result}
 use Rattle.cwr_values.specs.declared.items.Item.{Item}
 use Rattle.cwr_values.specs.declared.items.Item.TheVariants.{Transaction}
-use Rattle.cwr_levels.specs.Format.Findings.{findings}
+use Rattle.cwr_findings.specs.Format.Findings.{findings}
 use Rattle.cwr_lines.specs.Format.Records.{RecordValue}
 use Rattle.cwr_tools.specs.declared.totals.Totals.{Totals}
 use Rattle.cwr_devices.specs.declared.sinks.Sink.{Sink}

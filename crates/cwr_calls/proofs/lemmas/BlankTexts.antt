@@ -12,7 +12,7 @@ use Rattle.cwr_fields.proofs.lemmas.FieldStarts.{field_at-start}
 use Rattle.cwr_fields.specs.Format.Kinds.{letters}
 use Rattle.cwr_fields.specs.Format.Layouts.{FieldLayout, field_with_start, fields_after_type, layout, fields_with_starts}
 use Rattle.cwr_lines.specs.Format.Records.{blank_cell}
-use Rattle.cwr_levels.proofs.lemmas.OneMore.{take_more}
+use Rattle.cwr_findings.proofs.lemmas.OneMore.{take_more}
 use Rattle.cwr_encode.proofs.lemmas.PutRows.{none_within}
 use Rattle.cwr_calls.specs.Format.FieldNumbers.{blank_line}
 

@@ -8,7 +8,7 @@ use Rattle.cwr_fields.specs.Format.Bytes.{is_plain}
 use Rattle.cwr_lines.specs.Format.Records.{RecordValue}
 use Rattle.cwr_shape.specs.declared.reasons.Reason.{Reason}
 use Rattle.cwr_shape.specs.declared.reasons.Reason.TheVariants as reasons
-use Rattle.cwr_levels.specs.Format.Findings.{is_a}
+use Rattle.cwr_findings.specs.Format.Findings.{is_a}
 use Rattle.cwr_notes.specs.Format.WorkNames.{name_line, work_line}
 use Rattle.cwr_causes.specs.Format.Sequences.{sequence_in}
 use Rattle.cwr_causes.specs.Format.Texts.{byte_words}

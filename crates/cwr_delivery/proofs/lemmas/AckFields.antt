@@ -3,8 +3,8 @@ use Rattle.std.proofs.Common.{◌≡◌, true, refl, sym, subst}
 use Rattle.cwr_fields.specs.declared.kinds.Kind.{Kind}
 use Rattle.cwr_fields.specs.declared.kinds.Kind.TheVariants as kinds
 use Rattle.cwr_lines.specs.Format.Records.{RecordValue}
-use Rattle.cwr_levels.specs.Format.Fields.{IsField}
-use Rattle.cwr_levels.proofs.lemmas.KindTests.{kind_of}
+use Rattle.cwr_findings.specs.Format.Fields.{IsField}
+use Rattle.cwr_findings.proofs.lemmas.KindTests.{kind_of}
 use Rattle.cwr_delivery.specs.Format.Acknowledgements.{is_ack, is_message}
 
 in_ack : (P : Kind → Type 0) (r : RecordValue) → is_ack r ≡ true → P kinds.Ack → P r.kind

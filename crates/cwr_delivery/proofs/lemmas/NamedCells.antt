@@ -7,9 +7,9 @@ use Rattle.std.specs.List.{list_any}
 use Rattle.std.proofs.lemmas.List.Folds.{list_any-append}
 use Rattle.cwr_lines.specs.Format.Records.{RecordValue, IsRecord, cell_named}
 use Rattle.cwr_lines.specs.Format.Carried.{record_cell}
-use Rattle.cwr_levels.specs.Format.Fields.{IsField}
-use Rattle.cwr_levels.proofs.lemmas.NamedCells.{cell_width, named_cell}
-use Rattle.cwr_levels.proofs.lemmas.OneMore.{take_more}
+use Rattle.cwr_findings.specs.Format.Fields.{IsField}
+use Rattle.cwr_findings.proofs.lemmas.NamedCells.{cell_width, named_cell}
+use Rattle.cwr_findings.proofs.lemmas.OneMore.{take_more}
 
 -- the cell of a field is that of its name
 pub cell_is : (name : String) (r : RecordValue) (j wide : ℕ) (cell : List ℕ) → cell ≡ unwrap_or (record_cell r j) []

@@ -16,7 +16,7 @@ use Rattle.cwr_fields.specs.declared.kinds.Kind.TheVariants as kinds
 use Rattle.cwr_fields.specs.Format.Layouts.{FieldLayout}
 use Rattle.cwr_lines.specs.Format.Records.{RecordValue, IsCellOf, IsRecord, carried_fields}
 use Rattle.cwr_lines.specs.Format.Carried.{carried_at, carried_before, record_cell}
-use Rattle.cwr_levels.proofs.lemmas.KindTests.{kind_of}
+use Rattle.cwr_findings.proofs.lemmas.KindTests.{kind_of}
 use Rattle.cwr_delivery.specs.Format.Acknowledgements.{is_ack, status_in}
 use Rattle.cwr_delivery.proofs.lemmas.NamedCells.{cell_is}
 use Rattle.cwr_delivery.proofs.lemmas.AckFields.{status as status_field}

@@ -4,12 +4,12 @@ use Rattle.std.specs.Prelude.{Bool, Result, Ok, Err, IfErr, IfOk, OnOk, is_err}
 use Rattle.cwr_devices.specs.declared.sinks.Sink.{Sink}
 use Rattle.cwr_devices.specs.declared.sinks.SinkFault.{SinkFault}
 use Rattle.cwr_devices.specs.Steps.Sinks.{CountsOn, HasWritten, has_failed, writer_of}
-use Rattle.cwr_levels.specs.Steps.Putting.{PutsText}
+use Rattle.cwr_findings.specs.Steps.Putting.{PutsText}
 use Rattle.cwr_tools.specs.declared.verdicts.ToolFault.{ToolFault}
 use Rattle.cwr_tools.specs.declared.verdicts.ToolFault.TheVariants as faults
 use Rattle.cwr_tools.specs.Steps.Reports.{PutsLines}
 use Rattle.cwr_judge.specs.declared.refusals.Refusal.{Refusal}
-use Rattle.cwr_levels.specs.Format.ReportLines.{fault_line}
+use Rattle.cwr_findings.specs.Format.ReportLines.{fault_line}
 use Rattle.cwr_lint.specs.Format.FaultsOfLines.{Asking, IsFaultText}
 use Rattle.cwr_lint.specs.Steps.CutShort.{UnlessWriter}
 use Rattle.cwr_lint.specs.Steps.Runs.{AreWords}

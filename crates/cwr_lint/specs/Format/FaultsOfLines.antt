@@ -4,7 +4,7 @@ use Rattle.std.specs.Prelude.{flat_map, length, Option, Some, None}
 use Rattle.cwr_lines.specs.Format.Records.{RecordValue}
 use Rattle.cwr_shape.specs.declared.reasons.Reason.{Reason}
 use Rattle.cwr_judge.specs.declared.refusals.Refusal.{Refusal}
-use Rattle.cwr_levels.specs.Format.ReportLines.{fault_line}
+use Rattle.cwr_findings.specs.Format.ReportLines.{fault_line}
 use Rattle.cwr_tools.specs.Format.Reports.{transaction_lines}
 use Rattle.cwr_advice.specs.declared.rules.Advice.{Advice}
 use Rattle.cwr_advice.specs.declared.said.Said.{Said}

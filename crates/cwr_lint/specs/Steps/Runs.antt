@@ -10,7 +10,7 @@ use Rattle.cwr_fields.specs.declared.kinds.Kind.TheVariants.{Trl}
 use Rattle.cwr_judge.specs.declared.refusals.Refusal.{Refusal}
 use Rattle.cwr_advice.specs.declared.rules.Advice.{Advice}
 use Rattle.cwr_advise.specs.Steps.AdviceCounts.{summary_by}
-use Rattle.cwr_levels.specs.Format.ReportLines.{faults_line}
+use Rattle.cwr_findings.specs.Format.ReportLines.{faults_line}
 use Rattle.cwr_lint.specs.declared.linting.LintRun.{LintRun}
 use Rattle.cwr_lint.specs.declared.puts.Asked.{Asked}
 use Rattle.cwr_lint.specs.declared.raw_lines.RawLine.{RawLine}

@@ -5,8 +5,8 @@ use Rattle.cwr_lines.specs.Format.Records.{RecordValue, IsRecord}
 use Rattle.cwr_lines.specs.Steps.Held.{HeldLine, carried_by}
 use Rattle.cwr_values.specs.Format.Begun.{BeginsWithOneMore}
 use Rattle.cwr_judge.specs.declared.refusals.Refusal.{Refusal}
-use Rattle.cwr_levels.specs.Format.Findings.{findings}
-use Rattle.cwr_levels.specs.Format.ReportLines.{faults_line}
+use Rattle.cwr_findings.specs.Format.Findings.{findings}
+use Rattle.cwr_findings.specs.Format.ReportLines.{faults_line}
 use Rattle.cwr_lint.specs.Format.Told.{truncated_unless}
 use Rattle.cwr_lint_lines.specs.declared.judging.Judged.{Judged}
 use Rattle.cwr_lint_lines.specs.declared.judging.Judged.TheVariants.{Unknown, Known as Of}

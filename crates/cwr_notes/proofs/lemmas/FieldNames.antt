@@ -11,7 +11,7 @@ use Rattle.cwr_fields.specs.Format.Layouts.{FieldLayout, layout, record_type, fi
 use Rattle.cwr_lines.specs.Format.Records.{RecordValue}
 use Rattle.cwr_lines.specs.Format.Carried.{carried_at, record_cell}
 use Rattle.cwr_fields.proofs.lemmas.FieldStarts.{field_at-start}
-use Rattle.cwr_levels.specs.Format.Fields.{index_of_name}
+use Rattle.cwr_findings.specs.Format.Fields.{index_of_name}
 use Rattle.cwr_notes.specs.Format.FindingNotes.{named_line, noted_line, number_of_field}
 use Rattle.cwr_notes.proofs.lemmas.CellsOfFields.{carried_field}
 

@@ -7,7 +7,7 @@ use Rattle.std.proofs.lemmas.Bool.{lt-ltb}
 use Rattle.cwr_devices.specs.declared.sinks.Sink.{Sink}
 use Rattle.cwr_devices.specs.Steps.Sinks.{writer_of, has_failed, HasWritten, Puts}
 use Rattle.cwr_encode.proofs.lemmas.Numbered.{numbered, puts_as, step_more, steps_refused, steps_whole}
-use Rattle.cwr_levels.specs.Steps.Putting.{PutsText}
+use Rattle.cwr_findings.specs.Steps.Putting.{PutsText}
 use Rattle.cwr_devices.specs.declared.sinks.SinkFault.{SinkFault}
 
 -- a line that is put to a sink that hasn't failed

@@ -4,8 +4,8 @@ use Rattle.std.specs.Prelude.{Result, Ok, Err, IsErr, slice_get}
 use Rattle.std.specs.List.{flat_map}
 use Rattle.std.specs.Option.{option_to_list}
 use Rattle.cwr_lines.specs.Format.Records.{RecordValue}
-use Rattle.cwr_levels.specs.declared.rules.Rule.{Rule}
-use Rattle.cwr_levels.specs.declared.rules.Finding.{Finding}
+use Rattle.cwr_findings.specs.declared.rules.Rule.{Rule}
+use Rattle.cwr_findings.specs.declared.rules.Finding.{Finding}
 use Rattle.cwr_devices.specs.declared.sinks.Sink.{Sink}
 use Rattle.cwr_devices.specs.Steps.Sinks.{has_failed, HasWritten, Puts}
 use Rattle.cwr_encode.proofs.lemmas.Numbered.{puts_as, puts_both, puts_cut}

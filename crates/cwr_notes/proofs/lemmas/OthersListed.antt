@@ -7,10 +7,10 @@ use Rattle.std.proofs.lemmas.Bool.{or_left, or_right, or_from}
 use Rattle.std.proofs.lemmas.List.{drop_all, length-take-le}
 use Rattle.cwr_fields.specs.declared.kinds.Kind.TheVariants as kinds
 use Rattle.cwr_lines.specs.Format.Records.{RecordValue}
-use Rattle.cwr_levels.specs.declared.rules.Rule.{Rule}
-use Rattle.cwr_levels.specs.Format.Findings.{is_a, is_party}
-use Rattle.cwr_levels.proofs.lemmas.KindTests.{is_of_no_kind}
-use Rattle.cwr_levels.proofs.lemmas.OneMore.{drop_more, length_taken, take_more}
+use Rattle.cwr_findings.specs.declared.rules.Rule.{Rule}
+use Rattle.cwr_findings.specs.Format.Findings.{is_a, is_party}
+use Rattle.cwr_findings.proofs.lemmas.KindTests.{is_of_no_kind}
+use Rattle.cwr_findings.proofs.lemmas.OneMore.{drop_more, length_taken, take_more}
 use Rattle.cwr_notes.specs.declared.other_records.OtherRecords.{OtherRecords}
 use Rattle.cwr_notes.specs.Format.FindingNotes.{is_header, last_position, others, parties_from, positions, positions_from}
 use Rattle.cwr_notes.specs.Steps.OtherRecords.{AreListed, is_other}

@@ -9,14 +9,14 @@ use Rattle.std.proofs.lemmas.List.Elements.{filter-append}
 use Rattle.cwr_fields.specs.declared.kinds.Kind.TheVariants as kinds
 use Rattle.cwr_fields.specs.Format.Bytes.{number_of}
 use Rattle.cwr_lines.specs.Format.Records.{RecordValue, IsRecord, cell_named}
-use Rattle.cwr_levels.specs.declared.rules.Rule.{Rule}
-use Rattle.cwr_levels.specs.declared.rules.Rule.TheVariants.{V3, V4}
-use Rattle.cwr_levels.specs.Format.Fields.{IsField}
-use Rattle.cwr_levels.specs.Format.Findings.{is_a, is_owner, ownership, share_of}
-use Rattle.cwr_levels.proofs.lemmas.NamedCells.{named_cell}
-use Rattle.cwr_levels.proofs.lemmas.NumberCells.{share_is_number}
-use Rattle.cwr_levels.proofs.lemmas.OneMore.{take_more}
-use Rattle.cwr_levels.proofs.lemmas.RuleTests.{cell_of_field}
+use Rattle.cwr_findings.specs.declared.rules.Rule.{Rule}
+use Rattle.cwr_findings.specs.declared.rules.Rule.TheVariants.{V3, V4}
+use Rattle.cwr_findings.specs.Format.Fields.{IsField}
+use Rattle.cwr_findings.specs.Format.Findings.{is_a, is_owner, ownership, share_of}
+use Rattle.cwr_findings.proofs.lemmas.NamedCells.{named_cell}
+use Rattle.cwr_findings.proofs.lemmas.NumberCells.{share_is_number}
+use Rattle.cwr_findings.proofs.lemmas.OneMore.{take_more}
+use Rattle.cwr_findings.proofs.lemmas.RuleTests.{cell_of_field}
 use Rattle.cwr_notes.specs.Format.FindingNotes.{right_of}
 
 share_by : (right : String) (r : RecordValue) (b : Bool)

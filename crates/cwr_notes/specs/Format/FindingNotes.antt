@@ -17,12 +17,12 @@ use Rattle.cwr_shape.specs.declared.reasons.Level.TheVariants as levels
 use Rattle.cwr_values.specs.declared.items.Item.{Item}
 use Rattle.cwr_values.specs.declared.items.Item.TheVariants.{Transaction}
 use Rattle.cwr_judge.specs.Format.Items.{records_in, opens_group, is_transaction}
-use Rattle.cwr_levels.specs.declared.rules.Rule.{Rule}
-use Rattle.cwr_levels.specs.declared.rules.Rule.TheVariants.{V1, V2, V3, V4, V5, V6, V7, V8, V9, V10, V11}
-use Rattle.cwr_levels.specs.declared.rules.Finding.{Finding}
-use Rattle.cwr_levels.specs.Format.Fields.{index_of_name}
-use Rattle.cwr_levels.specs.Format.Findings.{findings, is_a, is_owner, is_party, ownership}
-use Rattle.cwr_levels.specs.Format.ReportLines.{finding_line}
+use Rattle.cwr_findings.specs.declared.rules.Rule.{Rule}
+use Rattle.cwr_findings.specs.declared.rules.Rule.TheVariants.{V1, V2, V3, V4, V5, V6, V7, V8, V9, V10, V11}
+use Rattle.cwr_findings.specs.declared.rules.Finding.{Finding}
+use Rattle.cwr_findings.specs.Format.Fields.{index_of_name}
+use Rattle.cwr_findings.specs.Format.Findings.{findings, is_a, is_owner, is_party, ownership}
+use Rattle.cwr_findings.specs.Format.ReportLines.{finding_line}
 use Rattle.cwr_notes.specs.Format.WorkNames.{work_of}
 
 -- ---- in words

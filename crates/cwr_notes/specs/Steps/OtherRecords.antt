@@ -2,9 +2,9 @@
 use Rattle.std.specs.Prelude.{◌≡◌, ℕ, Bool, List, length, take}
 use Rattle.cwr_fields.specs.declared.kinds.Kind.TheVariants as kinds
 use Rattle.cwr_lines.specs.Format.Records.{RecordValue}
-use Rattle.cwr_levels.specs.declared.rules.Rule.{Rule}
-use Rattle.cwr_levels.specs.declared.rules.Rule.TheVariants.{V6, V9}
-use Rattle.cwr_levels.specs.Format.Findings.{is_a, is_owner}
+use Rattle.cwr_findings.specs.declared.rules.Rule.{Rule}
+use Rattle.cwr_findings.specs.declared.rules.Rule.TheVariants.{V6, V9}
+use Rattle.cwr_findings.specs.Format.Findings.{is_a, is_owner}
 use Rattle.cwr_notes.specs.declared.other_records.OtherRecords.{OtherRecords}
 use Rattle.cwr_notes.specs.declared.passed.Passed.{Passed}
 use Rattle.cwr_notes.specs.Format.FindingNotes.{is_header, is_writer, last_position, most_others, positions}

@@ -5,8 +5,8 @@ use Rattle.cwr_devices.specs.declared.sinks.Sink.{Sink}
 use Rattle.cwr_devices.specs.declared.sinks.SinkFault.{SinkFault}
 use Rattle.cwr_devices.specs.Steps.Sinks.{Puts, has_failed}
 use Rattle.cwr_encode.proofs.lemmas.Numbered.{puts_as, puts_cut}
-use Rattle.cwr_levels.specs.Format.ReportLines.{input_mark}
-use Rattle.cwr_levels.specs.Steps.Putting.{PutsText}
+use Rattle.cwr_findings.specs.Format.ReportLines.{input_mark}
+use Rattle.cwr_findings.specs.Steps.Putting.{PutsText}
 use Rattle.cwr_tools.specs.declared.verdicts.JoinFault.{JoinFault}
 use Rattle.cwr_parts.specs.Format.Outcomes.{input_line, is_of_input, join_outcome}
 use Rattle.cwr_notes.proofs.lemmas.FindingsPut.{puts_line}

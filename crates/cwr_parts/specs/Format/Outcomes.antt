@@ -1,6 +1,6 @@
 -- The lines that say how a split or a join ended.
 use Rattle.std.specs.Prelude.{ℕ, Bool, true, false, List, [], ◌++◌, Result, Ok, Err, if◌then◌else◌}
-use Rattle.cwr_levels.specs.Format.ReportLines.{input_mark, joined_line, limit_line, refusal_line, split_line, truncated_line}
+use Rattle.cwr_findings.specs.Format.ReportLines.{input_mark, joined_line, limit_line, refusal_line, split_line, truncated_line}
 use Rattle.cwr_tools.specs.declared.verdicts.JoinFault.{JoinFault}
 use Rattle.cwr_tools.specs.declared.verdicts.JoinReport.{JoinReport}
 use Rattle.cwr_tools.specs.declared.verdicts.SplitReport.{SplitReport}

@@ -1,6 +1,6 @@
 -- The line that says how a renumbering ended.
 use Rattle.std.specs.Prelude.{ℕ, List, Result, Ok, Err}
-use Rattle.cwr_levels.specs.Format.ReportLines.{good_line}
+use Rattle.cwr_findings.specs.Format.ReportLines.{good_line}
 use Rattle.cwr_tools.specs.declared.verdicts.JoinReport.{JoinReport}
 use Rattle.cwr_tools.specs.declared.verdicts.ToolFault.{ToolFault}
 use Rattle.cwr_parts.specs.Format.Outcomes.{input_line}

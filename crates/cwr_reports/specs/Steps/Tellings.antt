@@ -15,7 +15,7 @@ use Rattle.cwr_acks.specs.declared.forms.Form.{Form}
 use Rattle.cwr_acks.specs.Format.AckLines.{lines_of_acks}
 use Rattle.cwr_acks.specs.Format.AckLines.{Telling as AckTelling}
 use Rattle.cwr_advise.specs.Format.AdviceLines.{lines_of_advice}
-use Rattle.cwr_csv.specs.Format.TableLines.{lines_of_table}
+use Rattle.cwr_tables.specs.Format.TableLines.{lines_of_table}
 use Rattle.cwr_explain.specs.Steps.Explained.{Explains}
 use Rattle.cwr_lint.specs.Format.Wanted.{wanting}
 use Rattle.cwr_lint.specs.Steps.Lints.{Lints, Tells}

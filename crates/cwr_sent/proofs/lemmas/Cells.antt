@@ -4,9 +4,9 @@ use Rattle.std.specs.Prelude.{◌⊎◌, ◌||◌}
 use Rattle.cwr_fields.specs.declared.kinds.Kind.{Kind}
 use Rattle.cwr_fields.specs.declared.kinds.Kind.TheVariants as kinds
 use Rattle.cwr_lines.specs.Format.Records.{RecordValue}
-use Rattle.cwr_levels.specs.Format.Fields.{IsField}
-use Rattle.cwr_levels.specs.Format.Findings.{is_a}
-use Rattle.cwr_levels.proofs.lemmas.KindTests.{kind_of}
+use Rattle.cwr_findings.specs.Format.Fields.{IsField}
+use Rattle.cwr_findings.specs.Format.Findings.{is_a}
+use Rattle.cwr_findings.proofs.lemmas.KindTests.{kind_of}
 use Rattle.cwr_sent.specs.Format.SentFacts.{is_work_header}
 
 either : (a b : Bool) → (a || b) ≡ true → (a ≡ true) ⊎ (b ≡ true)

@@ -7,7 +7,7 @@ use Rattle.cwr_fields.specs.declared.kinds.Kind.{Kind}
 use Rattle.cwr_fields.specs.declared.kinds.Kind.TheVariants as kinds
 use Rattle.cwr_lines.specs.Format.Records.{RecordValue, cell_named}
 use Rattle.cwr_values.specs.Format.Values.{GroupValue, TransmissionValue}
-use Rattle.cwr_levels.specs.Format.Findings.{is_a}
+use Rattle.cwr_findings.specs.Format.Findings.{is_a}
 use Rattle.cwr_sent.specs.declared.created.Created.{Created}
 use Rattle.cwr_sent.specs.declared.facts.SentFacts.{SentFacts}
 

@@ -5,8 +5,8 @@ use Rattle.std.specs.Prelude.{unwrap_or}
 use Rattle.cwr_fields.specs.Format.Bytes.{trimmed}
 use Rattle.cwr_lines.specs.Format.Records.{RecordValue, IsRecord, cell_named}
 use Rattle.cwr_lines.specs.Format.Carried.{record_cell}
-use Rattle.cwr_levels.specs.Format.Fields.{IsField}
-use Rattle.cwr_levels.proofs.lemmas.NamedCells.{cell_width, named_cell}
+use Rattle.cwr_findings.specs.Format.Fields.{IsField}
+use Rattle.cwr_findings.proofs.lemmas.NamedCells.{cell_width, named_cell}
 use Rattle.cwr_json.proofs.lemmas.FieldsShown.{length-trimmed-le}
 
 -- the cell of a field is that of its name

@@ -4,10 +4,10 @@ use Rattle.std.specs.Prelude.{◌⊎◌, ◌||◌}
 use Rattle.cwr_fields.specs.declared.kinds.Kind.{Kind}
 use Rattle.cwr_fields.specs.declared.kinds.Kind.TheVariants as kinds
 use Rattle.cwr_lines.specs.Format.Records.{RecordValue}
-use Rattle.cwr_levels.specs.Format.Fields.{HasSharesFrom, IsField}
-use Rattle.cwr_levels.specs.Format.Findings.{is_a}
-use Rattle.cwr_levels.proofs.lemmas.KindTests.{kind_of}
-use Rattle.cwr_levels.proofs.lemmas.RuleFields.{shares_of_opu, shares_of_owr, shares_of_spu, shares_of_swr}
+use Rattle.cwr_findings.specs.Format.Fields.{HasSharesFrom, IsField}
+use Rattle.cwr_findings.specs.Format.Findings.{is_a}
+use Rattle.cwr_findings.proofs.lemmas.KindTests.{kind_of}
+use Rattle.cwr_findings.proofs.lemmas.RuleFields.{shares_of_opu, shares_of_owr, shares_of_spu, shares_of_swr}
 use Rattle.cwr_tables.specs.declared.works.Side.TheVariants.{Publishers, Writers}
 use Rattle.cwr_tables.specs.Format.WorkTables.{is_header, is_on}
 

@@ -3,7 +3,7 @@ use Rattle.std.specs.Prelude.{ℕ, List, [], ◌∷◌, codes, if◌then◌else�
 use Rattle.cwr_fields.specs.declared.kinds.Kind.{Kind}
 use Rattle.cwr_fields.specs.Format.Kinds.{is_in_transaction}
 -- the number and the title
-pub use Rattle.cwr_levels.specs.Format.Headers.{work_number, work_title}
+pub use Rattle.cwr_findings.specs.Format.Headers.{work_number, work_title}
 
 -- the columns of these, where records of the kind stand in transactions
 abbrev pub header_columns : Kind → List (List ℕ)

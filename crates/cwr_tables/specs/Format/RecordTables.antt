@@ -11,7 +11,7 @@ use Rattle.cwr_judge.specs.Format.Items.{is_transaction, opens_group}
 use Rattle.cwr_json.specs.declared.encodings.Encoding.{Encoding}
 use Rattle.cwr_json.specs.Format.Encodings.{characters}
 use Rattle.cwr_json.specs.Format.Forms.{key_of}
-use Rattle.cwr_levels.specs.Format.Findings.{is_a}
+use Rattle.cwr_findings.specs.Format.Findings.{is_a}
 use Rattle.cwr_tables.specs.declared.places.Place.{Place}
 use Rattle.cwr_tables.specs.declared.places.RowNumbers.{RowNumbers}
 use Rattle.cwr_tables.specs.declared.places.RowNumbers.TheVariants.{Outside, InGroup, InTransaction}

@@ -9,7 +9,7 @@ use Rattle.cwr_lines.specs.Format.Records.{RecordValue, cell_named}
 use Rattle.cwr_values.specs.declared.items.Item.{Item}
 use Rattle.cwr_values.specs.declared.items.Item.TheVariants.{Transaction}
 use Rattle.cwr_json.specs.declared.encodings.Encoding.{Encoding}
-use Rattle.cwr_levels.specs.Format.Findings.{is_a, is_blank, share_of}
+use Rattle.cwr_findings.specs.Format.Findings.{is_a, is_blank, share_of}
 use Rattle.cwr_tables.specs.declared.places.Place.{Place}
 use Rattle.cwr_tables.specs.declared.works.Side.{Side}
 use Rattle.cwr_tables.specs.declared.works.Side.TheVariants.{Writers, Publishers}

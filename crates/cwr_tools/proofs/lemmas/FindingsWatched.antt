@@ -9,8 +9,8 @@ use Rattle.cwr_shape.specs.declared.reasons.Level.{Level}
 use Rattle.cwr_lines.specs.Format.Records.{RecordValue}
 use Rattle.cwr_values.specs.declared.items.Item.{Item}
 use Rattle.cwr_values.specs.declared.items.Item.TheVariants as items
-use Rattle.cwr_levels.specs.declared.rules.Finding.{Finding}
-use Rattle.cwr_levels.specs.Format.Findings.{findings}
+use Rattle.cwr_findings.specs.declared.rules.Finding.{Finding}
+use Rattle.cwr_findings.specs.Format.Findings.{findings}
 use Rattle.cwr_tools.specs.Format.Watching.{any_from, findings_with, has_from, is_from, is_reached, is_reached_by, item_findings, item_has_from, reach}
 use Rattle.cwr_tools.specs.Steps.Watching.{IsWorst, Sees}
 

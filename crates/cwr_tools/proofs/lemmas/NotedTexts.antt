@@ -9,9 +9,9 @@ use Rattle.cwr_lines.specs.Format.Records.{RecordValue}
 use Rattle.cwr_values.specs.declared.items.Item.{Item}
 use Rattle.cwr_values.specs.declared.items.Item.TheVariants.{Transaction}
 use Rattle.cwr_judge.specs.Format.Items.{records_in, opens_group, is_transaction}
-use Rattle.cwr_levels.specs.declared.rules.Finding.{Finding}
-use Rattle.cwr_levels.specs.Format.Findings.{findings}
-use Rattle.cwr_levels.specs.Format.ReportLines.{finding_line}
+use Rattle.cwr_findings.specs.declared.rules.Finding.{Finding}
+use Rattle.cwr_findings.specs.Format.Findings.{findings}
+use Rattle.cwr_findings.specs.Format.ReportLines.{finding_line}
 use Rattle.cwr_tools.specs.declared.verdicts.Verdict.{Verdict}
 use Rattle.cwr_notes.specs.Format.FindingNotes.{explained_finding, explained_findings, explained_in, explained_lines}
 use Rattle.cwr_notes.specs.Format.FindingNotes.{finding_notes, notes_on}

@@ -6,8 +6,8 @@ use Rattle.cwr_values.specs.Format.Rows.{rows}
 use Rattle.cwr_values.specs.declared.items.Item.{Item}
 use Rattle.cwr_values.specs.declared.items.Item.TheVariants.{Transaction}
 use Rattle.cwr_judge.specs.Format.Items.{records_in, opens_group, is_transaction}
-use Rattle.cwr_levels.specs.Format.Findings.{findings}
-use Rattle.cwr_levels.specs.Format.ReportLines.{refusal_line, truncated_line, good_line, finding_line}
+use Rattle.cwr_findings.specs.Format.Findings.{findings}
+use Rattle.cwr_findings.specs.Format.ReportLines.{refusal_line, truncated_line, good_line, finding_line}
 use Rattle.cwr_notes.specs.Format.RecordTexts.{numbered_records}
 use Rattle.cwr_tools.specs.declared.verdicts.Verdict.{Verdict}
 use Rattle.cwr_tools.specs.declared.verdicts.Verdict.TheVariants.{Good, Refused, Truncated}

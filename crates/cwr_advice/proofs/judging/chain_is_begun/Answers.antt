@@ -1,6 +1,6 @@
 use Rattle.std.proofs.Common.{◌≡◌, ◌+◌, ◌-◌, ◌<◌, ◌≤◌, length, take, sym, ◌∙◌, arith}
 use Rattle.std.proofs.lemmas.List.{length-take}
-use Rattle.cwr_levels.proofs.lemmas.OneMore.{any_there}
+use Rattle.cwr_findings.proofs.lemmas.OneMore.{any_there}
 use Rattle.cwr_advice.specs.Format.Rules.{in_chain}
 use Rattle.cwr_advice.proofs.lemmas.BegunChains.{found_in_front, none_at_all, none_behind, none_within, one_before}
 use Rattle.cwr_advice.proofs.judging.chain_is_begun.Goals as goal

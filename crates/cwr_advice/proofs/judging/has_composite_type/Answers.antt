@@ -1,6 +1,6 @@
 use Rattle.std.proofs.Common.{◌≡◌, true, sym, ap, ◌∙◌}
 use Rattle.std.specs.Prelude.{not}
-use Rattle.cwr_levels.specs.Format.Findings.{is_blank}
+use Rattle.cwr_findings.specs.Format.Findings.{is_blank}
 use Rattle.cwr_advice.specs.Format.Rules.{is_header}
 use Rattle.cwr_advice.proofs.lemmas.AdvisedFields.{and_true, blank_composite}
 use Rattle.cwr_advice.proofs.judging.has_composite_type.Goals as goal

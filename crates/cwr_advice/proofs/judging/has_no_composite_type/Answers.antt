@@ -1,7 +1,7 @@
 use Rattle.std.proofs.Common.{refl, sym, ap, ◌∙◌}
 use Rattle.cwr_fields.specs.Format.Bytes.{is_spaces}
-use Rattle.cwr_levels.specs.Format.Findings.{is_blank}
-use Rattle.cwr_levels.proofs.lemmas.NamedCells.{named_cell}
+use Rattle.cwr_findings.specs.Format.Findings.{is_blank}
+use Rattle.cwr_findings.proofs.lemmas.NamedCells.{named_cell}
 use Rattle.cwr_advice.specs.Format.Rules.{is_header}
 use Rattle.cwr_advice.proofs.lemmas.AdvisedFields.{and_true, composite_of_header}
 use Rattle.cwr_advice.proofs.judging.has_no_composite_type.Goals as goal

@@ -1,7 +1,7 @@
 use Rattle.std.proofs.Common.{List, ℕ, refl, sym, ap, ◌∙◌}
 use Rattle.std.specs.Str.{bytes_eq}
 use Rattle.cwr_lines.specs.Format.Records.{cell_named}
-use Rattle.cwr_levels.proofs.lemmas.NamedCells.{named_cell}
+use Rattle.cwr_findings.proofs.lemmas.NamedCells.{named_cell}
 use Rattle.cwr_advice.specs.Format.Rules.{is_publisher}
 use Rattle.cwr_advice.proofs.lemmas.AdvisedFields.{and_true, sequence_of_publisher}
 use Rattle.cwr_advice.proofs.judging.in_chain.Goals as goal

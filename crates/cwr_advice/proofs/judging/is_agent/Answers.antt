@@ -1,6 +1,6 @@
 use Rattle.std.proofs.Common.{refl, sym, ap, ◌∙◌}
 use Rattle.cwr_lines.specs.Format.Records.{cell_named}
-use Rattle.cwr_levels.proofs.lemmas.NamedCells.{named_cell}
+use Rattle.cwr_findings.proofs.lemmas.NamedCells.{named_cell}
 use Rattle.cwr_advice.specs.Format.Rules.{is_publisher, names_agent}
 use Rattle.cwr_advice.proofs.lemmas.AdvisedFields.{and_true, type_of_publisher}
 use Rattle.cwr_advice.proofs.judging.is_agent.Goals as goal

@@ -1,7 +1,7 @@
 use Rattle.std.proofs.Common.{sym, take, ◌∙◌}
 use Rattle.std.specs.List.{list_any}
 use Rattle.cwr_fields.specs.declared.kinds.Kind.TheVariants as kinds
-use Rattle.cwr_levels.specs.Format.Findings.{is_a}
+use Rattle.cwr_findings.specs.Format.Findings.{is_a}
 use Rattle.cwr_advice.specs.Format.Rules.{has_no_composite_type}
 use Rattle.cwr_advice.proofs.lemmas.AdvisedFields.{and_true}
 use Rattle.cwr_advice.proofs.lemmas.BegunChains.{first_alone}

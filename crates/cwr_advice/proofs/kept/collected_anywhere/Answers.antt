@@ -1,5 +1,5 @@
 use Rattle.std.proofs.Common.{sym, ◌∙◌}
-use Rattle.cwr_levels.specs.Format.Findings.{share_of}
+use Rattle.cwr_findings.specs.Format.Findings.{share_of}
 use Rattle.cwr_advice.specs.Format.Rules.{is_territory}
 use Rattle.cwr_advice.proofs.lemmas.AdvisedFields.{all_if, none_if}
 use Rattle.cwr_advice.proofs.kept.collected_anywhere.Goals as goal

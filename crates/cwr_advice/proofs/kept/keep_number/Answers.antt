@@ -1,5 +1,5 @@
 use Rattle.std.proofs.Common.{sym, ◌∙◌}
-use Rattle.cwr_levels.proofs.lemmas.SummedRecords.{on_ok}
+use Rattle.cwr_findings.proofs.lemmas.SummedRecords.{on_ok}
 use Rattle.cwr_advice.proofs.lemmas.CalmRecords.{since_territory}
 use Rattle.cwr_advice.proofs.kept.keep_number.Goals as goal
 

@@ -1,5 +1,5 @@
 use Rattle.std.proofs.Common.{sym, ◌∙◌, arith}
-use Rattle.cwr_levels.specs.Format.Findings.{is_owner, share_of}
+use Rattle.cwr_findings.specs.Format.Findings.{is_owner, share_of}
 use Rattle.cwr_advice.proofs.lemmas.AdvisedFields.{all_if, none_if}
 use Rattle.cwr_advice.proofs.owners.owned_by.Goals as goal
 

@@ -1,6 +1,6 @@
 use Rattle.std.proofs.Common.{◌≡◌, true, sym, ap, ◌∙◌}
 use Rattle.std.specs.Prelude.{nat_lt}
-use Rattle.cwr_levels.specs.Format.Findings.{share_of}
+use Rattle.cwr_findings.specs.Format.Findings.{share_of}
 use Rattle.cwr_advice.specs.Format.Rules.{is_publisher}
 use Rattle.cwr_advice.proofs.lemmas.AdvisedFields.{and_true, publisher_owns}
 use Rattle.cwr_advice.proofs.owners.owns_over_half.Goals as goal

@@ -1,9 +1,9 @@
 use Rattle.std.proofs.Common.{refl, ap, ◌∙◌}
 use Rattle.cwr_fields.specs.Format.Bytes.{number_of}
 use Rattle.cwr_lines.specs.Format.Records.{cell_named}
-use Rattle.cwr_levels.proofs.lemmas.AddedShares.{share_is_short}
-use Rattle.cwr_levels.proofs.lemmas.NamedCells.{named_cell}
-use Rattle.cwr_levels.proofs.lemmas.NumberCells.{share_is_number}
+use Rattle.cwr_findings.proofs.lemmas.AddedShares.{share_is_short}
+use Rattle.cwr_findings.proofs.lemmas.NamedCells.{named_cell}
+use Rattle.cwr_findings.proofs.lemmas.NumberCells.{share_is_number}
 use Rattle.cwr_advice.proofs.owners.shares_from.Goals as goal
 
 pub number_of-requires : goal.number_of-requires

@@ -1,7 +1,7 @@
 use Rattle.std.proofs.Common.{sym, ap, ◌∙◌}
 use Rattle.std.specs.Prelude.{not}
 use Rattle.std.proofs.lemmas.Bool.{and_left}
-use Rattle.cwr_levels.specs.Format.Findings.{is_blank, is_owner}
+use Rattle.cwr_findings.specs.Format.Findings.{is_blank, is_owner}
 use Rattle.cwr_advice.specs.declared.stated.Stated.{Stated}
 use Rattle.cwr_advice.proofs.lemmas.AdvisedFields.{and_true}
 use Rattle.cwr_advice.proofs.stated.stated_by.Goals as goal

@@ -1,6 +1,6 @@
 use Rattle.std.proofs.Common.{List, take, sym, subst, ◌∙◌, arith}
 use Rattle.cwr_lines.specs.Format.Records.{RecordValue}
-use Rattle.cwr_levels.proofs.lemmas.OneMore.{take_more}
+use Rattle.cwr_findings.proofs.lemmas.OneMore.{take_more}
 use Rattle.cwr_advice.specs.Steps.Facts.{AreCollectedIn}
 use Rattle.cwr_advice.proofs.lemmas.BegunChains.{none_within}
 use Rattle.cwr_advice.proofs.lemmas.SinceParty.{same_first}

@@ -1,7 +1,7 @@
 use Rattle.std.proofs.Common.{◌≡◌, ◌+◌, ◌-◌, ◌≤◌, List, length, sym, ap, ◌∙◌, arith}
 use Rattle.std.specs.List.{after_last, list_any}
 use Rattle.cwr_lines.specs.Format.Records.{RecordValue}
-use Rattle.cwr_levels.specs.Format.Findings.{is_owner}
+use Rattle.cwr_findings.specs.Format.Findings.{is_owner}
 use Rattle.cwr_advice.specs.Format.Rules.{is_territory_of}
 use Rattle.cwr_advice.proofs.lemmas.BegunChains.{none_within}
 use Rattle.cwr_advice.proofs.lemmas.SinceParty.{same_first, since_before, since_here, since_none, since_other}

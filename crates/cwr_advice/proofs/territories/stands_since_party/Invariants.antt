@@ -1,6 +1,6 @@
 use Rattle.std.proofs.Common.{◌≡◌, ◌≤◌, take}
 use Rattle.std.specs.List.{list_any, after_last}
-use Rattle.cwr_levels.specs.Format.Findings.{is_owner}
+use Rattle.cwr_findings.specs.Format.Findings.{is_owner}
 use Rattle.cwr_advice.specs.Format.Rules.{is_territory_of}
 use Rattle.cwr_advice.proofs.territories.stands_since_party.Given as goal
 

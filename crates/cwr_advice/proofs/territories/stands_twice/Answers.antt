@@ -1,7 +1,7 @@
 use Rattle.std.proofs.Common.{◌≡◌, ℕ, List, true, take, sym, ap, ◌∙◌}
 use Rattle.std.specs.List.{after_last, list_any}
 use Rattle.cwr_lines.specs.Format.Records.{cell_named}
-use Rattle.cwr_levels.specs.Format.Findings.{is_owner}
+use Rattle.cwr_findings.specs.Format.Findings.{is_owner}
 use Rattle.cwr_advice.specs.Format.Rules.{is_compared, is_territory_of}
 use Rattle.cwr_advice.proofs.lemmas.AdvisedFields.{and_true}
 use Rattle.cwr_advice.proofs.lemmas.SinceParty.{compared_territory}

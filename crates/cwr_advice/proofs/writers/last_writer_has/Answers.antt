@@ -1,6 +1,6 @@
 use Rattle.std.proofs.Common.{◌≡◌, ℕ, ◌+◌, ◌-◌, ◌≤◌, length, take, sym, ap, ◌∙◌, arith}
 use Rattle.std.specs.Str.{bytes_eq}
-use Rattle.cwr_levels.specs.Format.Findings.{has_party_number}
+use Rattle.cwr_findings.specs.Format.Findings.{has_party_number}
 use Rattle.cwr_advice.specs.Format.Rules.{last_writer}
 use Rattle.cwr_advice.proofs.lemmas.AdvisedFields.{named_number}
 use Rattle.cwr_advice.proofs.lemmas.BegunChains.{none_within}

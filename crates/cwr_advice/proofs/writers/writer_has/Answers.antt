@@ -1,6 +1,6 @@
 use Rattle.std.proofs.Common.{sym, ap, ◌∙◌}
 use Rattle.std.specs.Prelude.{not}
-use Rattle.cwr_levels.specs.Format.Findings.{is_a}
+use Rattle.cwr_findings.specs.Format.Findings.{is_a}
 use Rattle.cwr_advice.specs.Format.Rules.{is_writer}
 use Rattle.cwr_advice.proofs.lemmas.WriterRecords.{found, passed_over, stopped}
 use Rattle.cwr_advice.proofs.writers.writer_has.Goals as goal

@@ -1,7 +1,7 @@
 use Rattle.std.proofs.Common.{◌≡◌, drop}
 use Rattle.std.specs.Prelude.{not}
 use Rattle.std.specs.List.{list_any}
-use Rattle.cwr_levels.specs.Format.Findings.{is_a}
+use Rattle.cwr_findings.specs.Format.Findings.{is_a}
 use Rattle.cwr_advice.specs.Format.Rules.{is_writer, records_of_writer}
 use Rattle.cwr_advice.proofs.lemmas.WriterRecords.{some_kept}
 use Rattle.cwr_advice.proofs.writers.writer_has.Given as goal

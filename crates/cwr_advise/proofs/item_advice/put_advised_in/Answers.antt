@@ -2,7 +2,7 @@ use Rattle.std.proofs.Common.{◌≡◌, ◌+◌, ◌++◌, ◌||◌, List, Opti
 use Rattle.std.specs.Prelude.{Result}
 use Rattle.std.specs.List.{flat_map, list_any}
 use Rattle.cwr_shape.specs.declared.reasons.Level.{Level}
-use Rattle.cwr_levels.specs.Format.Findings.{findings}
+use Rattle.cwr_findings.specs.Format.Findings.{findings}
 use Rattle.cwr_values.specs.declared.items.Item.TheVariants.{Transaction}
 use Rattle.cwr_tools.specs.declared.verdicts.ToolFault.{ToolFault}
 use Rattle.cwr_tools.specs.Format.Reports.{has_findings, transaction_lines}

@@ -1,6 +1,6 @@
 use Rattle.std.proofs.Common.{◌≡◌, List, [], ◌++◌, refl, sym, ap, ◌∙◌, append-nil}
 use Rattle.std.specs.Prelude.{ℕ}
-use Rattle.cwr_levels.specs.Format.ReportLines.{faults_line}
+use Rattle.cwr_findings.specs.Format.ReportLines.{faults_line}
 use Rattle.cwr_lint.specs.Format.Told.{truncated_unless}
 use Rattle.cwr_lint.specs.Steps.CutShort.{IsFrontOf}
 use Rattle.cwr_lint.proofs.lemmas.CutShort.{leaves_other, then_leaves}

@@ -1,5 +1,5 @@
 use Rattle.std.proofs.Common.{◌≡◌, ℕ, Bool, List, subst, sym}
-use Rattle.cwr_levels.specs.Format.ReportLines.{truncated_line}
+use Rattle.cwr_findings.specs.Format.ReportLines.{truncated_line}
 use Rattle.cwr_lint.specs.Format.Told.{truncated_unless}
 use Rattle.cwr_lint.specs.Steps.CutShort.{Leaves}
 use Rattle.cwr_lint.proofs.lemmas.CutShort.{text_leaves}

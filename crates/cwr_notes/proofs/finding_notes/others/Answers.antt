@@ -1,5 +1,5 @@
 use Rattle.std.proofs.Common.{inl, inr}
-use Rattle.cwr_levels.specs.declared.rules.Rule.TheVariants.{V3, V4, V5, V6, V9}
+use Rattle.cwr_findings.specs.declared.rules.Rule.TheVariants.{V3, V4, V5, V6, V9}
 use Rattle.cwr_notes.proofs.lemmas.OthersListed.{at_rule}
 use Rattle.cwr_notes.proofs.finding_notes.others.Goals as goal
 

@@ -1,5 +1,5 @@
 use Rattle.cwr_encode.proofs.lemmas.Numbered.{puts_both, puts_cut}
-use Rattle.cwr_levels.specs.Format.ReportLines.{finding_line}
+use Rattle.cwr_findings.specs.Format.ReportLines.{finding_line}
 use Rattle.cwr_notes.specs.Format.FindingNotes.{finding_notes}
 use Rattle.cwr_notes.proofs.lemmas.FindingsPut.{puts_line}
 use Rattle.cwr_notes.proofs.finding_notes.put_explained.Goals as goal

@@ -1,6 +1,6 @@
 use Rattle.std.proofs.Common.{◌++◌, refl, sym, ap, ◌∙◌}
 use Rattle.std.specs.Prelude.{codes}
-use Rattle.cwr_levels.specs.declared.rules.Rule.{Rule}
+use Rattle.cwr_findings.specs.declared.rules.Rule.{Rule}
 use Rattle.cwr_notes.specs.Format.FindingNotes.{named_line, noted_cells}
 use Rattle.cwr_notes.proofs.lemmas.TextsAdded.{first_added, then_added}
 use Rattle.cwr_notes.proofs.note_lines.push_noted.Goals as goal

@@ -1,7 +1,7 @@
 use Rattle.std.proofs.Common.{sym, subst, ◌∙◌, inl, inr}
 use Rattle.cwr_fields.specs.declared.kinds.Kind.{Kind}
-use Rattle.cwr_levels.specs.Format.Fields.{HasSharesFrom}
-use Rattle.cwr_levels.proofs.lemmas.RuleFields.{shares_of_spu, shares_of_opu, shares_of_swr, shares_of_owr}
+use Rattle.cwr_findings.specs.Format.Fields.{HasSharesFrom}
+use Rattle.cwr_findings.proofs.lemmas.RuleFields.{shares_of_spu, shares_of_opu, shares_of_swr, shares_of_owr}
 use Rattle.cwr_notes.proofs.other_records.owned_share.Goals as goal
 
 pub share_from-requires-clause-there : goal.share_from-requires-clause-there

@@ -1,5 +1,5 @@
 use Rattle.std.proofs.Common.{ap}
-use Rattle.cwr_levels.proofs.lemmas.AddedShares.{share_is_short}
+use Rattle.cwr_findings.proofs.lemmas.AddedShares.{share_is_short}
 use Rattle.cwr_notes.specs.Format.FindingNotes.{right_of}
 use Rattle.cwr_notes.proofs.lemmas.OwnedShares.{read_share, third_right}
 use Rattle.cwr_notes.proofs.other_records.share_from.Goals as goal

@@ -1,5 +1,5 @@
 use Rattle.std.proofs.Common.{◌≡◌, ◌≤◌, ◌*◌, take}
-use Rattle.cwr_levels.specs.Format.Findings.{ownership}
+use Rattle.cwr_findings.specs.Format.Findings.{ownership}
 use Rattle.cwr_notes.specs.Format.FindingNotes.{right_of}
 use Rattle.cwr_notes.proofs.other_records.total_of.Given as goal
 

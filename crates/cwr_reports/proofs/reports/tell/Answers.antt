@@ -9,7 +9,7 @@ use Rattle.cwr_tools.proofs.lemmas.RightReports.{judged_text}
 use Rattle.cwr_acks.specs.Format.AckLines.{lines_of_acks}
 use Rattle.cwr_advise.specs.Format.AdviceLevels.{IsWorstTold}
 use Rattle.cwr_advise.specs.Format.AdviceLines.{lines_of_advice}
-use Rattle.cwr_csv.specs.Format.TableLines.{lines_of_table}
+use Rattle.cwr_tables.specs.Format.TableLines.{lines_of_table}
 use Rattle.cwr_endings.specs.declared.endings.Look.{Look}
 use Rattle.cwr_reports.specs.Steps.Looks.{LooksAfter, tells_findings}
 use Rattle.cwr_reports.specs.Format.Endings.{advice_in}

@@ -2,8 +2,8 @@ use Rattle.std.proofs.Common.{◌≡◌, ℕ, List, ◌++◌, Bool, true, cond, 
 use Rattle.std.specs.Prelude.{replicate}
 use Rattle.cwr_fields.specs.declared.kinds.Kind.TheVariants as kinds
 use Rattle.cwr_lines.specs.Format.Records.{cell_named}
-use Rattle.cwr_levels.specs.Format.Findings.{is_a}
-use Rattle.cwr_levels.proofs.lemmas.NamedCells.{cell_width, named_cell}
+use Rattle.cwr_findings.specs.Format.Findings.{is_a}
+use Rattle.cwr_findings.proofs.lemmas.NamedCells.{cell_width, named_cell}
 use Rattle.cwr_sent.proofs.lemmas.Cells.{sender_id, sender_type}
 use Rattle.cwr_sent.proofs.answers.sender_of.Goals as goal
 

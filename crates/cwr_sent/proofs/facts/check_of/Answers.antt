@@ -1,7 +1,7 @@
 use Rattle.std.proofs.Common.{◌≡◌, Bool, cond, [], refl, sym, ap, ◌∙◌}
 use Rattle.cwr_fields.specs.Format.Bytes.{trimmed}
 use Rattle.cwr_lines.specs.Format.Records.{cell_named}
-use Rattle.cwr_levels.proofs.lemmas.NamedCells.{named_cell}
+use Rattle.cwr_findings.proofs.lemmas.NamedCells.{named_cell}
 use Rattle.cwr_sent.specs.Format.SentFacts.{title_check}
 use Rattle.cwr_sent.proofs.lemmas.Cells.{title}
 use Rattle.cwr_sent.proofs.facts.check_of.Goals as goal

@@ -1,8 +1,8 @@
 use Rattle.std.proofs.Common.{◌≡◌, List, ℕ, Bool, cond, refl, sym, ap, ap₂, ◌∙◌, arith, length}
 use Rattle.cwr_fields.specs.declared.kinds.Kind.TheVariants as kinds
-use Rattle.cwr_levels.specs.Format.Findings.{is_a}
+use Rattle.cwr_findings.specs.Format.Findings.{is_a}
 use Rattle.cwr_lines.specs.Format.Records.{cell_named}
-use Rattle.cwr_levels.proofs.lemmas.NamedCells.{cell_width, named_cell}
+use Rattle.cwr_findings.proofs.lemmas.NamedCells.{cell_width, named_cell}
 use Rattle.cwr_sent.specs.Format.SentFacts.{no_number}
 use Rattle.cwr_sent.proofs.lemmas.Cells.{agreement_number, work_number}
 use Rattle.cwr_sent.proofs.facts.number_of_head.Goals as goal

@@ -1,6 +1,6 @@
 use Rattle.std.proofs.Common.{refl, ◌∙◌}
-use Rattle.cwr_levels.proofs.lemmas.AddedShares.{share_is_short}
-use Rattle.cwr_levels.proofs.lemmas.NamedCells.{named_cell}
+use Rattle.cwr_findings.proofs.lemmas.AddedShares.{share_is_short}
+use Rattle.cwr_findings.proofs.lemmas.NamedCells.{named_cell}
 use Rattle.cwr_tables.proofs.lemmas.Owners.{share_in_cell}
 use Rattle.cwr_tables.proofs.works.shares_from.Goals as goal
 

@@ -1,7 +1,7 @@
 use Rattle.std.proofs.Common.{◌≡◌, ◌≤◌, ◌-◌, ◌++◌, ℕ, List, Option, length, take, false}
 use Rattle.std.specs.List.{flat_map}
 use Rattle.cwr_devices.specs.Steps.Sinks.{HasWritten, has_failed, writer_of}
-use Rattle.cwr_levels.specs.Format.ReportLines.{finding_line}
+use Rattle.cwr_findings.specs.Format.ReportLines.{finding_line}
 use Rattle.cwr_tools.proofs.finding_lines.put_found.Given as goal
 
 abbrev pub invariant-loop-finding : goal.invariant-loop-finding

@@ -2,8 +2,8 @@ use Rattle.std.proofs.Common.{sym, subst, arith, rules}
 use Rattle.std.specs.Prelude.{take}
 use Rattle.std.proofs.lemmas.List.{take_all}
 use Rattle.cwr_encode.proofs.lemmas.PutRows.{found_within}
-use Rattle.cwr_levels.specs.Steps.Sums.{StandFor}
-use Rattle.cwr_levels.proofs.lemmas.OneMore.{take_more}
+use Rattle.cwr_findings.specs.Steps.Sums.{StandFor}
+use Rattle.cwr_findings.proofs.lemmas.OneMore.{take_more}
 use Rattle.cwr_tools.proofs.viewing.is_clean.Goals as goal
 
 pub records-init : goal.records-init

@@ -1,5 +1,5 @@
 use Rattle.std.proofs.Common.{◌≤◌, ◌-◌, length, take}
-use Rattle.cwr_levels.specs.Steps.Sums.{StandFor}
+use Rattle.cwr_findings.specs.Steps.Sums.{StandFor}
 use Rattle.cwr_tools.proofs.viewing.is_clean.Given as goal
 
 abbrev pub invariant-records : goal.invariant-records

@@ -1,6 +1,6 @@
 use Rattle.std.proofs.Common.{List, take, sym, subst, ◌∙◌}
 use Rattle.cwr_lines.specs.Format.Records.{RecordValue}
-use Rattle.cwr_levels.proofs.lemmas.OneMore.{take_more}
+use Rattle.cwr_findings.proofs.lemmas.OneMore.{take_more}
 use Rattle.cwr_advice.specs.Steps.Facts.{AreFacts}
 use Rattle.cwr_advice.proofs.facts.Facts.of.Goals as goal
 

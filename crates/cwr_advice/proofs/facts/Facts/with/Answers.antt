@@ -1,5 +1,5 @@
 use Rattle.cwr_fields.specs.declared.kinds.Kind.TheVariants as kinds
-use Rattle.cwr_levels.specs.Format.Findings.{is_a, is_owner}
+use Rattle.cwr_findings.specs.Format.Findings.{is_a, is_owner}
 use Rattle.cwr_advice.specs.Format.Rules.{is_owning_publisher, is_territory, is_writer}
 use Rattle.cwr_advice.proofs.lemmas.CountedFacts.{any_more, counted_more, kept_sum_more}
 use Rattle.cwr_advice.proofs.lemmas.OwnedShares.{owned_if_writer, publisher_owns_some}

@@ -1,7 +1,7 @@
 use Rattle.std.specs.Prelude.{not}
 use Rattle.std.proofs.lemmas.Bool.{and_left, or_parts}
 use Rattle.cwr_fields.specs.declared.kinds.Kind.TheVariants as kinds
-use Rattle.cwr_levels.specs.Format.Findings.{is_a, is_blank, is_owner}
+use Rattle.cwr_findings.specs.Format.Findings.{is_a, is_blank, is_owner}
 use Rattle.cwr_advice.specs.Format.Rules.{is_owning_publisher, is_territory, is_writer, owns_shares, states}
 use Rattle.cwr_advice.proofs.lemmas.CountedFacts.{any_more}
 use Rattle.cwr_advice.proofs.lemmas.OtherRecords.{any_same, count_same, no_publisher, no_writer, sum_same}

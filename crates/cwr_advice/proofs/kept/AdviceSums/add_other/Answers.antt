@@ -3,7 +3,7 @@ use Rattle.std.specs.Prelude.{not}
 use Rattle.std.proofs.lemmas.Bool.{and_left, or_parts}
 use Rattle.cwr_fields.specs.declared.kinds.Kind.TheVariants as kinds
 use Rattle.cwr_lines.specs.Format.Records.{cell_named}
-use Rattle.cwr_levels.specs.Format.Findings.{is_a, is_blank}
+use Rattle.cwr_findings.specs.Format.Findings.{is_a, is_blank}
 use Rattle.cwr_advice.specs.Format.Rules.{is_publisher, is_territory, names_agent}
 use Rattle.cwr_advice.proofs.lemmas.CalmRecords.{begun_still, calm_more, controlled_writes, no_agent, since_other}
 use Rattle.cwr_advice.proofs.lemmas.LastWriters.{known_still}

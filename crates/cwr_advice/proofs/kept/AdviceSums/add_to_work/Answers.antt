@@ -1,6 +1,6 @@
 use Rattle.std.proofs.Common.{sym, ◌∙◌}
 use Rattle.cwr_fields.specs.declared.kinds.Kind.TheVariants as kinds
-use Rattle.cwr_levels.specs.Format.Findings.{is_a}
+use Rattle.cwr_findings.specs.Format.Findings.{is_a}
 use Rattle.cwr_advice.proofs.lemmas.CalmRecords.{calm_more, controlled_writes}
 use Rattle.cwr_advice.proofs.kept.AdviceSums.add_to_work.Goals as goal
 

@@ -1,6 +1,6 @@
 use Rattle.std.proofs.Common.{◌≡◌, [], refl, sym, ◌∙◌, append-nil}
 use Rattle.std.specs.Option.{is_some}
-use Rattle.cwr_levels.specs.Format.ReportLines.{fault_line}
+use Rattle.cwr_findings.specs.Format.ReportLines.{fault_line}
 use Rattle.cwr_lint.specs.Format.FaultsOfLines.{IsFaultText}
 use Rattle.cwr_lint.specs.Steps.Runs.{AreWords, asking_of}
 use Rattle.cwr_lint.proofs.lemmas.CutShort.{leaves_other, then_leaves}

@@ -1,7 +1,7 @@
 use Rattle.std.proofs.Common.{◌≡◌, true, false, refl, sym, ◌∙◌, inl, inr}
 use Rattle.cwr_fields.specs.declared.kinds.Kind.TheVariants as kinds
-use Rattle.cwr_levels.specs.Format.Findings.{is_a}
-use Rattle.cwr_levels.proofs.lemmas.KindTests.{is_of_kind, is_of_no_kind}
+use Rattle.cwr_findings.specs.Format.Findings.{is_a}
+use Rattle.cwr_findings.proofs.lemmas.KindTests.{is_of_kind, is_of_no_kind}
 use Rattle.cwr_notes.specs.Format.FindingNotes.{is_header}
 use Rattle.cwr_notes.proofs.lemmas.OthersListed.{is_no_header, is_other_header, is_some_header, last_more, last_same, listed_more}
 use Rattle.cwr_notes.proofs.lemmas.OthersListed.{listed_same}

@@ -1,2 +1,0 @@
--- What is promised, in the words of the format.
-pub mod TableLines

@@ -1,2 +1,0 @@
--- What the code keeps, and what its calls do to that.
-pub mod ItemRows
