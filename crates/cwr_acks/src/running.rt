@@ -116,7 +116,7 @@ fn write_answers<B: Before, R: Source, W: Target + Drop>(
         text: LineText::new(),
         before: PhantomData,
     };
-    let (writer, outcome, _) = write_report(&mut lines, false, alloc, limits, reader, writer);
+    let (writer, outcome) = write_report(&mut lines, alloc, limits, reader, writer);
     let AnswerLines {
         delivery,
         answers,

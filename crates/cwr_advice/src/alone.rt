@@ -4,10 +4,10 @@ ghost use Rattle.std.specs.Prelude.{◌≡◌};
 ghost use Rattle.cwr_fields.specs.declared.kinds.Kind.TheVariants as kinds;
 ghost use Rattle.cwr_advice.specs.Steps.Kept.{asked_of_names, may_break_alone, may_break_one, may_break_some};
 
+use crate::advice_questions::breaks_alone;
 use crate::asking::asked_of;
 use crate::characters::is_ascii;
 use crate::days::names_day;
-use crate::judging::breaks_alone;
 use crate::rules::AdviceRule;
 use crate::said::Said;
 use cwr_fields::Kind;

@@ -8,9 +8,9 @@ ghost use Rattle.cwr_advice.specs.Format.Rules.{advice_of, begins_with_agent, is
 ghost use Rattle.cwr_advice.specs.Steps.Kept.{AreAllCollected, AreCollectedAnywhere, AreKept, AreSinceParty, is_among, IsBegun, IsCalm};
 ghost use Rattle.cwr_advice.specs.Steps.Kept.{may_break_some, stands_again, StandsFor};
 
+use crate::advice_questions::{CHAIN, collects_nowhere, is_agent};
 use crate::alone::may_break_some;
 use crate::facts::Facts;
-use crate::judging::{CHAIN, collects_nowhere, is_agent};
 use crate::kept_headers::Headers;
 use crate::kept_writers::{Number, may_name_other, writer_with};
 use crate::owing::Owing;

@@ -4,7 +4,7 @@ ghost use Rattle.std.specs.Prelude.{◌≡◌, List, [], ◌++◌, ◌∷◌};
 ghost use Rattle.cwr_lines.specs.Format.Records.{RecordValue};
 ghost use Rattle.cwr_advice.specs.Steps.Kept.{AreHeaders};
 
-use crate::judging::{has_composite_type, has_no_composite_type, is_version};
+use crate::advice_questions::{has_composite_type, has_no_composite_type, is_version};
 use cwr_lines::RecordRef;
 
 /// What headers there are.

@@ -1,13 +1,13 @@
 //! Advice on transactions: what a society will send back, though the file is well formed.
 #![tactic(auto)]
 
+mod advice_questions;
 mod alone;
 mod asking;
 mod characters;
 mod checked_cells;
 mod days;
 mod facts;
-mod judging;
 mod kept;
 mod kept_headers;
 mod kept_writers;

@@ -4,9 +4,9 @@ ghost use Rattle.std.specs.Prelude.{◌≡◌, ◌≢◌, ◌+◌, ◌^◌, ◌<
 ghost use Rattle.cwr_advice.specs.Format.Rules.{advice_at, advice_of, is_acknowledgement};
 ghost use Rattle.cwr_advice.specs.Steps.Facts.{AreFacts};
 
+use crate::advice_questions::breaks;
 use crate::asking::asked_of;
 use crate::facts::Facts;
-use crate::judging::breaks;
 use crate::rules::Advice;
 use crate::said::Said;
 use cwr_fields::Kind;

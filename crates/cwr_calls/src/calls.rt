@@ -13,7 +13,7 @@ use crate::codes::{blank_line, put_code};
 use crate::fields::{CwrField, find_field, kind_at, place_of};
 use crate::imports::import_text;
 use crate::listing::{CwrFinding, list_findings};
-use crate::reports::{copy_out, report, what_is_asked};
+use crate::report_texts::{copy_out, report, what_is_asked};
 use crate::verdicts::{CwrVerdict, end_in_c, ended, in_c};
 use crate::writing::{CwrWritten, write_text, written};
 use cwr_decode::{IndexEntry, index};

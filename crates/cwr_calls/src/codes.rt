@@ -8,7 +8,7 @@ ghost use Rattle.cwr_lines.specs.Format.Carried.{carried_at};
 ghost use Rattle.cwr_lines.specs.Format.Records.{blank_cell};
 ghost use Rattle.cwr_calls.specs.Format.FieldNumbers.{PutsCode, PutsText, blank_line, listed_texts};
 
-use crate::reports::copy_out;
+use crate::report_texts::copy_out;
 use arrayvec::ArrayVec;
 use cwr_fields::{
     AgreementType, Cell, CellType, Coded, CompositeType, DistributionCategory, ExcerptType, Field,

@@ -6,7 +6,7 @@ mod codes;
 mod fields;
 mod imports;
 mod listing;
-mod reports;
+mod report_texts;
 mod verdicts;
 mod writing;
 

@@ -11,7 +11,7 @@ ghost use Rattle.cwr_decode.specs.Format.Entries.{IndexesTo};
 ghost use Rattle.cwr_decode.specs.Steps.TakenLines.{BeginsWithLine, PutsAt, RefusesText, TakesLine};
 
 use crate::endings::End;
-use crate::lines::{first_line, length_without_return};
+use crate::first_lines::{first_line, length_without_return};
 use cwr_fields::{Kind, SpelledPair};
 use cwr_judge::{Refusal, count_quickly, judge};
 use cwr_lines::{CutLine, LineBuf};

@@ -3,12 +3,12 @@
 
 mod decoders;
 mod endings;
+mod first_lines;
 mod indexing;
 mod keepers;
 mod kind_types;
 mod last_bytes;
 pub mod laws;
-mod lines;
 mod machine;
 mod outcomes;
 mod piecewise;
@@ -18,10 +18,10 @@ mod whole;
 pub use cwr_judge::Refusal;
 pub use decoders::Decoder;
 pub use endings::{End, end_of};
+pub use first_lines::first_line;
 pub use indexing::{IndexEntry, index};
 pub use keepers::Keeper;
 pub use last_bytes::LastBytes;
-pub use lines::first_line;
 pub use machine::Passed;
 pub use outcomes::{Answer, Outcome};
 pub use piecewise::read_pieces;

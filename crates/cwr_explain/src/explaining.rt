@@ -1,12 +1,9 @@
 //! Checking a transmission, and explaining what was found.
 
 ghost use Rattle.std.specs.Prelude.{◌≡◌, true, string_bytes, IfOk, IsSomeAnd, OnOk};
-ghost use Rattle.std.specs.Io.KnownBytes.{GrowsBy};
 ghost use Rattle.cwr_tools.specs.Format.Verdicts.{IsAnswerTo, JudgesText};
-ghost use Rattle.cwr_tools.specs.Format.Reports.{CountsAfter, CountsReaderFault, CountsWriterFault, CountsWritten, lines_of_explained};
+ghost use Rattle.cwr_tools.specs.Format.Reports.{CountsAfter, CountsReaderFault, CountsWriterFault, CountsWritten};
 ghost use Rattle.cwr_tools.specs.Format.Watching.{CountsAccepted};
-ghost use Rattle.cwr_tools.specs.Steps.Runs.{Runs};
-ghost use Rattle.cwr_tools.specs.Steps.Verdicts.{IsReadLast};
 ghost use Rattle.cwr_causes.specs.Format.Trailing.{CountsRead, IsTrailing, TakesMore};
 ghost use Rattle.cwr_explain.specs.Format.Explained.{ExplainsText, FindsAfter, ReadsOnly, WritesOnly};
 ghost use Rattle.cwr_explain.specs.Steps.Explained.{AddsExplanation, AddsText, Explains, Looks, SaysVerdict, is_good};
@@ -18,7 +15,9 @@ use cwr_causes::{
 use cwr_decode::LastRead;
 use cwr_devices::{DeviceFault, Sink, Source, Target};
 use cwr_shape::Limits;
-use cwr_tools::{FindingCount, FindingLines, Front, ToolFault, Verdict, write_report};
+use cwr_tools::{
+    FindingCount, FindingLines, Front, LastStep, ToolFault, Verdict, write_report_and,
+};
 use std::alloc::{AllocError, Global};
 
 /// Looks at what the reader has after the run: all of it after a transmission, and what tells more of a refused line.
@@ -153,24 +152,56 @@ fn add_explanation<R: Source, W: Target>(
     }
 }
 
-/// Checks a transmission as `check` does, and writes what that writes, with lines under each finding. How far it came is answered too, and
-/// the findings that were told.
-fn check_explained<R: Source, W: Target + Drop>(
-    alloc: Global,
-    limits: Limits,
-    reader: &mut R,
-    writer: W,
-) -> (W, Result<Verdict, ToolFault>, Front, FindingCount)
-    ensures runs { Runs lines_of_explained limits R.remaining R.failures reader.old reader.new
-        W.contents W.failures W.handed_on writer result.0 result.1 }
-    ensures told_of { OnOk result.1 (CountsAccepted limits (R.remaining reader.old) result.3) }
-    ensures counted { GrowsBy (W.contents writer) (W.contents result.0) result.2.written }
-    ensures last { IfOk result.1 (λ verdict. IsSomeAnd result.2.last
-        (IsReadLast limits (R.remaining reader.old) (R.remaining reader.new) verdict)) }
-{
-    let mut lines = FindingLines::explained();
-    let (writer, outcome, front) = write_report(&mut lines, true, alloc, limits, reader, writer);
-    (writer, outcome, front, lines.told())
+/// What explains a verdict: of a refusal where it is, what stands there and what may; of an input that ends too early what may come next;
+/// of a transmission what stands after it.
+#[derive(Drop)]
+struct LastWords<'a> {
+    /// The name of the input in these lines.
+    name: &'a str,
+    /// What stands after a transmission, once that was looked for.
+    found: Option<Trailing>,
+}
+
+impl<'a> LastStep<FindingLines> for LastWords<'a> {
+    ghost use Rattle.std.specs.Prelude.{true};
+    ghost use Rattle.cwr_explain.specs.Steps.Explained.{SaysLast};
+
+    ghost holds = { λ step. true };
+
+    ghost says = { λ before after lines limits. SaysLast limits before.name.now after.found };
+
+    fn holds_last(&self) -> bool {
+        true
+    }
+
+    fn go_on<R: Source, W: Target>(
+        &mut self,
+        _: &FindingLines,
+        alloc: Global,
+        limits: Limits,
+        verdict: Verdict,
+        front: &Front,
+        reader: &mut R,
+        writer: W,
+    ) -> (W, Result<Verdict, ToolFault>) {
+        match &front.last {
+            Some(last) => {
+                let (writer, explained, found) = add_explanation(
+                    alloc,
+                    &limits,
+                    self.name,
+                    reader,
+                    verdict,
+                    last,
+                    front.written,
+                    writer,
+                );
+                self.found = found;
+                (writer, explained)
+            }
+            None => unreachable!(),
+        }
+    }
 }
 
 /// Checks a transmission as `check` does, and writes what that writes. Then it writes lines that explain the verdict: of a
@@ -213,18 +244,8 @@ pub fn explain<R: Source, W: Target + Drop>(
     // All that was written was handed on.
     ensures handed_on { OnOk result.1 (W.handed_on result.0 ≡ true) }
 {
-    let (writer, checked, front, count) = check_explained(alloc, limits, reader, writer);
-    let Front { last, written } = front;
-    match checked {
-        Err(fault) => (writer, Err(fault), None, count),
-        Ok(verdict) => match last {
-            None => (writer, Ok(verdict), None, count),
-            Some(last) => {
-                let (writer, explained, found) = add_explanation(
-                    alloc, &limits, name, reader, verdict, &last, written, writer,
-                );
-                (writer, explained, found, count)
-            }
-        },
-    }
+    let mut lines = FindingLines::explained();
+    let mut words = LastWords { name, found: None };
+    let (writer, outcome) = write_report_and(&mut lines, &mut words, alloc, limits, reader, writer);
+    (writer, outcome, words.found, lines.told())
 }

@@ -2,8 +2,8 @@
 #![tactic(auto)]
 
 mod before;
+mod finding_questions;
 mod headers;
-mod judging;
 mod named_cells;
 mod publishers;
 mod registered;

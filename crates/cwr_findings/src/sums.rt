@@ -12,7 +12,7 @@ ghost use Rattle.cwr_findings.specs.Steps.Sums.{wants_other};
 ghost use Rattle.cwr_findings.specs.Steps.Walks.{IsBefore};
 
 use crate::before::Before;
-use crate::judging::{ends_before_start, has_wrong_iswc, is_number, names_another_party};
+use crate::finding_questions::{ends_before_start, has_wrong_iswc, is_number, names_another_party};
 use crate::named_cells::{
     COMPONENT_COUNT, EXCERPT_TYPE, PUBLISHER_NUMBER, PUBLISHER_OF_WRITER, WRITER_NUMBER, cell,
     is_of, number_of,

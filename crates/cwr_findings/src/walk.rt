@@ -5,7 +5,7 @@ ghost use Rattle.cwr_findings.specs.Format.Findings.{field_of_rule, level_of_rul
 ghost use Rattle.cwr_findings.specs.Steps.Walks.{AreTotals, IsBefore, KnowsNumbersOf, can_break, rules_on};
 
 use crate::before::Before;
-use crate::judging::breaks;
+use crate::finding_questions::breaks;
 use crate::publishers::Publishers;
 use crate::registered::Registered;
 use crate::rules::{Finding, Rule};

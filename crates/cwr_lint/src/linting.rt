@@ -1,19 +1,14 @@
 //! Every fault of a transmission in one pass.
 
-ghost use Rattle.std.specs.Prelude.{◌≡◌, ◌==◌, ◌&&◌, ◌+◌, ◌-◌, ◌<◌, ◌≤◌, ℕ, true, false, IfOk, OnOk, IsSomeAnd};
+ghost use Rattle.std.specs.Prelude.{◌≡◌, ◌==◌, ◌&&◌, ◌+◌, ◌-◌, ◌<◌, ◌≤◌, ℕ, List, true, false, IfOk, IsTrue, OnOk};
 ghost use Rattle.std.specs.Option.{is_some};
-ghost use Rattle.std.specs.Io.KnownBytes.{GrowsBy, Keeps};
+ghost use Rattle.std.specs.Io.KnownBytes.{Appends, Keeps};
 ghost use Rattle.cwr_devices.specs.Steps.Sinks.{counted_up, has_failed, writer_of, written_of};
 ghost use Rattle.cwr_causes.specs.Format.Trailing.{TakesMore};
 ghost use Rattle.cwr_tools.specs.Format.Reports.{AddsWords, CountsAfter, CountsReaderFault, CountsWriterFault, CountsWritten, JudgesAccepted};
-ghost use Rattle.cwr_tools.specs.Format.Reports.{lines_up_to_fault};
 ghost use Rattle.cwr_tools.specs.Format.Verdicts.{IsAnswerTo, JudgesText};
 ghost use Rattle.cwr_lines.specs.Steps.Held.{held_body, held_kind};
-ghost use Rattle.cwr_tools.specs.Steps.Reports.{StandsAfter};
-ghost use Rattle.cwr_tools.specs.Steps.Runs.{Runs};
-ghost use Rattle.cwr_tools.specs.Steps.Verdicts.{IsReadLast};
-ghost use Rattle.cwr_advise.specs.Format.AdviceLines.{lines_advised};
-ghost use Rattle.cwr_lint.specs.Format.Wanted.{lines_before_fault, lines_linted, wanting};
+ghost use Rattle.cwr_lint.specs.Format.Wanted.{asking_so, lines_linted, wanting};
 ghost use Rattle.cwr_lint_lines.specs.Format.FaultsAtFields.{fields_end, one_more_line};
 ghost use Rattle.cwr_lint_lines.specs.Steps.Fronts.{state_at};
 ghost use Rattle.cwr_lint.specs.Steps.Walks.{AfterJudged, counts_ended, ended_by, findings_after, judged_in, state_by, told_ended};
@@ -22,7 +17,7 @@ ghost use Rattle.cwr_fields.specs.Format.Bytes.{is_spaces};
 ghost use Rattle.cwr_lint_lines.specs.Steps.JudgedLines.{IsFaultFrom, IsJudged, ends_by, judged_at, scope_by};
 ghost use Rattle.cwr_lint_lines.specs.Steps.Cells.{held_cut};
 ghost use Rattle.cwr_lint.specs.Steps.LinesRead.{IsOfLine, held_raw};
-ghost use Rattle.cwr_lint.specs.Steps.Lints.{AddsEnd, EndsRun, HasBegun, Lints, Tells, counted};
+ghost use Rattle.cwr_lint.specs.Steps.Lints.{AddsEnd, EndsRun, Lints, SaysFollows, Tells, counted};
 ghost use Rattle.cwr_lint.specs.Steps.Puts.{TellsWith, AppendsSuch, PutsWith, TellsRead};
 ghost use Rattle.cwr_lint.specs.Steps.Runs.{BeginsAt, TakesAll, TakesFirst, TakesFrom, TakesLine, TakesNextIf, TakesRead, TellsJudged, TellsRun, TellsSoMany};
 ghost use Rattle.cwr_lint.specs.Steps.CutShort.{AppendsUpTo, IsFirstPart, Leaves, LeavesOrUnread, TakesFromPart, TakesNextPart, TakesSome};
@@ -41,7 +36,7 @@ use cwr_lines::{CutLine, LineBuf, Record};
 use cwr_lint_lines::{Judged, LintState, Taking};
 use cwr_notes::WorkLine;
 use cwr_shape::{Limits, level};
-use cwr_tools::{FindingLines, Front, ToolFault, Verdict, write_report};
+use cwr_tools::{FindingLines, Front, LastStep, Report, ToolFault, Verdict, write_report_and};
 use cwr_values::Transaction;
 use std::alloc::{AllocError, Global};
 
@@ -642,13 +637,9 @@ fn explain_end<W: Target>(
     finish(Verdict::Truncated { records }, told, before, sink)
 }
 
-/// What is known where the check has ended with which a lint begins.
+/// What a check told of a transmission before its first fault.
 #[derive(Drop)]
 struct Begun {
-    /// What was read last, where there is a verdict.
-    last: Option<LastRead>,
-    /// The bytes that were written. It stays at `u64::MAX`.
-    written: u64,
     /// The findings that were told. It stays at `u64::MAX`.
     findings: u64,
     /// What the header says, where advice is wanted.
@@ -657,97 +648,151 @@ struct Begun {
     advice: AdviceCounts,
 }
 
-/// Checks a transmission up to its first fault, and explains its findings where that is wanted.
-fn check_alone<R: Source, W: Target + Drop>(
-    alloc: Global,
-    limits: Limits,
-    explained: bool,
-    reader: &mut R,
-    writer: W,
-) -> (W, Result<Verdict, ToolFault>, Begun)
-    ensures runs { Runs (lines_up_to_fault explained) limits R.remaining R.failures reader.old
-        reader.new W.contents W.failures W.handed_on writer result.0 result.1 }
-    ensures counted { GrowsBy (W.contents writer) (W.contents result.0) result.2.written }
-    ensures said { IfOk result.1 (StandsAfter (HasBegun false result.2.said result.2.findings
-        result.2.advice) limits (R.remaining reader.old) (R.remaining reader.new)) }
-    ensures last { IfOk result.1 (λ verdict. IsSomeAnd result.2.last
-        (IsReadLast limits (R.remaining reader.old) (R.remaining reader.new) verdict)) }
-{
-    let mut lines = FindingLines::up_to_fault(explained);
-    let (writer, checked, front) = write_report(&mut lines, true, alloc, limits, reader, writer);
-    let Front { last, written } = front;
-    let told = lines.told();
-    let begun = Begun {
-        last,
-        written,
-        findings: told.findings,
-        said: None,
-        advice: AdviceCounts::nothing(),
-    };
-    (writer, checked, begun)
-}
-
-/// Checks a transmission up to its first fault, and advises on it in that manner.
-fn check_advised<R: Source, W: Target + Drop>(
-    alloc: Global,
-    limits: Limits,
-    manner: Manner,
-    reader: &mut R,
-    writer: W,
-) -> (W, Result<Verdict, ToolFault>, Begun)
-    ensures runs { Runs (lines_advised manner true 0) limits R.remaining R.failures reader.old
-        reader.new W.contents W.failures W.handed_on writer result.0 result.1 }
-    ensures counted { GrowsBy (W.contents writer) (W.contents result.0) result.2.written }
-    ensures said { IfOk result.1 (StandsAfter (HasBegun true result.2.said result.2.findings
-        result.2.advice) limits (R.remaining reader.old) (R.remaining reader.new)) }
-    ensures last { IfOk result.1 (λ verdict. IsSomeAnd result.2.last
-        (IsReadLast limits (R.remaining reader.old) (R.remaining reader.new) verdict)) }
-{
-    let mut lines = AdviceLines::up_to_fault(alloc, manner);
-    let (writer, checked, front) = write_report(&mut lines, true, alloc, limits, reader, writer);
-    let Front { last, written } = front;
-    let findings = lines.findings();
-    let said = lines.said();
-    let advice = lines.counts();
-    let begun = Begun {
-        last,
-        written,
-        findings,
-        said: Some(said),
-        advice,
-    };
-    (writer, checked, begun)
-}
-
-/// Checks a transmission up to its first fault, and advises on it where that is wanted: all advice is told, or of each rule the first
-/// three pieces.
-fn check_front<R: Source, W: Target + Drop>(
-    alloc: Global,
-    limits: Limits,
-    explained: bool,
-    advised: bool,
+/// Every fault in the place of a refusal, and words on an end that comes too early.
+#[derive(Drop)]
+struct Faults<'a> {
+    /// The name of the input, where what is told is explained too.
+    name: Option<&'a str>,
+    /// All advice, or of each rule the first three pieces.
     all: bool,
-    reader: &mut R,
-    writer: W,
-) -> (W, Result<Verdict, ToolFault>, Begun)
-    ensures runs { Runs (lines_before_fault advised explained all) limits R.remaining R.failures
-        reader.old reader.new W.contents W.failures W.handed_on writer result.0 result.1 }
-    ensures counted { GrowsBy (W.contents writer) (W.contents result.0) result.2.written }
-    ensures said { IfOk result.1 (StandsAfter (HasBegun advised result.2.said result.2.findings
-        result.2.advice) limits (R.remaining reader.old) (R.remaining reader.new)) }
-    ensures last { IfOk result.1 (λ verdict. IsSomeAnd result.2.last
-        (IsReadLast limits (R.remaining reader.old) (R.remaining reader.new) verdict)) }
-{
-    match advised {
-        true => {
-            let manner = Manner {
-                explained,
-                apart: explained,
-                all,
-            };
-            check_advised(alloc, limits, manner, reader, writer)
+}
+
+impl<'a> Faults<'a> {
+    /// Goes on after the verdict of a check that told so much.
+    fn go_on_after<R: Source, W: Target>(
+        &self,
+        begun: Begun,
+        alloc: Global,
+        limits: Limits,
+        verdict: Verdict,
+        front: &Front,
+        reader: &mut R,
+        writer: W,
+    ) -> (W, Result<Verdict, ToolFault>)
+        requires held { IsTrue (is_some front.now.last) }
+        requires handed_on { W.handed_on writer ≡ true }
+        ensures says { (words : List ℕ) × Appends (W.contents writer) (W.contents result.0) words
+            × SaysFollows (asking_so (is_some self.now.name) begun.said self.now.all) begun.findings
+            begun.advice verdict front.now.last (R.remaining reader.old) (R.remaining reader.new)
+            result.1 words }
+        ensures taken { TakesMore (R.remaining reader.old) (R.remaining reader.new) }
+        ensures answered { IsAnswerTo verdict result.1 }
+        ensures counted { CountsAfter W.contents front.now.written writer result.0 result.1 }
+        ensures reader_failures { CountsReaderFault result.1 (R.failures reader.old)
+            (R.failures reader.new) }
+        ensures writer_failures { CountsWriterFault result.1 (W.failures writer)
+            (W.failures result.0) }
+        ensures handed_on { OnOk result.1 (W.handed_on result.0 ≡ true) }
+    {
+        match verdict {
+            Verdict::Good { .. } => (writer, Ok(verdict)),
+            Verdict::Truncated { records } => match (self.name, &front.last) {
+                (Some(name), Some(last)) => {
+                    explain_end(alloc, name, records, last, front.written, writer)
+                }
+                _ => (writer, Ok(verdict)),
+            },
+            Verdict::Refused(refusal) => match &front.last {
+                Some(last) => {
+                    let Begun {
+                        findings,
+                        said,
+                        advice,
+                    } = begun;
+                    let asked = Asked {
+                        alloc,
+                        limits,
+                        name: self.name,
+                        said,
+                        all: self.all,
+                    };
+                    tell_faults(
+                        &asked,
+                        refusal,
+                        last,
+                        findings,
+                        advice,
+                        front.written,
+                        reader,
+                        writer,
+                    )
+                }
+                None => unreachable!(),
+            },
         }
-        false => check_alone(alloc, limits, explained, reader, writer),
+    }
+}
+
+impl<'a> LastStep<FindingLines> for Faults<'a> {
+    ghost use Rattle.std.specs.Prelude.{true, false, List};
+    ghost use Rattle.std.specs.Option.{is_some};
+    ghost use Rattle.cwr_values.specs.declared.items.Item.{Item};
+    ghost use Rattle.cwr_tools.specs.Format.Reports.{ItemLines};
+    ghost use Rattle.cwr_lint.specs.Steps.Lints.{HasBegun, SaysFaults};
+
+    ghost holds = { λ step. true };
+
+    ghost says = { λ before after lines limits. SaysFaults (λ said found advice. (of : ItemLines) (given : List Item)
+        → ⟦<FindingLines as Report>⟧.stands lines of given → HasBegun false said found advice given) (is_some before.name) before.all };
+
+    fn holds_last(&self) -> bool {
+        true
+    }
+
+    fn go_on<R: Source, W: Target>(
+        &mut self,
+        lines: &FindingLines,
+        alloc: Global,
+        limits: Limits,
+        verdict: Verdict,
+        front: &Front,
+        reader: &mut R,
+        writer: W,
+    ) -> (W, Result<Verdict, ToolFault>) {
+        let told = lines.told();
+        let begun = Begun {
+            findings: told.findings,
+            said: None,
+            advice: AdviceCounts::nothing(),
+        };
+        self.go_on_after(begun, alloc, limits, verdict, front, reader, writer)
+    }
+}
+
+impl<'a> LastStep<AdviceLines> for Faults<'a> {
+    ghost use Rattle.std.specs.Prelude.{true, List};
+    ghost use Rattle.std.specs.Option.{is_some};
+    ghost use Rattle.cwr_values.specs.declared.items.Item.{Item};
+    ghost use Rattle.cwr_advise.specs.Format.AdviceLines.{lines_advised};
+    ghost use Rattle.cwr_advise.specs.declared.item_advice.Manner.{Manner};
+    ghost use Rattle.cwr_lint.specs.Steps.Lints.{HasBegun, SaysFaults};
+
+    ghost holds = { λ step. true };
+
+    ghost says = { λ before after lines limits. SaysFaults (λ said found advice. (manner : Manner) (given : List Item)
+        → ⟦<AdviceLines as Report>⟧.stands lines (lines_advised manner true 0) given → HasBegun true said found advice given)
+        (is_some before.name) before.all };
+
+    fn holds_last(&self) -> bool {
+        true
+    }
+
+    fn go_on<R: Source, W: Target>(
+        &mut self,
+        lines: &AdviceLines,
+        alloc: Global,
+        limits: Limits,
+        verdict: Verdict,
+        front: &Front,
+        reader: &mut R,
+        writer: W,
+    ) -> (W, Result<Verdict, ToolFault>) {
+        let begun = Begun {
+            findings: lines.findings(),
+            said: Some(lines.said()),
+            advice: lines.counts(),
+        };
+        self.go_on_after(begun, alloc, limits, verdict, front, reader, writer)
     }
 }
 
@@ -790,47 +835,21 @@ pub fn lint<R: Source, W: Target + Drop>(
     // All that was written was handed on.
     ensures handed_on { OnOk result.1 (W.handed_on result.0 ≡ true) }
 {
-    let (writer, checked, begun) = check_front(
-        alloc,
-        limits,
-        name.is_some(),
-        advised,
-        all,
-        reader,
-        writer,
-    );
-    let Begun {
-        last,
-        written,
-        findings,
-        said,
-        advice,
-    } = begun;
-    match checked {
-        Err(fault) => (writer, Err(fault)),
-        Ok(verdict) => match verdict {
-            Verdict::Good { .. } => (writer, Ok(verdict)),
-            Verdict::Truncated { records } => match (name, last) {
-                (Some(name), Some(last)) => {
-                    explain_end(alloc, name, records, &last, written, writer)
-                }
-                _ => (writer, Ok(verdict)),
-            },
-            Verdict::Refused(refusal) => match last {
-                Some(last) => {
-                    let asked = Asked {
-                        alloc,
-                        limits,
-                        name,
-                        said,
-                        all,
-                    };
-                    tell_faults(
-                        &asked, refusal, &last, findings, advice, written, reader, writer,
-                    )
-                }
-                None => unreachable!(),
-            },
-        },
+    let explained = name.is_some();
+    let mut faults = Faults { name, all };
+    match advised {
+        true => {
+            let manner = Manner {
+                explained,
+                apart: explained,
+                all,
+            };
+            let mut lines = AdviceLines::up_to_fault(alloc, manner);
+            write_report_and(&mut lines, &mut faults, alloc, limits, reader, writer)
+        }
+        false => {
+            let mut lines = FindingLines::up_to_fault(explained);
+            write_report_and(&mut lines, &mut faults, alloc, limits, reader, writer)
+        }
     }
 }

@@ -5,7 +5,7 @@
 mod cells;
 mod following;
 mod front;
-mod judging;
+mod judged_lines;
 mod numbers;
 mod states;
 mod steps;
@@ -13,7 +13,7 @@ mod takings;
 
 pub use cells::cell_fault;
 pub use following::Awaiting;
-pub use judging::{Judged, Known};
+pub use judged_lines::{Judged, Known};
 pub use numbers::{Belonging, Count, WrongNumbers};
 pub use states::{LintState, OpenGroup, OpenTransaction};
 pub use takings::Taking;

@@ -3,8 +3,8 @@
 
 mod jumps;
 pub mod laws;
-mod lines;
 mod outcomes;
+mod renumbered_lines;
 mod renumbering;
 mod sources;
 mod takings;

@@ -5,7 +5,7 @@ ghost use Rattle.cwr_lines.specs.declared.lines.LineEnd.TheVariants.{Open};
 ghost use Rattle.cwr_lines.specs.Steps.Held.{ended_too_long};
 
 use crate::jumps::Jumps;
-use crate::lines::put_line;
+use crate::renumbered_lines::put_line;
 use crate::takings::take_line;
 use cwr_devices::{DeviceFault, Source};
 use cwr_lines::{LineBuf, LineEnd, RenumberedLine};

@@ -6,7 +6,7 @@ ghost use Rattle.cwr_files.specs.Steps.Inputs.{remaining_of};
 ghost use Rattle.cwr_reports.specs.Format.Endings.{EndsAsExport, advice_in};
 ghost use Rattle.cwr_reports.specs.Steps.Looks.{tells_findings};
 
-use crate::reports::{Asked, Telling, judge_input, tell_aside};
+use crate::tellings::{Asked, Telling, judge_input, tell_aside};
 use cwr_endings::{Judgement, Status, refuse_out, settle};
 use cwr_files::{DASH, Fault, Input, Name, Pace, create_output, gathered, open_input, told_of};
 use cwr_tools::{ToolFault, Verdict};

@@ -2,9 +2,9 @@
 #![tactic(auto)]
 
 mod exports;
-mod reports;
 mod several;
+mod tellings;
 
 pub use exports::export;
-pub use reports::{Asked, Telling, report_input, telling_of};
 pub use several::report_several;
+pub use tellings::{Asked, Telling, report_input, telling_of};

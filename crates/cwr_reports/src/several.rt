@@ -2,7 +2,7 @@
 
 ghost use Rattle.std.specs.Prelude.{◌≡◌, true, None};
 
-use crate::reports::{Asked, judge_input, put_unwanted, rejected_level, tell_aside, telling_of};
+use crate::tellings::{Asked, judge_input, put_unwanted, rejected_level, tell_aside, telling_of};
 use cwr_devices::{Sink, Target};
 use cwr_endings::{Status, Sums, tell_profile, worse_level};
 use cwr_files::{

@@ -32,14 +32,7 @@ fn tabled(
         room,
     });
     let mut rows = TableRows::new(Encoding::Latin1, table);
-    let (writer, answer, _) = write_report(
-        &mut rows,
-        false,
-        rt.alloc(),
-        limits,
-        &mut reader,
-        writer,
-    );
+    let (writer, answer) = write_report(&mut rows, rt.alloc(), limits, &mut reader, writer);
     (writer.into_inner().text, answer)
 }
 

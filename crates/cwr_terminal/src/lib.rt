@@ -4,7 +4,7 @@
 mod breaks;
 mod colours;
 pub mod laws;
-mod lines;
+mod shown_lines;
 mod styled;
 mod styles;
 

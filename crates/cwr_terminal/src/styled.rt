@@ -6,7 +6,7 @@ ghost use Rattle.std.specs.Io.KnownBytes.{Appends, Keeps, WriteAppends};
 ghost use Rattle.cwr_terminal.specs.Format.Shown.{HasNoLineFeed};
 ghost use Rattle.cwr_terminal.specs.Steps.Held.{HoldsNothing, Shows, Takes, output_of, plain_contents, style_of, to_show};
 
-use crate::lines::push_line;
+use crate::shown_lines::push_line;
 use crate::styles::{LONGEST, Made, Style};
 use arrayvec::ArrayVec;
 use memchr::memchr;

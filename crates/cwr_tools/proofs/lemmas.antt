@@ -24,3 +24,5 @@ pub mod NotedTexts
 pub mod ToldReports
 -- What a viewer sees comes item by item, up to the last of a transmission.
 pub mod Viewed
+-- A run and what comes after its verdict are one run.
+pub mod LastSteps

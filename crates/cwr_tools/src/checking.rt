@@ -28,8 +28,7 @@ pub fn check<R: Source, W: Target + Drop>(
         W.contents W.failures W.handed_on writer result.0 result.1 }
 {
     let mut lines = FindingLines::new();
-    let (writer, outcome, _) = write_report(&mut lines, false, alloc, limits, reader, writer);
-    (writer, outcome)
+    write_report(&mut lines, alloc, limits, reader, writer)
 }
 
 /// Shows a transmission: reads it up to its end or to where it is refused, and writes each record's number and kind,
@@ -49,6 +48,5 @@ pub fn show<R: Source, W: Target + Drop>(
         W.contents W.failures W.handed_on writer result.0 result.1 }
 {
     let mut lines = ShownRecords::new();
-    let (writer, outcome, _) = write_report(&mut lines, false, alloc, limits, reader, writer);
-    (writer, outcome)
+    write_report(&mut lines, alloc, limits, reader, writer)
 }

@@ -6,6 +6,7 @@ mod counted_records;
 mod finding_counts;
 mod finding_lines;
 mod json_lines;
+mod last_steps;
 pub mod laws;
 mod reading_on;
 mod reporting;
@@ -20,7 +21,10 @@ pub use counted_records::CountedRecords;
 pub use finding_counts::FindingCount;
 pub use finding_lines::{FindingLines, put_transaction_findings, writer_fault};
 pub use json_lines::DataLines;
-pub use reporting::{Front, put_unrefused_line, put_verdict_line, verdict_of, write_report};
+pub use last_steps::LastStep;
+pub use reporting::{
+    Front, put_unrefused_line, put_verdict_line, verdict_of, write_report, write_report_and,
+};
 pub use reports::{NothingKept, Report};
 pub use shown_records::ShownRecords;
 pub use totals::Totals;

@@ -11,10 +11,12 @@ ghost use Rattle.cwr_tools.specs.Format.Reports.{CountsReaderFault, CountsWriter
 ghost use Rattle.cwr_tools.specs.Format.Texts.{verdict_line};
 ghost use Rattle.cwr_tools.specs.Format.Verdicts.{IsVerdictOf};
 ghost use Rattle.cwr_tools.specs.Steps.Reports.{PutsReport, Reports, StandsAtEnd, StandsPut};
+ghost use Rattle.cwr_tools.specs.Steps.LastSteps.{RunsOn};
 ghost use Rattle.cwr_tools.specs.Steps.Runs.{Runs};
 ghost use Rattle.cwr_tools.specs.Steps.Verdicts.{IsReadLast};
 
 use crate::finding_lines::writer_fault;
+use crate::last_steps::LastStep;
 use crate::reading_on::{Passing, read_on};
 use crate::reports::Report;
 use crate::totals::Totals;
@@ -174,7 +176,8 @@ fn put_report<L: Report, R: Source, W: Target>(
     }
 }
 
-/// Reads a transmission as `write_report` does, and writes what that writes.
+/// Reads a transmission as `write_report` does, and writes what that writes. How far the run came is answered too; the last bytes that were
+/// read are held where they are asked for.
 fn write_lines<L: Report, R: Source, W: Target>(
     lines: &mut L,
     holds_last: bool,
@@ -217,19 +220,17 @@ fn write_lines<L: Report, R: Source, W: Target>(
 }
 
 /// Reads a transmission up to its end or to where it is refused or ends too early, writes the lines of its items and what stands for
-/// the verdict, and has the writer hand it on. The writer comes back, and how far the run came. The last bytes that were read are held
-/// where they are asked for.
+/// the verdict, and has the writer hand it on. The writer comes back.
 ///
 /// It answers `ToolFault::Reader` or `ToolFault::Writer` where that device failed, and `ToolFault::Memory` where memory for a
 /// transaction or for its lines was refused. It holds one transaction.
 pub fn write_report<L: Report, R: Source, W: Target>(
     lines: &mut L,
-    holds_last: bool,
     alloc: Global,
     limits: Limits,
     reader: &mut R,
     writer: W,
-) -> (W, Result<Verdict, ToolFault>, Front)
+) -> (W, Result<Verdict, ToolFault>)
     requires { (of : ItemLines) × L.stands lines.old of [] }
     ensures runs { (of : ItemLines) → L.stands lines.old of [] → Runs of limits R.remaining
         R.failures reader.old reader.new W.contents W.failures W.handed_on writer result.0
@@ -237,10 +238,38 @@ pub fn write_report<L: Report, R: Source, W: Target>(
     // It is as the items leave it that were handed out before the verdict, or before the reader failed.
     ensures stands { (of : ItemLines) → L.stands lines.old of [] → StandsAtEnd
         (L.stands lines.new of) limits (R.remaining reader.old) (R.remaining reader.new) result.1 }
-    // So many bytes were written after what the writer had.
-    ensures counted { GrowsBy (W.contents writer) (W.contents result.0) result.2.written }
-    ensures last { holds_last ≡ true → IfOk result.1 (λ verdict. IsSomeAnd result.2.last
-        (IsReadLast limits (R.remaining reader.old) (R.remaining reader.new) verdict)) }
 {
-    write_lines(lines, holds_last, alloc, limits, reader, writer)
+    let (writer, outcome, _) = write_lines(lines, false, alloc, limits, reader, writer);
+    (writer, outcome)
+}
+
+/// Writes a report as `write_report` does, and goes on with a last step where there is a verdict. The writer comes back.
+///
+/// Where the reader or memory fails after the verdict, the report is written, and where the writer fails, the first of the bytes that
+/// would be: so many as the fault says.
+pub fn write_report_and<L: Report, S: LastStep<L>, R: Source, W: Target>(
+    lines: &mut L,
+    step: &mut S,
+    alloc: Global,
+    limits: Limits,
+    reader: &mut R,
+    writer: W,
+) -> (W, Result<Verdict, ToolFault>)
+    requires { (of : ItemLines) × L.stands lines.old of [] }
+    ensures { (of : ItemLines) → L.stands lines.old of [] → RunsOn of (L.stands lines.new of)
+        (S.says step.old step.new lines.new limits) (S.holds step.old) limits R.remaining R.failures
+        reader.old reader.new W.contents W.failures W.handed_on writer result.0 result.1 }
+{
+    let (writer, checked, front) = write_lines(
+        lines,
+        step.holds_last(),
+        alloc,
+        limits,
+        reader,
+        writer,
+    );
+    match checked {
+        Ok(verdict) => step.go_on(&*lines, alloc, limits, verdict, &front, reader, writer),
+        Err(fault) => (writer, Err(fault)),
+    }
 }

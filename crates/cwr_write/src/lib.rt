@@ -2,10 +2,10 @@
 #![tactic(auto)]
 
 mod hints;
+mod input_lines;
 mod items;
 mod keys;
 pub mod laws;
-mod lines;
 mod putting;
 mod records;
 mod refusals;

@@ -15,8 +15,8 @@ ghost use Rattle.cwr_write.specs.Format.Endings.{EndsAtLine, LeavesAfter, Writes
 ghost use Rattle.cwr_write.specs.Steps.Taking.{EndsLines, EndsWith, FinishesLines, IsCutShort, IsFinishFault, IsNoWriter, IsRunFaultOf, IsUnreadFault, JudgesNext};
 ghost use Rattle.cwr_write.specs.Steps.Taking.{NoReader, Stands, TakesLine, TakesLines};
 
+use crate::input_lines::{ReadFault, is_blank, next_line};
 use crate::items::{ItemFault, encode_fault, item_in, write_item};
-use crate::lines::{ReadFault, is_blank, next_line};
 use crate::putting::{put_each, put_text};
 use crate::refusals::{Refusal, Why, of_line};
 use cwr_devices::{Sink, SinkFault, Source, Target};

@@ -12,8 +12,8 @@ use Rattle.cwr_tools.specs.Steps.Verdicts.{IsRightVerdict}
 use Rattle.cwr_json.specs.declared.encodings.Encoding.TheVariants.{Latin1}
 use Rattle.cwr_lint.specs.Format.Wanted.{Wanted, wanting}
 use Rattle.cwr_lint.specs.Steps.Lints.{Tells}
-use Rattle.cwr_calls.specs.declared.reports.Asked.{Asked}
-use Rattle.cwr_calls.specs.declared.reports.Asked.TheVariants as asks
+use Rattle.cwr_calls.specs.declared.report_texts.Asked.{Asked}
+use Rattle.cwr_calls.specs.declared.report_texts.Asked.TheVariants as asks
 use Rattle.cwr_calls.specs.declared.verdicts.CwrVerdict.{CwrVerdict}
 use Rattle.cwr_calls.specs.Format.Answers.{IsOutOfRange}
 use Rattle.cwr_calls.specs.Format.Copies.{CopiesOut}

@@ -1,6 +1,6 @@
 -- What an explained check has written and taken.
 use Rattle.std.specs.Prelude.{◌≡◌, ℕ, ◌-◌, ◌^◌, min, Bool, true, false, List, [], ◌++◌, length, Option, None, Some, IsSomeAnd}
-use Rattle.std.specs.Prelude.{Result, Ok, Err}
+use Rattle.std.specs.Prelude.{OnOk, Result, Ok, Err}
 use Rattle.std.specs.Io.KnownBytes.{Appends, Consumes}
 use Rattle.cwr_decode.specs.declared.readings.LastRead.{LastRead}
 use Rattle.cwr_shape.specs.declared.limits.Limits.{Limits}
@@ -10,6 +10,7 @@ use Rattle.cwr_tools.specs.declared.verdicts.ToolFault.{ToolFault}
 use Rattle.cwr_tools.specs.declared.verdicts.ToolFault.TheVariants.{Writer}
 use Rattle.cwr_tools.specs.Format.Reports.{lines_of_explained}
 use Rattle.cwr_tools.specs.Format.Verdicts.{IsAnswerAfter}
+use Rattle.cwr_tools.specs.Steps.LastSteps.{Saying}
 use Rattle.cwr_tools.specs.Steps.Reports.{Reports}
 use Rattle.cwr_tools.specs.Steps.Verdicts.{IsReadLast}
 use Rattle.cwr_causes.specs.declared.beyond.Beyond.{Beyond}
@@ -24,6 +25,11 @@ use Rattle.cwr_causes.specs.Steps.LinesAtEnd.{IsLineAtEnd}
 use Rattle.cwr_causes.specs.Steps.Refused.{ExplainsEnd, ExplainsRefusal}
 use Rattle.cwr_causes.specs.Steps.Trailing.{found_in}
 use Rattle.cwr_explain.specs.Format.Explained.{AreWordsAfter, AreWordsOf}
+
+-- the verdict is that on a transmission
+abbrev pub is_good : Verdict → Bool
+is_good (Good groups transactions records) = true
+is_good verdict = false
 
 -- What is looked at after a verdict, and what is found there, where the reader had that left before and has this after it: of a
 -- transmission all that stands after it, of a refusal what helps with its line. After any other verdict nothing is looked at or taken.
@@ -70,6 +76,13 @@ AddsText contents text old new (Err (Writer written)) =
     × (written ≡ min (length bytes) (2 ^ 64 - 1))
 AddsText contents text old new (Err fault) = ⊥
 
+-- What is said of what explains a verdict, in which the input has that name: such words are written, by what was read last, or where the
+-- writer failed the first bytes of such, and else none. What stands after a transmission was found.
+abbrev pub SaysLast : Limits → List ℕ → Option Trailing → Saying
+SaysLast limits name found verdict last left after result words =
+    IsSomeAnd last (λ it. AreWordsOf (ExplainsLast limits name verdict it left after) result words
+    × (is_good verdict ≡ true → OnOk result (IsSomeAnd found (IsTrailing left after))))
+
 -- First a check is made, and what it writes is written: the text on the findings and the verdict, with all that is said of a
 -- check of these bytes. Then words follow it, which explain the verdict by what was read last and by what the reader has after it,
 -- or where the writer failed the first of them; after another fault there are none. More bytes may be taken from the reader.
@@ -85,8 +98,3 @@ pub record Explains {W : Type 0} (limits : Limits) (name : List ℕ) (before aft
   pub taken : Consumes left after more
   pub answered : IsAnswerAfter checked result
   pub says : AreWordsAfter (λ verdict said. ExplainsRun limits name before left after said verdict) checked result words
-
--- the verdict is that on a transmission
-abbrev pub is_good : Verdict → Bool
-is_good (Good groups transactions records) = true
-is_good verdict = false

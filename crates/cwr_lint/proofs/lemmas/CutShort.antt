@@ -16,7 +16,7 @@ use Rattle.cwr_tools.specs.declared.verdicts.ToolFault.{ToolFault}
 use Rattle.cwr_tools.specs.declared.verdicts.ToolFault.TheVariants as faults
 use Rattle.cwr_tools.specs.Steps.Reports.{PutsLines}
 use Rattle.cwr_advice.specs.declared.rules.Advice.{Advice}
-use Rattle.cwr_lint_lines.specs.declared.judging.Judged.{Judged}
+use Rattle.cwr_lint_lines.specs.declared.judged_lines.Judged.{Judged}
 use Rattle.cwr_lint_lines.specs.Format.FaultsAtFields.{JudgedLine, LineCut, fields_end}
 use Rattle.cwr_lint_lines.specs.Steps.Cells.{held_cut}
 use Rattle.cwr_lint_lines.specs.Steps.JudgedLines.{IsFaultFrom, judged_as, judged_at, scope_by}

@@ -25,8 +25,8 @@ use Rattle.cwr_shape.proofs.lemmas.TallySteps.{counted_next}
 use Rattle.cwr_values.specs.Format.Begins.{numbers_after, row_after, rows_after}
 use Rattle.cwr_values.specs.Format.Values.{symbol_of}
 use Rattle.cwr_judge.specs.declared.refusals.Refusal.{Refusal}
-use Rattle.cwr_lint_lines.specs.declared.judging.Judged.{Judged}
-use Rattle.cwr_lint_lines.specs.declared.judging.Judged.TheVariants.{Known as Of}
+use Rattle.cwr_lint_lines.specs.declared.judged_lines.Judged.{Judged}
+use Rattle.cwr_lint_lines.specs.declared.judged_lines.Judged.TheVariants.{Known as Of}
 use Rattle.cwr_lint_lines.specs.declared.states.LintState.{LintState}
 use Rattle.cwr_lint_lines.specs.Format.FaultsAtFields.{LineCut, cut_of, fields_end, number_in}
 use Rattle.cwr_lint_lines.specs.Steps.JudgedLines.{is_misplaced, judged_as, judged_by, judged_cut, known_as, scope_by}

@@ -1,6 +1,6 @@
 -- A whole lint: a check up to the first fault, and what follows it.
 use Rattle.std.proofs.Common.{◌≡◌, ℕ, ◌-◌, ◌≤◌, List, [], ◌∷◌, ◌++◌, length, Option, Some, None, refl, sym, ap, subst, ◌∙◌, arith}
-use Rattle.std.proofs.Common.{inl, inr, append_assoc, append-nil, ap₂, drop, true≢false}
+use Rattle.std.proofs.Common.{inl, inr, append_assoc, append-nil, ap₂, drop}
 use Rattle.std.specs.Prelude.{◌⊎◌, ◌^◌, Bool, true, false, Result, Ok, Err, IfErr, IfOk, IfSome, IsFalse, IsSomeAnd, OnOk}
 use Rattle.std.specs.List.{AllByRecursion, list_any}
 use Rattle.std.specs.Io.KnownBytes.{Appends, Consumes, IsAtEnd}
@@ -19,12 +19,12 @@ use Rattle.cwr_tools.specs.Steps.Verdicts.{IsReadLast, IsRightVerdict, StopsAfte
 use Rattle.cwr_advise.specs.Format.AdviceLines.{said_in}
 use Rattle.cwr_advise.specs.Steps.AdviceCounts.{counts_of}
 use Rattle.cwr_lint.specs.Format.FaultsOfLines.{Asking}
-use Rattle.cwr_lint.specs.Format.Wanted.{Wanted, advice_when, asking_for, lines_before_fault, lines_linted, lines_up_to}
+use Rattle.cwr_lint.specs.Format.Wanted.{Wanted, advice_when, asking_for, asking_so, lines_before_fault, lines_linted, lines_up_to}
 use Rattle.cwr_lint.specs.Format.Wanted.{lines_with}
 use Rattle.cwr_lint.specs.declared.raw_lines.RawLine.{RawLine}
 use Rattle.cwr_lint.specs.Steps.CutShort.{AppendsUpTo, IsToldUpTo, IsUnread, TellsAfterUpTo, TellsLastUpTo}
 use Rattle.cwr_lint.specs.Steps.LinesRead.{GoesOn, HoldsRaw, IsAllRead, IsTextOf, ReadsLast, spelled}
-use Rattle.cwr_lint.specs.Steps.Runs.{AreWords, TellsRun}
+use Rattle.cwr_lint.specs.Steps.Runs.{AreWords, TellsAfter, TellsRun}
 use Rattle.cwr_lint_lines.specs.Steps.Fronts.{state_at}
 use Rattle.cwr_lint.specs.Steps.Walks.{IsTold, Walk, begins_at}
 use Rattle.cwr_shape.specs.declared.stages.Stage.{Stage}
@@ -32,10 +32,9 @@ use Rattle.cwr_shape.specs.declared.tallies.Counts.{Counts}
 use Rattle.std.proofs.KnownBytes.{Appends-nil, Appends-trans, Consumes-nil, Consumes-trans}
 use Rattle.cwr_shape.specs.declared.limits.Limits.{Limits}
 use Rattle.cwr_judge.specs.declared.refusals.Refusal.{Refusal}
-use Rattle.cwr_causes.specs.Format.Trailing.{TakesMore}
-use Rattle.cwr_tools.specs.Format.Reports.{AddsWords, ItemLines, JudgesAccepted, text_on}
+use Rattle.cwr_tools.specs.Format.Reports.{ItemLines, JudgesAccepted, text_on}
 use Rattle.cwr_tools.specs.Format.Watching.{findings_with}
-use Rattle.cwr_tools.specs.Format.Verdicts.{IsAnswerAfter, IsAnswerTo, JudgesText}
+use Rattle.cwr_tools.specs.Format.Verdicts.{JudgesText}
 use Rattle.cwr_tools.specs.declared.verdicts.Verdict.{Verdict}
 use Rattle.cwr_tools.specs.declared.verdicts.Verdict.TheVariants.{Good, Refused, Truncated}
 use Rattle.cwr_tools.specs.declared.verdicts.ToolFault.{ToolFault}
@@ -45,14 +44,21 @@ use Rattle.cwr_values.specs.Format.Values.{TransmissionValue}
 use Rattle.cwr_judge.specs.Format.Ends.{IsAccepted}
 use Rattle.cwr_judge.specs.Format.Items.{value_items}
 use Rattle.cwr_judge.proofs.lemmas.Accepted.{accepted_once}
-use Rattle.cwr_tools.specs.Steps.Reports.{Reports, StandsAfter}
+use Rattle.cwr_tools.specs.Steps.LastSteps.{GoesOnAfter}
+use Rattle.cwr_tools.specs.Steps.Reports.{Reports, StandsAfter, StandsAtEnd}
+use Rattle.cwr_tools.proofs.lemmas.LastSteps.{nothing_more}
 use Rattle.cwr_advice.specs.declared.said.Said.{Said}
 use Rattle.cwr_lines.specs.Format.Lines.{is_lf}
-use Rattle.cwr_lint.specs.Steps.Lints.{AddsEnd, AreLinesRead, AreWordsUpTo, HasBegun, Lints, Tells, TellsFaults, TellsUpToFault}
+use Rattle.cwr_lint.specs.Steps.Lints.{AreLinesRead, AreWordsUpTo, HasBegun, Lints, SaysFaults, Tells, TellsFaults, TellsOn, TellsUpToFault}
+use Rattle.cwr_lint.specs.Steps.Puts.{AppendsSuch}
 use Rattle.cwr_lint.proofs.lemmas.CutShort.{cut_as}
 
+-- a fault is no verdict
+err_ok : (fault : ToolFault) (verdict : Verdict) → Err fault ≡ Ok verdict → ⊥
+err_ok fault verdict e = subst (λ (r : Result Verdict ToolFault). IfOk r (λ v. ⊥)) e tt
+
 -- nothing follows a verdict that is no refusal: what was written is what a check writes
-pub tells_good : {W : Type 0} (wanted : Wanted) (limits : Limits) (before after : Option (List ℕ))
+tells_good : {W : Type 0} (wanted : Wanted) (limits : Limits) (before after : Option (List ℕ))
     (contents : W → Option (List ℕ)) (old new : W) (groups transactions records : ℕ)
     → Reports (lines_up_to wanted) limits before after contents old new (Ok (Good groups transactions records))
     → Tells wanted limits before after contents old new (Good groups transactions records)
@@ -65,7 +71,7 @@ tells_good wanted limits before after contents old new groups transactions recor
     good_with false e m h = h
     good_with true e m h = h
 
-pub tells_truncated : {W : Type 0} (wanted : Wanted) (limits : Limits) (before after : Option (List ℕ))
+tells_truncated : {W : Type 0} (wanted : Wanted) (limits : Limits) (before after : Option (List ℕ))
     (contents : W → Option (List ℕ)) (old new : W) (records : ℕ)
     → Reports (lines_up_to wanted) limits before after contents old new (Ok (Truncated records))
     → Reports (lines_linted wanted) limits before after contents old new (Ok (Truncated records))
@@ -288,80 +294,6 @@ tells_up_to wanted limits (Some known) left refusal asking found advice last fau
     inr (built_up_to wanted limits (Some known) left refusal asking found advice last text s x t parts.0 parts.1
     (parts.2, t.tells.mid, parts.3, parts.4))
 
--- where the answer is a verdict
-pub tells_after : {W : Type 0} (wanted : Wanted) (limits : Limits) (before left after : Option (List ℕ))
-    (contents : W → Option (List ℕ)) (old between new : W) (refusal : Refusal) (asking : Asking) (found : ℕ) (advice : List ℕ) (last : LastRead)
-    (result : Result Verdict ToolFault)
-    → Reports (lines_up_to wanted) limits before left contents old between (Ok (Refused refusal))
-    → StopsAt limits (read_faults.Refused refusal) before left last → Hears wanted limits before left refusal asking found advice
-    → IsAnswerTo (Refused refusal) result → OnOk result ((text : List ℕ)
-    × TellsRun asking (begins_at (state_at last.stage last.counts (refusal.rec - 1)) found advice) refusal last.bytes left after text
-    × Appends (contents between) (contents new) text)
-    → IfOk result (Tells wanted limits before after contents old new)
-tells_after wanted limits before left after contents old between new refusal asking found advice last (Ok verdict) h s x answered told =
-    subst (Tells wanted limits before after contents old new) (sym answered)
-    (tells_faults wanted limits before left after contents old between new refusal asking found advice last told.0 h s x told.1 told.2)
-tells_after wanted limits before left after contents old between new refusal asking found advice last (Err fault) h s x answered told = tt
-
--- a check and words after it
-lints_after : {W : Type 0} (wanted : Wanted) (limits : Limits) (before left after : Option (List ℕ))
-    (contents : W → Option (List ℕ)) (old between new : W) (checked result : Result Verdict ToolFault) (words : List ℕ)
-    → Reports (lines_up_to wanted) limits before left contents old between checked
-    → Appends (contents between) (contents new) words → TakesMore left after → IsAnswerAfter checked result
-    → IfErr result (λ fault. AreWordsUpTo wanted limits before left checked fault words)
-    → Lints wanted limits before after contents old new result
-lints_after wanted limits before left after contents old between new checked result words r w t a l = record {
-  between = between;
-  left = left;
-  checked = checked;
-  reported = r;
-  words = words;
-  written = w;
-  more = t.0;
-  taken = t.1;
-  answered = a;
-  leaves = l;
-}
-
--- nothing follows
-answer_same : (checked : Result Verdict ToolFault) → IsAnswerAfter checked checked
-answer_same (Ok verdict) = refl
-answer_same (Err fault) = refl
-
-no_words : (wanted : Wanted) (limits : Limits) (before left : Option (List ℕ)) (checked : Result Verdict ToolFault)
-    → IfErr checked (λ fault. AreWordsUpTo wanted limits before left checked fault [])
-no_words wanted limits before left (Ok verdict) = tt
-no_words wanted limits before left (Err fault) = refl
-
-pub lints_alone : {W : Type 0} (wanted : Wanted) (limits : Limits) (before after : Option (List ℕ))
-    (contents : W → Option (List ℕ)) (old new : W) (checked result : Result Verdict ToolFault)
-    → Reports (lines_up_to wanted) limits before after contents old new checked → checked ≡ result
-    → Lints wanted limits before after contents old new result
-lints_alone wanted limits before after contents old new checked result h e = record {
-  between = new;
-  left = after;
-  checked = checked;
-  reported = h;
-  words = [];
-  written = Appends-nil (contents new);
-  more = [];
-  taken = Consumes-nil after;
-  answered = subst (IsAnswerAfter checked) e (answer_same checked);
-  leaves =
-      subst (λ (r : Result Verdict ToolFault). IfErr r (λ fault. AreWordsUpTo wanted limits before after checked fault [])) e
-      (no_words wanted limits before after checked);
-}
-
--- ---- where the test that is passed on says the same
-
-pub lints_at : {W : Type 0} (flag wanted : Wanted) (limits : Limits) (before after : Option (List ℕ))
-    (contents : W → Option (List ℕ)) (old new : W) (checked result : Result Verdict ToolFault)
-    → flag ≡ wanted → Reports (lines_up_to flag) limits before after contents old new checked → checked ≡ result
-    → Lints wanted limits before after contents old new result
-lints_at flag wanted limits before after contents old new checked result same h e =
-    subst (λ (b : Wanted). Lints b limits before after contents old new result) same
-    (lints_alone flag limits before after contents old new checked result h e)
-
 -- ---- an end that comes too early
 
 tells_end : {W : Type 0} (wanted : Wanted) (limits : Limits) (before after : Option (List ℕ)) (contents : W → Option (List ℕ))
@@ -377,119 +309,11 @@ tells_end wanted limits before after contents old between new records words h as
   written = written;
 }
 
-pub truncated_unaccepted : {W : Type 0} (wanted : Wanted) (limits : Limits) (before after : Option (List ℕ))
+truncated_unaccepted : {W : Type 0} (wanted : Wanted) (limits : Limits) (before after : Option (List ℕ))
     (contents : W → Option (List ℕ)) (old new : W) (records : ℕ) → JudgesText limits before (Ok (Truncated records))
     → JudgesAccepted (lines_linted wanted) limits before after contents old new (Truncated records)
 truncated_unaccepted wanted limits None after contents old new records h = tt
 truncated_unaccepted wanted limits (Some text) after contents old new records h = λ v n a. absurd (h.unaccepted v n a)
-
-asked_words : (explained : Bool) (words : List ℕ) → explained ≡ true → AreWords explained words
-asked_words explained words is = λ e. absurd (true≢false (sym is ∙ e))
-
--- words on it follow the check
-pub ended_lints : {W : Type 0} (flag wanted : Wanted) (limits : Limits) (before after : Option (List ℕ))
-    (contents : W → Option (List ℕ)) (old between new : W) (records : ℕ) (checked result : Result Verdict ToolFault)
-    → flag ≡ wanted → wanted.explained ≡ true → Reports (lines_up_to flag) limits before after contents old between checked
-    → checked ≡ Ok (Truncated records) → IsAnswerTo (Truncated records) result → AddsEnd contents between new result
-    → Lints wanted limits before after contents old new result
-ended_lints flag wanted limits before after contents old between new records checked (Ok verdict) same is h e answered adds =
-    lints_after wanted limits before after after contents old between new checked (Ok verdict) adds.0
-    (subst (λ (b : Wanted). Reports (lines_up_to b) limits before after contents old between checked) same h) adds.1
-    ([], Consumes-nil after)
-    (subst (λ (r : Result Verdict ToolFault). IsAnswerAfter r (Ok verdict)) (sym e) answered) tt
-ended_lints flag wanted limits before after contents old between new records checked (Err fault) same is h e answered adds =
-    lints_after wanted limits before after after contents old between new checked (Err fault) adds.0
-    (subst (λ (b : Wanted). Reports (lines_up_to b) limits before after contents old between checked) same h) adds.1
-    ([], Consumes-nil after)
-    (subst (λ (r : Result Verdict ToolFault). IsAnswerAfter r (Err fault)) (sym e) answered)
-    (subst (λ (r : Result Verdict ToolFault). AreWordsUpTo wanted limits before after r fault adds.0) (sym e) (is, adds.2))
-
-pub ended_tells : {W : Type 0} (flag wanted : Wanted) (limits : Limits) (before after : Option (List ℕ))
-    (contents : W → Option (List ℕ)) (old between new : W) (records : ℕ) (checked result : Result Verdict ToolFault)
-    → flag ≡ wanted → wanted.explained ≡ true → Reports (lines_up_to flag) limits before after contents old between checked
-    → checked ≡ Ok (Truncated records) → IsAnswerTo (Truncated records) result → AddsEnd contents between new result
-    → IfOk result (Tells wanted limits before after contents old new)
-ended_tells flag wanted limits before after contents old between new records checked (Ok verdict) same is h e answered adds =
-    subst (Tells wanted limits before after contents old new) (sym answered)
-    (tells_end wanted limits before after contents old between new records adds.0
-    (subst (λ (b : Wanted). Reports (lines_up_to b) limits before after contents old between (Ok (Truncated records))) same
-    (subst (Reports (lines_up_to flag) limits before after contents old between) e h)) (asked_words wanted.explained adds.0 is)
-    adds.1)
-ended_tells flag wanted limits before after contents old between new records checked (Err fault) same is h e answered adds = tt
-
--- such a text isn't accepted
-pub ended_accepted : {W : Type 0} (wanted : Wanted) (limits : Limits) (before after : Option (List ℕ))
-    (contents : W → Option (List ℕ)) (old new : W) (records : ℕ) (checked result : Result Verdict ToolFault)
-    → checked ≡ Ok (Truncated records) → JudgesText limits before checked → IsAnswerTo (Truncated records) result
-    → IfOk result (JudgesAccepted (lines_linted wanted) limits before after contents old new)
-ended_accepted wanted limits before after contents old new records checked (Ok verdict) e judged answered =
-    subst (JudgesAccepted (lines_linted wanted) limits before after contents old new) (sym answered)
-    (truncated_unaccepted wanted limits before after contents old new records (subst (JudgesText limits before) e judged))
-ended_accepted wanted limits before after contents old new records checked (Err fault) e judged answered = tt
-
--- the verdict is no refusal
-abbrev pub IsUnrefused : Verdict → Type 0
-IsUnrefused (Good groups transactions records) = Unit {0}
-IsUnrefused (Refused refusal) = ⊥
-IsUnrefused (Truncated records) = Unit {0}
-
-tells_unrefused : {W : Type 0} (wanted : Wanted) (limits : Limits) (before after : Option (List ℕ))
-    (contents : W → Option (List ℕ)) (old new : W) (verdict : Verdict)
-    → IsUnrefused verdict → Reports (lines_up_to wanted) limits before after contents old new (Ok verdict)
-    → Tells wanted limits before after contents old new verdict
-tells_unrefused wanted limits before after contents old new (Good groups transactions records) is h =
-    tells_good wanted limits before after contents old new groups transactions records h
-tells_unrefused wanted limits before after contents old new (Refused refusal) is h = absurd is
-tells_unrefused wanted limits before after contents old new (Truncated records) is h =
-    tells_end wanted limits before after contents old new new records [] h (λ e. refl) (Appends-nil (contents new))
-
-pub unrefused_at : {W : Type 0} (flag wanted : Wanted) (limits : Limits) (before after : Option (List ℕ))
-    (contents : W → Option (List ℕ)) (old new : W) (checked : Result Verdict ToolFault) (verdict : Verdict)
-    → flag ≡ wanted → Reports (lines_up_to flag) limits before after contents old new checked → checked ≡ Ok verdict
-    → IsUnrefused verdict → Tells wanted limits before after contents old new verdict
-unrefused_at flag wanted limits before after contents old new checked verdict same h e is =
-    subst (λ (b : Wanted). Tells b limits before after contents old new verdict) same
-    (tells_unrefused flag limits before after contents old new verdict is
-    (subst (Reports (lines_up_to flag) limits before after contents old new) e h))
-
-pub refused_at : {W : Type 0} (flag wanted : Wanted) (limits : Limits) (before left after : Option (List ℕ))
-    (contents : W → Option (List ℕ)) (old between new : W) (refusal : Refusal) (asking : Asking) (found : ℕ) (advice : List ℕ) (last : LastRead)
-    (checked result : Result Verdict ToolFault)
-    → flag ≡ wanted → Reports (lines_up_to flag) limits before left contents old between checked
-    → StopsAt limits (read_faults.Refused refusal) before left last → Hears wanted limits before left refusal asking found advice
-    → checked ≡ Ok (Refused refusal)
-    → IsAnswerTo (Refused refusal) result → OnOk result ((text : List ℕ)
-    × TellsRun asking (begins_at (state_at last.stage last.counts (refusal.rec - 1)) found advice) refusal last.bytes left after text
-    × Appends (contents between) (contents new) text)
-    → IfOk result (Tells wanted limits before after contents old new)
-refused_at flag wanted limits before left after contents old between new refusal asking found advice last checked result same h s x e answered
-    told =
-    tells_after wanted limits before left after contents old between new refusal asking found advice last result
-    (subst (λ (b : Wanted). Reports (lines_up_to b) limits before left contents old between (Ok (Refused refusal))) same
-    (subst (Reports (lines_up_to flag) limits before left contents old between) e h)) s x answered told
-
-pub faults_at : {W : Type 0} (flag wanted : Wanted) (limits : Limits) (before left after : Option (List ℕ))
-    (contents : W → Option (List ℕ)) (old between new : W) (refusal : Refusal) (asking : Asking) (found : ℕ) (advice : List ℕ) (last : LastRead)
-    (checked result : Result Verdict ToolFault)
-    → flag ≡ wanted → Reports (lines_up_to flag) limits before left contents old between checked
-    → StopsAt limits (read_faults.Refused refusal) before left last → Hears wanted limits before left refusal asking found advice
-    → checked ≡ Ok (Refused refusal) → AddsWords contents between new
-    → AppendsUpTo contents between new result (TellsAfterUpTo asking last found advice refusal left) → TakesMore left after
-    → IsAnswerTo (Refused refusal) result → Lints wanted limits before after contents old new result
-faults_at flag wanted limits before left after contents old between new refusal asking found advice last checked (Ok verdict) same h s x e words
-    cut more answered =
-    lints_after wanted limits before left after contents old between new checked (Ok verdict) words.0
-    (subst (λ (b : Wanted). Reports (lines_up_to b) limits before left contents old between checked) same h) words.1 more
-    (subst (λ (r : Result Verdict ToolFault). IsAnswerAfter r (Ok verdict)) (sym e) answered) tt
-faults_at flag wanted limits before left after contents old between new refusal asking found advice last checked (Err fault) same h s x e words
-    cut more answered =
-    lints_after wanted limits before left after contents old between new checked (Err fault) cut.0
-    (subst (λ (b : Wanted). Reports (lines_up_to b) limits before left contents old between checked) same h) cut.2 more
-    (subst (λ (r : Result Verdict ToolFault). IsAnswerAfter r (Err fault)) (sym e) answered)
-    (subst (λ (r : Result Verdict ToolFault). AreWordsUpTo wanted limits before left r fault cut.0) (sym e)
-    (cut_as (λ text. IsUnread fault text ⊎ TellsAfterUpTo asking last found advice refusal left text)
-    (λ text. IsUnread fault text ⊎ TellsUpToFault wanted limits before left refusal text) fault cut.0
-    (tells_up_to wanted limits before left refusal asking found advice last fault s x) cut.1))
 
 -- the verdict on an accepted text, and what is written of it
 judges_accepted : {W : Type 0} (of : ItemLines) (limits : Limits) (before after : Option (List ℕ))
@@ -516,7 +340,7 @@ judges_accepted of limits (Some text) after contents old new verdict h = λ v n 
     by (Truncated records) v n a t written = absurd (t.0.right.ends.unaccepted v n a)
 
 -- where a text is accepted
-pub accepted_at : {W : Type 0} (wanted : Wanted) (limits : Limits) (before after : Option (List ℕ))
+accepted_at : {W : Type 0} (wanted : Wanted) (limits : Limits) (before after : Option (List ℕ))
     (contents : W → Option (List ℕ)) (old new : W) (verdict : Verdict) (result : Result Verdict ToolFault) → result ≡ Ok verdict
     → JudgesText limits before result → IfOk result (Tells wanted limits before after contents old new)
     → IfOk result (JudgesAccepted (lines_linted wanted) limits before after contents old new)
@@ -538,59 +362,151 @@ accepted_at wanted limits before after contents old new (Refused refusal) result
     none None h = tt
     none (Some text) h = λ v n a. absurd (h.unaccepted v n a)
 
--- it isn't where it is refused, whatever is answered after that
-pub accepted_after : {W : Type 0} (wanted : Wanted) (limits : Limits) (before after : Option (List ℕ))
-    (contents : W → Option (List ℕ)) (old new : W) (refusal : Refusal) (checked result : Result Verdict ToolFault) → checked ≡ Ok
-    (Refused refusal) → JudgesText limits before checked → IsAnswerTo (Refused refusal) result
-    → IfOk result (JudgesAccepted (lines_linted wanted) limits before after contents old new)
-accepted_after wanted limits before after contents old new refusal checked (Ok verdict) e judged answered =
-    subst (JudgesAccepted (lines_linted wanted) limits before after contents old new) (sym answered)
-    (none before (subst (JudgesText limits before) e judged))
-  where
-    none : (known : Option (List ℕ)) → JudgesText limits known (Ok (Refused refusal))
-        → JudgesAccepted (lines_linted wanted) limits known after contents old new (Refused refusal)
-    none None h = tt
-    none (Some text) h = λ v n a. absurd (h.unaccepted v n a)
-accepted_after wanted limits before after contents old new refusal checked (Err fault) e judged answered = tt
-
--- what was read last
-pub read_last : (limits : Limits) (before left : Option (List ℕ)) (checked : Result Verdict ToolFault) (refusal : Refusal)
-    (found : Option LastRead) (last : LastRead) → IfOk checked
-    (λ verdict. IsSomeAnd found (IsReadLast limits before left verdict)) → checked ≡ Ok (Refused refusal) → found ≡ Some last
-    → StopsAt limits (read_faults.Refused refusal) before left last
-read_last limits before left checked refusal found last h e f =
-    subst (λ (o : Option LastRead). IsSomeAnd o (IsReadLast limits before left (Refused refusal))) f (subst
-    (λ (r : Result Verdict ToolFault). IfOk r (λ verdict. IsSomeAnd found (IsReadLast limits before left verdict))) e h)
-
-pub known_ok : (checked : Result Verdict ToolFault) (v w : Verdict) → checked ≡ Ok v → v ≡ w → checked ≡ Ok w
-known_ok checked v w p q = subst (λ (x : Verdict). checked ≡ Ok x) q p
-
 -- ---- what the header says, the findings and the advice
 
-said_at : (verdict : Verdict) (refusal : Refusal) (wanted : Wanted) (limits : Limits) (before left : Option (List ℕ))
-    (asking : Asking) (said : Option Said) (found : ℕ) (advice : List ℕ) → verdict ≡ Refused refusal → asking ≡ record
-    { explained = wanted.explained; said = said; all = wanted.all }
-    → StandsAfter (HasBegun wanted.advised said found advice) limits before left verdict
-    → Hears wanted limits before left refusal asking found advice
-said_at verdict refusal wanted limits before left asking said found advice e asks h =
-    let stands : StandsAfter (HasBegun wanted.advised said found advice) limits before left (Refused refusal) =
-    subst (λ (v : Verdict). StandsAfter (HasBegun wanted.advised said found advice) limits before left v) e h in
-    record {
-      heard = stands.0;
-      stopped = stands.1;
-      asks =
-          asks ∙ ap (λ (o : Option Said). record { explained = wanted.explained; said = o; all = wanted.all }) stands.2.0;
-      counted = stands.2.1;
-      advised = stands.2.2;
-    }
+hears : (wanted : Wanted) (limits : Limits) (before left : Option (List ℕ)) (refusal : Refusal) (said : Option Said) (found : ℕ)
+    (advice : List ℕ) → StandsAfter (HasBegun wanted.advised said found advice) limits before left (Refused refusal)
+    → Hears wanted limits before left refusal (asking_so wanted.explained said wanted.all) found advice
+hears wanted limits before left refusal said found advice h = record {
+  heard = h.0;
+  stopped = h.1;
+  asks = ap (λ (o : Option Said). asking_so wanted.explained o wanted.all) h.2.0;
+  counted = h.2.1;
+  advised = h.2.2;
+}
 
-pub hears : (checked : Result Verdict ToolFault) (refusal : Refusal) (wanted : Wanted) (limits : Limits)
-    (before left : Option (List ℕ)) (asking : Asking) (said : Option Said) (found : ℕ) (advice : List ℕ)
-    → checked ≡ Ok (Refused refusal)
-    → asking ≡ record { explained = wanted.explained; said = said; all = wanted.all }
-    → IfOk checked (StandsAfter (HasBegun wanted.advised said found advice) limits before left)
-    → Hears wanted limits before left refusal asking found advice
-hears checked refusal wanted limits before left asking said found advice e asks h =
-    said_at (Refused refusal) refusal wanted limits before left asking said found advice refl asks
-    (subst (λ (r : Result Verdict ToolFault). IfOk r (StandsAfter (HasBegun wanted.advised said found advice) limits before left))
-    e h)
+-- ---- a check that goes on with the faults
+
+-- what is said of what was read last, which is held
+of_last : (P Q : LastRead → Type 0) (last : Option LastRead) → IsSomeAnd last P → IsSomeAnd last Q → (it : LastRead) × P it × Q it
+of_last P Q None h said = absurd h
+of_last P Q (Some it) h said = (it, h, said)
+
+-- where the test that is passed on says the same
+explained_so : {W : Type 0} (wanted : Wanted) (limits : Limits) (before left : Option (List ℕ)) (contents : W → Option (List ℕ))
+    (old between : W) (checked : Result Verdict ToolFault) (flag : Bool) → flag ≡ wanted.explained
+    → Reports (lines_before_fault wanted.advised flag wanted.all) limits before left contents old between checked
+    → Reports (lines_up_to wanted) limits before left contents old between checked
+explained_so wanted limits before left contents old between checked flag same h =
+    subst (λ (b : Bool). Reports (lines_before_fault wanted.advised b wanted.all) limits before left contents old between checked) same h
+
+pub said_refused : {W : Type 0} (contents : W → Option (List ℕ)) (old new : W) (asking : Asking) (last : LastRead) (found : ℕ)
+    (advice : List ℕ) (refusal : Refusal) (left after : Option (List ℕ)) (result : Result Verdict ToolFault)
+    → OnOk result (AppendsSuch contents old new (TellsAfter asking last found advice refusal left after))
+    → AppendsUpTo contents old new result (TellsAfterUpTo asking last found advice refusal left)
+    → (words : List ℕ) × Appends (contents old) (contents new) words
+    × TellsOn asking last found advice refusal left after result words
+said_refused contents old new asking last found advice refusal left after (Ok verdict) told leaves = (told.0, told.2, told.1)
+said_refused contents old new asking last found advice refusal left after (Err fault) told leaves = (leaves.0, leaves.2, leaves.1)
+
+pub lints_run : {W : Type 0} (wanted : Wanted) (limits : Limits) (before left after : Option (List ℕ))
+    (contents : W → Option (List ℕ)) (old between new : W) (checked result : Result Verdict ToolFault)
+    (begins : Option Said → ℕ → List ℕ → Type 0) (stands : List Item → Type 0)
+    → ((said : Option Said) (found : ℕ) (advice : List ℕ) → begins said found advice → (given : List Item) → stands given
+    → HasBegun wanted.advised said found advice given)
+    → StandsAtEnd stands limits before left checked → (flag : Bool) → flag ≡ wanted.explained
+    → Reports (lines_before_fault wanted.advised flag wanted.all) limits before left contents old between checked
+    → GoesOnAfter (SaysFaults begins wanted.explained wanted.all) true limits before left after contents between new checked result
+    → Lints wanted limits before after contents old new result
+lints_run wanted limits before left after contents old between new (Ok verdict) result begins stands so stood flag same h g = record {
+  between = between;
+  left = left;
+  checked = Ok verdict;
+  reported = explained_so wanted limits before left contents old between (Ok verdict) flag same h;
+  words = g.words;
+  written = g.written;
+  more = g.more;
+  taken = g.taken;
+  answered = g.answered;
+  leaves = leaves verdict result stood g.held g.says;
+} where
+  refused_leaves : (refusal : Refusal) (fault : ToolFault) (last : Option LastRead)
+      → StandsAfter stands limits before left (Refused refusal)
+      → IsSomeAnd last (IsReadLast limits before left (Refused refusal))
+      → SaysFaults begins wanted.explained wanted.all (Refused refusal) last left after (Err fault) g.words
+      → AreWordsUpTo wanted limits before left (Ok (Refused refusal)) fault g.words
+  refused_leaves refusal fault last here held says =
+      let asking = asking_so wanted.explained says.0 wanted.all in
+      let it = of_last (IsReadLast limits before left (Refused refusal))
+      (λ last. TellsOn asking last says.1 says.2 refusal left after (Err fault) g.words) last held says.4 in
+      cut_as (λ text. IsUnread fault text ⊎ TellsAfterUpTo asking it.0 says.1 says.2 refusal left text)
+      (λ text. IsUnread fault text ⊎ TellsUpToFault wanted limits before left refusal text) fault g.words
+      (tells_up_to wanted limits before left refusal asking says.1 says.2 it.0 fault it.1
+      (hears wanted limits before left refusal says.0 says.1 says.2
+      (here.0, here.1, so says.0 says.1 says.2 says.3 here.0 here.2))) it.2
+
+  leaves : (verdict : Verdict) (result : Result Verdict ToolFault) → StandsAfter stands limits before left verdict
+      → (true ≡ true → IsSomeAnd g.last (IsReadLast limits before left verdict))
+      → SaysFaults begins wanted.explained wanted.all verdict g.last left after result g.words
+      → IfErr result (λ fault. AreWordsUpTo wanted limits before left (Ok verdict) fault g.words)
+  leaves verdict (Ok other) here held says = tt
+  leaves (Good groups transactions records) (Err fault) here held says = absurd (err_ok fault (Good groups transactions records) says.4.0)
+  leaves (Truncated records) (Err fault) here held says = says.4.2
+  leaves (Refused refusal) (Err fault) here held says = refused_leaves refusal fault g.last here (held refl) says
+lints_run {W = W} wanted limits before left after contents old between new (Err fault) result begins stands so stood flag same h g = record {
+  between = between;
+  left = left;
+  checked = Err fault;
+  reported = explained_so wanted limits before left contents old between (Err fault) flag same h;
+  words = [];
+  written = subst (λ (w : W). Appends (contents between) (contents w) []) (sym g.2) (Appends-nil (contents between));
+  more = [];
+  taken = subst (λ (o : Option (List ℕ)). Consumes left o []) (sym g.1) (Consumes-nil left);
+  answered = g.0;
+  leaves =
+      subst (λ (r : Result Verdict ToolFault). IfErr r (λ other. AreWordsUpTo wanted limits before left (Err fault) other []))
+      (sym g.0) refl;
+}
+
+pub tells_run : {W : Type 0} (wanted : Wanted) (limits : Limits) (before left after : Option (List ℕ))
+    (contents : W → Option (List ℕ)) (old between new : W) (checked result : Result Verdict ToolFault)
+    (begins : Option Said → ℕ → List ℕ → Type 0) (stands : List Item → Type 0)
+    → ((said : Option Said) (found : ℕ) (advice : List ℕ) → begins said found advice → (given : List Item) → stands given
+    → HasBegun wanted.advised said found advice given)
+    → StandsAtEnd stands limits before left checked → (flag : Bool) → flag ≡ wanted.explained
+    → Reports (lines_before_fault wanted.advised flag wanted.all) limits before left contents old between checked
+    → GoesOnAfter (SaysFaults begins wanted.explained wanted.all) true limits before left after contents between new checked result
+    → IfOk result (Tells wanted limits before after contents old new)
+tells_run wanted limits before left after contents old between new checked (Err fault) begins stands so stood flag same h g = tt
+tells_run wanted limits before left after contents old between new (Err fault) (Ok other) begins stands so stood flag same h g =
+    absurd (err_ok fault other (sym g.0))
+tells_run {W = W} wanted limits before left after contents old between new (Ok verdict) (Ok other) begins stands so stood flag same h g =
+    subst (Tells wanted limits before after contents old new) (sym g.answered) (by verdict stood
+    (explained_so wanted limits before left contents old between (Ok verdict) flag same h) g.held g.says)
+  where
+    refused : (refusal : Refusal) (last : Option LastRead) → StandsAfter stands limits before left (Refused refusal)
+        → Reports (lines_up_to wanted) limits before left contents old between (Ok (Refused refusal))
+        → IsSomeAnd last (IsReadLast limits before left (Refused refusal))
+        → SaysFaults begins wanted.explained wanted.all (Refused refusal) last left after (Ok other) g.words
+        → Tells wanted limits before after contents old new (Refused refusal)
+    refused refusal last here h held says =
+        let asking = asking_so wanted.explained says.0 wanted.all in
+        let it = of_last (IsReadLast limits before left (Refused refusal))
+        (λ last. TellsOn asking last says.1 says.2 refusal left after (Ok other) g.words) last held says.4 in
+        tells_faults wanted limits before left after contents old between new refusal asking says.1 says.2 it.0 g.words h it.1
+        (hears wanted limits before left refusal says.0 says.1 says.2
+        (here.0, here.1, so says.0 says.1 says.2 says.3 here.0 here.2)) it.2 g.written
+
+    by : (it : Verdict) → StandsAfter stands limits before left it
+        → Reports (lines_up_to wanted) limits before left contents old between (Ok it)
+        → (true ≡ true → IsSomeAnd g.last (IsReadLast limits before left it))
+        → SaysFaults begins wanted.explained wanted.all it g.last left after (Ok other) g.words
+        → Tells wanted limits before after contents old new it
+    by (Good groups transactions records) here h held says =
+        tells_good wanted limits before after contents old new groups transactions records
+        (nothing_more (lines_up_to wanted) limits before left after contents old between new (Good groups transactions records) g.words h
+        says.4.1 says.4.2 g.written)
+    by (Truncated records) here h held says =
+        tells_end wanted limits before after contents old between new records g.words
+        (subst (λ (o : Option (List ℕ)). Reports (lines_up_to wanted) limits before o contents old between (Ok (Truncated records)))
+        (sym says.4.0) h) says.4.1 g.written
+    by (Refused refusal) here h held says = refused refusal g.last here h (held refl) says
+
+-- where the text is accepted
+pub accepted_run : {W : Type 0} (wanted : Wanted) (limits : Limits) (before after : Option (List ℕ))
+    (contents : W → Option (List ℕ)) (old new : W) (result : Result Verdict ToolFault) → JudgesText limits before result
+    → IfOk result (Tells wanted limits before after contents old new)
+    → IfOk result (JudgesAccepted (lines_linted wanted) limits before after contents old new)
+accepted_run wanted limits before after contents old new (Ok verdict) judged told =
+    accepted_at wanted limits before after contents old new verdict (Ok verdict) refl judged told
+accepted_run wanted limits before after contents old new (Err fault) judged told = tt

@@ -44,9 +44,14 @@ advice_when advised items = if advised then advice_on 0 items else []
 abbrev pub said_when : Bool → Said → Option Said
 said_when advised said = if advised then Some said else None
 
--- what is asked for after the first fault, where so much is said of the transmission
+-- what is asked for after the first fault: lines that explain or none, by what is said of the transmission where advice is wanted, and of that
+-- all or not
+abbrev pub asking_so : Bool → Option Said → Bool → Asking
+asking_so explained said all = record { explained = explained; said = said; all = all }
+
+-- so it is where so much is said of the transmission
 abbrev pub asking_for : Wanted → Said → Asking
-asking_for wanted said = record { explained = wanted.explained; said = said_when wanted.advised said; all = wanted.all }
+asking_for wanted said = asking_so wanted.explained (said_when wanted.advised said) wanted.all
 
 -- so much is wanted
 abbrev pub wanting : Bool → Bool → Bool → Wanted

@@ -1,12 +1,13 @@
 -- What a whole lint has written and taken.
 use Rattle.std.specs.Prelude.{◌≡◌, ◌⊎◌, ℕ, ◌+◌, ◌-◌, ◌^◌, ◌≤◌, Bool, true, false, IsFalse, List, [], ◌∷◌, ◌++◌, length, map}
-use Rattle.std.specs.Prelude.{Option, IfSome, IfErr, Result, Ok, Err}
+use Rattle.std.specs.Prelude.{Option, IfSome, IfErr, IsSomeAnd, Result, Ok, Err}
 use Rattle.std.specs.List.{AllByRecursion, AllZip, list_any}
 use Rattle.std.specs.Io.KnownBytes.{Appends, Consumes, IsAtEnd}
 use Rattle.cwr_devices.specs.Format.Failures.{one_more_failure}
 use Rattle.cwr_shape.specs.declared.limits.Limits.{Limits}
 use Rattle.cwr_judge.specs.declared.refusals.Refusal.{Refusal}
 use Rattle.cwr_values.specs.declared.items.Item.{Item}
+use Rattle.cwr_decode.specs.declared.readings.LastRead.{LastRead}
 use Rattle.cwr_decode.specs.declared.readings.ReadFault.TheVariants as read_faults
 use Rattle.cwr_lines.specs.Format.Lines.{IsLineOf, is_lf}
 use Rattle.cwr_lines.specs.Format.Records.{RecordValue, IsRecord}
@@ -16,19 +17,21 @@ use Rattle.cwr_values.specs.Format.Values.{symbol_of}
 use Rattle.cwr_tools.specs.Format.Verdicts.{IsAnswerAfter}
 use Rattle.cwr_tools.specs.Format.Watching.{findings_with}
 use Rattle.cwr_tools.specs.declared.verdicts.Verdict.{Verdict}
-use Rattle.cwr_tools.specs.declared.verdicts.Verdict.TheVariants.{Refused, Truncated}
+use Rattle.cwr_tools.specs.declared.verdicts.Verdict.TheVariants.{Good, Refused, Truncated}
 use Rattle.cwr_tools.specs.declared.verdicts.ToolFault.{ToolFault}
 use Rattle.cwr_tools.specs.declared.verdicts.ToolFault.TheVariants.{Writer}
 use Rattle.cwr_advise.specs.Format.AdviceLines.{said_in}
 use Rattle.cwr_advise.specs.Steps.AdviceCounts.{counts_of}
+use Rattle.cwr_tools.specs.Steps.LastSteps.{Saying}
 use Rattle.cwr_tools.specs.Steps.Reports.{Reports}
 use Rattle.cwr_tools.specs.Steps.Verdicts.{StopsAfter}
 use Rattle.cwr_lint_lines.specs.Steps.Fronts.{state_at}
 use Rattle.cwr_advice.specs.declared.said.Said.{Said}
-use Rattle.cwr_lint.specs.Format.Wanted.{Wanted, advice_when, asking_for, lines_linted, lines_up_to, said_when}
-use Rattle.cwr_lint.specs.Steps.CutShort.{IsCutText, IsToldUpTo, IsUnread, UnlessWriter}
+use Rattle.cwr_lint.specs.Format.FaultsOfLines.{Asking}
+use Rattle.cwr_lint.specs.Format.Wanted.{Wanted, advice_when, asking_for, asking_so, lines_linted, lines_up_to, said_when}
+use Rattle.cwr_lint.specs.Steps.CutShort.{IsCutText, IsToldUpTo, IsUnread, TellsAfterUpTo, UnlessWriter}
 use Rattle.cwr_lint.specs.Steps.LinesRead.{IsTextOf}
-use Rattle.cwr_lint.specs.Steps.Runs.{AreWords, EndsAtTrl}
+use Rattle.cwr_lint.specs.Steps.Runs.{AreWords, EndsAtTrl, TellsAfter}
 use Rattle.cwr_lint.specs.Steps.Walks.{IsTold, begins_at}
 
 -- What is known where a check has ended after these items: what the header says, where advice is wanted, how many findings there are, and
@@ -146,6 +149,30 @@ Tells wanted limits before after contents old new verdict =
 abbrev pub AddsEnd : {W : Type 0} → (W → Option (List ℕ)) → W → W → Result Verdict ToolFault → Type 0
 AddsEnd contents old new result = (words : List ℕ) × Appends (contents old) (contents new) words
     × IfErr result (λ fault. UnlessWriter fault (words ≡ []))
+
+-- what is told of the line that is refused and of those after it, or up to a fault
+abbrev pub TellsOn : Asking → LastRead → ℕ → List ℕ → Refusal → Option (List ℕ) → Option (List ℕ) → Result Verdict ToolFault → List ℕ
+    → Type 0
+TellsOn asking last found advice refusal left after (Ok verdict) words = TellsAfter asking last found advice refusal left after words
+TellsOn asking last found advice refusal left after (Err fault) words =
+    IsCutText (λ text. IsUnread fault text ⊎ TellsAfterUpTo asking last found advice refusal left text) fault words
+
+-- What follows the verdict of a check that told so many findings and so much advice of each rule. After a transmission nothing does. Words on
+-- an end that comes too early do where they are asked for, and nothing more is taken. After a refusal the faults are told.
+abbrev pub SaysFollows : Asking → ℕ → List ℕ → Saying
+SaysFollows asking found advice (Good groups transactions records) last left after result words =
+    (result ≡ Ok (Good groups transactions records)) × (after ≡ left) × (words ≡ [])
+SaysFollows asking found advice (Truncated records) last left after result words =
+    (after ≡ left) × AreWords asking.explained words
+    × IfErr result (λ fault. (asking.explained ≡ true) × UnlessWriter fault (words ≡ []))
+SaysFollows asking found advice (Refused refusal) last left after result words =
+    IsSomeAnd last (λ it. TellsOn asking it found advice refusal left after result words)
+
+-- the same, where the check begins so
+abbrev pub SaysFaults : (Option Said → ℕ → List ℕ → Type 0) → Bool → Bool → Saying
+SaysFaults begins explained all verdict last left after result words =
+    (said : Option Said) × (found : ℕ) × (advice : List ℕ) × begins said found advice
+    × SaysFollows (asking_so explained said all) found advice verdict last left after result words
 
 -- the fault, where so many bytes were written in all
 abbrev pub counted : ℕ → ToolFault → ToolFault

@@ -14,7 +14,7 @@ use Rattle.cwr_findings.specs.Format.ReportLines.{faults_line}
 use Rattle.cwr_lint.specs.declared.linting.LintRun.{LintRun}
 use Rattle.cwr_lint.specs.declared.puts.Asked.{Asked}
 use Rattle.cwr_lint.specs.declared.raw_lines.RawLine.{RawLine}
-use Rattle.cwr_lint_lines.specs.declared.judging.Judged.{Judged}
+use Rattle.cwr_lint_lines.specs.declared.judged_lines.Judged.{Judged}
 use Rattle.cwr_lint_lines.specs.Format.FaultsAtFields.{JudgedLine, LineCut, cut_of, one_more_line}
 use Rattle.cwr_lint.specs.Format.FaultsOfLines.{Asking, EndedTransaction, IsFaultText, Tells, TellsLine, count_after}
 use Rattle.cwr_lint.specs.Format.Told.{truncated_unless}

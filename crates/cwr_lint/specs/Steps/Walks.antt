@@ -8,8 +8,8 @@ use Rattle.cwr_judge.specs.declared.refusals.Refusal.{Refusal}
 use Rattle.cwr_findings.specs.Format.Findings.{findings}
 use Rattle.cwr_findings.specs.Format.ReportLines.{faults_line}
 use Rattle.cwr_lint.specs.Format.Told.{truncated_unless}
-use Rattle.cwr_lint_lines.specs.declared.judging.Judged.{Judged}
-use Rattle.cwr_lint_lines.specs.declared.judging.Judged.TheVariants.{Unknown, Known as Of}
+use Rattle.cwr_lint_lines.specs.declared.judged_lines.Judged.{Judged}
+use Rattle.cwr_lint_lines.specs.declared.judged_lines.Judged.TheVariants.{Unknown, Known as Of}
 use Rattle.cwr_lint_lines.specs.declared.states.OpenGroup.{OpenGroup}
 use Rattle.cwr_lint_lines.specs.declared.states.LintState.{LintState}
 use Rattle.cwr_lint_lines.specs.declared.takings.Taking.{Taking}

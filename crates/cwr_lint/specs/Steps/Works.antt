@@ -2,8 +2,8 @@
 use Rattle.std.specs.Prelude.{ℕ, ◌==◌, Bool, true, false, nat_lt, List, [], Option, None, Some, if◌then◌else◌}
 use Rattle.cwr_lines.specs.Steps.Held.{HeldLine}
 use Rattle.cwr_causes.specs.Steps.Works.{own_work}
-use Rattle.cwr_lint_lines.specs.declared.judging.Judged.{Judged}
-use Rattle.cwr_lint_lines.specs.declared.judging.Judged.TheVariants.{Unknown, Known as Of}
+use Rattle.cwr_lint_lines.specs.declared.judged_lines.Judged.{Judged}
+use Rattle.cwr_lint_lines.specs.declared.judged_lines.Judged.TheVariants.{Unknown, Known as Of}
 use Rattle.cwr_lint_lines.specs.declared.states.LintState.{LintState}
 use Rattle.cwr_lint_lines.specs.declared.states.OpenGroup.{OpenGroup}
 use Rattle.cwr_lint_lines.specs.declared.takings.Taking.{Taking}

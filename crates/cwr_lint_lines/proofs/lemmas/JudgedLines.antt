@@ -11,8 +11,8 @@ use Rattle.cwr_lines.proofs.lemmas.HeldLaws.{held_cell-at}
 use Rattle.cwr_shape.specs.declared.tallies.Scope.{Scope}
 use Rattle.cwr_shape.specs.declared.reasons.Reason.{Reason}
 use Rattle.cwr_shape.specs.declared.reasons.Reason.TheVariants.{UnknownKind, Misplaced, Excess}
-use Rattle.cwr_lint_lines.specs.declared.judging.Known.{Known}
-use Rattle.cwr_lint_lines.specs.declared.judging.Judged.TheVariants.{Unknown, Known as Of}
+use Rattle.cwr_lint_lines.specs.declared.judged_lines.Known.{Known}
+use Rattle.cwr_lint_lines.specs.declared.judged_lines.Judged.TheVariants.{Unknown, Known as Of}
 use Rattle.cwr_lint_lines.specs.Format.FaultsAtFields.{IsToldAt, IsToldOfField, fields_end, number_reason, reason_if}
 use Rattle.cwr_lint_lines.specs.Steps.JudgedLines.{IsKnown, IsReasonIf, IsReasonOfCell, judged_at, number_reason_in}
 

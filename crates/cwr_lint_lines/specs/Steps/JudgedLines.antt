@@ -9,9 +9,9 @@ use Rattle.cwr_shape.specs.declared.tallies.Scope.TheVariants as scopes
 use Rattle.cwr_shape.specs.declared.reasons.Reason.{Reason}
 use Rattle.cwr_shape.specs.declared.reasons.Reason.TheVariants.{Cell}
 use Rattle.cwr_judge.specs.declared.refusals.Refusal.{Refusal}
-use Rattle.cwr_lint_lines.specs.declared.judging.Known.{Known}
-use Rattle.cwr_lint_lines.specs.declared.judging.Judged.{Judged}
-use Rattle.cwr_lint_lines.specs.declared.judging.Judged.TheVariants.{Unknown, Known as Of}
+use Rattle.cwr_lint_lines.specs.declared.judged_lines.Known.{Known}
+use Rattle.cwr_lint_lines.specs.declared.judged_lines.Judged.{Judged}
+use Rattle.cwr_lint_lines.specs.declared.judged_lines.Judged.TheVariants.{Unknown, Known as Of}
 use Rattle.cwr_lint_lines.specs.declared.numbers.WrongNumbers.{WrongNumbers}
 use Rattle.cwr_lint_lines.specs.declared.states.OpenGroup.{OpenGroup}
 use Rattle.cwr_lint_lines.specs.declared.states.LintState.{LintState}

@@ -31,7 +31,7 @@ use Rattle.cwr_endings.specs.Format.Endings.{IsStatusBy}
 use Rattle.cwr_endings.specs.Steps.Looks.{CountsLook, IsLook, LooksOnce, follows, good_status, judged_with, judgement_in, status_after, status_in}
 use Rattle.cwr_endings.proofs.lemmas.StatusesOnTexts.{none_from, status_good}
 use Rattle.cwr_endings.specs.declared.judgements.Judgement.{Judgement}
-use Rattle.cwr_reports.specs.declared.reports.Telling.{Telling}
+use Rattle.cwr_reports.specs.declared.tellings.Telling.{Telling}
 use Rattle.cwr_reports.specs.Format.Endings.{Counts, EndsOnInput}
 use Rattle.cwr_reports.specs.Steps.Tellings.{CountsFindings, CountsInput, CountsReading, CountsWriting, TellsText, TellsUpTo}
 use Rattle.cwr_reports.specs.Steps.Looks.{JudgesOn, LooksAfter, SeesFound, look_of}

@@ -10,9 +10,9 @@ use Rattle.cwr_files.specs.declared.faults.Fault.TheVariants as faults
 use Rattle.cwr_endings.specs.declared.endings.Status.{Status}
 use Rattle.cwr_endings.specs.declared.endings.Wanted.{Wanted}
 use Rattle.cwr_endings.specs.Format.Endings.{FindsFrom, IsStatusBy}
-use Rattle.cwr_reports.specs.declared.reports.Asked.{Asked}
-use Rattle.cwr_reports.specs.declared.reports.Telling.{Telling}
-use Rattle.cwr_reports.specs.declared.reports.Telling.TheVariants as tellings
+use Rattle.cwr_reports.specs.declared.tellings.Asked.{Asked}
+use Rattle.cwr_reports.specs.declared.tellings.Telling.{Telling}
+use Rattle.cwr_reports.specs.declared.tellings.Telling.TheVariants as tellings
 
 -- What counts for the status: where advice is told, all of it or not, and the numbers of so many works are kept, all findings and all
 -- advice, and else the findings. Something of it has the level or a worse one, or nothing has.

@@ -15,8 +15,8 @@ use Rattle.cwr_endings.specs.Format.Endings.{IsStatusBy}
 use Rattle.cwr_endings.specs.Steps.Looks.{IsLook}
 use Rattle.cwr_endings.specs.declared.judgements.Judgement.{Judgement}
 use Rattle.cwr_reports.specs.Format.Endings.{Counts}
-use Rattle.cwr_reports.specs.declared.reports.Telling.{Telling}
-use Rattle.cwr_reports.specs.declared.reports.Telling.TheVariants as tellings
+use Rattle.cwr_reports.specs.declared.tellings.Telling.{Telling}
+use Rattle.cwr_reports.specs.declared.tellings.Telling.TheVariants as tellings
 
 -- what stands after the transmission was read, or the input failed, where the text is accepted
 abbrev pub LooksAfter : Limits → Option (List ℕ) → Look → Type 0
@@ -33,12 +33,9 @@ look_of (Some trailing) = looks.Found trailing
 abbrev pub tells_findings : Telling → Bool
 tells_findings tellings.Findings = true
 tells_findings (tellings.Explained name) = true
-tells_findings (tellings.Faults name advised all) = false
 tells_findings tellings.Records = true
-tells_findings (tellings.Data encoding numbers) = false
-tells_findings (tellings.Rows encoding table) = false
-tells_findings (tellings.Answers form statuses) = false
 tells_findings (tellings.Advice all repeated) = true
+tells_findings telling = false
 
 -- where a text is accepted, something that counts of its transmission has the level or a worse one, or nothing has
 abbrev pub SeesFound : Option (Bool × ℕ) → Option Level → Limits → Option (List ℕ) → Bool → Type 0

@@ -22,8 +22,8 @@ use Rattle.cwr_lint.specs.Steps.Lints.{Lints, Tells}
 use Rattle.cwr_endings.specs.declared.endings.Look.{Look}
 use Rattle.cwr_endings.specs.Steps.Looks.{CountsLook}
 use Rattle.cwr_endings.specs.declared.judgements.Judgement.{Judgement}
-use Rattle.cwr_reports.specs.declared.reports.Telling.{Telling}
-use Rattle.cwr_reports.specs.declared.reports.Telling.TheVariants as tellings
+use Rattle.cwr_reports.specs.declared.tellings.Telling.{Telling}
+use Rattle.cwr_reports.specs.declared.tellings.Telling.TheVariants as tellings
 
 -- how it is told what acknowledgements of these statuses say, or all without one, where there is one file, and nothing that was sent
 abbrev pub telling_alone : Form → List TransactionStatus → AckTelling

@@ -18,8 +18,8 @@ use Rattle.cwr_encode.proofs.lemmas.Ends.{text_completed}
 use Rattle.cwr_json.specs.declared.encodings.Encoding.{Encoding}
 use Rattle.cwr_write.specs.declared.items.ItemFault.{ItemFault}
 use Rattle.cwr_write.specs.declared.items.ItemFault.TheVariants as item_faults
-use Rattle.cwr_write.specs.declared.lines.ReadFault.{ReadFault}
-use Rattle.cwr_write.specs.declared.lines.ReadFault.TheVariants as read_faults
+use Rattle.cwr_write.specs.declared.input_lines.ReadFault.{ReadFault}
+use Rattle.cwr_write.specs.declared.input_lines.ReadFault.TheVariants as read_faults
 use Rattle.cwr_write.specs.declared.refusals.LineFault.{LineFault}
 use Rattle.cwr_write.specs.declared.writing.Reached.{Reached}
 use Rattle.cwr_write.specs.declared.writing.Reached.TheVariants as reached_to

@@ -30,8 +30,8 @@ use Rattle.cwr_shape.specs.declared.symbols.Symbol.{Symbol}
 use Rattle.cwr_shape.specs.declared.symbols.Symbol.TheVariants.{Plain}
 use Rattle.cwr_shape.specs.Format.NextSymbols.{MayCome}
 use Rattle.cwr_shape.specs.Steps.Tallies.{IsTallyOf, TallyValue}
-use Rattle.cwr_write.specs.declared.lines.ReadFault.{ReadFault}
-use Rattle.cwr_write.specs.declared.lines.ReadFault.TheVariants as read_faults
+use Rattle.cwr_write.specs.declared.input_lines.ReadFault.{ReadFault}
+use Rattle.cwr_write.specs.declared.input_lines.ReadFault.TheVariants as read_faults
 use Rattle.cwr_write.specs.declared.writing.Written.{Written}
 use Rattle.cwr_write.specs.declared.writing.WriteFault.{WriteFault}
 use Rattle.cwr_write.specs.declared.writing.WriteFault.TheVariants as write_faults

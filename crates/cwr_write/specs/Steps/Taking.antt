@@ -30,8 +30,8 @@ use Rattle.cwr_write.specs.Format.Imports.{AreLines, SaysItem, SaysItems, given_
 use Rattle.cwr_write.specs.Format.Lacks.{lack_of}
 use Rattle.cwr_write.specs.declared.writing.Reached.{Reached}
 use Rattle.cwr_write.specs.declared.writing.Reached.TheVariants as reached_to
-use Rattle.cwr_write.specs.declared.lines.ReadFault.{ReadFault}
-use Rattle.cwr_write.specs.declared.lines.ReadFault.TheVariants as read_faults
+use Rattle.cwr_write.specs.declared.input_lines.ReadFault.{ReadFault}
+use Rattle.cwr_write.specs.declared.input_lines.ReadFault.TheVariants as read_faults
 use Rattle.cwr_write.specs.declared.writing.Written.{Written}
 use Rattle.cwr_write.specs.declared.writing.WriteFault.{WriteFault}
 use Rattle.cwr_write.specs.declared.writing.WriteFault.TheVariants as write_faults

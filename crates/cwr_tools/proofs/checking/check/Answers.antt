@@ -2,4 +2,4 @@ use Rattle.cwr_tools.specs.Format.Reports.{lines_of_findings}
 use Rattle.cwr_tools.proofs.checking.check.Goals as goal
 
 pub returns : goal.returns
-returns g c = record { runs = c.write_report-writer.ensures.runs lines_of_findings c.new-lines.ensures.stands }
+returns g c = record { runs = c.write_report.ensures.runs lines_of_findings c.new-lines.ensures.stands }

@@ -1,0 +1,9 @@
+use Rattle.std.proofs.Common.{rules, false}
+use Rattle.cwr_calls.proofs.lemmas.ReportedTexts.{lint_on_items}
+use Rattle.cwr_calls.proofs.report_texts.lint_report.Goals as goal
+
+pub returns-clause-written : goal.returns-clause-written
+returns-clause-written c =
+    lint_on_items false c.args.limits _ _ c.args.text.now c.into_inner.result.items _ c.new-writer.result c.lint-writer.result.0
+    c.lint-writer.result.1 c.lint-writer.ensures.lints (search rules) (search rules) (search rules)
+    c.lint-writer.ensures.tells

@@ -1,0 +1,5 @@
+use Rattle.cwr_tools.specs.Format.Reports.{lines_of_records}
+use Rattle.cwr_calls.proofs.report_texts.show_report.Goals as goal
+
+pub returns-clause-written : goal.returns-clause-written
+returns-clause-written c = c.report_of.ensures.written lines_of_records c.new-records.ensures.stands

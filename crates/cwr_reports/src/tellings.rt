@@ -1,0 +1,552 @@
+//! Transmissions that are judged, shown, or written as data.
+
+ghost use Rattle.std.specs.Prelude.{◌≡◌, [], Option, true, false, not, IfOk, Ok, OnOk, None};
+ghost use Rattle.cwr_acks.specs.Format.AckLines.{lines_of_acks};
+ghost use Rattle.cwr_shape.specs.declared.reasons.Level.{Level};
+ghost use Rattle.cwr_tools.specs.Format.Reports.{CountsReaderFault, CountsWriterFault, ItemLines, ReportsText};
+ghost use Rattle.cwr_tools.specs.Steps.Reports.{Reports};
+ghost use Rattle.cwr_tools.specs.Format.Verdicts.{JudgesText};
+ghost use Rattle.cwr_tools.specs.Format.Watching.{StandsAccepted, is_reached};
+ghost use Rattle.cwr_reports.specs.Format.Endings.{EndsOnInput, advice_asked, advice_in};
+ghost use Rattle.cwr_files.specs.Steps.Inputs.{remaining_of};
+ghost use Rattle.cwr_reports.specs.Steps.Tellings.{CountsFindings, CountsInput, CountsReading, CountsWriting, ReportsUpTo, TellsText, telling_alone};
+ghost use Rattle.cwr_reports.specs.Steps.Looks.{JudgesOn, LooksAfter, SeesFound, look_of, tells_findings};
+
+use crate::exports::tell_cut;
+use cwr_acks::{Form, Manner, acks};
+use cwr_advise::AdviceLines;
+use cwr_causes::Trailing;
+use cwr_devices::{ReadAhead, Sink, SinkFault, Source, Target};
+use cwr_endings::{
+    Judgement, Look, Status, Wanted, judgement_of, look_after, tell_characters, tell_findings,
+    tell_following, tell_profile, tell_unanswering, tell_verdict, worst_level,
+};
+use cwr_explain::explain;
+use cwr_fields::TransactionStatus;
+use cwr_files::{Fault, FileLines, Gathered, Input, Name, Pace, Passing, Told, gathered, told_of};
+use cwr_json::Encoding;
+use cwr_lint::lint;
+use cwr_shape::{Level, Limits, Reason};
+use cwr_tables::{Table, TableRows};
+use cwr_tools::{
+    CountedRecords, DataLines, FindingCount, FindingLines, Report, ToolFault, Verdict,
+    put_verdict_line, write_report,
+};
+use std::alloc::Global;
+use std::io::{Read, Write};
+
+/// What is written of a transmission.
+#[derive(Clone, Copy, Debug)]
+pub enum Telling<'a> {
+    /// The findings, and the verdict.
+    Findings,
+    /// The same with what explains them, in which the input has that name.
+    Explained(&'a str),
+    /// Every fault in the place of a refusal; with what explains them where the input's name is given, and with advice or without: all of
+    /// it, or of each rule the first three pieces.
+    Faults {
+        name: Option<&'a str>,
+        advised: bool,
+        all: bool,
+    },
+    /// The records with their cells, and the verdict.
+    Records,
+    /// The data as lines of JSON, and the verdict to standard error.
+    Data {
+        /// How cells are shown.
+        encoding: Encoding,
+        /// With the numbers of groups, transactions and lines.
+        numbers: bool,
+    },
+    /// A table, and the verdict to standard error.
+    Rows {
+        /// How cells are shown.
+        encoding: Encoding,
+        /// What it has rows of.
+        table: Table,
+    },
+    /// What the acknowledgements say, and the verdict to standard error.
+    Answers {
+        /// In what form.
+        form: Form,
+        /// Those with one of these statuses are told; without one all are.
+        statuses: &'a [TransactionStatus],
+    },
+    /// The findings with what explains them, the advice, and the verdict.
+    Advice {
+        /// All advice, or of each rule the first three pieces.
+        all: bool,
+        /// The numbers of so many works are kept.
+        repeated: u32,
+    },
+}
+
+/// What is told of an input that is judged and is called so in lines, where it is explained too.
+pub fn telling_of<'a>(asked: &Asked, explained: bool, name: &'a str) -> Telling<'a>
+    ensures findings { tells_findings result ≡ not asked.now.faults }
+    ensures advice { advice_in result ≡ advice_asked asked.now }
+{
+    match (asked.faults, asked.advised, explained) {
+        (true, advised, _) => Telling::Faults {
+            name: explained.then_some(name),
+            advised,
+            all: asked.all,
+        },
+        (false, true, _) => Telling::Advice {
+            all: asked.all,
+            repeated: asked.repeated,
+        },
+        (false, false, true) => Telling::Explained(name),
+        (false, false, false) => Telling::Findings,
+    }
+}
+
+/// How an input is judged.
+#[derive(Clone, Copy, Debug)]
+pub struct Asked {
+    pub alloc: Global,
+    pub limits: Limits,
+    pub wanted: Wanted,
+    /// Nothing is written of what is good; but where advice is asked for, only the verdict isn't.
+    pub quiet: bool,
+    /// Every fault is told.
+    pub faults: bool,
+    /// Advice is told.
+    pub advised: bool,
+    /// Of that all, where else of each rule the first three pieces are told.
+    pub all: bool,
+    /// For that the numbers of so many works are kept.
+    pub repeated: u32,
+}
+
+impl Asked {
+    /// Which of the lines that are told are written. Who asks for advice wants what stands before a good verdict.
+    pub(crate) fn passing(&self) -> Passing {
+        match (self.quiet, self.advised && !self.faults) {
+            (false, _) => Passing::All,
+            (true, true) => Passing::Told,
+            (true, false) => Passing::Bad,
+        }
+    }
+}
+
+/// What was counted of a transmission while it was told.
+#[derive(Clone, Copy, Debug)]
+pub(crate) struct Count {
+    /// The findings, where these are told or counted.
+    pub(crate) findings: FindingCount,
+    /// The worst level of what counts for the status: of these, or where advice is told of all that is told.
+    worst: Option<Level>,
+    /// The acknowledgements, where what they say is told.
+    pub(crate) answers: Option<u64>,
+}
+
+impl Count {
+    /// Nothing was.
+    fn nothing() -> Count
+        ensures worst { result.worst ≡ None }
+    {
+        Count {
+            findings: FindingCount::new(),
+            worst: None,
+            answers: None,
+        }
+    }
+
+    /// These findings were.
+    fn of_findings(findings: FindingCount) -> Count
+        ensures findings { result.findings ≡ findings }
+        ensures worst { result.worst ≡ findings.worst }
+    {
+        Count {
+            findings,
+            worst: findings.worst,
+            answers: None,
+        }
+    }
+
+    /// Something was told of which that is the worst level.
+    fn of_advice(worst: Option<Level>) -> Count
+        ensures worst { result.worst ≡ worst }
+    {
+        Count {
+            findings: FindingCount::new(),
+            worst,
+            answers: None,
+        }
+    }
+
+    /// So many acknowledgements were.
+    fn of_answers(answers: u64) -> Count
+        ensures worst { result.worst ≡ None }
+    {
+        Count {
+            findings: FindingCount::new(),
+            worst: None,
+            answers: Some(answers),
+        }
+    }
+
+    /// Whether something that counts for the status has the level, or a worse one; where no level is given, nothing has.
+    fn reaches(&self, from: Option<Level>) -> bool
+        ensures { result ≡ is_reached from self.now.worst }
+    {
+        let told = FindingCount {
+            findings: 0,
+            worst: self.worst,
+        };
+        told.reaches(from)
+    }
+}
+
+/// What was found after a transmission, if that was looked for.
+fn look_of(found: Option<Trailing>) -> Look
+    ensures { result ≡ look_of found }
+{
+    match found {
+        Some(trailing) => Look::Found(trailing),
+        None => Look::Unasked,
+    }
+}
+
+/// Writes what the acknowledgements of one transmission say, matched with nothing. The writer comes back, and how many there are.
+fn acks_alone<R: Source, W: Target + Drop>(
+    alloc: Global,
+    limits: Limits,
+    form: Form,
+    statuses: &[TransactionStatus],
+    reader: &mut R,
+    writer: W,
+) -> (W, Result<Verdict, ToolFault>, u64)
+    ensures reported { Reports (lines_of_acks (telling_alone form statuses.now) None) limits
+        (R.remaining reader.old) (R.remaining reader.new) W.contents writer result.0 result.1 }
+    ensures told { ReportsText (lines_of_acks (telling_alone form statuses.now) None) limits
+        (R.remaining reader.old) (R.remaining reader.new) W.contents writer result.0 result.1 }
+    ensures handed_on { OnOk result.1 (W.handed_on result.0 ≡ true) }
+    ensures reader_failures { CountsReaderFault result.1 (R.failures reader.old)
+        (R.failures reader.new) }
+    ensures writer_failures { CountsWriterFault result.1 (W.failures writer) (W.failures result.0) }
+{
+    let manner = Manner {
+        form,
+        statuses,
+        file: None,
+        names: &[],
+    };
+    let (writer, _, answers, outcome) = acks(alloc, limits, manner, None, reader, writer);
+    (writer, outcome, answers.all)
+}
+
+/// Writes a report on a transmission, and looks what stands after it. The writer comes back.
+fn report_and_look<L: Report, R: Source, W: Target + Drop>(
+    alloc: Global,
+    limits: Limits,
+    lines: &mut L,
+    reader: &mut R,
+    writer: W,
+) -> (W, Result<Verdict, ToolFault>, Look)
+    requires { (of : ItemLines) × L.stands lines.old of [] }
+    ensures judged { JudgesText limits (R.remaining reader.old) result.1 }
+    ensures looks { OnOk result.1 (LooksAfter limits (R.remaining reader.old) result.2) }
+    ensures told { (of : ItemLines) → L.stands lines.old of [] → ReportsUpTo of limits
+        (R.remaining reader.old) W.contents writer result.0 result.1 }
+    // Where the text is accepted, it is as its transmission's items leave it.
+    ensures stands { (of : ItemLines) → L.stands lines.old of [] → OnOk result.1
+        (StandsAccepted (L.stands lines.new of) limits (R.remaining reader.old)) }
+    ensures handed_on { OnOk result.1 (W.handed_on result.0 ≡ true) }
+    ensures reader_failures { CountsReading result.1 result.2 (R.failures reader.old)
+        (R.failures reader.new) }
+    ensures writer_failures { CountsWriterFault result.1 (W.failures writer) (W.failures result.0) }
+{
+    let (writer, outcome) = write_report(lines, alloc, limits, reader, writer);
+    let look = look_after(reader, &outcome);
+    (writer, outcome, look)
+}
+
+/// Reads a transmission, writes what is told of it, and looks what stands after it. The writer comes back, and what was counted.
+fn tell<R: Source, W: Target + Drop>(
+    alloc: Global,
+    limits: Limits,
+    telling: Telling<'_>,
+    reader: &mut R,
+    writer: W,
+) -> (W, Result<Verdict, ToolFault>, Look, Count)
+    ensures judged { JudgesText limits (R.remaining reader.old) result.1 }
+    // Where the text is accepted, the worst level is that of what counts of its transmission. Where nothing does, no level is asked for.
+    ensures seen { (from : Option Level) → (tells_findings telling.entry ≡ false → from ≡ None)
+        → OnOk result.1 (SeesFound (advice_in telling.entry) from limits (R.remaining reader.old)
+        (is_reached from result.3.worst)) }
+    ensures looks { OnOk result.1 (LooksAfter limits (R.remaining reader.old) result.2) }
+    ensures counted { OnOk result.1
+        (CountsFindings telling.entry limits (R.remaining reader.old) result.3.findings) }
+    // What is asked for was written, and handed on.
+    ensures told { TellsText telling.entry limits (R.remaining reader.old) W.contents writer
+        result.0 result.1 }
+    ensures handed_on { OnOk result.1 (W.handed_on result.0 ≡ true) }
+    // No failure is passed over, and none is answered that didn't come.
+    ensures reader_failures { CountsReading result.1 result.2 (R.failures reader.old)
+        (R.failures reader.new) }
+    ensures writer_failures { CountsWriterFault result.1 (W.failures writer) (W.failures result.0) }
+{
+    match telling {
+        Telling::Findings => {
+            let mut findings = FindingLines::new();
+            let (writer, outcome, look) = report_and_look(
+                alloc,
+                limits,
+                &mut findings,
+                reader,
+                writer,
+            );
+            (writer, outcome, look, Count::of_findings(findings.told()))
+        }
+        Telling::Explained(name) => {
+            let (writer, outcome, found, findings) = explain(alloc, limits, name, reader, writer);
+            (
+                writer,
+                outcome,
+                look_of(found),
+                Count::of_findings(findings),
+            )
+        }
+        Telling::Faults { name, advised, all } => {
+            let (writer, outcome) = lint(alloc, limits, name, advised, all, reader, writer);
+            let look = look_after(reader, &outcome);
+            (writer, outcome, look, Count::nothing())
+        }
+        Telling::Records => {
+            let mut records = CountedRecords::new();
+            let (writer, outcome, look) = report_and_look(
+                alloc,
+                limits,
+                &mut records,
+                reader,
+                writer,
+            );
+            (writer, outcome, look, Count::of_findings(records.found()))
+        }
+        Telling::Data { encoding, numbers } => {
+            let mut data = DataLines::new(encoding, numbers);
+            let (writer, outcome, look) = report_and_look(alloc, limits, &mut data, reader, writer);
+            (writer, outcome, look, Count::nothing())
+        }
+        Telling::Rows { encoding, table } => {
+            let mut rows = TableRows::new(encoding, table);
+            let (writer, outcome, look) = report_and_look(alloc, limits, &mut rows, reader, writer);
+            (writer, outcome, look, Count::nothing())
+        }
+        Telling::Answers { form, statuses } => {
+            let (writer, outcome, answers) = acks_alone(
+                alloc, limits, form, statuses, reader, writer,
+            );
+            let look = look_after(reader, &outcome);
+            (writer, outcome, look, Count::of_answers(answers))
+        }
+        Telling::Advice { all, repeated } => {
+            let mut advice = AdviceLines::new(alloc, all, repeated);
+            let (writer, outcome, look) = report_and_look(
+                alloc,
+                limits,
+                &mut advice,
+                reader,
+                writer,
+            );
+            (writer, outcome, look, Count::of_advice(advice.worst()))
+        }
+    }
+}
+
+/// Judges what a reader has, and writes what is told of it. The writer comes back, with how many findings were told.
+fn judge_source<R: Source, W: Target + Drop>(
+    asked: &Asked,
+    telling: Telling<'_>,
+    reader: &mut R,
+    writer: W,
+) -> (W, Result<Judgement, ToolFault>, Count)
+    requires { tells_findings telling ≡ false → asked.now.wanted.fail_on ≡ None }
+    ensures judges { JudgesOn (advice_in telling.entry) asked.now.limits asked.now.wanted
+        (R.remaining reader.old) result.1 }
+    ensures counted { OnOk result.1
+        (CountsFindings telling.entry asked.now.limits (R.remaining reader.old) result.2.findings) }
+    ensures told { IfOk result.1 (λ judgement. TellsText telling.entry asked.now.limits
+        (R.remaining reader.old) W.contents writer result.0 (Ok judgement.verdict)) }
+    ensures handed_on { OnOk result.1 (W.handed_on result.0 ≡ true) }
+    // A fault of a device is answered only where that device counted one more failure.
+    ensures reader_failures { CountsInput result.1 (R.failures reader.old) (R.failures reader.new) }
+    ensures writer_failures { CountsWriting result.1 (W.failures writer) (W.failures result.0) }
+{
+    let (writer, outcome, look, count) = tell(asked.alloc, asked.limits, telling, reader, writer);
+    let found = count.reaches(asked.wanted.fail_on);
+    let judged = judgement_of(asked.wanted, outcome, look, found);
+    (writer, judged, count)
+}
+
+/// Judges an input, and writes what is told of it. The writer comes back, what is known of the input where it fails, and
+/// how many findings were told.
+pub(crate) fn judge_input<'a, F: Read + Drop, I: Read + Drop, P: Pace + Drop, W: Target + Drop>(
+    asked: &Asked,
+    telling: Telling<'_>,
+    input: Input<'a, F, I, P>,
+    writer: W,
+) -> (W, Result<Judgement, ToolFault>, Told<'a>, Count)
+    requires { tells_findings telling ≡ false → asked.now.wanted.fail_on ≡ None }
+    ensures judges { JudgesOn (advice_in telling.entry) asked.now.limits asked.now.wanted
+        (remaining_of F.remaining I.remaining input.entry) result.1 }
+    ensures counted { OnOk result.1 (CountsFindings telling.entry asked.now.limits
+        (remaining_of F.remaining I.remaining input.entry) result.3.findings) }
+    ensures told { IfOk result.1 (λ judgement. TellsText telling.entry asked.now.limits
+        (remaining_of F.remaining I.remaining input.entry) W.contents writer result.0
+        (Ok judgement.verdict)) }
+    ensures handed_on { OnOk result.1 (W.handed_on result.0 ≡ true) }
+    ensures writer_failures { CountsWriting result.1 (W.failures writer) (W.failures result.0) }
+{
+    let mut reader = ReadAhead::new(input);
+    let (writer, judged, count) = judge_source(asked, telling, &mut reader, writer);
+    let told = reader.into_inner().told();
+    (writer, judged, told, count)
+}
+
+/// The level at which an input is rejected by this profile, if it is. A limit is the caller's own.
+pub(crate) fn rejected_level(verdict: &Verdict, count: &Count) -> Option<Level> {
+    match verdict {
+        Verdict::Refused(refusal) if matches!(refusal.reason, Reason::Limit(_)) => {
+            count.findings.worst
+        }
+        _ => worst_level(verdict, &count.findings),
+    }
+}
+
+/// Whether cells of a transmission are shown as characters, and read as ISO 8859-1 for that.
+fn reads_latin(telling: Telling<'_>) -> bool {
+    matches!(
+        telling,
+        Telling::Data {
+            encoding: Encoding::Latin1,
+            ..
+        } | Telling::Rows {
+            encoding: Encoding::Latin1,
+            ..
+        } | Telling::Answers {
+            form: Form::Json(Encoding::Latin1),
+            ..
+        }
+    )
+}
+
+/// Tells on standard error what is not among the lines: what follows the transmission, what findings beside a good verdict mean, and the
+/// verdict beside data, with the characters that its header names. Quiet lines have no findings.
+pub(crate) fn tell_aside<E: Write>(
+    error: &mut E,
+    telling: Telling<'_>,
+    told: &Told<'_>,
+    judgement: &Judgement,
+    count: &Count,
+    quiet: bool,
+) {
+    let name = told.name;
+    match telling {
+        // What follows stands in the explanation, and so do findings.
+        Telling::Explained(_) => {
+            if let (true, Verdict::Good { .. }) = (quiet, judgement.verdict) {
+                tell_findings(&mut *error, name, &count.findings, judgement.status);
+            }
+        }
+        Telling::Findings | Telling::Records => {
+            tell_following(&mut *error, name, &judgement.look);
+            if let Verdict::Good { .. } = judgement.verdict {
+                tell_findings(&mut *error, name, &count.findings, judgement.status);
+            }
+        }
+        Telling::Faults { .. } | Telling::Advice { .. } => {
+            tell_following(&mut *error, name, &judgement.look);
+        }
+        Telling::Data { .. } | Telling::Rows { .. } => {
+            tell_verdict(&mut *error, name, judgement);
+        }
+        Telling::Answers { .. } => {
+            tell_verdict(&mut *error, name, judgement);
+            if let Some(answers) = count.answers {
+                tell_unanswering(&mut *error, name, judgement, answers, false);
+            }
+        }
+    }
+    if reads_latin(telling) {
+        tell_characters(error, told);
+    }
+}
+
+/// Puts the verdict on what is good and has less than was wanted, which quiet lines leave out.
+pub(crate) fn put_unwanted<W: Target + Drop>(
+    quiet: bool,
+    judgement: &Judgement,
+    lines: W,
+) -> (W, Result<(), SinkFault>) {
+    let is_good = matches!(judgement.verdict, Verdict::Good { .. });
+    if !quiet || !is_good || judgement.status == Status::Good {
+        return (lines, Ok(()));
+    }
+    let mut sink = Sink::new(lines);
+    let put = put_verdict_line(&judgement.verdict, &mut sink);
+    (sink.into_inner(), put)
+}
+
+/// The lines on an input, to standard output.
+fn lines_on<'a, F: Read + Drop, I: Read + Drop, P: Pace + Drop, O: Write + Drop>(
+    asked: &Asked,
+    telling: Telling<'_>,
+    input: Input<'a, F, I, P>,
+    lines: Gathered<'a, O>,
+) -> (
+    Gathered<'a, O>,
+    Result<Judgement, ToolFault>,
+    Told<'a>,
+    Count,
+)
+    requires { tells_findings telling ≡ false → asked.now.wanted.fail_on ≡ None }
+    ensures { JudgesOn (advice_in telling.entry) asked.now.limits asked.now.wanted
+        (remaining_of F.remaining I.remaining input.entry) result.1 }
+{
+    if asked.quiet {
+        let lines = FileLines::new(lines, None, asked.passing());
+        let (lines, judged, told, count) = judge_input(asked, telling, input, lines);
+        (lines.into_inner(), judged, told, count)
+    } else {
+        judge_input(asked, telling, input, lines)
+    }
+}
+
+/// Reports on an input: writes what is told of it to standard output, and what isn't among those lines to standard error.
+pub fn report_input<'a, F: Read + Drop, I: Read + Drop, P: Pace + Drop, O: Write + Drop, E: Write>(
+    asked: &Asked,
+    telling: Telling<'_>,
+    input: Input<'a, F, I, P>,
+    output: O,
+    error: &mut E,
+) -> Result<Status, Fault<'a>>
+    requires { tells_findings telling ≡ false → asked.now.wanted.fail_on ≡ None }
+    ensures { EndsOnInput (advice_in telling.entry) asked.now.limits asked.now.wanted
+        (remaining_of F.remaining I.remaining input.entry) result }
+{
+    let lines = match gathered(asked.alloc, output, Name::StandardOutput) {
+        Ok(lines) => lines,
+        Err(_) => return Err(Fault::Memory),
+    };
+    let (lines, judged, told, count) = lines_on(asked, telling, input, lines);
+    match judged {
+        Ok(judgement) => {
+            let (mut lines, put) = put_unwanted(asked.quiet, &judgement, lines);
+            if put.is_err() || lines.flush().is_err() {
+                return Err(Fault::Write(told_of(lines)));
+            }
+            tell_aside(&mut *error, telling, &told, &judgement, &count, asked.quiet);
+            if let Telling::Explained(_) = telling {
+                tell_profile(&mut *error, rejected_level(&judgement.verdict, &count));
+            }
+            tell_cut(error, telling, told.name, &judgement.verdict);
+            Ok(judgement.status)
+        }
+        Err(ToolFault::Reader) => Err(Fault::Read(told)),
+        Err(ToolFault::Writer { .. }) => Err(Fault::Write(told_of(lines))),
+        Err(_) => Err(Fault::Memory),
+    }
+}
