@@ -1,5 +1,6 @@
 """Runs of the built program, and what differs from what is expected of them."""
 import os
+import re
 import subprocess
 import sys
 
@@ -12,6 +13,11 @@ def run(*words, stdin=b"", cwd=None, program=PROGRAM):
     """The status of a run, and the bytes on standard output and standard error."""
     ran = subprocess.run([program, *words], input=stdin, capture_output=True, check=False, cwd=cwd)
     return ran.returncode, ran.stdout, ran.stderr
+
+
+def commands(program=PROGRAM):
+    """The commands of the program, as its help lists them."""
+    return re.findall(r"^  ([a-z]+)  +\S", run("help", program=program)[2].decode(), re.M)
 
 
 class Differences:
