@@ -607,7 +607,7 @@ const RENUMBERED: [Word; 6] = [
 ];
 
 /// The subcommands, in the order of the help.
-const SUBCOMMANDS: [Subcommand; 13] = [
+const SUBCOMMANDS: &[Subcommand] = &[
     Subcommand {
         name: CHECK,
         about: "Judges transmissions",

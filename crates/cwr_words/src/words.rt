@@ -11,12 +11,7 @@ ghost use Rattle.cwr_words.specs.Format.Words.{AreLimitsOf, AreNamesOf, AreStatu
 use clap::error::ErrorKind;
 use clap::{ArgMatches, Error};
 use cwr_fields::{Cell, Kind, TransactionStatus};
-use cwr_grammar::{
-    ACKS, ADVICE, ADVISE, ALL, ANYWAY, AS_JSON, BY_PLACE, COLOR, CREATED, CSV, EXPLAIN, EXPLAINED,
-    FAIL_ON, FILE, GROUPS, INTO, JOIN, JSON, KIND, LINE, LINT, MANUAL, NEW, NO_PROGRESS, NUMBER,
-    NUMBERS, OUT, PREFIX, PROGRESS, QUIET, RECORDS, RENUMBER, REPEATED, SAME_SENDER, SENT, SHOW,
-    SPLIT, STATE, STATUS, TRANSACTION, UTF8, WHOLE, WORKS, WRITE, command,
-};
+use cwr_grammar::grammar;
 use cwr_moments::Moment;
 use cwr_shape::{Level, Limits};
 use cwr_states::States;
@@ -257,12 +252,12 @@ fn limits_of(name: &str, matches: &ArgMatches<'_>) -> Option<Limits>
     ensures { bytes_eq name.now (codes "manual") ≡ false
         → IfSome result (AreLimitsOf (found_of matches.now)) }
 {
-    if name == MANUAL {
+    if name == grammar::MANUAL {
         return Some(largest());
     }
-    let records = matches.get_one::<u32>(RECORDS)?;
-    let groups = matches.get_one::<u32>(GROUPS)?;
-    let transaction = matches.get_one::<u32>(TRANSACTION)?;
+    let records = matches.get_one::<u32>(grammar::RECORDS)?;
+    let groups = matches.get_one::<u32>(grammar::GROUPS)?;
+    let transaction = matches.get_one::<u32>(grammar::TRANSACTION)?;
     Limits::new(records, groups, transaction).ok()
 }
 
@@ -286,7 +281,7 @@ fn names_in<'a>(alloc: Global, given: &ArgMatches<'a>) -> Result<Vec<&'a str>, A
     ensures { IfOk result
         (λ names. AreNamesOf (found_of given.now) (map (λ name. name.now) names.items)) }
 {
-    values_of(alloc, given, FILE)
+    values_of(alloc, given, grammar::FILE)
 }
 
 /// The level that a letter is.
@@ -307,14 +302,14 @@ fn level_of(letter: &str) -> Option<Level>
 fn fail_on_in(given: &ArgMatches<'_>) -> Option<Level>
     ensures { result ≡ level_given (first_value (found_of given.now) (codes "fail-on")) }
 {
-    given.get_str(FAIL_ON).and_then(level_of)
+    given.get_str(grammar::FAIL_ON).and_then(level_of)
 }
 
 /// What is written: what the option `-o` names, or else the word of that id.
 fn written_in<'a>(given: &ArgMatches<'a>, id: &str) -> Option<&'a str>
     ensures { option_map (λ name. name.now) result ≡ written_in (found_of given.now) id.now }
 {
-    given.get_str(INTO).or(given.get_str(id))
+    given.get_str(grammar::INTO).or(given.get_str(id))
 }
 
 /// What stands for standard output in the place of a file.
@@ -337,7 +332,7 @@ fn judging_in<'a>(alloc: Global, given: &ArgMatches<'a>) -> Result<Judging<'a>, 
 {
     Ok(Judging {
         files: names_in(alloc, given)?,
-        quiet: given.get_flag(QUIET),
+        quiet: given.get_flag(grammar::QUIET),
         fail_on: fail_on_in(given),
     })
 }
@@ -347,7 +342,7 @@ fn show_in<'a>(given: &ArgMatches<'a>) -> ShowWords<'a>
     ensures { IsShowOf (found_of given.now) result }
 {
     ShowWords {
-        file: given.get_str(FILE),
+        file: given.get_str(grammar::FILE),
         fail_on: fail_on_in(given),
     }
 }
@@ -358,10 +353,10 @@ fn lint_in<'a>(alloc: Global, given: &ArgMatches<'a>) -> Result<LintWords<'a>, A
 {
     Ok(LintWords {
         files: names_in(alloc, given)?,
-        quiet: given.get_flag(QUIET),
-        explained: given.get_flag(EXPLAINED),
-        advised: given.get_flag(ADVICE),
-        all: given.get_flag(ALL),
+        quiet: given.get_flag(grammar::QUIET),
+        explained: given.get_flag(grammar::EXPLAINED),
+        advised: given.get_flag(grammar::ADVICE),
+        all: given.get_flag(grammar::ALL),
     })
 }
 
@@ -372,12 +367,12 @@ fn advice_in<'a>(
 ) -> Result<Option<AdviseWords<'a>>, AllocError>
     ensures { IfOk result (λ found. IfSome found (IsAdviceOf (found_of given.now))) }
 {
-    let Some(repeated) = given.get_one::<u32>(REPEATED) else {
+    let Some(repeated) = given.get_one::<u32>(grammar::REPEATED) else {
         return Ok(None);
     };
     Ok(Some(AdviseWords {
         judging: judging_in(alloc, given)?,
-        all: given.get_flag(ALL),
+        all: given.get_flag(grammar::ALL),
         repeated,
     }))
 }
@@ -387,10 +382,10 @@ fn export_in<'a>(given: &ArgMatches<'a>) -> JsonWords<'a>
     ensures { IsExportOf (found_of given.now) result }
 {
     JsonWords {
-        file: given.get_str(FILE),
-        out: named_out(given.get_str(OUT)),
-        numbers: given.get_flag(NUMBERS),
-        utf8: given.get_flag(UTF8),
+        file: given.get_str(grammar::FILE),
+        out: named_out(given.get_str(grammar::OUT)),
+        numbers: given.get_flag(grammar::NUMBERS),
+        utf8: given.get_flag(grammar::UTF8),
     }
 }
 
@@ -398,7 +393,7 @@ fn export_in<'a>(given: &ArgMatches<'a>) -> JsonWords<'a>
 fn rows_of(word: &str) -> Option<Rows>
     ensures { result ≡ rows_named word.now }
 {
-    if word == WORKS {
+    if word == grammar::WORKS {
         return Some(Rows::Works);
     }
     Some(Rows::Records(Kind::of(word.as_bytes())?))
@@ -409,10 +404,10 @@ fn table_in<'a>(given: &ArgMatches<'a>) -> Option<CsvWords<'a>>
     ensures { IfSome result (IsTableOf (found_of given.now)) }
 {
     Some(CsvWords {
-        rows: rows_of(given.get_str(KIND)?)?,
-        file: given.get_str(FILE),
-        out: named_out(given.get_str(OUT)),
-        utf8: given.get_flag(UTF8),
+        rows: rows_of(given.get_str(grammar::KIND)?)?,
+        file: given.get_str(grammar::FILE),
+        out: named_out(given.get_str(grammar::OUT)),
+        utf8: given.get_flag(grammar::UTF8),
     })
 }
 
@@ -420,7 +415,7 @@ fn table_in<'a>(given: &ArgMatches<'a>) -> Option<CsvWords<'a>>
 fn states_in(given: &ArgMatches<'_>) -> Option<States>
     ensures { result ≡ states_given (first_value (found_of given.now) (codes "fail-on")) }
 {
-    match given.get_str(FAIL_ON) {
+    match given.get_str(grammar::FAIL_ON) {
         Some(names) => States::read(names),
         None => Some(States::none()),
     }
@@ -440,7 +435,7 @@ fn statuses_in<'a>(
 ) -> Result<Option<Vec<TransactionStatus>>, AllocError>
     ensures { IfOk result (λ found. IfSome found (λ statuses. AreStatusesOf (found_of given.now) statuses.items)) }
 {
-    let codes = values_of(alloc, given, STATUS)?;
+    let codes = values_of(alloc, given, grammar::STATUS)?;
     let mut statuses = Vec::new(alloc);
     for code in codes.as_slice() {
         let Some(status) = status_of(code) else {
@@ -463,13 +458,13 @@ fn acks_in<'a>(alloc: Global, given: &ArgMatches<'a>) -> Result<Option<AcksWords
     };
     Ok(Some(AcksWords {
         files: names_in(alloc, given)?,
-        sent: values_of(alloc, given, SENT)?,
-        as_json: given.get_flag(AS_JSON),
-        by_place: given.get_flag(BY_PLACE),
-        state: given.get_flag(STATE),
+        sent: values_of(alloc, given, grammar::SENT)?,
+        as_json: given.get_flag(grammar::AS_JSON),
+        by_place: given.get_flag(grammar::BY_PLACE),
+        state: given.get_flag(grammar::STATE),
         fail_on,
         statuses,
-        utf8: given.get_flag(UTF8),
+        utf8: given.get_flag(grammar::UTF8),
     }))
 }
 
@@ -478,10 +473,10 @@ fn import_in<'a>(given: &ArgMatches<'a>) -> Option<WriteWords<'a>>
     ensures { IfSome result (IsImportOf (found_of given.now)) }
 {
     Some(WriteWords {
-        file: given.get_str(FILE),
-        out: named_out(given.get_str(OUT)),
-        line: given.get_one::<u32>(LINE)?,
-        utf8: given.get_flag(UTF8),
+        file: given.get_str(grammar::FILE),
+        out: named_out(given.get_str(grammar::OUT)),
+        line: given.get_one::<u32>(grammar::LINE)?,
+        utf8: given.get_flag(grammar::UTF8),
     })
 }
 
@@ -489,7 +484,7 @@ fn import_in<'a>(given: &ArgMatches<'a>) -> Option<WriteWords<'a>>
 fn created_in(given: &ArgMatches<'_>) -> Option<Option<Moment>>
     ensures { IfSome result (IsCreatedBy (first_value (found_of given.now) (codes "created"))) }
 {
-    match given.get_str(CREATED) {
+    match given.get_str(grammar::CREATED) {
         Some(text) => Some(Some(Moment::read(text)?)),
         None => Some(None),
     }
@@ -499,13 +494,13 @@ fn created_in(given: &ArgMatches<'_>) -> Option<Option<Moment>>
 fn split_in<'a>(given: &ArgMatches<'a>) -> Option<SplitWords<'a>>
     ensures { IfSome result (IsSplitOf (found_of given.now)) }
 {
-    let number = given.get_one::<u32>(NUMBER)?;
+    let number = given.get_one::<u32>(grammar::NUMBER)?;
     Some(SplitWords {
         transactions: NonZeroU32::new(number)?,
-        file: given.get_str(FILE)?,
-        prefix: written_in(given, PREFIX)?,
+        file: given.get_str(grammar::FILE)?,
+        prefix: written_in(given, grammar::PREFIX)?,
         created: created_in(given)?,
-        only_new: given.get_flag(NEW),
+        only_new: given.get_flag(grammar::NEW),
         fail_on: fail_on_in(given),
     })
 }
@@ -519,14 +514,14 @@ fn joined_in<'a>(
     ensures { IfOk result (λ found. IfSome found
         (λ names. IsJoinOfNames (found_of given.now) names.0.now (map (λ name. name.now) names.1.items))) }
 {
-    if written_in(given, OUT) == Some(DASH) {
+    if written_in(given, grammar::OUT) == Some(DASH) {
         return Ok(None);
     }
     let mut others = names_in(alloc, given)?;
-    let Some(first) = given.get_str(OUT) else {
+    let Some(first) = given.get_str(grammar::OUT) else {
         return Ok(None);
     };
-    let Some(out) = given.get_str(INTO) else {
+    let Some(out) = given.get_str(grammar::INTO) else {
         return Ok((!others.is_empty()).then_some((first, others)));
     };
     others.insert(0, first)?;
@@ -537,7 +532,7 @@ fn joined_in<'a>(
 fn join_in<'a>(alloc: Global, given: &ArgMatches<'a>) -> Result<Option<JoinWords<'a>>, AllocError>
     ensures { IfOk result (λ found. IfSome found (IsJoinOf (found_of given.now))) }
 {
-    let Some(repeated) = given.get_one::<u32>(REPEATED) else {
+    let Some(repeated) = given.get_one::<u32>(grammar::REPEATED) else {
         return Ok(None);
     };
     let Some((out, files)) = joined_in(alloc, given)? else {
@@ -546,9 +541,9 @@ fn join_in<'a>(alloc: Global, given: &ArgMatches<'a>) -> Result<Option<JoinWords
     Ok(Some(JoinWords {
         out,
         files,
-        only_new: given.get_flag(NEW),
+        only_new: given.get_flag(grammar::NEW),
         fail_on: fail_on_in(given),
-        same_sender: given.get_flag(SAME_SENDER),
+        same_sender: given.get_flag(grammar::SAME_SENDER),
         repeated,
     }))
 }
@@ -558,11 +553,11 @@ fn renumber_in<'a>(given: &ArgMatches<'a>) -> RenumberWords<'a>
     ensures { IsRenumberingOf (found_of given.now) result }
 {
     RenumberWords {
-        file: given.get_str(FILE),
-        out: named_out(written_in(given, OUT)),
-        only_new: given.get_flag(NEW),
+        file: given.get_str(grammar::FILE),
+        out: named_out(written_in(given, grammar::OUT)),
+        only_new: given.get_flag(grammar::NEW),
         fail_on: fail_on_in(given),
-        anyway: given.get_flag(ANYWAY),
+        anyway: given.get_flag(grammar::ANYWAY),
     }
 }
 
@@ -575,32 +570,32 @@ fn work_in<'a>(
     ensures { IfOk result
         (λ found. IfSome found (λ work. IsWorkOf name.now (found_of given.now) work)) }
 {
-    if name == SPLIT {
+    if name == grammar::SPLIT {
         Ok(split_in(given).map(Work::Split))
-    } else if name == LINT {
+    } else if name == grammar::LINT {
         Ok(Some(Work::Lint(lint_in(alloc, given)?)))
-    } else if name == ADVISE {
+    } else if name == grammar::ADVISE {
         Ok(advice_in(alloc, given)?.map(Work::Advise))
-    } else if name == JSON {
+    } else if name == grammar::JSON {
         Ok(Some(Work::Json(export_in(given))))
-    } else if name == CSV {
+    } else if name == grammar::CSV {
         match table_in(given) {
             Some(words) => Ok(Some(Work::Csv(words))),
             None => Ok(None),
         }
-    } else if name == ACKS {
+    } else if name == grammar::ACKS {
         Ok(acks_in(alloc, given)?.map(Work::Acks))
-    } else if name == WRITE {
+    } else if name == grammar::WRITE {
         Ok(import_in(given).map(Work::Write))
-    } else if name == JOIN {
+    } else if name == grammar::JOIN {
         Ok(join_in(alloc, given)?.map(Work::Join))
-    } else if name == RENUMBER {
+    } else if name == grammar::RENUMBER {
         Ok(Some(Work::Renumber(renumber_in(given))))
-    } else if name == MANUAL {
+    } else if name == grammar::MANUAL {
         Ok(Some(Work::Manual))
-    } else if name == SHOW {
+    } else if name == grammar::SHOW {
         Ok(Some(Work::Show(show_in(given))))
-    } else if name == EXPLAIN {
+    } else if name == grammar::EXPLAIN {
         Ok(Some(Work::Explain(judging_in(alloc, given)?)))
     } else {
         Ok(Some(Work::Check(judging_in(alloc, given)?)))
@@ -609,7 +604,10 @@ fn work_in<'a>(
 
 /// Whether it is shown how far a long run is, where a word says so.
 fn progress_in(given: &ArgMatches<'_>) -> Option<bool> {
-    match (given.get_flag(NO_PROGRESS), given.get_flag(PROGRESS)) {
+    match (
+        given.get_flag(grammar::NO_PROGRESS),
+        given.get_flag(grammar::PROGRESS),
+    ) {
         (true, _) => Some(false),
         (false, true) => Some(true),
         (false, false) => None,
@@ -631,7 +629,7 @@ fn colouring_of(word: &str) -> Colouring
 fn colouring_in(given: &ArgMatches<'_>) -> Colouring
     ensures { result ≡ colouring_given (first_value (found_of given.now) (codes "color")) }
 {
-    match given.get_str(COLOR) {
+    match given.get_str(grammar::COLOR) {
         Some(word) => colouring_of(word),
         None => Colouring::Auto,
     }
@@ -662,7 +660,7 @@ fn task_in<'a>(alloc: Global, matches: &ArgMatches<'a>) -> Result<Option<Task<'a
         (Some(work), Some(limits)) => Ok(Some(Task {
             work,
             limits,
-            whole: given.get_flag(WHOLE),
+            whole: given.get_flag(grammar::WHOLE),
             progress: progress_in(given),
             colouring: colouring_in(given),
         })),
@@ -677,7 +675,7 @@ a word for '--fail-on <STATES>' is no state
 
 /// What is told where a split has no name to write to, or no moment.
 fn split_refusal(given: &ArgMatches<'_>) -> &'static str {
-    if written_in(given, PREFIX).is_none() {
+    if written_in(given, grammar::PREFIX).is_none() {
         "the following required arguments were not provided:\n  <PREFIX>, or -o <PREFIX>"
     } else {
         "the word for '--created <MOMENT>' is no moment: YYYYMMDDTHHMMSS, as 20240131T093000"
@@ -686,7 +684,7 @@ fn split_refusal(given: &ArgMatches<'_>) -> &'static str {
 
 /// What is told where a join has no file to write to, or to read.
 fn join_refusal(given: &ArgMatches<'_>) -> &'static str {
-    if written_in(given, OUT) == Some(DASH) {
+    if written_in(given, grammar::OUT) == Some(DASH) {
         "a join is written to a file, and not to standard output: ./- is a file of that name"
     } else {
         "the following required arguments were not provided:\n  <FILE>..."
@@ -696,9 +694,9 @@ fn join_refusal(given: &ArgMatches<'_>) -> &'static str {
 /// What is told where a word is missing or out of its range, and `clap` took it.
 fn refusal_of(matches: &ArgMatches<'_>) -> &'static str {
     match matches.subcommand() {
-        Some((ACKS, _)) => NO_STATE,
-        Some((SPLIT, given)) => split_refusal(given),
-        Some((JOIN, given)) => join_refusal(given),
+        Some((grammar::ACKS, _)) => NO_STATE,
+        Some((grammar::SPLIT, given)) => split_refusal(given),
+        Some((grammar::JOIN, given)) => join_refusal(given),
         // `clap` has judged the numbers already, but its clauses don't say so of a subcommand's.
         _ => "a word is missing, or a number is out of its range",
     }
@@ -706,7 +704,7 @@ fn refusal_of(matches: &ArgMatches<'_>) -> &'static str {
 
 /// What the words ask for, the program's name first, or what to tell the user in its place.
 pub fn task_of<'a, S: AsStr>(alloc: Global, words: &'a [S]) -> Result<Task<'a>, Error> {
-    let mut command = command(alloc)?;
+    let mut command = grammar::command(alloc)?;
     let matches = command.try_get_matches_from_mut(words)?;
     match task_in(alloc, &matches)? {
         Some(task) => Ok(task),

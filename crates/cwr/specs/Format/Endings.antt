@@ -2,7 +2,8 @@
 use Rattle.std.specs.Prelude.{◌≡◌, Bool, true, List, [], ℕ, map, Option, None, Some, IfSome, option_map}
 use Rattle.cwr_shape.specs.declared.limits.Limits.{Limits}
 use Rattle.cwr_words.specs.declared.words.Work.{Work}
-use Rattle.cwr_words.specs.declared.words.Work.TheVariants.{Check, Show, Explain, Lint, Advise, Json, Csv, Acks}
+use Rattle.cwr_words.specs.declared.words.Work.TheVariants.{Check, Show, Explain, Lint, Advise, Json, Csv, Acks, Write, Split}
+use Rattle.cwr_words.specs.declared.words.Work.TheVariants.{Join, Renumber, Manual}
 use Rattle.cwr_files.specs.declared.faults.Fault.{Fault}
 use Rattle.cwr_files.specs.declared.faults.Fault.TheVariants as faults
 use Rattle.cwr_files.specs.Format.Inputs.{are_standard, is_standard}
@@ -27,7 +28,11 @@ IsOfInput (Csv words) = (is_standard (option_map (λ name. name.now) words.file)
 IsOfInput (Acks words) = (are_standard (map (λ name. name.now) words.files.items) ≡ true) × (words.sent.items ≡ [])
 IsOfInput (Lint words) = are_standard (map (λ name. name.now) words.files.items) ≡ true
 IsOfInput (Advise words) = are_standard (map (λ name. name.now) words.judging.files.items) ≡ true
-IsOfInput work = ⊥
+IsOfInput (Write words) = ⊥
+IsOfInput (Split words) = ⊥
+IsOfInput (Join words) = ⊥
+IsOfInput (Renumber words) = ⊥
+IsOfInput Manual = ⊥
 
 -- whether all advice is told, and of how many works the numbers are kept, where advice is asked for: it counts for the status as findings do
 abbrev pub advice_of : Work → Option (Bool × ℕ)
