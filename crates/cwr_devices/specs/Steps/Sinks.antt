@@ -1,9 +1,10 @@
 -- What a sink shows of itself, and what it has written.
-use Rattle.std.specs.Prelude.{◌≡◌, ℕ, ◌+◌, ◌-◌, ◌≤◌, ◌^◌, min, Bool, false, List, [], ◌++◌, length, take, Option, Result, Ok, Err}
-use Rattle.std.specs.Prelude.{OnOk, is_err}
+use Rattle.std.specs.Prelude.{◌≡◌, ℕ, ◌+◌, ◌-◌, ◌≤◌, ◌^◌, min, Bool, true, false, List, [], ◌++◌, length, take, Option, Result, Ok, Err}
+use Rattle.std.specs.Prelude.{IfErr, OnOk, is_err}
 use Rattle.std.specs.Io.KnownBytes.{Appends}
 use Rattle.cwr_devices.specs.Format.Failures.{one_more_failure}
 use Rattle.cwr_devices.specs.declared.sinks.Sink.{Sink}
+use Rattle.cwr_devices.specs.declared.sinks.SinkFault.{SinkFault}
 
 -- the writer to which it writes
 abbrev pub writer_of : {W : Type 0} → Sink W → W
@@ -55,3 +56,15 @@ pub record Puts {W E : Type 0} (contents : W → Option (List ℕ)) (failures : 
       → HasWritten contents start (before ++ text) new
   pub failed : has_failed new ≡ is_err result
   pub counts : CountsOn result (failures (writer_of old)) (failures (writer_of new))
+
+-- What a call does that puts a text. Whatever text was put before, that text followed by this one is now put: it is written whole, or
+-- after a fault its first bytes are. The fault says how many bytes are written; it comes only where the writer failed in this call or
+-- before, and after one nothing is written any more.
+pub record PutsText {W : Type 0} (contents : W → Option (List ℕ)) (failures : W → ℕ) (text : List ℕ)
+    (result : Result (Unit {0}) SinkFault) (old new : Sink W) : Type 0 where
+  pub written : (start : Option (List ℕ)) (before : List ℕ) → HasWritten contents start before old
+      → HasWritten contents start (before ++ text) new
+  pub fault : IfErr result (λ f. f.written ≡ written_of new)
+  pub failed : has_failed new ≡ is_err result
+  pub failures_counted : has_failed old ≡ false → CountsOn result (failures (writer_of old)) (failures (writer_of new))
+  pub again : has_failed old ≡ true → new ≡ old
