@@ -1,3 +1,5 @@
+-- What is added of bytes, one by one.
+pub mod BytesAdded
 -- Bytes as characters, one by one.
 pub mod Characters
 -- Characters stand for one text, and those that bytes are shown as stand for these.
@@ -6,8 +8,6 @@ pub mod Encoded
 pub mod FieldsShown
 -- The keys of each kind are distinct, and none begins with an underscore.
 pub mod GoodKeys
--- No cell of any type has a byte below 32.
-pub mod LowBytes
 -- The members of a record's cells, field by field.
 pub mod MembersOfFields
 -- Data is that of one record, and of one item, at most; and what is shown of an item is data of it.

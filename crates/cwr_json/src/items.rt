@@ -1,168 +1,127 @@
-//! The lines of items, put to a sink.
+//! The lines of items.
 
-ghost use Rattle.std.specs.Prelude.{◌≡◌, [], ◌∷◌, ◌++◌, codes, IfErr, false};
+ghost use Rattle.std.specs.Prelude.{◌≡◌, [], ◌∷◌, IfErr, false};
+ghost use Rattle.cwr_devices.specs.Steps.Pens.{Adds};
 ghost use Rattle.cwr_devices.specs.Steps.Sinks.{Puts, has_failed, written_of};
 ghost use Rattle.cwr_judge.specs.Format.Items.{item_records};
-ghost use Rattle.cwr_values.specs.Format.Rows.{trailer};
 ghost use Rattle.cwr_json.specs.Format.Forms.{item_line};
-ghost use Rattle.cwr_json.specs.Steps.FormTexts.{opening_text, listed_text, listed_texts};
+ghost use Rattle.cwr_json.specs.Steps.FormTexts.{group_notes_text, listed_text, listed_texts, note_text, notes_text, opening_text};
 
 use crate::encodings::Encoding;
 use crate::notes::Notes;
-use crate::records::RecordText;
-use cwr_devices::{Sink, SinkFault, Target};
+use crate::records::record_text;
+use cwr_devices::{Pen, Sink, SinkFault, Target};
 use cwr_lines::RecordRef;
 use cwr_values::{Item, Transaction};
 
-/// Puts the text that was made.
-fn put_text<W: Target>(text: &RecordText, sink: &mut Sink<W>) -> Result<(), SinkFault>
-    requires { has_failed sink.old ≡ false }
-    ensures puts { Puts W.contents W.failures text.now result sink.old sink.new }
-    ensures fault { IfErr result (λ f. f.written ≡ written_of sink.new) }
+/// Adds a note, and a comma.
+fn note_text<W: Target>(key: &[u8], number: u64, pen: &mut Pen<'_, W>)
+    ensures { Adds W.contents W.failures (note_text key.now number) pen.old pen.new }
 {
-    sink.put(text.as_slice())
+    pen.text(key);
+    pen.number(number);
+    pen.text(b",");
 }
 
-/// Puts TRL, which carries nothing.
-fn put_trailer<W: Target>(
-    encoding: Encoding,
-    text: &mut RecordText,
-    sink: &mut Sink<W>,
-) -> Result<(), SinkFault>
-    requires { has_failed sink.old ≡ false }
-    ensures puts { Puts W.contents W.failures (listed_texts encoding 0 (trailer ∷ [])) result
-        sink.old sink.new }
-    ensures fault { IfErr result (λ f. f.written ≡ written_of sink.new) }
+/// Adds the notes that say where an item stands among groups and transactions.
+fn group_notes_text<W: Target>(notes: &Notes, item: &Item, pen: &mut Pen<'_, W>)
+    ensures { Adds W.contents W.failures (group_notes_text notes.now item.now) pen.old pen.new }
 {
-    text.set_trailer();
-    put_text(text, sink)
+    match item {
+        Item::Opened(_) | Item::Ended => {}
+        Item::GroupOpened(_) | Item::GroupClosed(_) => {
+            note_text(b"\"_group\":", notes.group, pen);
+        }
+        Item::Transaction(_) => {
+            note_text(b"\"_group\":", notes.group, pen);
+            note_text(b"\"_transaction\":", notes.transaction, pen);
+        }
+    }
 }
 
-/// Puts a record that has so many before it in its item.
-fn put_listed<W: Target>(
+/// Adds the notes that an item has, if it has any.
+fn notes_text<W: Target>(notes: Option<Notes>, item: &Item, pen: &mut Pen<'_, W>)
+    ensures { Adds W.contents W.failures (notes_text notes item.now) pen.old pen.new }
+{
+    let Some(notes) = notes else {
+        return;
+    };
+    group_notes_text(&notes, item, pen);
+    note_text(b"\"_line\":", notes.line, pen);
+}
+
+/// Adds what stands before the records of an item: its notes, if there are any, and the key of the records.
+fn opening_text<W: Target>(notes: Option<Notes>, item: &Item, pen: &mut Pen<'_, W>)
+    ensures { Adds W.contents W.failures (opening_text notes item.now) pen.old pen.new }
+{
+    pen.text(b"{");
+    notes_text(notes, item, pen);
+    pen.text(b"\"records\":[");
+}
+
+/// Adds a record that has so many before it in its item.
+fn listed_text<W: Target>(
     encoding: Encoding,
     before: u64,
     shown: &RecordRef<'_>,
-    text: &mut RecordText,
-    sink: &mut Sink<W>,
-) -> Result<(), SinkFault>
-    requires { has_failed sink.old ≡ false }
-    ensures puts { Puts W.contents W.failures (listed_text encoding before shown.now) result
-        sink.old sink.new }
-    ensures fault { IfErr result (λ f. f.written ≡ written_of sink.new) }
+    pen: &mut Pen<'_, W>,
+)
+    ensures { Adds W.contents W.failures (listed_text encoding before shown.now) pen.old pen.new }
 {
-    text.set_listed(encoding, before, shown);
-    put_text(text, sink)
+    if before > 0 {
+        pen.text(b",");
+    }
+    record_text(encoding, shown, pen);
 }
 
-/// Puts the records of a transaction.
-fn put_records<W: Target>(
-    encoding: Encoding,
-    transaction: &Transaction,
-    text: &mut RecordText,
-    sink: &mut Sink<W>,
-) -> Result<(), SinkFault>
-    requires unfailed { has_failed sink.old ≡ false }
-    ensures puts { Puts W.contents W.failures (listed_texts encoding 0 transaction.now) result
-        sink.old sink.new }
-    ensures fault { IfErr result (λ f. f.written ≡ written_of sink.new) }
+/// Adds the records of a transaction.
+fn listed_texts<W: Target>(encoding: Encoding, transaction: &Transaction, pen: &mut Pen<'_, W>)
+    ensures { Adds W.contents W.failures (listed_texts encoding 0 transaction.now) pen.old pen.new }
 {
     let count = transaction.len();
     let mut i: usize = 0;
     while let Some(shown) = transaction.record(i) {
-        put_listed(encoding, i as u64, &shown, text, sink)?;
+        listed_text(encoding, i as u64, &shown, pen);
         prove!(i < count);
         i += 1;
     }
-    Ok(())
 }
 
-/// Puts the record of an item that is one record.
-fn put_alone<W: Target>(
-    encoding: Encoding,
-    shown: &RecordRef<'_>,
-    text: &mut RecordText,
-    sink: &mut Sink<W>,
-) -> Result<(), SinkFault>
-    requires { has_failed sink.old ≡ false }
-    ensures puts { Puts W.contents W.failures (listed_texts encoding 0 (shown.now ∷ [])) result
-        sink.old sink.new }
-    ensures fault { IfErr result (λ f. f.written ≡ written_of sink.new) }
+/// Adds the record of an item that is one record.
+fn only_text<W: Target>(encoding: Encoding, shown: &RecordRef<'_>, pen: &mut Pen<'_, W>)
+    ensures { Adds W.contents W.failures (listed_texts encoding 0 (shown.now ∷ [])) pen.old pen.new }
 {
-    text.set_listed(encoding, 0, shown);
-    put_text(text, sink)
+    record_text(encoding, shown, pen);
 }
 
-/// Puts the records of an item.
-fn put_all<W: Target>(
-    encoding: Encoding,
-    item: &Item,
-    text: &mut RecordText,
-    sink: &mut Sink<W>,
-) -> Result<(), SinkFault>
-    requires unfailed { has_failed sink.old ≡ false }
-    ensures puts { Puts W.contents W.failures (listed_texts encoding 0 (item_records item.now))
-        result sink.old sink.new }
-    ensures fault { IfErr result (λ f. f.written ≡ written_of sink.new) }
+/// Adds the records of an item.
+fn item_texts<W: Target>(encoding: Encoding, item: &Item, pen: &mut Pen<'_, W>)
+    ensures { Adds W.contents W.failures (listed_texts encoding 0 (item_records item.now)) pen.old
+        pen.new }
 {
     match item {
-        Item::Opened(record) => put_alone(encoding, &record.view(), text, sink),
-        Item::GroupOpened(record) => put_alone(encoding, &record.view(), text, sink),
-        Item::GroupClosed(record) => put_alone(encoding, &record.view(), text, sink),
-        Item::Transaction(transaction) => put_records(encoding, transaction, text, sink),
-        Item::Ended => put_trailer(encoding, text, sink),
+        Item::Opened(record) => only_text(encoding, &record.view(), pen),
+        Item::GroupOpened(record) => only_text(encoding, &record.view(), pen),
+        Item::GroupClosed(record) => only_text(encoding, &record.view(), pen),
+        Item::Transaction(transaction) => listed_texts(encoding, transaction, pen),
+        Item::Ended => pen.text(b"{\"record_type\":\"TRL\"}"),
     }
 }
 
-/// Puts what stands before the records of an item.
-fn put_opening<W: Target>(
-    notes: Option<Notes>,
-    item: &Item,
-    text: &mut RecordText,
-    sink: &mut Sink<W>,
-) -> Result<(), SinkFault>
-    requires unfailed { has_failed sink.old ≡ false }
-    ensures puts { Puts W.contents W.failures (opening_text notes item.now) result sink.old sink.new }
-    ensures fault { IfErr result (λ f. f.written ≡ written_of sink.new) }
+/// Adds the data of an item as one line, with its notes if there are any, its cells shown by the encoding.
+fn item_line<W: Target>(encoding: Encoding, notes: Option<Notes>, item: &Item, pen: &mut Pen<'_, W>)
+    ensures { Adds W.contents W.failures (item_line encoding notes item.now) pen.old pen.new }
 {
-    text.set_opening(notes, item);
-    put_text(text, sink)
+    opening_text(notes, item, pen);
+    item_texts(encoding, item, pen);
+    pen.text(b"]}\n");
 }
 
-/// Puts what stands before the end of an item's line.
-fn put_begun<W: Target>(
-    encoding: Encoding,
-    notes: Option<Notes>,
-    item: &Item,
-    text: &mut RecordText,
-    sink: &mut Sink<W>,
-) -> Result<(), SinkFault>
-    requires unfailed { has_failed sink.old ≡ false }
-    ensures puts { Puts W.contents W.failures
-        (opening_text notes item.now ++ listed_texts encoding 0 (item_records item.now)) result
-        sink.old sink.new }
-    ensures fault { IfErr result (λ f. f.written ≡ written_of sink.new) }
-{
-    put_opening(notes, item, text, sink)?;
-    put_all(encoding, item, text, sink)
-}
-
-/// Puts the end of an item's line.
-fn put_end<W: Target>(sink: &mut Sink<W>) -> Result<(), SinkFault>
-    requires { has_failed sink.old ≡ false }
-    ensures puts { Puts W.contents W.failures (codes "]}\n") result sink.old sink.new }
-    ensures fault { IfErr result (λ f. f.written ≡ written_of sink.new) }
-{
-    sink.put(b"]}\n")
-}
-
-/// Puts the data of an item as one line, with its notes if there are any, its cells shown by the encoding. Texts are made in the
-/// buffer.
+/// Puts the data of an item as one line, with its notes if there are any, its cells shown by the encoding.
 pub fn put_data<W: Target>(
     encoding: Encoding,
     notes: Option<Notes>,
     item: &Item,
-    text: &mut RecordText,
     sink: &mut Sink<W>,
 ) -> Result<(), SinkFault>
     requires unfailed { has_failed sink.old ≡ false }
@@ -170,6 +129,7 @@ pub fn put_data<W: Target>(
         sink.new }
     ensures fault { IfErr result (λ f. f.written ≡ written_of sink.new) }
 {
-    put_begun(encoding, notes, item, text, sink)?;
-    put_end(sink)
+    let mut pen = Pen::new(sink);
+    item_line(encoding, notes, item, &mut pen);
+    pen.end()
 }

@@ -9,7 +9,7 @@ use crate::reports::{NothingKept, Report};
 use crate::totals::Totals;
 use crate::verdicts::{ToolFault, Verdict};
 use cwr_devices::{Sink, SinkFault, Target};
-use cwr_json::{Encoding, Notes, RecordText, put_data};
+use cwr_json::{Encoding, Notes, put_data};
 use cwr_values::Item;
 use std::alloc::Global;
 
@@ -31,15 +31,13 @@ fn notes_at(noted: bool, counts: &Totals, item: &Item) -> Option<Notes>
     })
 }
 
-/// The data of each item, as a line of JSON, and nothing for the verdict. It holds the text of one record.
+/// The data of each item, as a line of JSON, and nothing for the verdict.
 #[derive(Drop)]
 pub struct DataLines {
     /// How its cells are shown.
     encoding: Encoding,
     /// With its notes.
     noted: bool,
-    /// In which the text of a record is made.
-    text: RecordText,
 }
 
 impl DataLines {
@@ -47,11 +45,7 @@ impl DataLines {
     pub fn new(encoding: Encoding, noted: bool) -> DataLines
         ensures stands { ⟦<DataLines as Report>⟧.stands result (lines_of_data encoding noted) [] }
     {
-        DataLines {
-            encoding,
-            noted,
-            text: RecordText::new(),
-        }
+        DataLines { encoding, noted }
     }
 }
 
@@ -83,7 +77,7 @@ impl Report for DataLines {
         sink: &mut Sink<W>,
     ) -> Result<(), ToolFault> {
         let notes = notes_at(self.noted, counts, item);
-        match put_data(self.encoding, notes, item, &mut self.text, sink) {
+        match put_data(self.encoding, notes, item, sink) {
             Ok(()) => Ok(()),
             Err(fault) => Err(writer_fault(fault)),
         }

@@ -1,20 +1,18 @@
 -- The members of a record's cells, field by field.
 use Rattle.std.proofs.Common.{◌≡◌, ℕ, zero, suc, ◌+◌, ◌-◌, ◌<◌, ◌≤◌, Bool, true, false, not, cond, List, [], ◌∷◌, ◌++◌, length}
 use Rattle.std.proofs.Common.{take, filter, Option, Some, None, refl, sym, ap, ap₂, subst, ◌∙◌, arith, append_assoc, append-nil}
-use Rattle.std.specs.Prelude.{option_map, slice_get}
+use Rattle.std.specs.Prelude.{slice_get}
 use Rattle.std.specs.Option.{option_and_then}
 use Rattle.std.proofs.lemmas.List.{take_all}
 use Rattle.std.proofs.lemmas.Option.{slice_get-get_or}
 use Rattle.cwr_fields.specs.declared.kinds.Kind.{Kind}
-use Rattle.cwr_fields.specs.Format.Layouts.{FieldLayout, layout, record_type, field_at, field_with_start}
-use Rattle.cwr_lines.specs.Format.Records.{RecordValue, IsRecord}
+use Rattle.cwr_fields.specs.Format.Layouts.{FieldLayout, layout, record_type, field_with_start}
+use Rattle.cwr_lines.specs.Format.Records.{RecordValue}
 use Rattle.cwr_lines.specs.Format.Carried.{carried_at, record_cell}
-use Rattle.cwr_fields.proofs.lemmas.FieldStarts.{field_at-start}
-use Rattle.cwr_lines.proofs.lemmas.CarriedCells.{carried_count, record_cell-at}
+use Rattle.cwr_lines.proofs.lemmas.CarriedCells.{carried_count}
 use Rattle.cwr_json.specs.declared.encodings.Encoding.{Encoding}
 use Rattle.cwr_json.proofs.lemmas.FieldsShown.{carried_field}
-use Rattle.cwr_json.specs.Steps.FormTexts.{NoLow, field_member, member_of, member_text, members_beside, member_texts}
-use Rattle.cwr_json.proofs.lemmas.LowBytes.{NoLow-Allows}
+use Rattle.cwr_json.specs.Steps.FormTexts.{field_member, member_of, member_text, members_beside, member_texts}
 
 -- ---- the member of one field
 
@@ -34,21 +32,6 @@ field_member-some enc r j p cell e place =
 
 pub field_member-no_cell : (enc : Encoding) (r : RecordValue) (j : ℕ) → None ≡ record_cell r j → field_member enc r j ≡ []
 field_member-no_cell enc r j e = ap (member_of enc (carried_at r.kind j)) (sym e) ∙ member_of-none enc (carried_at r.kind j)
-
-pub field_member-none : (enc : Encoding) (r : RecordValue) (j : ℕ) → None ≡ field_with_start r.kind j → field_member enc r j ≡ []
-field_member-none enc r j place =
-    let none : field_at r.kind j ≡ None =
-    sym (field_at-start r.kind j) ∙ ap (option_map (λ (q : ℕ × FieldLayout). q.1)) (sym place) in
-    ap (λ (o : Option FieldLayout). member_of enc (option_and_then (λ f. cond f.derived None (Some f)) o) (record_cell r j)) none
-
--- its cell has no low byte
-pub high_cell : (r : RecordValue) (j : ℕ) (p : ℕ × FieldLayout) (cell : List ℕ) → IsRecord r → Some cell ≡ record_cell r j
-    → Some p ≡ field_with_start r.kind j → NoLow cell
-high_cell r zero p cell h e place = absurd (cc e)
-high_cell r (suc i) p cell h e place =
-    let at = record_cell-at r (suc i) p.1 h (carried_field r (suc i) p cell e place) in
-    let same : cell ≡ at.cell = cc (e, at.found) in
-    subst NoLow (sym same) (NoLow-Allows p.1.ty at.cell at.is_cell.1)
 
 -- ---- the members of the first fields
 

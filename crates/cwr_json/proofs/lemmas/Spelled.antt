@@ -1,20 +1,17 @@
 -- Bytes as they stand between quotes, one by one.
-use Rattle.std.proofs.Common.{◌≡◌, ◌⊎◌, ℕ, zero, suc, ◌+◌, ◌-◌, ◌/◌, ◌%◌, ◌<◌, ◌≤◌, Bool, true, false, cond, List, [], ◌∷◌, ◌++◌}
+use Rattle.std.proofs.Common.{◌≡◌, ◌⊎◌, ℕ, ◌+◌, ◌-◌, ◌/◌, ◌%◌, ◌<◌, ◌≤◌, Bool, true, false, cond, List, [], ◌∷◌, ◌++◌}
 use Rattle.std.proofs.Common.{length, take, get_or, refl, sym, subst, ap, ap₂, ◌∙◌, inl, inr, arith, append-nil, lt-ltb, le-ltb}
-use Rattle.std.specs.Prelude.{◌||◌, nat_lt}
+use Rattle.std.specs.Prelude.{nat_lt}
 use Rattle.std.proofs.lemmas.List.{take_more, map-append}
 use Rattle.std.proofs.lemmas.Grind.{flat_map-append}
 use Rattle.std.proofs.lemmas.Bool.{ltb-false}
-use Rattle.std.proofs.lemmas.List.Folds.{list_any-append}
-use Rattle.cwr_fields.specs.Format.Bytes.{trimmed}
-use Rattle.cwr_fields.proofs.lemmas.TrimmedTexts.{spaces_after}
 use Rattle.json.specs.Print.{escape, escape_byte}
 use Rattle.json.proofs.Printed.Strings.{escape_byte_plain}
 use Rattle.cwr_json.specs.declared.encodings.Encoding.{Encoding}
 use Rattle.cwr_json.specs.declared.encodings.Encoding.TheVariants.{Latin1, Utf8}
 use Rattle.cwr_json.specs.Format.Encodings.{are_shown_as_is, byte_by_byte, character, characters, high_character}
 use Rattle.cwr_json.specs.Format.Forms.{key_byte, key_of}
-use Rattle.cwr_json.specs.Steps.FormTexts.{IsSimple, NoLow, has_low, spelled, spelled_byte, spelled_bytes}
+use Rattle.cwr_json.specs.Steps.FormTexts.{IsSimple, spelled, spelled_byte, spelled_bytes}
 
 -- ---- one byte
 
@@ -124,27 +121,3 @@ spelled_more enc text i h =
 pub key_more : (name : List ℕ) (i : ℕ) → i < length name
     → key_of (take (i + 1) name) ≡ key_of (take i name) ++ key_byte (get_or name i 0) ∷ []
 key_more name i h = ap key_of (take_more name i 0 h) ∙ map-append key_byte (take i name) (get_or name i 0 ∷ [])
-
-no_first : (x y : Bool) → (x || y) ≡ false → x ≡ false
-no_first true y f = absurd (cc f)
-no_first false y f = refl
-
-pub NoLow-front : (xs ys : List ℕ) → NoLow (xs ++ ys) → NoLow xs
-NoLow-front xs ys h = no_first (has_low xs) (has_low ys) (sym (list_any-append (λ b. nat_lt b 32) xs ys) ∙ h)
-
-pub NoLow-trimmed : (cell : List ℕ) → NoLow cell → NoLow (trimmed cell)
-NoLow-trimmed cell h = let p = spaces_after cell in NoLow-front (trimmed cell) _ (subst NoLow p.1 h)
-
--- each byte of a text that has no low ones
-pub high_at : (text : List ℕ) (i : ℕ) → NoLow text → i < length text → 32 ≤ get_or text i 0
-high_at [] i h k = absurd (omega arith)
-high_at (b ∷ text) zero h k = first (nat_lt b 32) (has_low text) b refl h
-  where
-    first : (x y : Bool) (c : ℕ) → nat_lt c 32 ≡ x → (x || y) ≡ false → 32 ≤ c
-    first true y c e f = absurd (cc f)
-    first false y c e f = ltb-false c 32 e
-high_at (b ∷ text) (suc i) h k = high_at text i (later (nat_lt b 32) (has_low text) h) (omega arith)
-  where
-    later : (x y : Bool) → (x || y) ≡ false → y ≡ false
-    later true y f = absurd (cc f)
-    later false y f = f

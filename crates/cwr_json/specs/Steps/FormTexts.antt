@@ -1,7 +1,7 @@
 -- The text of a record's data, cell by cell.
-use Rattle.std.specs.Prelude.{◌≡◌, ℕ, zero, suc, Bool, false, nat_lt, List, [], ◌++◌, codes, decimal, Option, Some, None}
+use Rattle.std.specs.Prelude.{◌≡◌, ℕ, zero, suc, List, [], ◌++◌, codes, decimal, Option, Some, None}
 use Rattle.std.specs.Prelude.{if◌then◌else◌}
-use Rattle.std.specs.List.{enumerate_from, flat_map, list_any, zip}
+use Rattle.std.specs.List.{enumerate_from, flat_map, zip}
 use Rattle.json.specs.Print.{escape}
 use Rattle.cwr_fields.specs.Format.Bytes.{is_spaces, trimmed}
 use Rattle.cwr_fields.specs.declared.kinds.Kind.{Kind}
@@ -32,13 +32,6 @@ spelled_bytes enc bytes = flat_map (spelled_byte enc) bytes
 pub record IsSimple (bytes : List ℕ) : Type 0 where
   pub marks : escape bytes ≡ bytes
   pub low : (enc : Encoding) → byte_by_byte enc bytes ≡ bytes
-
--- no byte is a control byte below the space
-abbrev pub has_low : List ℕ → Bool
-has_low text = list_any (λ b. nat_lt b 32) text
-
-abbrev pub NoLow : List ℕ → Type 0
-NoLow text = has_low text ≡ false
 
 -- a cell as a member after others, unless it is blank
 abbrev pub member_text : Encoding → FieldLayout → List ℕ → List ℕ
