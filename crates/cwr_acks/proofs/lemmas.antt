@@ -1,5 +1,5 @@
--- A text without bytes is put by doing nothing.
-pub mod NothingPut
+-- What stands for a number in what was sent, where it isn't blank.
+pub mod SentValues
 -- The lengths of cells, and parts of texts.
 pub mod NamedParts
 -- The counts of statuses with one item more.

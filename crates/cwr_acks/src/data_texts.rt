@@ -1,288 +1,284 @@
-//! The text of a line of JSON, part by part.
+//! Lines of JSON, part by part.
 
-ghost use Rattle.std.specs.Prelude.{◌≡◌, ◌+◌, ◌*◌, ◌≤◌, ◌++◌, codes, length, true};
+ghost use Rattle.std.specs.Prelude.{◌≡◌, ◌++◌, codes, false, length, true, zip};
+ghost use Rattle.cwr_devices.specs.Steps.Pens.{Adds};
 ghost use Rattle.cwr_fields.specs.Format.Kinds.{letters};
-ghost use Rattle.cwr_fields.specs.Format.MessageCodes.{status_code};
+ghost use Rattle.cwr_fields.specs.Format.MessageCodes.{status_code, transaction_statuses};
 ghost use Rattle.cwr_lines.specs.Format.Records.{IsRecord};
 ghost use Rattle.cwr_delivery.specs.Format.Acknowledgements.{is_ack, is_message};
-ghost use Rattle.cwr_acks.specs.Steps.DataTexts.{ack_members, cell_at, cell_member, cell_member_if, comma_if, count_member, counts_data_text, level_member};
+ghost use Rattle.cwr_acks.specs.Steps.DataTexts.{ack_members, cell_at, cell_member, cell_member_if, comma_if, count_member, count_members, counts_data_text, level_member};
 ghost use Rattle.cwr_acks.specs.Steps.DataTexts.{mark_part, message_part, notes_members_if, original_members, outcome_member, shown_cell, status_members, unanswered_members};
 
 use crate::counts::{Answers, STATUSES};
-use crate::line_texts::{
-    LONGEST, LONGEST_MEMBER, LineText, Text, push, push_number, push_number_part, words_of,
-};
+use crate::line_texts::{number_part, words_of};
 use cwr_delivery::{
     LEVEL, MESSAGE, MESSAGE_TYPE, Notes, ORIGINAL_TYPE, Outcome, RECIPIENT_NUMBER, RECORD,
     RECORD_TYPE, STATUS, SUBMITTER_NUMBER, TITLE, VALIDATION, group_of, sequence_of, status_of,
 };
+use cwr_devices::{Pen, Target};
 use cwr_fields::{Coded, Kind, MessageLevel, TransactionStatus, is_spaces, letters, trimmed};
 use cwr_findings::cell;
-use cwr_json::{Encoding, push_escaped_characters};
+use cwr_json::{Encoding, escaped_characters};
 use cwr_lines::RecordRef;
 use cwr_sent::SentFacts;
 
-/// Appends a cell between quotes, without trailing spaces.
-fn push_shown(text: &mut Text, encoding: Encoding, cell: &[u8])
-    requires { length text.old.items + 6 * length cell.now + 2 ≤ LONGEST }
-    ensures value { text.new.items ≡ text.old.items ++ shown_cell encoding cell.now }
-    ensures len { length text.new.items ≤ length text.old.items + 6 * length cell.now + 2 }
+/// Adds a cell between quotes, without trailing spaces.
+fn shown_cell<W: Target>(encoding: Encoding, cell: &[u8], pen: &mut Pen<'_, W>)
+    ensures { Adds W.contents W.failures (shown_cell encoding cell.now) pen.old pen.new }
 {
-    push(text, b"\"");
-    push_escaped_characters(text, encoding, trimmed(cell));
-    push(text, b"\"");
+    pen.text(b"\"");
+    escaped_characters(encoding, trimmed(cell), pen);
+    pen.text(b"\"");
 }
 
-/// Appends the cell of field `j` after its key.
-fn push_member(text: &mut Text, encoding: Encoding, key: &[u8], shown: &RecordRef<'_>, j: u8)
-    requires room { length text.old.items + LONGEST_MEMBER ≤ LONGEST }
-    requires short { length key.now ≤ 30 }
-    ensures value { text.new.items ≡ text.old.items ++ cell_member encoding key.now (cell_at shown.now j) }
-    ensures len { length text.new.items ≤ length text.old.items + LONGEST_MEMBER }
+/// Adds the cell of field `j` after its key.
+fn member<W: Target>(
+    encoding: Encoding,
+    key: &[u8],
+    shown: &RecordRef<'_>,
+    j: u8,
+    pen: &mut Pen<'_, W>,
+)
+    ensures adds { Adds W.contents W.failures (cell_member encoding key.now (cell_at shown.now j))
+        pen.old pen.new }
     ensures fits { IsRecord shown.now }
 {
-    push(text, key);
-    push_shown(text, encoding, cell(shown, j));
+    pen.text(key);
+    shown_cell(encoding, cell(shown, j), pen);
 }
 
-/// Appends the cell of field `j` after its key, unless it is blank.
-fn push_member_if(text: &mut Text, encoding: Encoding, key: &[u8], shown: &RecordRef<'_>, j: u8)
-    requires room { length text.old.items + LONGEST_MEMBER ≤ LONGEST }
-    requires short { length key.now ≤ 30 }
-    ensures value { text.new.items
-        ≡ text.old.items ++ cell_member_if encoding key.now (cell_at shown.now j) }
-    ensures len { length text.new.items ≤ length text.old.items + LONGEST_MEMBER }
+/// Adds the cell of field `j` after its key, unless it is blank.
+fn member_if<W: Target>(
+    encoding: Encoding,
+    key: &[u8],
+    shown: &RecordRef<'_>,
+    j: u8,
+    pen: &mut Pen<'_, W>,
+)
+    ensures adds { Adds W.contents W.failures
+        (cell_member_if encoding key.now (cell_at shown.now j)) pen.old pen.new }
     ensures fits { IsRecord shown.now }
 {
     if is_spaces(cell(shown, j)) {
         return;
     }
-    push_member(text, encoding, key, shown, j);
+    member(encoding, key, shown, j, pen);
 }
 
-/// Appends the status of an acknowledgement, and its words.
-fn push_status_data(text: &mut Text, encoding: Encoding, shown: &RecordRef<'_>)
-    requires ack { is_ack shown.now ≡ true }
-    requires room { length text.old.items + LONGEST_MEMBER + 80 ≤ LONGEST }
-    ensures value { text.new.items ≡ text.old.items ++ status_members encoding shown.now }
-    ensures len { length text.new.items ≤ length text.old.items + LONGEST_MEMBER + 80 }
+/// Adds the status of an acknowledgement, and its words.
+fn status_members<W: Target>(encoding: Encoding, shown: &RecordRef<'_>, pen: &mut Pen<'_, W>)
+    requires { is_ack shown.now ≡ true }
+    ensures { Adds W.contents W.failures (status_members encoding shown.now) pen.old pen.new }
 {
-    push_member(text, encoding, b"\"status\":", shown, STATUS);
-    push(text, b",\"words\":\"");
-    push(text, words_of(status_of(shown)));
-    push(text, b"\"");
+    member(encoding, b"\"status\":", shown, STATUS, pen);
+    pen.text(b",\"words\":\"");
+    pen.words(words_of(status_of(shown)));
+    pen.text(b"\"");
 }
 
-/// Appends which transaction an acknowledgement answers.
-fn push_original_data(text: &mut Text, encoding: Encoding, shown: &RecordRef<'_>)
-    requires ack { is_ack shown.now ≡ true }
-    requires room { length text.old.items + LONGEST_MEMBER + 80 ≤ LONGEST }
-    ensures value { text.new.items ≡ text.old.items ++ original_members encoding shown.now }
-    ensures len { length text.new.items ≤ length text.old.items + LONGEST_MEMBER + 80 }
+/// Adds which transaction an acknowledgement answers.
+fn original_members<W: Target>(encoding: Encoding, shown: &RecordRef<'_>, pen: &mut Pen<'_, W>)
+    requires { is_ack shown.now ≡ true }
+    ensures { Adds W.contents W.failures (original_members encoding shown.now) pen.old pen.new }
 {
-    push(text, b",\"group\":");
-    push_number(text, group_of(shown) as u64);
-    push(text, b",\"transaction\":");
-    push_number(text, sequence_of(shown) as u64);
-    push_member(text, encoding, b",\"type\":", shown, ORIGINAL_TYPE);
+    pen.text(b",\"group\":");
+    pen.number(group_of(shown) as u64);
+    pen.text(b",\"transaction\":");
+    pen.number(sequence_of(shown) as u64);
+    member(encoding, b",\"type\":", shown, ORIGINAL_TYPE, pen);
 }
 
-/// Appends the worst level of messages, if there are any.
-fn push_level_data(text: &mut Text, worst: Option<MessageLevel>)
-    requires { length text.old.items + 20 ≤ LONGEST }
-    ensures value { text.new.items ≡ text.old.items ++ level_member worst }
-    ensures len { length text.new.items ≤ length text.old.items + 20 }
+/// Adds the worst level of messages, if there are any.
+fn level_member<W: Target>(worst: Option<MessageLevel>, pen: &mut Pen<'_, W>)
+    ensures { Adds W.contents W.failures (level_member worst) pen.old pen.new }
 {
-    if let Some(level) = worst {
-        push(text, b",\"level\":\"");
-        push(text, level.code().as_bytes());
-        push(text, b"\"");
+    match worst {
+        Some(level) => {
+            pen.text(b",\"level\":\"");
+            pen.words(level.code());
+            pen.text(b"\"");
+        }
+        None => {}
     }
 }
 
-/// Appends a mark, where it is there.
-fn push_mark_if(text: &mut Text, there: bool, mark: &[u8])
-    requires { length text.old.items + length mark.now ≤ LONGEST }
-    ensures value { text.new.items ≡ text.old.items ++ mark_part mark.now there }
-    ensures len { length text.new.items ≤ length text.old.items + length mark.now }
+/// Adds a mark, where it is there.
+fn mark_part<W: Target>(mark: &[u8], there: bool, pen: &mut Pen<'_, W>)
+    ensures { Adds W.contents W.failures (mark_part mark.now there) pen.old pen.new }
 {
-    if there {
-        push(text, mark);
+    match there {
+        true => pen.text(mark),
+        false => {}
     }
 }
 
-/// Appends a type between quotes after its key.
-fn push_kind(text: &mut Text, key: &[u8], kind: Kind)
-    requires room { length text.old.items + length key.now + 4 ≤ LONGEST }
-    ensures value { text.new.items ≡ text.old.items ++ (key.now ++ letters kind ++ codes "\"") }
-    ensures len { length text.new.items ≤ length text.old.items + length key.now + 4 }
+/// Adds a type between quotes after its key.
+fn kind_member<W: Target>(key: &[u8], kind: Kind, pen: &mut Pen<'_, W>)
+    ensures { Adds W.contents W.failures (key.now ++ letters kind ++ codes "\"") pen.old pen.new }
 {
-    push(text, key);
-    push(text, letters(kind));
-    push(text, b"\"");
+    pen.text(key);
+    pen.text(letters(kind));
+    pen.text(b"\"");
 }
 
-/// Appends a submitter's number between quotes after its key, without trailing spaces.
-fn push_sent_number(text: &mut Text, encoding: Encoding, key: &[u8], number: &[u8; 14])
-    requires { length text.old.items + length key.now + 86 ≤ LONGEST }
-    ensures value { text.new.items ≡ text.old.items ++ cell_member encoding key.now number.now }
-    ensures len { length text.new.items ≤ length text.old.items + length key.now + 86 }
+/// Adds a submitter's number between quotes after its key, without trailing spaces.
+fn number_member<W: Target>(encoding: Encoding, key: &[u8], number: &[u8; 14], pen: &mut Pen<'_, W>)
+    ensures { Adds W.contents W.failures (cell_member encoding key.now number.now) pen.old pen.new }
 {
-    push(text, key);
-    push_shown(text, encoding, number);
+    pen.text(key);
+    shown_cell(encoding, number, pen);
 }
 
-/// Appends it, unless it is blank.
-fn push_sent_number_if(text: &mut Text, encoding: Encoding, key: &[u8], number: &[u8; 14])
-    requires { length text.old.items + length key.now + 86 ≤ LONGEST }
-    ensures value { text.new.items ≡ text.old.items ++ cell_member_if encoding key.now number.now }
-    ensures len { length text.new.items ≤ length text.old.items + length key.now + 86 }
+/// Adds it, unless it is blank.
+fn number_member_if<W: Target>(
+    encoding: Encoding,
+    key: &[u8],
+    number: &[u8; 14],
+    pen: &mut Pen<'_, W>,
+)
+    ensures { Adds W.contents W.failures (cell_member_if encoding key.now number.now) pen.old pen.new }
 {
     if is_spaces(number) {
         return;
     }
-    push_sent_number(text, encoding, key, number);
+    number_member(encoding, key, number, pen);
 }
 
-/// Appends why an acknowledgement answers nothing.
-fn push_outcome(text: &mut Text, encoding: Encoding, outcome: &Outcome)
-    requires { length text.old.items + 120 ≤ LONGEST }
-    ensures value { text.new.items ≡ text.old.items ++ outcome_member encoding outcome.now }
-    ensures len { length text.new.items ≤ length text.old.items + 120 }
+/// Adds why an acknowledgement answers nothing.
+fn outcome_member<W: Target>(encoding: Encoding, outcome: &Outcome, pen: &mut Pen<'_, W>)
+    ensures { Adds W.contents W.failures (outcome_member encoding outcome.now) pen.old pen.new }
 {
     match outcome {
         Outcome::Answers { .. } => {}
-        Outcome::Unsent => push(text, b",\"unsent\":true"),
-        Outcome::Unclear => push(text, b",\"unclear\":true"),
-        Outcome::Retyped(kind) => push_kind(text, b",\"retyped\":\"", *kind),
+        Outcome::Unsent => pen.text(b",\"unsent\":true"),
+        Outcome::Unclear => pen.text(b",\"unclear\":true"),
+        Outcome::Retyped(kind) => kind_member(b",\"retyped\":\"", *kind, pen),
         Outcome::Renumbered(number) => {
-            push_sent_number(text, encoding, b",\"renumbered\":", number);
+            number_member(encoding, b",\"renumbered\":", number, pen);
         }
     }
 }
 
-/// Appends what is told of an acknowledgement beside what it says.
-fn push_notes(text: &mut Text, encoding: Encoding, notes: &Option<Notes>)
-    requires { length text.old.items + 200 ≤ LONGEST }
-    ensures value { text.new.items ≡ text.old.items ++ notes_members_if encoding notes.now }
-    ensures len { length text.new.items ≤ length text.old.items + 200 }
+/// Adds what is told of an acknowledgement beside what it says.
+fn notes_members_if<W: Target>(encoding: Encoding, notes: &Option<Notes>, pen: &mut Pen<'_, W>)
+    ensures { Adds W.contents W.failures (notes_members_if encoding notes.now) pen.old pen.new }
 {
-    let Some(notes) = notes else {
-        return;
-    };
-    push_mark_if(text, notes.unkeyed, b",\"unkeyed\":true");
-    push_outcome(text, encoding, &notes.outcome);
-    push_mark_if(text, notes.retitled, b",\"retitled\":true");
-    push_mark_if(text, notes.again, b",\"again\":true");
-}
-
-/// Appends a comma before what comes after others.
-fn push_comma_if(text: &mut Text, later: bool)
-    requires { length text.old.items + 1 ≤ LONGEST }
-    ensures value { text.new.items ≡ text.old.items ++ comma_if later }
-    ensures len { length text.new.items ≤ length text.old.items + 1 }
-{
-    if later {
-        push(text, b",");
-    }
-}
-
-/// Appends how many acknowledgements have a status, after others or as the first.
-fn push_count_data(text: &mut Text, later: bool, status: TransactionStatus, count: u64)
-    requires { length text.old.items + 30 ≤ LONGEST }
-    ensures value { text.new.items
-        ≡ text.old.items ++ count_member later (status_code status) count }
-    ensures len { length text.new.items ≤ length text.old.items + 30 }
-{
-    push_comma_if(text, later);
-    push(text, b"\"");
-    push(text, status.code().as_bytes());
-    push(text, b"\":");
-    push_number(text, count);
-}
-
-impl LineText {
-    /// Sets what stands before the messages in the object of an acknowledgement whose messages have that worst level, but for names.
-    pub(crate) fn set_ack_data(
-        &mut self,
-        encoding: Encoding,
-        notes: &Option<Notes>,
-        shown: &RecordRef<'_>,
-        worst: Option<MessageLevel>,
-    )
-        requires { is_ack shown.now ≡ true }
-        ensures { self.new ≡ ack_members encoding notes.now shown.now worst }
-    {
-        let text = &mut self.text;
-        text.clear();
-        push_status_data(text, encoding, shown);
-        push_original_data(text, encoding, shown);
-        push_level_data(text, worst);
-        push_member_if(text, encoding, b",\"submitter\":", shown, SUBMITTER_NUMBER);
-        push_member_if(text, encoding, b",\"recipient\":", shown, RECIPIENT_NUMBER);
-        push_member_if(text, encoding, b",\"title\":", shown, TITLE);
-        push_notes(text, encoding, notes);
-        push(text, b",\"messages\":[");
-    }
-
-    /// Sets the object of a message, after others or as the first.
-    pub(crate) fn set_message_data(
-        &mut self,
-        encoding: Encoding,
-        later: bool,
-        shown: &RecordRef<'_>,
-    )
-        requires { is_message shown.now ≡ true }
-        ensures { self.new ≡ message_part encoding later shown.now }
-    {
-        let text = &mut self.text;
-        text.clear();
-        push_comma_if(text, later);
-        push_member(text, encoding, b"{\"level\":", shown, LEVEL);
-        push_member(text, encoding, b",\"type\":", shown, MESSAGE_TYPE);
-        push_number_part(text, b",\"record\":", cell(shown, RECORD));
-        push_member_if(text, encoding, b",\"record_type\":", shown, RECORD_TYPE);
-        push_member_if(text, encoding, b",\"validation\":", shown, VALIDATION);
-        push_member(text, encoding, b",\"text\":", shown, MESSAGE);
-        push(text, b"}");
-    }
-
-    /// Sets what stands after the name of what was sent in the line of a transaction that isn't answered.
-    pub(crate) fn set_unanswered_data(
-        &mut self,
-        encoding: Encoding,
-        group: u64,
-        sequence: u64,
-        facts: &SentFacts,
-    )
-        ensures { self.new ≡ unanswered_members encoding group sequence facts.now }
-    {
-        let text = &mut self.text;
-        text.clear();
-        push(text, b"\"group\":");
-        push_number(text, group);
-        push(text, b",\"transaction\":");
-        push_number(text, sequence);
-        push(text, b",\"type\":\"");
-        push(text, letters(facts.kind));
-        push(text, b"\"");
-        push_sent_number_if(text, encoding, b",\"submitter\":", &facts.number);
-        push(text, b"}}\n");
-    }
-
-    /// Sets the line of counts, but for what stands before its first key.
-    pub(crate) fn set_counts_data(&mut self, answers: &Answers)
-        requires { length answers.now.by_status ≡ 10 }
-        ensures { self.new ≡ counts_data_text answers.now.all answers.now.by_status }
-    {
-        let text = &mut self.text;
-        text.clear();
-        push(text, b"\"acks\":");
-        push_number(text, answers.all);
-        push(text, b",\"statuses\":{");
-        for i in 0..10 {
-            push_count_data(text, i > 0, STATUSES[i], answers.by_status[i]);
+    match notes {
+        Some(notes) => {
+            mark_part(b",\"unkeyed\":true", notes.unkeyed, pen);
+            outcome_member(encoding, &notes.outcome, pen);
+            mark_part(b",\"retitled\":true", notes.retitled, pen);
+            mark_part(b",\"again\":true", notes.again, pen);
         }
-        push(text, b"}}\n");
+        None => {}
     }
+}
+
+/// Adds a comma before what comes after others.
+fn comma_if<W: Target>(later: bool, pen: &mut Pen<'_, W>)
+    ensures { Adds W.contents W.failures (comma_if later) pen.old pen.new }
+{
+    match later {
+        true => pen.text(b","),
+        false => {}
+    }
+}
+
+/// Adds how many acknowledgements have a status, after others or as the first.
+fn count_member<W: Target>(later: bool, status: TransactionStatus, count: u64, pen: &mut Pen<'_, W>)
+    ensures { Adds W.contents W.failures (count_member later (status_code status) count) pen.old
+        pen.new }
+{
+    comma_if(later, pen);
+    pen.text(b"\"");
+    pen.words(status.code());
+    pen.text(b"\":");
+    pen.number(count);
+}
+
+/// Adds what stands before the messages in the object of an acknowledgement whose messages have that worst level, but for names.
+pub(crate) fn ack_members<W: Target>(
+    encoding: Encoding,
+    notes: &Option<Notes>,
+    shown: &RecordRef<'_>,
+    worst: Option<MessageLevel>,
+    pen: &mut Pen<'_, W>,
+)
+    requires { is_ack shown.now ≡ true }
+    ensures { Adds W.contents W.failures (ack_members encoding notes.now shown.now worst) pen.old
+        pen.new }
+{
+    status_members(encoding, shown, pen);
+    original_members(encoding, shown, pen);
+    level_member(worst, pen);
+    member_if(encoding, b",\"submitter\":", shown, SUBMITTER_NUMBER, pen);
+    member_if(encoding, b",\"recipient\":", shown, RECIPIENT_NUMBER, pen);
+    member_if(encoding, b",\"title\":", shown, TITLE, pen);
+    notes_members_if(encoding, notes, pen);
+    pen.text(b",\"messages\":[");
+}
+
+/// Adds the object of a message, after others or as the first.
+pub(crate) fn message_part<W: Target>(
+    encoding: Encoding,
+    later: bool,
+    shown: &RecordRef<'_>,
+    pen: &mut Pen<'_, W>,
+)
+    requires { is_message shown.now ≡ true }
+    ensures { Adds W.contents W.failures (message_part encoding later shown.now) pen.old pen.new }
+{
+    comma_if(later, pen);
+    member(encoding, b"{\"level\":", shown, LEVEL, pen);
+    member(encoding, b",\"type\":", shown, MESSAGE_TYPE, pen);
+    number_part(b",\"record\":", cell(shown, RECORD), pen);
+    member_if(encoding, b",\"record_type\":", shown, RECORD_TYPE, pen);
+    member_if(encoding, b",\"validation\":", shown, VALIDATION, pen);
+    member(encoding, b",\"text\":", shown, MESSAGE, pen);
+    pen.text(b"}");
+}
+
+/// Adds what stands after the name of what was sent in the line of a transaction that isn't answered.
+pub(crate) fn unanswered_members<W: Target>(
+    encoding: Encoding,
+    group: u64,
+    sequence: u64,
+    facts: &SentFacts,
+    pen: &mut Pen<'_, W>,
+)
+    ensures { Adds W.contents W.failures (unanswered_members encoding group sequence facts.now)
+        pen.old pen.new }
+{
+    pen.text(b"\"group\":");
+    pen.number(group);
+    pen.text(b",\"transaction\":");
+    pen.number(sequence);
+    pen.text(b",\"type\":\"");
+    pen.text(letters(facts.kind));
+    pen.text(b"\"");
+    number_member_if(encoding, b",\"submitter\":", &facts.number, pen);
+    pen.text(b"}}\n");
+}
+
+/// Adds how many acknowledgements have each status.
+fn count_members<W: Target>(answers: &Answers, pen: &mut Pen<'_, W>)
+    requires { length answers.now.by_status ≡ 10 }
+    ensures { Adds W.contents W.failures (count_members false (zip transaction_statuses answers.now.by_status)) pen.old pen.new }
+{
+    for i in 0..10 {
+        count_member(i > 0, STATUSES[i], answers.by_status[i], pen);
+    }
+}
+
+/// Adds the line of counts, but for what stands before its first key.
+pub(crate) fn counts_data_text<W: Target>(answers: &Answers, pen: &mut Pen<'_, W>)
+    requires { length answers.now.by_status ≡ 10 }
+    ensures { Adds W.contents W.failures
+        (counts_data_text answers.now.all answers.now.by_status) pen.old pen.new }
+{
+    pen.text(b"\"acks\":");
+    pen.number(answers.all);
+    pen.text(b",\"statuses\":{");
+    count_members(answers, pen);
+    pen.text(b"}}\n");
 }

@@ -1,12 +1,15 @@
 //! The forms in which it is told what acknowledgements say, and the texts in each.
 
 ghost use Rattle.std.specs.Prelude.{◌≡◌, option_map, slice_get, true};
+ghost use Rattle.cwr_devices.specs.Steps.Pens.{Adds};
 ghost use Rattle.cwr_delivery.specs.Format.Acknowledgements.{is_ack, is_message};
 ghost use Rattle.cwr_acks.specs.Format.AckLines.{telling_of};
 ghost use Rattle.cwr_acks.specs.Steps.AckSteps.{ack_in, message_as};
 
-use crate::line_texts::LineText;
+use crate::data_texts::{ack_members, message_part};
+use crate::line_texts::{ack_text, message_line};
 use cwr_delivery::Notes;
+use cwr_devices::{Pen, Target};
 use cwr_fields::{MessageLevel, TransactionStatus};
 use cwr_json::Encoding;
 use cwr_lines::RecordRef;
@@ -52,32 +55,35 @@ impl<'a> Manner<'a> {
     }
 }
 
-impl LineText {
-    /// Sets the text of an acknowledgement whose messages have that worst level, but for the names of files.
-    pub(crate) fn set_ack_in(
-        &mut self,
-        form: Form,
-        notes: &Option<Notes>,
-        shown: &RecordRef<'_>,
-        worst: Option<MessageLevel>,
-    )
-        requires { is_ack shown.now ≡ true }
-        ensures { self.new ≡ ack_in form notes.now shown.now worst }
-    {
-        match form {
-            Form::Words(cells) => self.set_ack(cells, shown, worst),
-            Form::Json(encoding) => self.set_ack_data(encoding, notes, shown, worst),
-        }
+/// Adds the text of an acknowledgement whose messages have that worst level, but for the names of files.
+pub(crate) fn ack_in<W: Target>(
+    form: Form,
+    notes: &Option<Notes>,
+    shown: &RecordRef<'_>,
+    worst: Option<MessageLevel>,
+    pen: &mut Pen<'_, W>,
+)
+    requires { is_ack shown.now ≡ true }
+    ensures { Adds W.contents W.failures (ack_in form notes.now shown.now worst) pen.old pen.new }
+{
+    match form {
+        Form::Words(cells) => ack_text(cells, shown, worst, pen),
+        Form::Json(encoding) => ack_members(encoding, notes, shown, worst, pen),
     }
+}
 
-    /// Sets the text of a message that comes after others of its acknowledgement, or is the first.
-    pub(crate) fn set_message_in(&mut self, form: Form, later: bool, shown: &RecordRef<'_>)
-        requires { is_message shown.now ≡ true }
-        ensures { self.new ≡ message_as form later shown.now }
-    {
-        match form {
-            Form::Words(cells) => self.set_message(cells, shown),
-            Form::Json(encoding) => self.set_message_data(encoding, later, shown),
-        }
+/// Adds the text of a message that comes after others of its acknowledgement, or is the first.
+pub(crate) fn message_as<W: Target>(
+    form: Form,
+    later: bool,
+    shown: &RecordRef<'_>,
+    pen: &mut Pen<'_, W>,
+)
+    requires { is_message shown.now ≡ true }
+    ensures { Adds W.contents W.failures (message_as form later shown.now) pen.old pen.new }
+{
+    match form {
+        Form::Words(cells) => message_line(cells, shown, pen),
+        Form::Json(encoding) => message_part(encoding, later, shown, pen),
     }
 }

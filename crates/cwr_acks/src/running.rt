@@ -11,7 +11,6 @@ ghost use Rattle.cwr_tools.specs.Steps.Runs.{Runs};
 use crate::counts::Answers;
 use crate::forms::Manner;
 use crate::item_lines::put_item;
-use crate::line_texts::LineText;
 use crate::matching::keep_item_if;
 use cwr_delivery::Delivery;
 use cwr_devices::{Sink, SinkFault, Source, Target};
@@ -38,8 +37,6 @@ struct AnswerLines<'a, B: Before> {
     delivery: Option<Delivery>,
     /// How many there were.
     answers: Answers,
-    /// In which a line is made.
-    text: LineText,
     /// What was kept before these.
     before: PhantomData<B>,
 }
@@ -81,7 +78,6 @@ impl<B: Before> Report for AnswerLines<'_, B> {
             &notes,
             &self.answers,
             item,
-            &mut self.text,
             sink,
         )?;
         self.answers.count_answer(item);
@@ -113,7 +109,6 @@ fn write_answers<B: Before, R: Source, W: Target + Drop>(
         manner,
         delivery,
         answers: Answers::new(),
-        text: LineText::new(),
         before: PhantomData,
     };
     let (writer, outcome) = write_report(&mut lines, alloc, limits, reader, writer);

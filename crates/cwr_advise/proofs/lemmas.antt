@@ -1,9 +1,3 @@
--- Texts that are added at the end of a text, one after another.
-pub mod TextsAdded
--- What is put of advice, one text after another.
-pub mod TextsPut
--- The line on a record's cell, as a look for its cell and its field finds it.
-pub mod CellLines
 -- What is put of advice, one text after another.
 pub mod AdvicePut
 -- What is told of advice, and how much isn't, by how many pieces of each rule stand before it.

@@ -1,7 +1,8 @@
 //! What a run that advises writes: the findings and the advice in each transaction, and the verdict.
 
-ghost use Rattle.std.specs.Prelude.{◌≡◌, List, [], ◌++◌, true, false, IfErr, None};
-ghost use Rattle.cwr_devices.specs.Steps.Sinks.{Puts, has_failed, written_of};
+ghost use Rattle.std.specs.Prelude.{◌≡◌, List, [], ◌++◌, true, None};
+ghost use Rattle.cwr_devices.specs.Steps.Pens.{Adds};
+ghost use Rattle.cwr_devices.specs.Steps.Sinks.{PutsText};
 ghost use Rattle.cwr_values.specs.declared.items.Item.{Item};
 ghost use Rattle.cwr_tools.specs.Format.Reports.{ItemLines};
 ghost use Rattle.cwr_tools.specs.Format.Texts.{verdict_line};
@@ -12,7 +13,6 @@ ghost use Rattle.cwr_advise.specs.Steps.AdviceCounts.{counts_of, summary_by};
 ghost use Rattle.cwr_advise.specs.Steps.AdvisedItems.{IsBefore, last_by};
 ghost use Rattle.cwr_advise.specs.Steps.KeptWorks.{AreKeptOf};
 
-use crate::advice_texts::AdviceText;
 use crate::before::Before;
 use crate::item_advice::{Manner, put_item};
 use crate::kept_works::AdvisedSums;
@@ -20,9 +20,9 @@ use crate::repeats::Repeats;
 use crate::told::AdviceCounts;
 use crate::worst::Worst;
 use cwr_advice::Said;
-use cwr_devices::{Sink, SinkFault, Target};
+use cwr_devices::{Pen, Sink, SinkFault, Target};
 use cwr_shape::Level;
-use cwr_tools::{Report, ToolFault, Totals, Verdict, put_verdict_line};
+use cwr_tools::{Report, ToolFault, Totals, Verdict, verdict_line};
 use cwr_values::Item;
 use std::alloc::Global;
 
@@ -47,8 +47,6 @@ pub struct AdviceLines {
     told: AdviceCounts,
     /// The worst level of all findings and all advice.
     worst: Worst,
-    /// In which lines of advice are made.
-    text: AdviceText,
 }
 
 impl AdviceLines {
@@ -72,7 +70,6 @@ impl AdviceLines {
             findings: 0,
             told: AdviceCounts::nothing(),
             worst: Worst::nothing(),
-            text: AdviceText::new(),
         }
     }
 
@@ -183,7 +180,6 @@ impl Report for AdviceLines {
             &mut self.findings,
             &mut self.told,
             &mut self.worst,
-            &mut self.text,
             sink,
         )?;
         self.before = self.before.with(item);
@@ -199,23 +195,33 @@ impl Report for AdviceLines {
     }
 }
 
-/// Puts how much of the advice isn't told, and the line of the verdict.
-fn put_summed<W: Target>(
+/// Adds how much of the advice isn't told, and the line of the verdict.
+fn summed<W: Target>(all: bool, told: &AdviceCounts, verdict: &Verdict, pen: &mut Pen<'_, W>)
+    ensures { Adds W.contents W.failures (summary_by all told.now ++ verdict_line verdict.now) pen.old
+        pen.new }
+{
+    told.summary(all, pen);
+    verdict_line(verdict, pen);
+}
+
+/// Adds the same, or, up to a fault, nothing of a refusal.
+fn last_lines<W: Target>(
+    up_to_fault: bool,
     all: bool,
     told: &AdviceCounts,
     verdict: &Verdict,
-    sink: &mut Sink<W>,
-) -> Result<(), SinkFault>
-    requires { has_failed sink.old ≡ false }
-    ensures puts { Puts W.contents W.failures (summary_by all told.now ++ verdict_line verdict.now)
-        result sink.old sink.new }
-    ensures fault { IfErr result (λ f. f.written ≡ written_of sink.new) }
+    pen: &mut Pen<'_, W>,
+)
+    ensures { Adds W.contents W.failures (last_by up_to_fault all told.now verdict.now) pen.old
+        pen.new }
 {
-    told.put_summary(all, sink)?;
-    put_verdict_line(verdict, sink)
+    match (up_to_fault, verdict) {
+        (true, Verdict::Refused(_)) => {}
+        _ => summed(all, told, verdict, pen),
+    }
 }
 
-/// Puts the same, or, up to a fault, nothing of a refusal.
+/// Puts what stands for the verdict.
 fn put_last<W: Target>(
     up_to_fault: bool,
     all: bool,
@@ -223,13 +229,10 @@ fn put_last<W: Target>(
     verdict: &Verdict,
     sink: &mut Sink<W>,
 ) -> Result<(), SinkFault>
-    requires { has_failed sink.old ≡ false }
-    ensures puts { Puts W.contents W.failures (last_by up_to_fault all told.now verdict.now) result
+    ensures { PutsText W.contents W.failures (last_by up_to_fault all told.now verdict.now) result
         sink.old sink.new }
-    ensures fault { IfErr result (λ f. f.written ≡ written_of sink.new) }
 {
-    match (up_to_fault, verdict) {
-        (true, Verdict::Refused(_)) => Ok(()),
-        _ => put_summed(all, told, verdict, sink),
-    }
+    let mut pen = Pen::new(sink);
+    last_lines(up_to_fault, all, told, verdict, &mut pen);
+    pen.end()
 }

@@ -1,9 +1,10 @@
 //! The lines of advice on items, put to a sink.
 
-ghost use Rattle.std.specs.Prelude.{◌≡◌, ◌+◌, ◌≤◌, ◌++◌, ◌||◌, false, length, IfErr, OnOk, Option};
+ghost use Rattle.std.specs.Prelude.{◌≡◌, ◌+◌, ◌≤◌, ◌++◌, ◌||◌, false, length, OnOk, Option};
 ghost use Rattle.std.specs.List.{flat_map};
 ghost use Rattle.cwr_shape.specs.declared.reasons.Level.{Level};
-ghost use Rattle.cwr_devices.specs.Steps.Sinks.{Puts, has_failed, written_of};
+ghost use Rattle.cwr_devices.specs.Steps.Pens.{Adds};
+ghost use Rattle.cwr_devices.specs.Steps.Sinks.{PutsText, has_failed};
 ghost use Rattle.cwr_judge.specs.Format.Items.{item_records};
 ghost use Rattle.cwr_findings.specs.Format.Findings.{findings};
 ghost use Rattle.cwr_notes.specs.Format.WorkNames.{work_of};
@@ -18,12 +19,12 @@ ghost use Rattle.cwr_advise.specs.Steps.AdviceCounts.{counts_after, counts_with,
 ghost use Rattle.cwr_advise.specs.Steps.AdvisedItems.{PutsAdvised, advised_after, advised_at, told_with};
 ghost use Rattle.cwr_advise.specs.Steps.KeptWorks.{counts_with_repeated, reaches_at, repeated_at, shown_repeated};
 
-use crate::advice_texts::AdviceText;
+use crate::advice_texts::{lines_at_record, repeated_text};
 use crate::repeats::{Place, Repeated, work_header};
 use crate::told::AdviceCounts;
 use crate::worst::Worst;
 use cwr_advice::{Advice, Said, advice};
-use cwr_devices::{Sink, SinkFault, Target};
+use cwr_devices::{Pen, Sink, SinkFault, Target};
 use cwr_findings::findings;
 use cwr_notes::WorkLine;
 use cwr_tools::{ToolFault, Totals, put_transaction_findings, writer_fault};
@@ -41,9 +42,9 @@ pub struct Manner {
     pub all: bool,
 }
 
-/// Puts the lines of advice in the transaction of that sequence in the group of that ID, whose first record is on that line of the
-/// file. The line on its work is that. Where advice stands apart an empty line follows. They are made in the buffer.
-fn put_noted<W: Target>(
+/// Adds the lines of advice in the transaction of that sequence in the group of that ID, whose first record is on that line of the
+/// file. The line on its work is that. Where advice stands apart an empty line follows.
+fn noted_advice<W: Target>(
     apart: bool,
     group: u32,
     sequence: u32,
@@ -51,21 +52,17 @@ fn put_noted<W: Target>(
     work: &WorkLine,
     transaction: &Transaction,
     advice: &Advice,
-    text: &mut AdviceText,
-    sink: &mut Sink<W>,
-) -> Result<(), SinkFault>
-    requires unfailed { has_failed sink.old ≡ false }
+    pen: &mut Pen<'_, W>,
+)
     requires few { first + length transaction.now ≤ 100000000 }
     requires work { work.now ≡ work_of transaction.now }
-    ensures puts { Puts W.contents W.failures
-        (noted_advice apart group sequence first transaction.now advice.now) result sink.old
-        sink.new }
-    ensures fault { IfErr result (λ f. f.written ≡ written_of sink.new) }
+    ensures { Adds W.contents W.failures
+        (noted_advice apart group sequence first transaction.now advice.now) pen.old pen.new }
 {
     let Some(shown) = transaction.record(advice.rec) else {
-        return Ok(());
+        return;
     };
-    text.set(
+    lines_at_record(
         apart,
         group,
         sequence,
@@ -73,13 +70,13 @@ fn put_noted<W: Target>(
         work,
         advice,
         &shown,
+        pen,
     );
-    sink.put(text.as_slice())
 }
 
-/// Counts a piece of advice in the transaction, and puts its lines, if it is told after so many. The line on the transaction's work is
+/// Counts a piece of advice in the transaction, and adds its lines, if it is told after so many. The line on the transaction's work is
 /// that.
-fn put_counted<W: Target>(
+fn counted_lines<W: Target>(
     manner: Manner,
     group: u32,
     sequence: u32,
@@ -88,22 +85,19 @@ fn put_counted<W: Target>(
     transaction: &Transaction,
     advice: &Advice,
     told: &mut AdviceCounts,
-    text: &mut AdviceText,
-    sink: &mut Sink<W>,
-) -> Result<(), SinkFault>
-    requires unfailed { has_failed sink.old ≡ false }
+    pen: &mut Pen<'_, W>,
+)
     requires few { first + length transaction.now ≤ 100000000 }
     requires work { work.now ≡ work_of transaction.now }
-    ensures puts { Puts W.contents W.failures
+    ensures adds { Adds W.contents W.failures
         (lines_by (noted_advice manner.apart group sequence first transaction.now) manner.all
-        (told.old, advice.now)) result sink.old sink.new }
+        (told.old, advice.now)) pen.old pen.new }
     ensures told { told.new ≡ counts_with told.old advice.now.rule }
-    ensures fault { IfErr result (λ f. f.written ≡ written_of sink.new) }
 {
     if !told.take(manner.all, advice.rule) {
-        return Ok(());
+        return;
     }
-    put_noted(
+    noted_advice(
         manner.apart,
         group,
         sequence,
@@ -111,13 +105,12 @@ fn put_counted<W: Target>(
         work,
         transaction,
         advice,
-        text,
-        sink,
-    )
+        pen,
+    );
 }
 
-/// Puts the lines of the advice in the transaction that is told after so many pieces of each rule, and counts it.
-fn put_all<W: Target>(
+/// Adds the lines of the advice in the transaction that is told after so many pieces of each rule, and counts it.
+fn told_lines<W: Target>(
     manner: Manner,
     group: u32,
     sequence: u32,
@@ -125,21 +118,18 @@ fn put_all<W: Target>(
     transaction: &Transaction,
     found: &[Advice],
     told: &mut AdviceCounts,
-    text: &mut AdviceText,
-    sink: &mut Sink<W>,
-) -> Result<(), SinkFault>
-    requires unfailed { has_failed sink.old ≡ false }
-    requires few { first + length transaction.now ≤ 100000000 }
-    ensures puts { Puts W.contents W.failures
+    pen: &mut Pen<'_, W>,
+)
+    requires { first + length transaction.now ≤ 100000000 }
+    ensures adds { Adds W.contents W.failures
         (flat_map (noted_advice manner.apart group sequence first transaction.now)
-        (told_by manner.all told.old found.now)) result sink.old sink.new }
-    ensures told { OnOk result (told.new ≡ counts_after told.old found.now) }
-    ensures fault { IfErr result (λ f. f.written ≡ written_of sink.new) }
+        (told_by manner.all told.old found.now)) pen.old pen.new }
+    ensures told { told.new ≡ counts_after told.old found.now }
 {
     let work = WorkLine::of(transaction);
     let mut i = 0;
     while let Some(advice) = found.get(i) {
-        put_counted(
+        counted_lines(
             manner,
             group,
             sequence,
@@ -148,12 +138,41 @@ fn put_all<W: Target>(
             transaction,
             advice,
             told,
-            text,
-            sink,
-        )?;
+            pen,
+        );
         i += 1;
     }
-    Ok(())
+}
+
+/// Puts them.
+fn put_told<W: Target>(
+    manner: Manner,
+    group: u32,
+    sequence: u32,
+    first: u64,
+    transaction: &Transaction,
+    found: &[Advice],
+    told: &mut AdviceCounts,
+    sink: &mut Sink<W>,
+) -> Result<(), SinkFault>
+    requires { first + length transaction.now ≤ 100000000 }
+    ensures puts { PutsText W.contents W.failures
+        (flat_map (noted_advice manner.apart group sequence first transaction.now)
+        (told_by manner.all told.old found.now)) result sink.old sink.new }
+    ensures told { told.new ≡ counts_after told.old found.now }
+{
+    let mut pen = Pen::new(sink);
+    told_lines(
+        manner,
+        group,
+        sequence,
+        first,
+        transaction,
+        found,
+        told,
+        &mut pen,
+    );
+    pen.end()
 }
 
 /// The same, after the lines of its findings, which were put.
@@ -165,7 +184,6 @@ fn put_advice<W: Target>(
     transaction: &Transaction,
     found: &[Advice],
     told: &mut AdviceCounts,
-    text: &mut AdviceText,
     sink: &mut Sink<W>,
 ) -> Result<(), ToolFault>
     requires unfailed { has_failed sink.old ≡ false }
@@ -175,7 +193,7 @@ fn put_advice<W: Target>(
         (told_by manner.all told.old found.now)) result sink.old sink.new }
     ensures told { OnOk result (told.new ≡ counts_after told.old found.now) }
 {
-    let put = put_all(
+    let put = put_told(
         manner,
         group,
         sequence,
@@ -183,7 +201,6 @@ fn put_advice<W: Target>(
         transaction,
         found,
         told,
-        text,
         sink,
     );
     match put {
@@ -234,7 +251,7 @@ fn put_findings<W: Target>(
 
 /// Puts the lines of findings in the transaction of that sequence in the group of that ID, with what explains them where that is asked
 /// for, counts them, and then puts the lines of the advice that is told after so many pieces of each rule, and counts all advice. Its
-/// first record is on that line of the file. So much is said of the transmission. The lines of advice are made in the buffer. The levels
+/// first record is on that line of the file. So much is said of the transmission. The levels
 /// of all findings and all advice are noted.
 fn put_advised_in<W: Target>(
     manner: Manner,
@@ -247,7 +264,6 @@ fn put_advised_in<W: Target>(
     count: &mut u64,
     told: &mut AdviceCounts,
     worst: &mut Worst,
-    text: &mut AdviceText,
     sink: &mut Sink<W>,
 ) -> Result<(), ToolFault>
     requires unfailed { has_failed sink.old ≡ false }
@@ -284,7 +300,6 @@ fn put_advised_in<W: Target>(
         transaction,
         found.as_slice(),
         told,
-        text,
         sink,
     )
 }
@@ -322,13 +337,12 @@ pub fn put_advised<W: Target>(
         count,
         told,
         &mut Worst::nothing(),
-        &mut AdviceText::new(),
         sink,
     )
 }
 
 /// Puts the findings of an item that comes after items with these numbers, which say so much of the transmission, and of its advice what
-/// is told after so many pieces of each rule, and counts both. The lines of advice are made in the buffer. The levels of all findings and
+/// is told after so many pieces of each rule, and counts both. The levels of all findings and
 /// all advice are noted.
 fn put_own<W: Target>(
     manner: Manner,
@@ -339,7 +353,6 @@ fn put_own<W: Target>(
     count: &mut u64,
     told: &mut AdviceCounts,
     worst: &mut Worst,
-    text: &mut AdviceText,
     sink: &mut Sink<W>,
 ) -> Result<(), ToolFault>
     requires unfailed { has_failed sink.old ≡ false }
@@ -363,33 +376,45 @@ fn put_own<W: Target>(
             count,
             told,
             worst,
-            text,
             sink,
         ),
         Item::Opened(_) | Item::GroupOpened(_) | Item::GroupClosed(_) | Item::Ended => Ok(()),
     }
 }
 
-/// Puts what is told of an item among the works before it, where it comes after items with these numbers. It is made in the buffer.
+/// Adds what is told of an item among the works before it, where it comes after items with these numbers.
+fn work_lines<W: Target>(
+    limit: u32,
+    counts: &Totals,
+    item: &Item,
+    repeated: &Repeated,
+    pen: &mut Pen<'_, W>,
+)
+    requires { counts.now.records ≤ 99999999 }
+    ensures { Adds W.contents W.failures (repeated_at limit counts.now item.now repeated.now) pen.old
+        pen.new }
+{
+    let Some(header) = work_header(item) else {
+        return;
+    };
+    repeated_text(limit, &Place::after(counts), &header, repeated, pen);
+}
+
+/// Puts it.
 fn put_work<W: Target>(
     limit: u32,
     counts: &Totals,
     item: &Item,
     repeated: &Repeated,
-    text: &mut AdviceText,
     sink: &mut Sink<W>,
 ) -> Result<(), SinkFault>
-    requires unfailed { has_failed sink.old ≡ false }
-    requires few { counts.now.records ≤ 99999999 }
-    ensures puts { Puts W.contents W.failures (repeated_at limit counts.now item.now repeated.now)
+    requires { counts.now.records ≤ 99999999 }
+    ensures { PutsText W.contents W.failures (repeated_at limit counts.now item.now repeated.now)
         result sink.old sink.new }
-    ensures fault { IfErr result (λ f. f.written ≡ written_of sink.new) }
 {
-    let Some(header) = work_header(item) else {
-        return Ok(());
-    };
-    text.set_repeated(limit, &Place::after(counts), &header, repeated);
-    sink.put(text.as_slice())
+    let mut pen = Pen::new(sink);
+    work_lines(limit, counts, item, repeated, &mut pen);
+    pen.end()
 }
 
 /// The same as a part of what is written of items, so far as it is told after so many pieces of advice of each rule. It is counted.
@@ -400,7 +425,6 @@ fn put_repeated<W: Target>(
     item: &Item,
     repeated: &Repeated,
     told: &mut AdviceCounts,
-    text: &mut AdviceText,
     sink: &mut Sink<W>,
 ) -> Result<(), ToolFault>
     requires unfailed { has_failed sink.old ≡ false }
@@ -410,7 +434,7 @@ fn put_repeated<W: Target>(
     ensures told { told.new ≡ counts_with_repeated told.old repeated.now }
 {
     let shown = told.take_repeated(all, repeated);
-    match put_work(limit, counts, item, &shown, text, sink) {
+    match put_work(limit, counts, item, &shown, sink) {
         Ok(()) => Ok(()),
         Err(fault) => Err(writer_fault(fault)),
     }
@@ -418,7 +442,7 @@ fn put_repeated<W: Target>(
 
 /// Puts what is written of an item that comes after items with these numbers, which say so much of the transmission: its findings, and
 /// after so many pieces of advice of each rule its advice, and what is to be told of it among the works before. Findings and advice are
-/// counted. The numbers of so many works are kept. Lines are made in the buffer. The levels of all findings and all advice are noted.
+/// counted. The numbers of so many works are kept. The levels of all findings and all advice are noted.
 pub(crate) fn put_item<W: Target>(
     manner: Manner,
     alloc: Global,
@@ -430,7 +454,6 @@ pub(crate) fn put_item<W: Target>(
     count: &mut u64,
     told: &mut AdviceCounts,
     worst: &mut Worst,
-    text: &mut AdviceText,
     sink: &mut Sink<W>,
 ) -> Result<(), ToolFault>
     requires unfailed { has_failed sink.old ≡ false }
@@ -447,9 +470,7 @@ pub(crate) fn put_item<W: Target>(
     ensures seen { OnOk result ((asked : Option Level) → is_reached asked worst.new.level
         ≡ (is_reached asked worst.old.level || reaches_at asked said item.now repeated.now)) }
 {
-    put_own(
-        manner, alloc, said, counts, item, count, told, worst, text, sink,
-    )?;
+    put_own(manner, alloc, said, counts, item, count, told, worst, sink)?;
     worst.see_repeated(repeated);
-    put_repeated(manner.all, limit, counts, item, repeated, told, text, sink)
+    put_repeated(manner.all, limit, counts, item, repeated, told, sink)
 }

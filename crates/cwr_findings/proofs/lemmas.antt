@@ -1,5 +1,3 @@
--- What puts a text puts an equal one.
-pub mod SameText
 -- A record's cell of a name is that of the field that has the name, and is as wide as the field.
 pub mod NamedCells
 -- What the test of a record's kind says.

@@ -19,8 +19,8 @@ pub use headers::{
 };
 pub use named_cells::{PUBLISHER_SHARES, WRITER_SHARES, cell, is_of, is_owner, number_of};
 pub use report_lines::{
-    LONGEST_REPORT_LINE, fault_line, faults_line, finding_line, good_line, input_mark, joined_line,
-    limit_line, refusal_line, split_line, truncated_line,
+    fault_line, faults_line, finding_line, good_line, input_mark, joined_line, limit_line,
+    refusal_line, split_line, truncated_line,
 };
 pub use rules::{Finding, Rule};
 pub use sums::Sums;

@@ -5,13 +5,11 @@ mod encodings;
 mod items;
 pub mod laws;
 mod notes;
-mod pushing;
 mod records;
 mod spelling;
 
 pub use encodings::Encoding;
 pub use items::put_data;
 pub use notes::Notes;
-pub use pushing::{push_characters, push_escaped_characters};
 pub use records::key_of;
 pub use spelling::{are_shown_as_is, character, characters, escaped_characters, has_escape};

@@ -3,10 +3,10 @@
 ghost use Rattle.std.specs.Prelude.{◌≡◌, ◌++◌, ◌∷◌, [], false, IfErr};
 ghost use Rattle.std.specs.Io.KnownBytes.{Keeps};
 ghost use Rattle.std.specs.Option.{is_some};
-ghost use Rattle.cwr_devices.specs.Steps.Sinks.{has_failed};
+ghost use Rattle.cwr_devices.specs.Steps.Sinks.{PutsText, has_failed};
 ghost use Rattle.cwr_advise.specs.Steps.AdviceCounts.{summary_by};
 ghost use Rattle.cwr_causes.specs.Format.Trailing.{CountsRead};
-ghost use Rattle.cwr_findings.specs.Format.ReportLines.{fault_line, faults_line};
+ghost use Rattle.cwr_findings.specs.Format.ReportLines.{fault_line, faults_line, truncated_line};
 ghost use Rattle.cwr_lint_lines.specs.Format.FaultsAtFields.{report_number};
 ghost use Rattle.cwr_lint.specs.Format.FaultsOfLines.{IsFaultText};
 ghost use Rattle.cwr_lint.specs.Format.Told.{truncated_unless};
@@ -19,7 +19,7 @@ use cwr_advice::Said;
 use cwr_advise::AdviceCounts;
 use cwr_causes::{Ahead, FaultyLine, add_truncated, explain_fault, line_at_end, peek_numbers};
 use cwr_decode::{LastRead, Refusal};
-use cwr_devices::{DeviceFault, Sink, SinkFault, Source, Target};
+use cwr_devices::{DeviceFault, Pen, Sink, SinkFault, Source, Target};
 use cwr_findings::{fault_line, faults_line, truncated_line};
 use cwr_notes::WorkLine;
 use cwr_shape::{Limits, Stage};
@@ -93,6 +93,39 @@ fn as_told(put: Result<(), SinkFault>) -> Result<(), ToolFault>
     }
 }
 
+/// Puts the text of a fault.
+fn put_fault_text<W: Target>(fault: &Refusal, sink: &mut Sink<W>) -> Result<(), SinkFault>
+    ensures { PutsText W.contents W.failures (fault_line fault.now) result sink.old sink.new }
+{
+    let mut pen = Pen::new(sink);
+    fault_line(fault, &mut pen);
+    pen.end()
+}
+
+/// Puts that an input ended too early, after so many records.
+fn put_truncated_text<W: Target>(records: u32, sink: &mut Sink<W>) -> Result<(), SinkFault>
+    ensures { PutsText W.contents W.failures (truncated_line records) result sink.old sink.new }
+{
+    let mut pen = Pen::new(sink);
+    truncated_line(records, &mut pen);
+    pen.end()
+}
+
+/// Puts how many faults and findings an input has, in so many lines.
+fn put_faults_text<W: Target>(
+    faults: u64,
+    findings: u64,
+    lines: u64,
+    sink: &mut Sink<W>,
+) -> Result<(), SinkFault>
+    ensures { PutsText W.contents W.failures (faults_line faults findings lines) result sink.old
+        sink.new }
+{
+    let mut pen = Pen::new(sink);
+    faults_line(faults, findings, lines, &mut pen);
+    pen.end()
+}
+
 /// Puts the line of a fault.
 fn put_fault_line<W: Target>(fault: &Refusal, sink: &mut Sink<W>) -> Result<(), ToolFault>
     requires { has_failed sink.old ≡ false }
@@ -100,7 +133,7 @@ fn put_fault_line<W: Target>(fault: &Refusal, sink: &mut Sink<W>) -> Result<(), 
     ensures leaves { Leaves (λ text. text ≡ fault_line fault.now) W.contents result sink.old
         sink.new }
 {
-    as_told(fault_line(fault, sink))
+    as_told(put_fault_text(fault, sink))
 }
 
 /// Puts lines that explain a fault.
@@ -136,7 +169,7 @@ fn put_truncated<W: Target>(is_over: bool, lines: u64, sink: &mut Sink<W>) -> Re
 {
     match is_over {
         true => Ok(()),
-        false => as_told(truncated_line(report_number(lines), sink)),
+        false => as_told(put_truncated_text(report_number(lines), sink)),
     }
 }
 
@@ -153,7 +186,7 @@ fn put_faults_line<W: Target>(
     ensures leaves { Leaves (λ text. text ≡ faults_line faults findings lines) W.contents result
         sink.old sink.new }
 {
-    as_told(faults_line(faults, findings, lines, sink))
+    as_told(put_faults_text(faults, findings, lines, sink))
 }
 
 /// Puts how much of so much advice isn't told.

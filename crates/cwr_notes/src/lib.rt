@@ -5,10 +5,10 @@ mod finding_notes;
 mod note_lines;
 mod other_records;
 mod passed;
-mod record_lines;
+mod record_texts;
 mod work_lines;
 
-pub use finding_notes::put_all_explained;
-pub use note_lines::level_words;
-pub use record_lines::RecordLines;
+pub use finding_notes::all_explained;
+pub use note_lines::{cell_note, gap, level_words, where_line};
+pub use record_texts::{head_line, record_lines};
 pub use work_lines::WorkLine;

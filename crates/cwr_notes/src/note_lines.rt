@@ -1,22 +1,21 @@
 //! The lines under a finding: where its record stands, the rule in words, and the cells that it speaks of.
 
-ghost use Rattle.std.specs.Prelude.{◌≡◌, ◌+◌, ◌*◌, ◌≤◌, [], ◌++◌, ◌∷◌, Some, length, codes, decimal};
+ghost use Rattle.std.specs.Prelude.{◌≡◌, ◌≤◌, Some, length};
 ghost use Rattle.std.specs.Str.{bytes_eq};
+ghost use Rattle.cwr_devices.specs.Steps.Pens.{Adds};
 ghost use Rattle.cwr_fields.specs.Steps.Views.{field_view};
+ghost use Rattle.cwr_lines.specs.Format.Carried.{carried_at, record_cell};
 ghost use Rattle.cwr_notes.specs.Format.FindingNotes.{gap, head_lines, level_words, more_line, named_line, noted_cells, noted_line, number_of_field, rule_words};
-ghost use Rattle.cwr_notes.specs.Format.FindingNotes.{shares_line, value_words, where_line};
+ghost use Rattle.cwr_notes.specs.Format.FindingNotes.{tail_lines, shares_line, total_line, value_words, where_line};
 
-use crate::record_lines::{LONGEST, Text, push, push_number};
+use crate::other_records::total_of;
 use crate::work_lines::WorkLine;
-use arrayvec::ArrayVec;
+use cwr_devices::{Pen, Target};
 use cwr_fields::{Field, Kind, field, fields, is_spaces, letters, trimmed};
 use cwr_findings::{Finding, Rule};
 use cwr_lines::RecordRef;
 use cwr_shape::Level;
-use std::marker::Model;
-
-/// The most bytes of the line of a cell: none comes near.
-const LONGEST_NOTE: usize = 800;
+use cwr_values::Transaction;
 
 /// What the rule asks for.
 fn rule_words(rule: Rule) -> &'static str
@@ -84,215 +83,193 @@ fn number_of_field(kind: Kind, name: &[u8]) -> u8
     count + 1
 }
 
-/// Appends what stands in a cell.
-fn push_value(text: &mut Text, cell: &[u8])
-    requires { length text.old.items + length cell.now + 5 ≤ LONGEST }
-    ensures value { text.new.items ≡ text.old.items ++ value_words cell.now }
-    ensures len { length text.new.items ≤ length text.old.items + length cell.now + 5 }
+/// Adds what stands in a cell.
+fn value_words<W: Target>(cell: &[u8], pen: &mut Pen<'_, W>)
+    ensures { Adds W.contents W.failures (value_words cell.now) pen.old pen.new }
 {
     if is_spaces(cell) {
-        push(text, b"blank");
+        pen.text(b"blank");
     } else {
-        push(text, trimmed(cell));
+        pen.text(trimmed(cell));
     }
 }
 
-/// Appends the line on a cell of a field, in a record of the kind on that line of the file.
-fn push_note(text: &mut Text, number: u64, kind: Kind, place: &Field, cell: &[u8])
-    requires { length text.old.items + length place.now.name.now + length cell.now + 60 ≤ LONGEST }
-    ensures value { text.new.items
-        ≡ text.old.items ++ noted_line number kind (Some (field_view place.now).1) (Some cell.now) }
-    ensures len { length text.new.items
-        ≤ length text.old.items + length place.now.name.now + length cell.now + 60 }
+/// Adds the line on a cell of a field, in a record of the kind on that line of the file.
+fn noted_line<W: Target>(number: u64, kind: Kind, place: &Field, cell: &[u8], pen: &mut Pen<'_, W>)
+    ensures { Adds W.contents W.failures
+        (noted_line number kind (Some (field_view place.now).1) (Some cell.now)) pen.old pen.new }
 {
-    push(text, b"  cell      line ");
-    push_number(text, number);
-    push(text, b", ");
-    push(text, letters(kind));
-    push(text, b" ");
-    push(text, place.name.as_bytes());
-    push(text, b": ");
-    push_value(text, cell);
-    push(text, b"\n");
+    pen.text(b"  cell      line ");
+    pen.number(number);
+    pen.text(b", ");
+    pen.text(letters(kind));
+    pen.text(b" ");
+    pen.words(place.name);
+    pen.text(b": ");
+    value_words(cell, pen);
+    pen.text(b"\n");
 }
 
-/// Appends the line on the record's cell of that name, if it carries one.
-fn push_named(text: &mut Text, number: u64, shown: &RecordRef<'_>, name: &[u8])
-    requires { length text.old.items + LONGEST_NOTE ≤ LONGEST }
-    ensures value { text.new.items ≡ text.old.items ++ named_line number shown.now name.now }
-    ensures len { length text.new.items ≤ length text.old.items + LONGEST_NOTE }
+/// Adds the line on the record's cell of field `j`, if it carries one. The record is on that line of the file.
+pub fn cell_note<W: Target>(number: u64, shown: &RecordRef<'_>, j: u8, pen: &mut Pen<'_, W>)
+    ensures { Adds W.contents W.failures
+        (noted_line number shown.now.kind (carried_at shown.now.kind j) (record_cell shown.now j))
+        pen.old pen.new }
 {
     let kind = shown.kind();
-    let j = number_of_field(kind, name);
     let Some(cell) = shown.cell(j) else {
         return;
     };
     let Some(place) = field(kind, j) else {
         return;
     };
-    push_note(text, number, kind, &place, cell);
+    noted_line(number, kind, &place, cell, pen);
 }
 
-/// Appends the lines on the record's cells of which the rule speaks.
-fn push_noted(text: &mut Text, number: u64, rule: Rule, shown: &RecordRef<'_>)
-    requires { length text.old.items + 4 * LONGEST_NOTE ≤ LONGEST }
-    ensures { text.new.items ≡ text.old.items ++ noted_cells number rule shown.now }
+/// Adds the line on the record's cell of that name, if it carries one.
+fn named_line<W: Target>(number: u64, shown: &RecordRef<'_>, name: &[u8], pen: &mut Pen<'_, W>)
+    ensures { Adds W.contents W.failures (named_line number shown.now name.now) pen.old pen.new }
+{
+    cell_note(number, shown, number_of_field(shown.kind(), name), pen);
+}
+
+/// Adds the lines on those cells of a record on that line of the file of which the rule speaks.
+pub(crate) fn noted_cells<W: Target>(
+    number: u64,
+    rule: Rule,
+    shown: &RecordRef<'_>,
+    pen: &mut Pen<'_, W>,
+)
+    ensures { Adds W.contents W.failures (noted_cells number rule shown.now) pen.old pen.new }
 {
     match rule {
-        Rule::V1 => push_named(text, number, shown, b"iswc"),
-        Rule::V2 => push_named(text, number, shown, b"interested party number"),
-        Rule::V3 => push_named(text, number, shown, b"pr share"),
-        Rule::V4 => push_named(text, number, shown, b"mr share"),
-        Rule::V5 => push_named(text, number, shown, b"sr share"),
-        Rule::V6 => push_named(text, number, shown, b"designation"),
+        Rule::V1 => named_line(number, shown, b"iswc", pen),
+        Rule::V2 => named_line(number, shown, b"interested party number", pen),
+        Rule::V3 => named_line(number, shown, b"pr share", pen),
+        Rule::V4 => named_line(number, shown, b"mr share", pen),
+        Rule::V5 => named_line(number, shown, b"sr share", pen),
+        Rule::V6 => named_line(number, shown, b"designation", pen),
         Rule::V7 => {
-            push_named(text, number, shown, b"publisher interested party number");
-            push_named(text, number, shown, b"interested party number");
+            named_line(number, shown, b"publisher interested party number", pen);
+            named_line(number, shown, b"interested party number", pen);
         }
         Rule::V8 => {
-            push_named(text, number, shown, b"title");
-            push_named(text, number, shown, b"excerpt type");
+            named_line(number, shown, b"title", pen);
+            named_line(number, shown, b"excerpt type", pen);
         }
         Rule::V9 => {
-            push_named(text, number, shown, b"title");
-            push_named(text, number, shown, b"composite component count");
+            named_line(number, shown, b"title", pen);
+            named_line(number, shown, b"composite component count", pen);
         }
         Rule::V10 => {
-            push_named(text, number, shown, b"start date");
-            push_named(text, number, shown, b"end date");
+            named_line(number, shown, b"start date", pen);
+            named_line(number, shown, b"end date", pen);
         }
         Rule::V11 => {
-            push_named(text, number, shown, b"agreement role");
-            push_named(text, number, shown, b"pr share");
-            push_named(text, number, shown, b"mr share");
-            push_named(text, number, shown, b"sr share");
+            named_line(number, shown, b"agreement role", pen);
+            named_line(number, shown, b"pr share", pen);
+            named_line(number, shown, b"mr share", pen);
+            named_line(number, shown, b"sr share", pen);
         }
     }
 }
 
-/// A buffer for lines under a finding. It takes no memory.
-#[derive(Drop)]
-pub(crate) struct NoteLines {
-    text: Text,
+/// Adds where a record stands.
+pub fn where_line<W: Target>(number: u64, kind: Kind, pen: &mut Pen<'_, W>)
+    ensures { Adds W.contents W.failures (where_line number kind) pen.old pen.new }
+{
+    pen.text(b"  where     line ");
+    pen.number(number);
+    pen.text(b", ");
+    pen.text(letters(kind));
+    pen.text(b"\n");
 }
 
-impl Model for NoteLines {
-    ghost use Rattle.std.specs.Prelude.{ℕ, List};
-
-    ghost Value = { List ℕ };
-
-    ghost view = { λ l. l.text.items };
+/// Adds the first lines under a finding at a record on that line of the file, in a transaction on which that is the line: where it
+/// stands, that line, the rule, the level, and its cells of which the rule speaks.
+pub(crate) fn head_lines<W: Target>(
+    number: u64,
+    work: &WorkLine,
+    finding: &Finding,
+    shown: &RecordRef<'_>,
+    pen: &mut Pen<'_, W>,
+)
+    ensures { Adds W.contents W.failures (head_lines number work.now finding.now shown.now) pen.old
+        pen.new }
+{
+    where_line(number, shown.kind(), pen);
+    pen.text(work.as_slice());
+    pen.text(b"  rule      ");
+    pen.words(rule_words(finding.rule));
+    pen.text(b"\n  level     ");
+    pen.words(level_words(finding.level));
+    pen.text(b"\n");
+    noted_cells(number, finding.rule, shown, pen);
 }
 
-impl NoteLines {
-    /// An empty buffer.
-    pub(crate) fn new() -> Self
-        ensures { result ≡ [] }
-    {
-        NoteLines {
-            text: ArrayVec::new(),
+/// Adds how many records more there are, if there are any.
+fn more_line<W: Target>(more: u64, pen: &mut Pen<'_, W>)
+    ensures { Adds W.contents W.failures (more_line more) pen.old pen.new }
+{
+    if more == 0 {
+        return;
+    }
+    pen.text(b"  more      records like these: ");
+    pen.number(more);
+    pen.text(b"\n");
+}
+
+/// Adds what shares add up to, in hundredths of a percent. Where that is 1 %, they may be in percent.
+fn shares_line<W: Target>(total: u64, pen: &mut Pen<'_, W>)
+    ensures { Adds W.contents W.failures (shares_line total) pen.old pen.new }
+{
+    if total == 100 {
+        pen.text(b"  total     100, that is 1 %: are the shares in percent?\n");
+    } else {
+        pen.text(b"  total     ");
+        pen.number(total);
+        pen.text(b"\n");
+    }
+}
+
+/// Adds what the rule adds up or counts.
+fn total_line<W: Target>(rule: Rule, count: usize, transaction: &Transaction, pen: &mut Pen<'_, W>)
+    requires { length transaction.now ≤ 100000000 }
+    ensures { Adds W.contents W.failures (total_line rule count transaction.now) pen.old pen.new }
+{
+    match rule {
+        Rule::V3 | Rule::V4 | Rule::V5 => shares_line(total_of(rule, transaction), pen),
+        Rule::V9 => {
+            pen.text(b"  total     COM records: ");
+            pen.number(count as u64);
+            pen.text(b"\n");
         }
+        _ => {}
     }
+}
 
-    /// The lines that were set.
-    pub(crate) fn as_slice(&self) -> &[u8]
-        ensures { result.now ≡ self.now }
-    {
-        self.text.as_slice()
+/// Adds an empty line, where findings stand apart.
+pub fn gap<W: Target>(apart: bool, pen: &mut Pen<'_, W>)
+    ensures { Adds W.contents W.failures (gap apart) pen.old pen.new }
+{
+    if apart {
+        pen.text(b"\n");
     }
+}
 
-    /// Sets the lines on the cells of a record on that line of the file of which the rule speaks.
-    pub(crate) fn set_noted(&mut self, number: u64, rule: Rule, shown: &RecordRef<'_>)
-        ensures { self.new ≡ noted_cells number rule shown.now }
-    {
-        self.text.clear();
-        push_noted(&mut self.text, number, rule, shown);
-    }
-
-    /// Sets where a record stands.
-    fn set_where(&mut self, number: u64, kind: Kind)
-        ensures text { self.new ≡ where_line number kind }
-        ensures len { length self.new ≤ 50 }
-    {
-        self.text.clear();
-        push(&mut self.text, b"  where     line ");
-        push_number(&mut self.text, number);
-        push(&mut self.text, b", ");
-        push(&mut self.text, letters(kind));
-        push(&mut self.text, b"\n");
-    }
-
-    /// Sets the first lines under a finding at a record on that line of the file, in a transaction on which that is the line: where it
-    /// stands, that line, the rule, the level, and its cells of which the rule speaks.
-    pub(crate) fn set_head(
-        &mut self,
-        number: u64,
-        work: &WorkLine,
-        finding: &Finding,
-        shown: &RecordRef<'_>,
-    )
-        ensures { self.new ≡ head_lines number work.now finding.now shown.now }
-    {
-        self.set_where(number, shown.kind());
-        push(&mut self.text, work.as_slice());
-        push(&mut self.text, b"  rule      ");
-        push(&mut self.text, rule_words(finding.rule).as_bytes());
-        push(&mut self.text, b"\n  level     ");
-        push(&mut self.text, level_words(finding.level).as_bytes());
-        push(&mut self.text, b"\n");
-        push_noted(&mut self.text, number, finding.rule, shown);
-    }
-
-    /// Sets how many records more there are.
-    pub(crate) fn set_more(&mut self, more: u64)
-        ensures text { self.new ≡ more_line more }
-        ensures len { length self.new ≤ 60 }
-    {
-        self.text.clear();
-        if more > 0 {
-            push(&mut self.text, b"  more      records like these: ");
-            push_number(&mut self.text, more);
-            push(&mut self.text, b"\n");
-        }
-    }
-
-    /// Adds what shares add up to, in hundredths of a percent. Where that is 1 %, they may be in percent.
-    pub(crate) fn add_shares(&mut self, total: u64)
-        requires { length self.old ≤ 60 }
-        ensures text { self.new ≡ self.old ++ shares_line total }
-        ensures len { length self.new ≤ length self.old + 60 }
-    {
-        if total == 100 {
-            push(
-                &mut self.text,
-                b"  total     100, that is 1 %: are the shares in percent?\n",
-            );
-        } else {
-            push(&mut self.text, b"  total     ");
-            push_number(&mut self.text, total);
-            push(&mut self.text, b"\n");
-        }
-    }
-
-    /// Adds how many components there are.
-    pub(crate) fn add_components(&mut self, count: u64)
-        requires { length self.old ≤ 60 }
-        ensures text { self.new
-            ≡ self.old ++ codes "  total     COM records: " ++ decimal count ++ 10 ∷ [] }
-        ensures len { length self.new ≤ length self.old + 60 }
-    {
-        push(&mut self.text, b"  total     COM records: ");
-        push_number(&mut self.text, count);
-        push(&mut self.text, b"\n");
-    }
-
-    /// Adds an empty line, where findings stand apart.
-    pub(crate) fn add_gap(&mut self, apart: bool)
-        requires { length self.old ≤ 120 }
-        ensures { self.new ≡ self.old ++ gap apart }
-    {
-        if apart {
-            push(&mut self.text, b"\n");
-        }
-    }
+/// Adds the last lines under a finding: how many records more there are, what the rule adds up or counts, and an empty line where
+/// findings stand apart.
+pub(crate) fn tail_lines<W: Target>(
+    apart: bool,
+    rule: Rule,
+    count: usize,
+    transaction: &Transaction,
+    pen: &mut Pen<'_, W>,
+)
+    requires { length transaction.now ≤ 100000000 }
+    ensures { Adds W.contents W.failures (tail_lines apart rule count transaction.now) pen.old pen.new }
+{
+    more_line(count.saturating_sub(20) as u64, pen);
+    total_line(rule, count, transaction, pen);
+    gap(apart, pen);
 }

@@ -28,8 +28,6 @@ pub mod JoinsWhole
 -- Where all inputs are accepted, and joined to a transmission within the limits, a join stops only where a device or memory
 -- failed.
 pub mod AcceptedJoins
--- What is put of a join that stopped at an input, where the writer fails in the number of that one.
-pub mod OutcomesPut
 -- A list in runs: a first run, and those of the rest.
 pub mod RunsOfLists
 -- A transmission that is split: its first part, and those of the rest.

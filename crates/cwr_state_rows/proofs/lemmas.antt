@@ -4,10 +4,12 @@ pub mod BytesInOrder
 pub mod CountsKept
 -- The acknowledgements in files that are read one after another are those of each, whatever came before it.
 pub mod FileOrder
--- Parts of a text, one after another.
-pub mod Joined
+-- The text of a member whose cell has a byte.
+pub mod MemberTexts
 -- What is in lists.
 pub mod Members
+-- A text without bytes is put by doing nothing.
+pub mod NothingPut
 -- Things that are numbered, with one more.
 pub mod NumberedMore
 -- What is put in turn, where memory can be refused too.

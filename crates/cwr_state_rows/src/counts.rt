@@ -1,19 +1,18 @@
 //! How many transactions were sent, and how many rows have each state.
 
-ghost use Rattle.std.specs.Prelude.{◌≡◌, ◌+◌, ◌<◌, ◌≤◌, ◌++◌, IfErr, IfOk, List, OnOk, false, fold, length, ℕ};
+ghost use Rattle.std.specs.Prelude.{◌≡◌, ◌+◌, ◌<◌, ◌≤◌, IfOk, List, OnOk, fold, length, ℕ};
 ghost use Rattle.std.specs.List.{enumerate_from};
-ghost use Rattle.cwr_devices.specs.Steps.Sinks.{Puts, has_failed, written_of};
+ghost use Rattle.cwr_devices.specs.Steps.Pens.{Adds};
+ghost use Rattle.cwr_devices.specs.Steps.Sinks.{PutsText};
 ghost use Rattle.cwr_sent.specs.Format.SentRows.{shown_in};
 ghost use Rattle.cwr_delivery.specs.Steps.Deliveries.{held_in};
 ghost use Rattle.cwr_state_rows.specs.Format.StateCounts.{first_counts, has_any, is_there, last_counts, named, state_line, tally_counts};
 ghost use Rattle.cwr_state_rows.specs.Steps.HeldRows.{counts_by, counts_with, counts_with_answers, counts_with_group, counts_with_one, counts_with_sent, no_counts, one_more};
 ghost use Rattle.cwr_state_rows.specs.Steps.PutRows.{CountsHeld, CountsTold};
 
-use crate::cells::{LONGEST, Text, push, push_number};
 use crate::senders::sort_to;
-use arrayvec::ArrayVec;
 use cwr_delivery::{Delivery, Tally, wants_answer};
-use cwr_devices::{Sink, SinkFault, Target};
+use cwr_devices::{Pen, Sink, SinkFault, Target};
 use cwr_sent::{AnsweringFile, KeptAnswer, Sent, SentFacts, SentGroup};
 use cwr_states::{State, States};
 use std::alloc::{AllocError, Global};
@@ -243,65 +242,55 @@ pub fn count_rows(alloc: Global, delivery: &Delivery) -> Result<Counts, AllocErr
     Ok(so_far)
 }
 
-/// Appends a number after its name.
-fn push_named(text: &mut Text, name: &[u8], number: u64)
-    requires { length text.old.items + length name.now + 22 ≤ LONGEST }
-    ensures value { text.new.items ≡ text.old.items ++ named name.now number }
-    ensures len { length text.new.items ≤ length text.old.items + length name.now + 22 }
+/// Adds a number after its name.
+fn named<W: Target>(name: &[u8], number: u64, pen: &mut Pen<'_, W>)
+    ensures { Adds W.contents W.failures (named name.now number) pen.old pen.new }
 {
-    push(text, b" ");
-    push(text, name);
-    push(text, b" ");
-    push_number(text, number);
+    pen.text(b" ");
+    pen.text(name);
+    pen.text(b" ");
+    pen.number(number);
 }
 
-/// Appends the first counts.
-fn push_first(text: &mut Text, counts: &Counts)
-    requires { length text.old.items + 200 ≤ LONGEST }
-    ensures value { text.new.items ≡ text.old.items ++ first_counts counts.now }
-    ensures len { length text.new.items ≤ length text.old.items + 200 }
+/// Adds the first counts.
+fn first_counts<W: Target>(counts: &Counts, pen: &mut Pen<'_, W>)
+    ensures { Adds W.contents W.failures (first_counts counts.now) pen.old pen.new }
 {
-    push(text, b"STATE");
-    push_named(text, b"sent", counts.sent);
-    push_named(text, b"accepted", counts.accepted);
-    push_named(text, b"pending", counts.pending);
-    push_named(text, b"rejected", counts.rejected);
-    push_named(text, b"conflict", counts.conflict);
+    pen.text(b"STATE");
+    named(b"sent", counts.sent, pen);
+    named(b"accepted", counts.accepted, pen);
+    named(b"pending", counts.pending, pen);
+    named(b"rejected", counts.rejected, pen);
+    named(b"conflict", counts.conflict, pen);
 }
 
-/// Appends the others.
-fn push_last(text: &mut Text, counts: &Counts)
-    requires { length text.old.items + 200 ≤ LONGEST }
-    ensures value { text.new.items ≡ text.old.items ++ last_counts counts.now }
-    ensures len { length text.new.items ≤ length text.old.items + 200 }
+/// Adds the others.
+fn last_counts<W: Target>(counts: &Counts, pen: &mut Pen<'_, W>)
+    ensures { Adds W.contents W.failures (last_counts counts.now) pen.old pen.new }
 {
-    push_named(text, b"duplicate", counts.duplicate);
-    push_named(text, b"claim-rejected", counts.claim_rejected);
-    push_named(text, b"no-participation", counts.no_participation);
-    push_named(text, b"unanswered", counts.unanswered);
+    named(b"duplicate", counts.duplicate, pen);
+    named(b"claim-rejected", counts.claim_rejected, pen);
+    named(b"no-participation", counts.no_participation, pen);
+    named(b"unanswered", counts.unanswered, pen);
 }
 
-/// Appends how many acknowledgements answer nothing, and how many have no key.
-fn push_tally(text: &mut Text, tally: &Tally)
-    requires { length text.old.items + 200 ≤ LONGEST }
-    ensures value { text.new.items ≡ text.old.items ++ tally_counts tally.now }
-    ensures len { length text.new.items ≤ length text.old.items + 200 }
+/// Adds how many acknowledgements answer nothing, and how many have no key.
+fn tally_counts<W: Target>(tally: &Tally, pen: &mut Pen<'_, W>)
+    ensures { Adds W.contents W.failures (tally_counts tally.now) pen.old pen.new }
 {
-    push_named(text, b"unsent", tally.unsent);
-    push_named(text, b"unclear", tally.unclear);
-    push_named(text, b"unkeyed", tally.unkeyed);
-    push(text, b"\n");
+    named(b"unsent", tally.unsent, pen);
+    named(b"unclear", tally.unclear, pen);
+    named(b"unkeyed", tally.unkeyed, pen);
+    pen.text(b"\n");
 }
 
-/// The line of counts.
-fn state_line(counts: &Counts, tally: &Tally) -> Text
-    ensures { result.items ≡ state_line counts.now tally.now }
+/// Adds the line of counts.
+fn state_line<W: Target>(counts: &Counts, tally: &Tally, pen: &mut Pen<'_, W>)
+    ensures { Adds W.contents W.failures (state_line counts.now tally.now) pen.old pen.new }
 {
-    let mut text = ArrayVec::new();
-    push_first(&mut text, counts);
-    push_last(&mut text, counts);
-    push_tally(&mut text, tally);
-    text
+    first_counts(counts, pen);
+    last_counts(counts, pen);
+    tally_counts(tally, pen);
 }
 
 /// Puts the line of counts: of rows, and of acknowledgements that answer nothing or have no key.
@@ -310,9 +299,9 @@ pub fn put_state_line<W: Target>(
     tally: &Tally,
     sink: &mut Sink<W>,
 ) -> Result<(), SinkFault>
-    requires { has_failed sink.old ≡ false }
-    ensures puts { Puts W.contents W.failures (state_line counts.now tally.now) result sink.old sink.new }
-    ensures fault { IfErr result (λ f. f.written ≡ written_of sink.new) }
+    ensures { PutsText W.contents W.failures (state_line counts.now tally.now) result sink.old sink.new }
 {
-    sink.put(state_line(counts, tally).as_slice())
+    let mut pen = Pen::new(sink);
+    state_line(counts, tally, &mut pen);
+    pen.end()
 }

@@ -1,12 +1,10 @@
 //! What became of each transaction that was sent: rows of a table or objects of JSON, and their counts.
 #![tactic(auto)]
 
-mod cells;
 mod counts;
 mod faults;
 mod forms;
 pub mod laws;
-mod members;
 mod putting;
 mod row_texts;
 mod senders;

@@ -1,97 +1,35 @@
 //! Rows, put to a sink.
 
-ghost use Rattle.std.specs.Prelude.{◌≡◌, ◌<◌, ◌++◌, IfErr, codes, false, length, map, option_map, slice_get, Some, None};
-ghost use Rattle.cwr_devices.specs.Steps.Sinks.{Puts, has_failed, written_of};
+ghost use Rattle.std.specs.Prelude.{◌≡◌, ◌<◌, false, length, map, option_map, slice_get, Some};
+ghost use Rattle.cwr_devices.specs.Steps.Sinks.{PutsText, has_failed};
 ghost use Rattle.cwr_sent.specs.Format.SentRows.{shown_in};
 ghost use Rattle.cwr_delivery.specs.Steps.Deliveries.{held_in};
-ghost use Rattle.cwr_state_rows.specs.Format.RowTexts.{head_of, json_name, name_part, rest_part};
-ghost use Rattle.cwr_state_rows.specs.Steps.HeldRows.{delivery_text, group_text, kept_row, kept_text, kept_texts, numbered, sent_text, shared_by, transaction_text};
+ghost use Rattle.cwr_state_rows.specs.Format.RowTexts.{head_of};
+ghost use Rattle.cwr_state_rows.specs.Steps.HeldRows.{delivery_text, group_text, kept_text, kept_texts, numbered, sent_text, shared_by, transaction_text};
 ghost use Rattle.cwr_state_rows.specs.Steps.PutRows.{PutsHeld, PutsRows, PutsTold};
 
 use crate::faults::RowFault;
 use crate::forms::{Form, head};
-use crate::row_texts::{Front, RowText};
+use crate::row_texts::{Front, row_text};
 use crate::senders::sort_to;
 use cwr_delivery::{Delivery, wants_answer};
-use cwr_devices::{Sink, SinkFault, Target};
+use cwr_devices::{Pen, Sink, SinkFault, Target};
 use cwr_sent::{AnsweringFile, KeptAnswer, Sent, SentFacts, SentGroup};
 use std::alloc::Global;
-
-/// Puts bytes.
-fn put_bytes<W: Target>(bytes: &[u8], sink: &mut Sink<W>) -> Result<(), SinkFault>
-    requires { has_failed sink.old ≡ false }
-    ensures puts { Puts W.contents W.failures (bytes.now) result sink.old sink.new }
-    ensures fault { IfErr result (λ f. f.written ≡ written_of sink.new) }
-{
-    sink.put(bytes)
-}
-
-/// Puts a text and another.
-fn put_two<W: Target>(one: &[u8], other: &[u8], sink: &mut Sink<W>) -> Result<(), SinkFault>
-    requires { has_failed sink.old ≡ false }
-    ensures puts { Puts W.contents W.failures (one.now ++ other.now) result sink.old sink.new }
-    ensures fault { IfErr result (λ f. f.written ≡ written_of sink.new) }
-{
-    put_bytes(one, sink)?;
-    put_bytes(other, sink)
-}
-
-/// Puts the name of what was sent into an object.
-fn put_json_name<W: Target>(name: &[u8], sink: &mut Sink<W>) -> Result<(), SinkFault>
-    requires { has_failed sink.old ≡ false }
-    ensures puts { Puts W.contents W.failures (json_name (Some name.now)) result sink.old sink.new }
-    ensures fault { IfErr result (λ f. f.written ≡ written_of sink.new) }
-{
-    put_two(b"{\"sent\":", name, sink)?;
-    put_bytes(b",", sink)
-}
-
-/// Puts the name of what was sent, and what stands before it.
-fn put_name<W: Target>(form: Form, name: Option<&[u8]>, sink: &mut Sink<W>) -> Result<(), SinkFault>
-    requires { has_failed sink.old ≡ false }
-    ensures puts { Puts W.contents W.failures (name_part form (option_map (λ n. n.now) name.entry)) result sink.old sink.new }
-    ensures fault { IfErr result (λ f. f.written ≡ written_of sink.new) }
-{
-    match (form, name) {
-        (Form::Csv(_), Some(name)) => put_bytes(name, sink),
-        (Form::Csv(_), None) => Ok(()),
-        (Form::Json(_), Some(name)) => put_json_name(name, sink),
-        (Form::Json(_), None) => put_bytes(b"{", sink),
-    }
-}
-
-/// Puts what stands after the name in a row.
-fn put_rest<W: Target>(
-    front: &Front<'_>,
-    files: &[AnsweringFile],
-    answer: Option<&KeptAnswer>,
-    text: &mut RowText,
-    sink: &mut Sink<W>,
-) -> Result<(), SinkFault>
-    requires { has_failed sink.old ≡ false }
-    ensures puts { Puts W.contents W.failures (rest_part front.now.form (kept_row (shared_by front.now)
-        files.now (option_map (λ a. a.now) answer.entry))) result sink.old sink.new }
-    ensures fault { IfErr result (λ f. f.written ≡ written_of sink.new) }
-{
-    text.set(front, files, answer);
-    put_bytes(text.as_slice(), sink)
-}
 
 /// Puts the row of an answer, or of none.
 fn put_row<W: Target>(
     front: &Front<'_>,
     files: &[AnsweringFile],
     answer: Option<&KeptAnswer>,
-    text: &mut RowText,
     sink: &mut Sink<W>,
 ) -> Result<(), SinkFault>
-    requires { has_failed sink.old ≡ false }
-    ensures puts { Puts W.contents W.failures (kept_text (shared_by front.now) files.now
+    ensures { PutsText W.contents W.failures (kept_text (shared_by front.now) files.now
         (option_map (λ a. a.now) answer.entry)) result sink.old sink.new }
-    ensures fault { IfErr result (λ f. f.written ≡ written_of sink.new) }
 {
-    put_name(front.form, front.name, sink)?;
-    put_rest(front, files, answer, text, sink)
+    let mut pen = Pen::new(sink);
+    row_text(front, files, answer, &mut pen);
+    pen.end()
 }
 
 /// The same, where the fault is one of rows.
@@ -99,14 +37,13 @@ fn put_one<W: Target>(
     front: &Front<'_>,
     files: &[AnsweringFile],
     answer: Option<&KeptAnswer>,
-    text: &mut RowText,
     sink: &mut Sink<W>,
 ) -> Result<(), RowFault>
     requires { has_failed sink.old ≡ false }
     ensures { PutsRows W.contents W.failures (kept_text (shared_by front.now) files.now
         (option_map (λ a. a.now) answer.entry)) result sink.old sink.new }
 {
-    match put_row(front, files, answer, text, sink) {
+    match put_row(front, files, answer, sink) {
         Ok(()) => Ok(()),
         Err(fault) => Err(RowFault::Writer(fault)),
     }
@@ -117,7 +54,6 @@ fn put_each<W: Target>(
     front: &Front<'_>,
     files: &[AnsweringFile],
     answers: &[KeptAnswer],
-    text: &mut RowText,
     sink: &mut Sink<W>,
 ) -> Result<(), RowFault>
     requires { has_failed sink.old ≡ false }
@@ -128,7 +64,7 @@ fn put_each<W: Target>(
     let mut i: usize = 0;
     while let Some(answer) = answers.get(i) {
         prove!(i < count);
-        match put_one(front, files, Some(answer), text, sink) {
+        match put_one(front, files, Some(answer), sink) {
             Ok(()) => {}
             Err(fault) => return Err(fault),
         }
@@ -142,16 +78,15 @@ fn put_answers<W: Target>(
     front: &Front<'_>,
     files: &[AnsweringFile],
     answers: &[KeptAnswer],
-    text: &mut RowText,
     sink: &mut Sink<W>,
 ) -> Result<(), RowFault>
     requires { has_failed sink.old ≡ false }
     ensures { PutsRows W.contents W.failures (kept_texts (shared_by front.now) files.now answers.now) result sink.old sink.new }
 {
     if answers.is_empty() {
-        put_one(front, files, None, text, sink)
+        put_one(front, files, None, sink)
     } else {
-        put_each(front, files, answers, text, sink)
+        put_each(front, files, answers, sink)
     }
 }
 
@@ -162,8 +97,6 @@ struct Buffers {
     collected: Vec<KeptAnswer>,
     /// The same, by their senders.
     sorted: Vec<KeptAnswer>,
-    /// A part of a row.
-    text: RowText,
 }
 
 /// Puts the rows of transaction `t` of a group.
@@ -185,13 +118,7 @@ fn put_transaction<W: Target>(
         return Ok(());
     }
     match sort_to(files, group, t, &mut buffers.collected, &mut buffers.sorted) {
-        Ok(()) => put_answers(
-            front,
-            files,
-            buffers.sorted.as_slice(),
-            &mut buffers.text,
-            sink,
-        ),
+        Ok(()) => put_answers(front, files, buffers.sorted.as_slice(), sink),
         Err(_) => Err(RowFault::Memory),
     }
 }
@@ -295,7 +222,7 @@ fn put_head<W: Target>(form: Form, sink: &mut Sink<W>) -> Result<(), RowFault>
     requires { has_failed sink.old ≡ false }
     ensures { PutsRows W.contents W.failures (head_of form) result sink.old sink.new }
 {
-    match put_bytes(head(form), sink) {
+    match sink.put(head(form)) {
         Ok(()) => Ok(()),
         Err(fault) => Err(RowFault::Writer(fault)),
     }
@@ -322,7 +249,6 @@ pub fn put_rows<W: Target>(
     let mut buffers = Buffers {
         collected: Vec::new(alloc),
         sorted: Vec::new(alloc),
-        text: RowText::new(),
     };
     match put_head(form, sink) {
         Ok(()) => {}

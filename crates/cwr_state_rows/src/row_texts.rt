@@ -1,24 +1,23 @@
-//! The texts of rows, but for the names of what was sent.
+//! The texts of rows.
 
-ghost use Rattle.std.specs.Prelude.{◌≡◌, ◌+◌, ◌≤◌, List, [], ◌++◌, codes, length, option_map, take, drop};
+ghost use Rattle.std.specs.Prelude.{◌≡◌, ◌≤◌, List, ◌++◌, codes, length, option_map, take, drop};
+ghost use Rattle.cwr_devices.specs.Steps.Pens.{Adds};
+ghost use Rattle.cwr_fields.specs.Format.Bytes.{trimmed};
 ghost use Rattle.cwr_sent.specs.declared.answers.AnsweringFile.{AnsweringFile};
 ghost use Rattle.cwr_sent.specs.Format.GroupRows.{answer_in};
-ghost use Rattle.cwr_state_rows.specs.Format.RowTexts.{csv_answer, csv_answer_if, csv_rest, csv_sent, date_of, digit_at, json_answer, json_answer_if, json_rest};
-ghost use Rattle.cwr_state_rows.specs.Format.RowTexts.{json_sent, level_of, rest_part};
+ghost use Rattle.cwr_state_rows.specs.Format.RowTexts.{csv_answer, csv_answer_if, csv_rest, csv_sent, date_of, digit_at, json_answer, json_answer_if};
+ghost use Rattle.cwr_state_rows.specs.Format.RowTexts.{json_rest, json_sent, level_of, member, name_part, next_shown, rest_part};
 ghost use Rattle.cwr_state_rows.specs.Format.StateRows.{state_by};
-ghost use Rattle.cwr_state_rows.specs.Steps.HeldRows.{kept_row, shared_by};
+ghost use Rattle.cwr_state_rows.specs.Steps.HeldRows.{kept_row, kept_text, shared_by};
 
-use crate::cells::{
-    LONGEST, Text, push, push_next_number, push_next_shown, push_next_trimmed, push_number,
-};
 use crate::forms::Form;
-use crate::members::{push_member, push_member_trimmed};
 use arrayvec::ArrayVec;
-use cwr_fields::{Coded, MessageLevel, letters};
-use cwr_json::Encoding;
+use cwr_devices::{Pen, Target};
+use cwr_fields::{Coded, MessageLevel, letters, trimmed};
+use cwr_json::{Encoding, escaped_characters};
 use cwr_sent::{AnsweringFile, KeptAnswer, SentFacts, file_of};
 use cwr_states::State;
-use std::marker::Model;
+use cwr_tables::{next_characters, next_number};
 
 /// What the rows of a transaction have in common.
 #[derive(Clone, Copy, Debug)]
@@ -95,217 +94,221 @@ fn state_by(answer: Option<&KeptAnswer>) -> State
     }
 }
 
-/// Appends the cells of what was sent.
-fn push_csv_sent(
-    text: &mut Text,
+/// Adds a cell without trailing spaces after others, in the characters that its bytes are shown as.
+fn next_trimmed<W: Target>(encoding: Encoding, cell: &[u8], pen: &mut Pen<'_, W>)
+    ensures { Adds W.contents W.failures (next_shown encoding (trimmed cell.now)) pen.old pen.new }
+{
+    next_characters(encoding, trimmed(cell), pen);
+}
+
+/// Adds the cells of what was sent.
+fn csv_sent<W: Target>(
     encoding: Encoding,
     group: u64,
     transaction: u64,
     facts: &SentFacts,
+    pen: &mut Pen<'_, W>,
 )
-    requires { length text.old.items + 600 ≤ LONGEST }
-    ensures value { text.new.items ≡ text.old.items ++ csv_sent encoding group transaction facts.now }
-    ensures len { length text.new.items ≤ length text.old.items + 600 }
+    ensures { Adds W.contents W.failures (csv_sent encoding group transaction facts.now) pen.old pen.new }
 {
-    push_next_number(text, group);
-    push_next_number(text, transaction);
-    push_next_shown(text, encoding, letters(facts.kind));
-    push_next_trimmed(text, encoding, &facts.number);
+    next_number(group, pen);
+    next_number(transaction, pen);
+    next_characters(encoding, letters(facts.kind), pen);
+    next_trimmed(encoding, &facts.number, pen);
 }
 
-/// Appends the cells of an answer.
-fn push_csv_answer(
-    text: &mut Text,
+/// Adds the cells of an answer.
+fn csv_answer<W: Target>(
     encoding: Encoding,
     files: &[AnsweringFile],
     answer: &KeptAnswer,
+    pen: &mut Pen<'_, W>,
 )
-    requires { length text.old.items + 1300 ≤ LONGEST }
-    ensures value { text.new.items ≡ text.old.items ++ csv_answer encoding (answer_in files.now answer.now) }
-    ensures len { length text.new.items ≤ length text.old.items + 1300 }
+    ensures { Adds W.contents W.failures (csv_answer encoding (answer_in files.now answer.now)) pen.old
+        pen.new }
 {
-    push_next_trimmed(text, encoding, &spaced(&file_of(files, answer).sender));
-    push_next_shown(text, encoding, answer.status.code().as_bytes());
-    push_next_shown(text, encoding, date(answer.processed).as_slice());
-    push_next_trimmed(text, encoding, &answer.recipient);
-    push_next_shown(text, encoding, level(answer.level));
+    next_trimmed(encoding, &spaced(&file_of(files, answer).sender), pen);
+    next_characters(encoding, answer.status.code().as_bytes(), pen);
+    next_characters(encoding, date(answer.processed).as_slice(), pen);
+    next_trimmed(encoding, &answer.recipient, pen);
+    next_characters(encoding, level(answer.level), pen);
 }
 
-/// Appends the cells of an answer, where there is one.
-fn push_csv_answer_if(
-    text: &mut Text,
+/// Adds the cells of an answer, where there is one.
+fn csv_answer_if<W: Target>(
     encoding: Encoding,
     files: &[AnsweringFile],
     answer: Option<&KeptAnswer>,
+    pen: &mut Pen<'_, W>,
 )
-    requires { length text.old.items + 1300 ≤ LONGEST }
-    ensures value { text.new.items ≡ text.old.items
-        ++ csv_answer_if encoding (option_map (answer_in files.now) (option_map (λ a. a.now) answer.entry)) }
-    ensures len { length text.new.items ≤ length text.old.items + 1300 }
+    ensures { Adds W.contents W.failures (csv_answer_if encoding
+        (option_map (answer_in files.now) (option_map (λ a. a.now) answer.entry))) pen.old pen.new }
 {
     match answer {
-        Some(answer) => push_csv_answer(text, encoding, files, answer),
-        None => push(text, b",,,,,"),
+        Some(answer) => csv_answer(encoding, files, answer, pen),
+        None => pen.text(b",,,,,"),
     }
 }
 
-/// Appends the members of what was sent.
-fn push_json_sent(
-    text: &mut Text,
+/// Adds a member after others, unless it is blank.
+fn member<W: Target>(encoding: Encoding, key: &[u8], cell: &[u8], pen: &mut Pen<'_, W>)
+    ensures { Adds W.contents W.failures (member encoding key.now cell.now) pen.old pen.new }
+{
+    if cell.is_empty() {
+        return;
+    }
+    pen.text(key);
+    pen.text(b"\"");
+    escaped_characters(encoding, cell, pen);
+    pen.text(b"\"");
+}
+
+/// The same of a cell without trailing spaces.
+fn member_trimmed<W: Target>(encoding: Encoding, key: &[u8], cell: &[u8], pen: &mut Pen<'_, W>)
+    ensures { Adds W.contents W.failures (member encoding key.now (trimmed cell.now)) pen.old pen.new }
+{
+    member(encoding, key, trimmed(cell), pen);
+}
+
+/// Adds the members of what was sent.
+fn json_sent<W: Target>(
     encoding: Encoding,
     group: u64,
     transaction: u64,
     facts: &SentFacts,
+    pen: &mut Pen<'_, W>,
 )
-    requires { length text.old.items + 700 ≤ LONGEST }
-    ensures value { text.new.items ≡ text.old.items ++ json_sent encoding group transaction facts.now }
-    ensures len { length text.new.items ≤ length text.old.items + 700 }
+    ensures { Adds W.contents W.failures (json_sent encoding group transaction facts.now) pen.old pen.new }
 {
-    push(text, b"\"group\":");
-    push_number(text, group);
-    push(text, b",\"transaction\":");
-    push_number(text, transaction);
-    push_member(text, encoding, b",\"type\":", letters(facts.kind));
-    push_member_trimmed(text, encoding, b",\"submitter\":", &facts.number);
+    pen.text(b"\"group\":");
+    pen.number(group);
+    pen.text(b",\"transaction\":");
+    pen.number(transaction);
+    member(encoding, b",\"type\":", letters(facts.kind), pen);
+    member_trimmed(encoding, b",\"submitter\":", &facts.number, pen);
 }
 
-/// Appends the members of an answer.
-fn push_json_answer(
-    text: &mut Text,
+/// Adds the members of an answer.
+fn json_answer<W: Target>(
     encoding: Encoding,
     files: &[AnsweringFile],
     answer: &KeptAnswer,
+    pen: &mut Pen<'_, W>,
 )
-    requires { length text.old.items + 1400 ≤ LONGEST }
-    ensures value { text.new.items ≡ text.old.items ++ json_answer encoding (answer_in files.now answer.now) }
-    ensures len { length text.new.items ≤ length text.old.items + 1400 }
+    ensures { Adds W.contents W.failures (json_answer encoding (answer_in files.now answer.now)) pen.old
+        pen.new }
 {
-    push_member_trimmed(
-        text,
-        encoding,
-        b",\"society\":",
-        &spaced(&file_of(files, answer).sender),
-    );
-    push_member(
-        text,
+    let sender = spaced(&file_of(files, answer).sender);
+    let processed = date(answer.processed);
+    member_trimmed(encoding, b",\"society\":", &sender, pen);
+    member(
         encoding,
         b",\"status\":",
         answer.status.code().as_bytes(),
+        pen,
     );
-    push_member(
-        text,
-        encoding,
-        b",\"processed\":",
-        date(answer.processed).as_slice(),
-    );
-    push_member_trimmed(text, encoding, b",\"recipient\":", &answer.recipient);
-    push_member(text, encoding, b",\"level\":", level(answer.level));
+    member(encoding, b",\"processed\":", processed.as_slice(), pen);
+    member_trimmed(encoding, b",\"recipient\":", &answer.recipient, pen);
+    member(encoding, b",\"level\":", level(answer.level), pen);
 }
 
-/// Appends the members of an answer, where there is one.
-fn push_json_answer_if(
-    text: &mut Text,
+/// Adds the members of an answer, where there is one.
+fn json_answer_if<W: Target>(
     encoding: Encoding,
     files: &[AnsweringFile],
     answer: Option<&KeptAnswer>,
+    pen: &mut Pen<'_, W>,
 )
-    requires { length text.old.items + 1400 ≤ LONGEST }
-    ensures value { text.new.items ≡ text.old.items
-        ++ json_answer_if encoding (option_map (answer_in files.now) (option_map (λ a. a.now) answer.entry)) }
-    ensures len { length text.new.items ≤ length text.old.items + 1400 }
+    ensures { Adds W.contents W.failures (json_answer_if encoding
+        (option_map (answer_in files.now) (option_map (λ a. a.now) answer.entry))) pen.old pen.new }
 {
     if let Some(answer) = answer {
-        push_json_answer(text, encoding, files, answer);
+        json_answer(encoding, files, answer, pen);
     }
 }
 
-/// A buffer for the text of one row. It takes no memory.
-#[derive(Drop)]
-pub(crate) struct RowText {
-    text: Text,
+/// Adds what stands after the name in a row of a table.
+fn csv_rest<W: Target>(
+    encoding: Encoding,
+    front: &Front<'_>,
+    files: &[AnsweringFile],
+    answer: Option<&KeptAnswer>,
+    pen: &mut Pen<'_, W>,
+)
+    ensures { Adds W.contents W.failures (csv_rest encoding (kept_row (shared_by front.now) files.now
+        (option_map (λ a. a.now) answer.entry))) pen.old pen.new }
+{
+    csv_sent(encoding, front.group, front.transaction, &front.facts, pen);
+    csv_answer_if(encoding, files, answer, pen);
+    next_characters(encoding, state_by(answer).name().as_bytes(), pen);
+    pen.text(b"\r\n");
 }
 
-impl Model for RowText {
-    ghost use Rattle.std.specs.Prelude.{ℕ, List};
-
-    ghost Value = { List ℕ };
-
-    ghost view = { λ t. t.text.items };
+/// Adds what stands after the name in an object.
+fn json_rest<W: Target>(
+    encoding: Encoding,
+    front: &Front<'_>,
+    files: &[AnsweringFile],
+    answer: Option<&KeptAnswer>,
+    pen: &mut Pen<'_, W>,
+)
+    ensures { Adds W.contents W.failures (json_rest encoding (kept_row (shared_by front.now) files.now
+        (option_map (λ a. a.now) answer.entry))) pen.old pen.new }
+{
+    json_sent(encoding, front.group, front.transaction, &front.facts, pen);
+    json_answer_if(encoding, files, answer, pen);
+    member(
+        encoding,
+        b",\"state\":",
+        state_by(answer).name().as_bytes(),
+        pen,
+    );
+    pen.text(b"}\n");
 }
 
-impl RowText {
-    /// An empty buffer.
-    pub(crate) fn new() -> Self
-        ensures { result ≡ [] }
-    {
-        RowText {
-            text: ArrayVec::new(),
+/// Adds what stands after the name in a row.
+fn rest_part<W: Target>(
+    front: &Front<'_>,
+    files: &[AnsweringFile],
+    answer: Option<&KeptAnswer>,
+    pen: &mut Pen<'_, W>,
+)
+    ensures { Adds W.contents W.failures (rest_part front.now.form (kept_row (shared_by front.now) files.now
+        (option_map (λ a. a.now) answer.entry))) pen.old pen.new }
+{
+    match front.form {
+        Form::Csv(encoding) => csv_rest(encoding, front, files, answer, pen),
+        Form::Json(encoding) => json_rest(encoding, front, files, answer, pen),
+    }
+}
+
+/// Adds the name of what was sent, and what stands before it.
+fn name_part<W: Target>(form: Form, name: Option<&[u8]>, pen: &mut Pen<'_, W>)
+    ensures { Adds W.contents W.failures (name_part form (option_map (λ n. n.now) name.entry)) pen.old
+        pen.new }
+{
+    match (form, name) {
+        (Form::Csv(_), Some(name)) => pen.text(name),
+        (Form::Csv(_), None) => {}
+        (Form::Json(_), Some(name)) => {
+            pen.text(b"{\"sent\":");
+            pen.text(name);
+            pen.text(b",");
         }
+        (Form::Json(_), None) => pen.text(b"{"),
     }
+}
 
-    /// The text that was set.
-    pub(crate) fn as_slice(&self) -> &[u8]
-        ensures { result.now ≡ self.now }
-    {
-        self.text.as_slice()
-    }
-
-    /// Sets what stands after the name in a row of a table.
-    fn set_csv(
-        &mut self,
-        encoding: Encoding,
-        front: &Front<'_>,
-        files: &[AnsweringFile],
-        answer: Option<&KeptAnswer>,
-    )
-        ensures { self.new ≡ csv_rest encoding (kept_row (shared_by front.now) files.now
-            (option_map (λ a. a.now) answer.entry)) }
-    {
-        let text = &mut self.text;
-        text.clear();
-        push_csv_sent(text, encoding, front.group, front.transaction, &front.facts);
-        push_csv_answer_if(text, encoding, files, answer);
-        push_next_shown(text, encoding, state_by(answer).name().as_bytes());
-        push(text, b"\r\n");
-    }
-
-    /// Sets what stands after the name in an object.
-    fn set_json(
-        &mut self,
-        encoding: Encoding,
-        front: &Front<'_>,
-        files: &[AnsweringFile],
-        answer: Option<&KeptAnswer>,
-    )
-        ensures { self.new ≡ json_rest encoding (kept_row (shared_by front.now) files.now
-            (option_map (λ a. a.now) answer.entry)) }
-    {
-        let text = &mut self.text;
-        text.clear();
-        push_json_sent(text, encoding, front.group, front.transaction, &front.facts);
-        push_json_answer_if(text, encoding, files, answer);
-        push_member(
-            text,
-            encoding,
-            b",\"state\":",
-            state_by(answer).name().as_bytes(),
-        );
-        push(text, b"}\n");
-    }
-
-    /// Sets what stands after the name in a row.
-    pub(crate) fn set(
-        &mut self,
-        front: &Front<'_>,
-        files: &[AnsweringFile],
-        answer: Option<&KeptAnswer>,
-    )
-        ensures { self.new ≡ rest_part front.now.form (kept_row (shared_by front.now) files.now
-            (option_map (λ a. a.now) answer.entry)) }
-    {
-        match front.form {
-            Form::Csv(encoding) => self.set_csv(encoding, front, files, answer),
-            Form::Json(encoding) => self.set_json(encoding, front, files, answer),
-        }
-    }
+/// Adds the row of an answer, or of none.
+pub(crate) fn row_text<W: Target>(
+    front: &Front<'_>,
+    files: &[AnsweringFile],
+    answer: Option<&KeptAnswer>,
+    pen: &mut Pen<'_, W>,
+)
+    ensures { Adds W.contents W.failures (kept_text (shared_by front.now) files.now
+        (option_map (λ a. a.now) answer.entry)) pen.old pen.new }
+{
+    name_part(front.form, front.name, pen);
+    rest_part(front, files, answer, pen);
 }

@@ -9,7 +9,6 @@ ghost use Rattle.cwr_tables.specs.Steps.ItemRows.{place_at, rows_at, table_headi
 
 use crate::places::Place;
 use crate::record_tables::{put_heading, put_rows};
-use crate::rows::RowText;
 use crate::tables::Table;
 use crate::work_tables::{put_work_heading, put_work_row};
 use cwr_devices::{Sink, SinkFault, Target};
@@ -32,34 +31,29 @@ fn place_at(counts: &Totals, item: &Item) -> Place
     }
 }
 
-/// Puts the heading of a table. It is made in the buffer.
-fn put_first<W: Target>(
-    table: Table,
-    text: &mut RowText,
-    sink: &mut Sink<W>,
-) -> Result<(), ToolFault>
+/// Puts the heading of a table.
+fn put_first<W: Target>(table: Table, sink: &mut Sink<W>) -> Result<(), ToolFault>
     requires { has_failed sink.old ≡ false }
     ensures { PutsLines W.contents W.failures false (table_heading table) result sink.old sink.new }
 {
     match table {
-        Table::Records(kind) => match put_heading(kind, text, sink) {
+        Table::Records(kind) => match put_heading(kind, sink) {
             Ok(()) => Ok(()),
             Err(fault) => Err(writer_fault(fault)),
         },
-        Table::Works => match put_work_heading(text, sink) {
+        Table::Works => match put_work_heading(sink) {
             Ok(()) => Ok(()),
             Err(fault) => Err(writer_fault(fault)),
         },
     }
 }
 
-/// Puts the rows of an item that comes after items with these numbers. They are made in the buffer.
+/// Puts the rows of an item that comes after items with these numbers.
 fn put_item<W: Target>(
     encoding: Encoding,
     table: Table,
     counts: &Totals,
     item: &Item,
-    text: &mut RowText,
     sink: &mut Sink<W>,
 ) -> Result<(), ToolFault>
     requires unfailed { has_failed sink.old ≡ false }
@@ -69,26 +63,24 @@ fn put_item<W: Target>(
 {
     match table {
         Table::Records(kind) => {
-            match put_rows(encoding, kind, place_at(counts, item), item, text, sink) {
+            match put_rows(encoding, kind, place_at(counts, item), item, sink) {
                 Ok(()) => Ok(()),
                 Err(fault) => Err(writer_fault(fault)),
             }
         }
-        Table::Works => match put_work_row(encoding, place_at(counts, item), item, text, sink) {
+        Table::Works => match put_work_row(encoding, place_at(counts, item), item, sink) {
             Ok(()) => Ok(()),
             Err(fault) => Err(writer_fault(fault)),
         },
     }
 }
 
-/// A table of the items, as RFC 4180 has it: a heading and the rows, and nothing for the verdict. It holds the text of one row.
+/// A table of the items, as RFC 4180 has it: a heading and the rows, and nothing for the verdict.
 #[derive(Drop)]
 pub struct TableRows {
     /// How its cells are shown.
     encoding: Encoding,
     table: Table,
-    /// In which a row is made.
-    text: RowText,
 }
 
 impl TableRows {
@@ -96,11 +88,7 @@ impl TableRows {
     pub fn new(encoding: Encoding, table: Table) -> TableRows
         ensures stands { ⟦<TableRows as Report>⟧.stands result (lines_of_table encoding table) [] }
     {
-        TableRows {
-            encoding,
-            table,
-            text: RowText::new(),
-        }
+        TableRows { encoding, table }
     }
 }
 
@@ -121,7 +109,7 @@ impl Report for TableRows {
     }
 
     fn put_first<W: Target>(&mut self, sink: &mut Sink<W>) -> Result<(), ToolFault> {
-        put_first(self.table, &mut self.text, sink)
+        put_first(self.table, sink)
     }
 
     fn put_item<W: Target>(
@@ -131,14 +119,7 @@ impl Report for TableRows {
         item: &Item,
         sink: &mut Sink<W>,
     ) -> Result<(), ToolFault> {
-        put_item(
-            self.encoding,
-            self.table,
-            counts,
-            item,
-            &mut self.text,
-            sink,
-        )
+        put_item(self.encoding, self.table, counts, item, sink)
     }
 
     fn put_verdict<W: Target>(&self, _: &Verdict, _: &mut Sink<W>) -> Result<(), SinkFault> {

@@ -13,9 +13,9 @@ mod work_tables;
 mod work_texts;
 mod works;
 
+pub use cells::{next_characters, next_number};
 pub use item_rows::TableRows;
 pub use places::Place;
 pub use record_tables::{put_heading, put_rows};
-pub use rows::RowText;
 pub use tables::Table;
 pub use work_tables::{put_work_heading, put_work_row};

@@ -1,175 +1,207 @@
 //! The text of a work's row, piece by piece.
 
-ghost use Rattle.std.specs.Prelude.{◌≡◌, ◌+◌, ◌*◌, ◌≤◌, ◌++◌, codes, length, true, Some};
-ghost use Rattle.cwr_tables.specs.Format.WorkTables.{is_header, is_on, name_of_owner, percent, work_heading};
+ghost use Rattle.std.specs.Prelude.{◌≡◌, ◌++◌, codes, true, Some};
+ghost use Rattle.cwr_devices.specs.Steps.Pens.{Adds};
+ghost use Rattle.cwr_fields.specs.Format.Kinds.{letters};
+ghost use Rattle.cwr_tables.specs.declared.works.Side.TheVariants.{Writers};
+ghost use Rattle.cwr_tables.specs.Format.Tables.{cell_text};
+ghost use Rattle.cwr_tables.specs.Format.WorkTables.{is_header, is_on, name_of_owner, names, percent, work_heading};
 ghost use Rattle.cwr_tables.specs.Steps.RowTexts.{next_cell};
-ghost use Rattle.cwr_tables.specs.Steps.WorkTexts.{between, edge, front_text, shares_text, tail_text, within};
+ghost use Rattle.cwr_tables.specs.Steps.WorkTexts.{between, front_text, owner_text, shares_text, tail_text, within};
 
-use crate::cells::{LONGEST, Text, push, push_all_doubled};
+use crate::cells::{edge, first_number, next_number, next_shown, within};
 use crate::headers::{TITLE, WORK_NUMBER};
 use crate::places::Place;
-use crate::rows::{RowText, push_first_number, push_next, push_next_number, push_shown};
-use crate::works::{Side, Sums, name_of_owner};
-use arrayvec::ArrayVec;
-use cwr_fields::letters;
+use crate::works::{FIRST_NAME, LAST_NAME, PUBLISHER_NAME, Side, Sums, is_on, need_quotes};
+use cwr_devices::{Pen, Target};
+use cwr_fields::{Kind, is_spaces, letters, trimmed};
 use cwr_findings::cell;
 use cwr_json::Encoding;
 use cwr_lines::RecordRef;
-use itoa::Buffer;
+use cwr_values::Transaction;
 
 /// NWR, REV: ISWC.
 const ISWC: u8 = 7;
 
-/// Appends a part of a cell, where that stands between quotes or not.
-fn push_within(text: &mut Text, quoted: bool, part: &[u8])
-    requires { length text.old.items + 2 * length part.now ≤ LONGEST }
-    ensures value { text.new.items ≡ text.old.items ++ within quoted part.now }
-    ensures len { length text.new.items ≤ length text.old.items + 2 * length part.now }
+/// Adds the heading of the table of works.
+pub(crate) fn work_heading<W: Target>(pen: &mut Pen<'_, W>)
+    ensures { Adds W.contents W.failures work_heading pen.old pen.new }
 {
-    if quoted {
-        push_all_doubled(text, part);
-    } else {
-        push(text, part);
+    pen.text(
+        b"group,transaction,record_type,submitter_work_number,title,iswc,writers,publishers,writers_pr_share,writers_mr_share,writers_sr_share,publishers_pr_share,publishers_mr_share,publishers_sr_share\r\n",
+    );
+}
+
+/// Adds the letters of a kind, as a cell after others.
+fn next_letters<W: Target>(kind: Kind, pen: &mut Pen<'_, W>)
+    ensures { Adds W.contents W.failures (next_cell (letters kind)) pen.old pen.new }
+{
+    pen.text(b",");
+    pen.text(letters(kind));
+}
+
+/// Adds the cells of a work before the names.
+pub(crate) fn front_text<W: Target>(
+    encoding: Encoding,
+    place: Place,
+    head: &RecordRef<'_>,
+    pen: &mut Pen<'_, W>,
+)
+    requires { is_header head.now ≡ true }
+    ensures { Adds W.contents W.failures (front_text encoding place head.now) pen.old pen.new }
+{
+    first_number(place.group, pen);
+    next_number(place.transaction, pen);
+    next_letters(head.kind(), pen);
+    next_shown(encoding, cell(head, WORK_NUMBER), pen);
+    next_shown(encoding, cell(head, TITLE), pen);
+    next_shown(encoding, cell(head, ISWC), pen);
+}
+
+/// Adds the name of a writer, the last one first, as it stands in a cell with quotes or without.
+fn writer_name<W: Target>(
+    encoding: Encoding,
+    quoted: bool,
+    shown: &RecordRef<'_>,
+    pen: &mut Pen<'_, W>,
+)
+    requires { is_on Writers shown.now ≡ true }
+    ensures { Adds W.contents W.failures (within quoted (name_of_owner encoding Writers shown.now))
+        pen.old pen.new }
+{
+    within(encoding, quoted, trimmed(cell(shown, LAST_NAME)), pen);
+    let first = cell(shown, FIRST_NAME);
+    if is_spaces(first) {
+        return;
+    }
+    pen.text(b" ");
+    within(encoding, quoted, trimmed(first), pen);
+}
+
+/// Adds the name of an owner, as it stands in a cell with quotes or without.
+fn name_of_owner<W: Target>(
+    encoding: Encoding,
+    side: Side,
+    quoted: bool,
+    shown: &RecordRef<'_>,
+    pen: &mut Pen<'_, W>,
+)
+    requires { is_on side shown.now ≡ true }
+    ensures { Adds W.contents W.failures (within quoted (name_of_owner encoding side shown.now))
+        pen.old pen.new }
+{
+    match side {
+        Side::Writers => writer_name(encoding, quoted, shown, pen),
+        Side::Publishers => {
+            within(encoding, quoted, trimmed(cell(shown, PUBLISHER_NAME)), pen);
+        }
     }
 }
 
-/// Appends the quote at an end of a cell that has quotes.
-fn push_edge(text: &mut Text, quoted: bool)
-    requires { length text.old.items + 1 ≤ LONGEST }
-    ensures value { text.new.items ≡ text.old.items ++ edge quoted }
-    ensures len { length text.new.items ≤ length text.old.items + 1 }
-{
-    if quoted {
-        push(text, b"\"");
-    }
-}
-
-/// Appends what stands before a name that comes after others.
-fn push_between(text: &mut Text, later: bool)
-    requires { length text.old.items + 2 ≤ LONGEST }
-    ensures value { text.new.items ≡ text.old.items ++ between later }
-    ensures len { length text.new.items ≤ length text.old.items + 2 }
+/// Adds what stands before a name that comes after others.
+fn between<W: Target>(later: bool, pen: &mut Pen<'_, W>)
+    ensures { Adds W.contents W.failures (between later) pen.old pen.new }
 {
     if later {
-        push(text, b"; ");
+        pen.text(b"; ");
     }
 }
 
-/// Appends a share in percent after other cells.
-fn push_percent(text: &mut Text, share: u64)
-    requires { length text.old.items + 60 ≤ LONGEST }
-    ensures value { text.new.items ≡ text.old.items ++ next_cell (percent (Some share)) }
-    ensures len { length text.new.items ≤ length text.old.items + 60 }
+/// Adds the name of a record, if that is an owner of the side, which comes after others or not.
+fn owner_text<W: Target>(
+    encoding: Encoding,
+    side: Side,
+    quoted: bool,
+    later: bool,
+    shown: &RecordRef<'_>,
+    pen: &mut Pen<'_, W>,
+)
+    ensures { Adds W.contents W.failures (owner_text encoding side quoted later shown.now) pen.old
+        pen.new }
 {
-    let mut shown: ArrayVec<u8, 23> = ArrayVec::new();
-    let _fits = shown.try_extend_from_slice(Buffer::new().format(share / 100).as_bytes());
-    let decimals = [
+    if !is_on(side, shown) {
+        return;
+    }
+    between(later, pen);
+    name_of_owner(encoding, side, quoted, shown, pen);
+}
+
+/// Adds the names of the owners, as they stand in a cell with quotes or without.
+fn names<W: Target>(
+    encoding: Encoding,
+    side: Side,
+    quoted: bool,
+    transaction: &Transaction,
+    pen: &mut Pen<'_, W>,
+)
+    ensures { Adds W.contents W.failures (within quoted (names encoding side transaction.now)) pen.old
+        pen.new }
+{
+    let count = transaction.len();
+    let mut later = false;
+    let mut i: usize = 0;
+    while let Some(shown) = transaction.record(i) {
+        owner_text(encoding, side, quoted, later, &shown, pen);
+        prove!(i < count);
+        later |= is_on(side, &shown);
+        i += 1;
+    }
+}
+
+/// Adds the cell of the names of the owners, after other cells.
+pub(crate) fn next_names<W: Target>(
+    encoding: Encoding,
+    side: Side,
+    transaction: &Transaction,
+    pen: &mut Pen<'_, W>,
+)
+    ensures { Adds W.contents W.failures (next_cell (names encoding side transaction.now)) pen.old
+        pen.new }
+{
+    let quoted = need_quotes(side, transaction);
+    pen.text(b",");
+    edge(quoted, pen);
+    names(encoding, side, quoted, transaction, pen);
+    edge(quoted, pen);
+}
+
+/// Adds a share in percent, as a cell.
+fn percent<W: Target>(share: u64, pen: &mut Pen<'_, W>)
+    ensures { Adds W.contents W.failures (cell_text (percent (Some share))) pen.old pen.new }
+{
+    pen.number(share / 100);
+    pen.text(&[
         b'.',
         b'0' + (share / 10 % 10) as u8,
         b'0' + (share % 10) as u8,
-    ];
-    let _fits = shown.try_extend_from_slice(&decimals);
-    push_next(text, shown.as_slice());
+    ]);
 }
 
-/// Appends a share in percent after other cells, or a blank cell.
-fn push_share(text: &mut Text, share: Option<u64>)
-    requires { length text.old.items + 60 ≤ LONGEST }
-    ensures value { text.new.items ≡ text.old.items ++ next_cell (percent share) }
-    ensures len { length text.new.items ≤ length text.old.items + 60 }
+/// Adds a share in percent, or nothing, as a cell after others.
+fn next_percent<W: Target>(share: Option<u64>, pen: &mut Pen<'_, W>)
+    ensures { Adds W.contents W.failures (next_cell (percent share)) pen.old pen.new }
 {
-    match share {
-        Some(share) => push_percent(text, share),
-        None => push_next(text, b""),
-    }
+    pen.text(b",");
+    let Some(share) = share else {
+        return;
+    };
+    percent(share, pen);
 }
 
-/// Appends three shares after other cells.
-fn push_shares(text: &mut Text, sums: Sums)
-    requires { length text.old.items + 180 ≤ LONGEST }
-    ensures value { text.new.items ≡ text.old.items ++ shares_text sums }
-    ensures len { length text.new.items ≤ length text.old.items + 180 }
+/// Adds three shares after other cells.
+fn shares_text<W: Target>(sums: Sums, pen: &mut Pen<'_, W>)
+    ensures { Adds W.contents W.failures (shares_text sums) pen.old pen.new }
 {
-    push_share(text, sums.performing);
-    push_share(text, sums.mechanical);
-    push_share(text, sums.synchronization);
+    next_percent(sums.performing, pen);
+    next_percent(sums.mechanical, pen);
+    next_percent(sums.synchronization, pen);
 }
 
-impl RowText {
-    /// Sets the heading of the table of works.
-    pub(crate) fn set_work_heading(&mut self)
-        ensures { self.new ≡ work_heading }
-    {
-        self.text.clear();
-        push(
-            &mut self.text,
-            b"group,transaction,record_type,submitter_work_number,title,iswc,writers,publishers,",
-        );
-        push(
-            &mut self.text,
-            b"writers_pr_share,writers_mr_share,writers_sr_share,publishers_pr_share,publishers_mr_share,publishers_sr_share\r\n",
-        );
-    }
-
-    /// Sets the cells of a work before the names.
-    pub(crate) fn set_front(&mut self, encoding: Encoding, place: Place, head: &RecordRef<'_>)
-        requires { is_header head.now ≡ true }
-        ensures { self.new ≡ front_text encoding place head.now }
-    {
-        self.text.clear();
-        push_first_number(&mut self.text, place.group);
-        push_next_number(&mut self.text, place.transaction);
-        push_next(&mut self.text, letters(head.kind()));
-        push_shown(&mut self.text, encoding, cell(head, WORK_NUMBER));
-        push_shown(&mut self.text, encoding, cell(head, TITLE));
-        push_shown(&mut self.text, encoding, cell(head, ISWC));
-    }
-
-    /// Sets what stands before names.
-    pub(crate) fn set_opening(&mut self, quoted: bool)
-        ensures { self.new ≡ codes "," ++ edge quoted }
-    {
-        self.text.clear();
-        push(&mut self.text, b",");
-        push_edge(&mut self.text, quoted);
-    }
-
-    /// Sets what stands after names.
-    pub(crate) fn set_closing(&mut self, quoted: bool)
-        ensures { self.new ≡ edge quoted }
-    {
-        self.text.clear();
-        push_edge(&mut self.text, quoted);
-    }
-
-    /// Sets a name, which comes after others or not.
-    pub(crate) fn set_name(
-        &mut self,
-        encoding: Encoding,
-        side: Side,
-        quoted: bool,
-        later: bool,
-        shown: &RecordRef<'_>,
-    )
-        requires { is_on side shown.now ≡ true }
-        ensures { self.new ≡ between later ++ within quoted (name_of_owner encoding side shown.now) }
-    {
-        self.text.clear();
-        push_between(&mut self.text, later);
-        push_within(
-            &mut self.text,
-            quoted,
-            name_of_owner(encoding, side, shown).as_slice(),
-        );
-    }
-
-    /// Sets the cells of a work after the names.
-    pub(crate) fn set_tail(&mut self, writers: Sums, publishers: Sums)
-        ensures { self.new ≡ tail_text writers publishers }
-    {
-        self.text.clear();
-        push_shares(&mut self.text, writers);
-        push_shares(&mut self.text, publishers);
-        push(&mut self.text, b"\r\n");
-    }
+/// Adds the cells of a work after the names.
+pub(crate) fn tail_text<W: Target>(writers: Sums, publishers: Sums, pen: &mut Pen<'_, W>)
+    ensures { Adds W.contents W.failures (tail_text writers publishers) pen.old pen.new }
+{
+    shares_text(writers, pen);
+    shares_text(publishers, pen);
+    pen.text(b"\r\n");
 }

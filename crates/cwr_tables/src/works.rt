@@ -1,27 +1,26 @@
-//! The owners of a work: their names, and their shares added up.
+//! The owners of a work: their shares added up, and whether their names call for quotes.
 
 ghost use Rattle.std.specs.Prelude.{◌≡◌, ◌+◌, ◌*◌, ◌<◌, ◌≤◌, ◌^◌, length, true, None, Some, unwrap_or, if◌then◌else◌};
 ghost use Rattle.cwr_fields.specs.Format.Bytes.{is_spaces, number_of};
 ghost use Rattle.cwr_findings.specs.Format.Fields.{HasSharesFrom};
-ghost use Rattle.cwr_tables.specs.Format.WorkTables.{is_on, name_of_owner, sums};
+ghost use Rattle.cwr_json.specs.declared.encodings.Encoding.{Encoding};
+ghost use Rattle.cwr_tables.specs.Format.WorkTables.{is_on, sums};
 ghost use Rattle.cwr_tables.specs.Steps.WorkTexts.{AddsShares, AreSharesOf, both, name_needs_quotes, quotes};
 
 use crate::cells::needs_quotes;
-use crate::rows::{Characters, characters_of};
-use cwr_fields::{Kind, is_spaces, trimmed};
+use cwr_fields::{Kind, is_spaces};
 use cwr_findings::{PUBLISHER_SHARES, WRITER_SHARES, cell, is_of, number_of};
-use cwr_json::{Encoding, push_characters};
 use cwr_lines::RecordRef;
 use cwr_values::Transaction;
 
 /// SWR, OWR: last name.
-const LAST_NAME: u8 = 5;
+pub(crate) const LAST_NAME: u8 = 5;
 
 /// SWR, OWR: first name.
-const FIRST_NAME: u8 = 6;
+pub(crate) const FIRST_NAME: u8 = 6;
 
 /// SPU, OPU: publisher name.
-const PUBLISHER_NAME: u8 = 6;
+pub(crate) const PUBLISHER_NAME: u8 = 6;
 
 /// Some of those who own shares of a work.
 #[derive(Clone, Copy, Debug)]
@@ -161,54 +160,31 @@ pub(crate) fn add_up(side: Side, transaction: &Transaction) -> Sums
     sums
 }
 
-/// The name of an owner.
-pub(crate) fn name_of_owner(encoding: Encoding, side: Side, shown: &RecordRef<'_>) -> Characters
-    requires { is_on side shown.now ≡ true }
-    ensures value { result.items ≡ name_of_owner encoding side shown.now }
-    ensures len { length result.items ≤ 300 }
-{
-    match side {
-        Side::Writers => writer_name(encoding, shown),
-        Side::Publishers => characters_of(encoding, trimmed(cell(shown, PUBLISHER_NAME))),
-    }
-}
-
-/// The name of a writer, the last one first.
-fn writer_name(encoding: Encoding, shown: &RecordRef<'_>) -> Characters
-    requires { is_on Side.Writers shown.now ≡ true }
-    ensures value { result.items ≡ name_of_owner encoding Side.Writers shown.now }
-    ensures len { length result.items ≤ 300 }
-{
-    let mut text = characters_of(encoding, trimmed(cell(shown, LAST_NAME)));
-    let first = cell(shown, FIRST_NAME);
-    if is_spaces(first) {
-        return text;
-    }
-    push_characters(&mut text, encoding, b" ");
-    push_characters(&mut text, encoding, trimmed(first));
-    text
-}
-
-/// Whether a record is an owner of the side, in whose name a byte calls for quotes.
-fn name_needs_quotes(encoding: Encoding, side: Side, shown: &RecordRef<'_>) -> bool
-    ensures { result ≡ name_needs_quotes encoding side shown.now }
+/// Whether a record is an owner of the side, in whose name a byte calls for quotes, whatever the encoding.
+fn name_needs_quotes(side: Side, shown: &RecordRef<'_>) -> bool
+    ensures { (encoding : Encoding) → result ≡ name_needs_quotes encoding side shown.now }
 {
     if !is_on(side, shown) {
         return false;
     }
-    needs_quotes(name_of_owner(encoding, side, shown).as_slice())
+    match side {
+        Side::Writers => {
+            needs_quotes(cell(shown, LAST_NAME)) | needs_quotes(cell(shown, FIRST_NAME))
+        }
+        Side::Publishers => needs_quotes(cell(shown, PUBLISHER_NAME)),
+    }
 }
 
-/// Whether a byte of a name calls for quotes around the cell of all names.
-pub(crate) fn need_quotes(encoding: Encoding, side: Side, transaction: &Transaction) -> bool
-    ensures { result ≡ quotes encoding side transaction.now }
+/// Whether a byte of a name calls for quotes around the cell of all names, whatever the encoding.
+pub(crate) fn need_quotes(side: Side, transaction: &Transaction) -> bool
+    ensures { (encoding : Encoding) → result ≡ quotes encoding side transaction.now }
 {
     let count = transaction.len();
     let mut found = false;
     let mut i: usize = 0;
     while let Some(shown) = transaction.record(i) {
         prove!(i < count);
-        found |= name_needs_quotes(encoding, side, &shown);
+        found |= name_needs_quotes(side, &shown);
         i += 1;
     }
     found

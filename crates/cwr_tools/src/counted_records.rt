@@ -14,7 +14,6 @@ use crate::totals::Totals;
 use crate::verdicts::{ToolFault, Verdict};
 use cwr_devices::{Sink, SinkFault, Target};
 use cwr_findings::findings;
-use cwr_notes::RecordLines;
 use cwr_values::Item;
 use std::alloc::Global;
 
@@ -40,8 +39,6 @@ fn count_findings(alloc: Global, item: &Item, count: &mut FindingCount) -> Resul
 /// Each record with its cells, and the line of the verdict. The findings are counted, none of which is written.
 #[derive(Drop)]
 pub struct CountedRecords {
-    /// In which the lines of a record are made.
-    lines: RecordLines,
     /// The findings in the items so far.
     found: FindingCount,
 }
@@ -52,7 +49,6 @@ impl CountedRecords {
         ensures stands { ⟦<CountedRecords as Report>⟧.stands result lines_of_counted [] }
     {
         CountedRecords {
-            lines: RecordLines::new(),
             found: FindingCount::new(),
         }
     }
@@ -95,7 +91,7 @@ impl Report for CountedRecords {
         sink: &mut Sink<W>,
     ) -> Result<(), ToolFault> {
         count_findings(alloc, item, &mut self.found)?;
-        match put_records(u64::from(counts.records) + 1, item, &mut self.lines, sink) {
+        match put_records(u64::from(counts.records) + 1, item, sink) {
             Ok(()) => Ok(()),
             Err(fault) => Err(writer_fault(fault)),
         }

@@ -1,8 +1,10 @@
 //! The lines of findings, put to a sink.
 
-ghost use Rattle.std.specs.Prelude.{◌≡◌, ◌+◌, ◌≤◌, ◌∷◌, [], List, length, true, false, IfErr, OnOk};
+ghost use Rattle.std.specs.Prelude.{◌≡◌, ◌+◌, ◌≤◌, ◌∷◌, [], List, length, true, false, OnOk};
 ghost use Rattle.std.specs.List.{flat_map};
-ghost use Rattle.cwr_devices.specs.Steps.Sinks.{Puts, has_failed, written_of};
+ghost use Rattle.cwr_devices.specs.Steps.Pens.{Adds};
+ghost use Rattle.cwr_devices.specs.Steps.Sinks.{PutsText, has_failed};
+ghost use Rattle.cwr_findings.specs.Format.Findings.{findings};
 ghost use Rattle.cwr_findings.specs.Format.ReportLines.{finding_line};
 ghost use Rattle.cwr_tools.specs.Format.Reports.{ItemLines, has_findings, lines_of_explained, lines_of_findings, lines_up_to_fault};
 ghost use Rattle.cwr_tools.specs.Format.Reports.{transaction_lines};
@@ -17,10 +19,10 @@ use crate::reports::Report;
 use crate::totals::Totals;
 use crate::verdicts::{ToolFault, Verdict};
 use cwr_decode::Keeper;
-use cwr_devices::{Sink, SinkFault, Target};
+use cwr_devices::{Pen, Sink, SinkFault, Target};
 use cwr_findings::{Finding, Sums, finding_line, findings};
 use cwr_lines::RecordRef;
-use cwr_notes::put_all_explained;
+use cwr_notes::all_explained;
 use cwr_values::{Item, Transaction};
 use std::alloc::Global;
 
@@ -33,24 +35,70 @@ pub fn writer_fault(fault: SinkFault) -> ToolFault
     }
 }
 
-/// Puts the lines of findings in the transaction of that sequence in the group of that ID.
-fn put_found<W: Target>(
-    group: u32,
-    sequence: u32,
-    found: &[Finding],
-    sink: &mut Sink<W>,
-) -> Result<(), SinkFault>
-    requires { has_failed sink.old ≡ false }
-    ensures puts { Puts W.contents W.failures (flat_map (finding_line group sequence) found.now)
-        result sink.old sink.new }
-    ensures fault { IfErr result (λ f. f.written ≡ written_of sink.new) }
+/// Adds the lines of findings in the transaction of that sequence in the group of that ID.
+fn found_lines<W: Target>(group: u32, sequence: u32, found: &[Finding], pen: &mut Pen<'_, W>)
+    ensures { Adds W.contents W.failures (flat_map (finding_line group sequence) found.now) pen.old
+        pen.new }
 {
     let mut i = 0;
     while let Some(finding) = found.get(i) {
-        finding_line(group, sequence, finding, sink)?;
+        finding_line(group, sequence, finding, pen);
         i += 1;
     }
-    Ok(())
+}
+
+/// Adds the lines of these findings in the transaction of that sequence in the group of that ID. Where they are explained, lines follow
+/// each, and the transaction's first record is on that line of the file. Where those stand apart an empty line follows.
+fn told_lines<W: Target>(
+    explained: bool,
+    apart: bool,
+    group: u32,
+    sequence: u32,
+    first: u64,
+    transaction: &Transaction,
+    found: &[Finding],
+    pen: &mut Pen<'_, W>,
+)
+    requires few { explained ≡ true → first + length transaction.now ≤ 100000000 }
+    requires found { found.now ≡ findings transaction.now }
+    ensures { Adds W.contents W.failures
+        (transaction_lines explained apart group sequence first transaction.now) pen.old pen.new }
+{
+    match explained {
+        true => all_explained(apart, group, sequence, first, transaction, found, pen),
+        false => found_lines(group, sequence, found, pen),
+    }
+}
+
+/// Puts them.
+fn put_told<W: Target>(
+    explained: bool,
+    apart: bool,
+    group: u32,
+    sequence: u32,
+    first: u64,
+    transaction: &Transaction,
+    found: &[Finding],
+    sink: &mut Sink<W>,
+) -> Result<(), SinkFault>
+    requires few { explained ≡ true → first + length transaction.now ≤ 100000000 }
+    requires found { found.now ≡ findings transaction.now }
+    ensures { PutsText W.contents W.failures
+        (transaction_lines explained apart group sequence first transaction.now) result sink.old
+        sink.new }
+{
+    let mut pen = Pen::new(sink);
+    told_lines(
+        explained,
+        apart,
+        group,
+        sequence,
+        first,
+        transaction,
+        found,
+        &mut pen,
+    );
+    pen.end()
 }
 
 /// Puts the lines of findings in the transaction of that sequence in the group of that ID, and notes that they are told. Where they are
@@ -81,18 +129,16 @@ fn put_findings_in<W: Target>(
         return Err(ToolFault::Memory);
     };
     told.add(found.as_slice());
-    let put = match explained {
-        true => put_all_explained(
-            apart,
-            group,
-            sequence,
-            first,
-            transaction,
-            found.as_slice(),
-            sink,
-        ),
-        false => put_found(group, sequence, found.as_slice(), sink),
-    };
+    let put = put_told(
+        explained,
+        apart,
+        group,
+        sequence,
+        first,
+        transaction,
+        found.as_slice(),
+        sink,
+    );
     match put {
         Ok(()) => Ok(()),
         Err(fault) => Err(writer_fault(fault)),

@@ -23,7 +23,8 @@ pub use finding_lines::{FindingLines, put_transaction_findings, writer_fault};
 pub use json_lines::DataLines;
 pub use last_steps::LastStep;
 pub use reporting::{
-    Front, put_unrefused_line, put_verdict_line, verdict_of, write_report, write_report_and,
+    Front, put_unrefused_line, put_verdict_line, verdict_line, verdict_of, write_report,
+    write_report_and,
 };
 pub use reports::{NothingKept, Report};
 pub use shown_records::ShownRecords;

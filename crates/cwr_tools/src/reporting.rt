@@ -5,8 +5,8 @@ ghost use Rattle.std.specs.Io.KnownBytes.{GrowsBy};
 ghost use Rattle.cwr_decode.specs.Steps.Decoding.{final_answer, has_ended, limits_of};
 ghost use Rattle.cwr_decode.specs.Steps.LastReads.{AreHeld};
 ghost use Rattle.cwr_decode.specs.Steps.Represents.{Represents};
-ghost use Rattle.cwr_devices.specs.Steps.Sinks.{HasWritten, has_failed, writer_of};
-ghost use Rattle.cwr_findings.specs.Steps.Putting.{PutsText};
+ghost use Rattle.cwr_devices.specs.Steps.Pens.{Adds};
+ghost use Rattle.cwr_devices.specs.Steps.Sinks.{HasWritten, PutsText, has_failed, writer_of};
 ghost use Rattle.cwr_tools.specs.Format.Reports.{CountsReaderFault, CountsWriterFault, ItemLines, unrefused_line};
 ghost use Rattle.cwr_tools.specs.Format.Texts.{verdict_line};
 ghost use Rattle.cwr_tools.specs.Format.Verdicts.{IsVerdictOf};
@@ -22,7 +22,7 @@ use crate::reports::Report;
 use crate::totals::Totals;
 use crate::verdicts::{ToolFault, Verdict};
 use cwr_decode::{LastRead, ReadFault, Reading};
-use cwr_devices::{Sink, SinkFault, Source, Target};
+use cwr_devices::{Pen, Sink, SinkFault, Source, Target};
 use cwr_findings::{good_line, refusal_line, truncated_line};
 use cwr_shape::Limits;
 use std::alloc::Global;
@@ -49,19 +49,28 @@ pub fn verdict_of(fault: ReadFault) -> Result<Verdict, ToolFault>
     }
 }
 
-/// Puts the line that says how a text ended.
-pub fn put_verdict_line<W: Target>(verdict: &Verdict, sink: &mut Sink<W>) -> Result<(), SinkFault>
-    ensures { PutsText W.contents W.failures (verdict_line verdict.now) result sink.old sink.new }
+/// Adds the line that says how a text ended.
+pub fn verdict_line<W: Target>(verdict: &Verdict, pen: &mut Pen<'_, W>)
+    ensures { Adds W.contents W.failures (verdict_line verdict.now) pen.old pen.new }
 {
     match verdict {
         Verdict::Good {
             groups,
             transactions,
             records,
-        } => good_line(*groups, *transactions, *records, sink),
-        Verdict::Refused(refusal) => refusal_line(refusal, sink),
-        Verdict::Truncated { records } => truncated_line(*records, sink),
+        } => good_line(*groups, *transactions, *records, pen),
+        Verdict::Refused(refusal) => refusal_line(refusal, pen),
+        Verdict::Truncated { records } => truncated_line(*records, pen),
     }
+}
+
+/// Puts the line that says how a text ended.
+pub fn put_verdict_line<W: Target>(verdict: &Verdict, sink: &mut Sink<W>) -> Result<(), SinkFault>
+    ensures { PutsText W.contents W.failures (verdict_line verdict.now) result sink.old sink.new }
+{
+    let mut pen = Pen::new(sink);
+    verdict_line(verdict, &mut pen);
+    pen.end()
 }
 
 /// Puts the same of a text that isn't refused, and nothing of one that is.

@@ -1,7 +1,7 @@
 -- What is said of a field that is looked up in its kind's table.
 pub mod FieldsFound
--- Texts that are put in turn, one for each element of a list.
-pub mod PutInTurn
+-- Texts that are added one after another are their list, put together.
+pub mod TextsTogether
 -- Bytes from the characters that stand for them.
 pub mod CharactersRead
 -- A draft that members fill has their cells, with each member more.

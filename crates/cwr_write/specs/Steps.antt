@@ -2,5 +2,4 @@
 pub mod Filling
 pub mod Lines
 pub mod Members
-pub mod Putting
 pub mod Taking

@@ -1,22 +1,18 @@
 //! What is told below a refusal: which keys there are, how wide a field is, and what an item lacks.
 
-ghost use Rattle.std.specs.Prelude.{◌≡◌, ◌++◌, [], ◌∷◌, codes, decimal, flat_map, option_map, unwrap_or, IfErr, false};
-ghost use Rattle.std.specs.List.{concat};
+ghost use Rattle.std.specs.Prelude.{◌≡◌, flat_map, option_map, unwrap_or, IfErr, false};
+ghost use Rattle.cwr_devices.specs.Steps.Pens.{Adds};
 ghost use Rattle.cwr_devices.specs.Steps.Sinks.{Puts, has_failed, written_of};
-ghost use Rattle.cwr_fields.specs.Format.Kinds.{letters as letters_of};
 ghost use Rattle.cwr_fields.specs.Format.Layouts.{field_at, layout};
-ghost use Rattle.cwr_json.specs.Format.Forms.{key_of};
 ghost use Rattle.cwr_write.specs.Format.Lacks.{lack_after, lack_beside, lack_of, lack_told};
 ghost use Rattle.cwr_write.specs.Format.OutcomeTexts.{carried_if, carried_key, character_text, hint_text, keys_text, lack_text, lack_words, width_text};
 
-use crate::putting::{put_each, put_text};
-use crate::refusals::{Key, Refusal, Why, put_name};
-use cwr_devices::{Sink, SinkFault, Target};
+use crate::refusals::{Key, LineFault, Refusal, Why};
+use cwr_devices::{Pen, Sink, SinkFault, Target};
 use cwr_fields::{Kind, field, fields, letters};
-use cwr_json::Encoding;
+use cwr_json::{Encoding, key_of};
 use cwr_lines::RecordRef;
 use cwr_values::{Item, Transaction};
-use itoa::Buffer;
 
 /// What an item lacks.
 #[derive(Clone, Copy, Debug)]
@@ -109,113 +105,61 @@ pub(crate) fn lack_of(item: &Item) -> Lack
     }
 }
 
-/// Puts the key of a field, after a space.
-fn put_spaced<W: Target>(name: &str, sink: &mut Sink<W>) -> Result<(), SinkFault>
-    requires { has_failed sink.old ≡ false }
-    ensures puts { Puts W.contents W.failures (codes " " ++ key_of name.now) result sink.old sink.new }
-    ensures fault { IfErr result (λ f. f.written ≡ written_of sink.new) }
+/// Adds the key of field `j`, after a space, where the field isn't computed.
+fn carried_if<W: Target>(kind: Kind, j: u8, pen: &mut Pen<'_, W>)
+    ensures { Adds W.contents W.failures (carried_if (field_at kind j)) pen.old pen.new }
 {
-    put_text(b" ", sink)?;
-    put_name(name, sink)
-}
-
-/// Puts the key of field `j`, after a space, where the field isn't computed.
-fn put_carried<W: Target>(kind: Kind, j: u8, sink: &mut Sink<W>) -> Result<(), SinkFault>
-    requires { has_failed sink.old ≡ false }
-    ensures puts { Puts W.contents W.failures (carried_if (field_at kind j)) result sink.old sink.new }
-    ensures fault { IfErr result (λ f. f.written ≡ written_of sink.new) }
-{
-    match field(kind, j) {
-        Some(place) => {
-            if place.derived {
-                Ok(())
-            } else {
-                put_spaced(place.name, sink)
-            }
-        }
-        None => Ok(()),
+    let Some(place) = field(kind, j) else {
+        return;
+    };
+    if place.derived {
+        return;
     }
+    pen.text(b" ");
+    key_of(place.name.as_bytes(), pen);
 }
 
-/// Puts the keys of the fields of a kind that aren't computed, each after a space.
-fn put_all_carried<W: Target>(kind: Kind, sink: &mut Sink<W>) -> Result<(), SinkFault>
-    requires { has_failed sink.old ≡ false }
-    ensures puts { Puts W.contents W.failures (flat_map carried_key (layout kind)) result sink.old sink.new }
-    ensures fault { IfErr result (λ f. f.written ≡ written_of sink.new) }
+/// Adds the keys of the fields of a kind that aren't computed, each after a space.
+fn carried_keys<W: Target>(kind: Kind, pen: &mut Pen<'_, W>)
+    ensures { Adds W.contents W.failures (flat_map carried_key (layout kind)) pen.old pen.new }
 {
     for before in 0..fields(kind) {
-        put_carried(kind, before + 1, sink)?;
-    }
-    Ok(())
-}
-
-/// Puts the keys that a kind's records may have, but for the end of the line.
-fn put_begun_keys<W: Target>(kind: Kind, sink: &mut Sink<W>) -> Result<(), SinkFault>
-    requires { has_failed sink.old ≡ false }
-    ensures puts { Puts W.contents W.failures (concat (codes "  keys of " ∷ letters_of kind ∷ codes ": record_type" ∷ []) ++ flat_map carried_key (layout kind)) result sink.old sink.new }
-    ensures fault { IfErr result (λ f. f.written ≡ written_of sink.new) }
-{
-    put_each(&[b"  keys of ", letters(kind), b": record_type"], sink)?;
-    put_all_carried(kind, sink)
-}
-
-/// Puts the keys that a kind's records may have.
-fn put_keys<W: Target>(kind: Kind, sink: &mut Sink<W>) -> Result<(), SinkFault>
-    requires { has_failed sink.old ≡ false }
-    ensures puts { Puts W.contents W.failures (keys_text kind) result sink.old sink.new }
-    ensures fault { IfErr result (λ f. f.written ≡ written_of sink.new) }
-{
-    put_begun_keys(kind, sink)?;
-    put_text(b"\n", sink)
-}
-
-/// Puts the key of a field, after two spaces.
-fn put_named<W: Target>(name: &str, sink: &mut Sink<W>) -> Result<(), SinkFault>
-    requires { has_failed sink.old ≡ false }
-    ensures puts { Puts W.contents W.failures (codes "  " ++ key_of name.now) result sink.old sink.new }
-    ensures fault { IfErr result (λ f. f.written ≡ written_of sink.new) }
-{
-    put_text(b"  ", sink)?;
-    put_name(name, sink)
-}
-
-/// Puts how wide the field of that name is.
-fn put_width_of<W: Target>(name: &str, width: usize, sink: &mut Sink<W>) -> Result<(), SinkFault>
-    requires { has_failed sink.old ≡ false }
-    ensures puts { Puts W.contents W.failures ((codes "  " ++ key_of name.now) ++ concat (codes " has at most " ∷ decimal width ∷ codes " bytes\n" ∷ [])) result sink.old sink.new }
-    ensures fault { IfErr result (λ f. f.written ≡ written_of sink.new) }
-{
-    put_named(name, sink)?;
-    let mut digits = Buffer::new();
-    put_each(
-        &[
-            b" has at most ",
-            digits.format(width).as_bytes(),
-            b" bytes\n",
-        ],
-        sink,
-    )
-}
-
-/// Puts the width of field `j`.
-fn put_width<W: Target>(kind: Kind, j: u8, sink: &mut Sink<W>) -> Result<(), SinkFault>
-    requires { has_failed sink.old ≡ false }
-    ensures puts { Puts W.contents W.failures (width_text kind j) result sink.old sink.new }
-    ensures fault { IfErr result (λ f. f.written ≡ written_of sink.new) }
-{
-    match field(kind, j) {
-        Some(place) => put_width_of(place.name, place.width, sink),
-        None => Ok(()),
+        carried_if(kind, before + 1, pen);
     }
 }
 
-/// Puts what is lacking.
-fn put_lack<W: Target>(lack: Lack, sink: &mut Sink<W>) -> Result<(), SinkFault>
-    requires { has_failed sink.old ≡ false }
-    ensures puts { Puts W.contents W.failures (lack_text lack) result sink.old sink.new }
-    ensures fault { IfErr result (λ f. f.written ≡ written_of sink.new) }
+/// Adds the keys that a kind's records may have.
+fn keys_text<W: Target>(kind: Kind, pen: &mut Pen<'_, W>)
+    ensures { Adds W.contents W.failures (keys_text kind) pen.old pen.new }
 {
-    put_each(&[b"  ", lack_words(lack), b"\n"], sink)
+    pen.text(b"  keys of ");
+    pen.text(letters(kind));
+    pen.text(b": record_type");
+    carried_keys(kind, pen);
+    pen.text(b"\n");
+}
+
+/// Adds the width of field `j`.
+fn width_text<W: Target>(kind: Kind, j: u8, pen: &mut Pen<'_, W>)
+    ensures { Adds W.contents W.failures (width_text kind j) pen.old pen.new }
+{
+    let Some(place) = field(kind, j) else {
+        return;
+    };
+    pen.text(b"  ");
+    key_of(place.name.as_bytes(), pen);
+    pen.text(b" has at most ");
+    pen.number(place.width as u64);
+    pen.text(b" bytes\n");
+}
+
+/// Adds what is lacking.
+fn lack_text<W: Target>(lack: Lack, pen: &mut Pen<'_, W>)
+    ensures { Adds W.contents W.failures (lack_text lack) pen.old pen.new }
+{
+    pen.text(b"  ");
+    pen.text(lack_words(lack));
+    pen.text(b"\n");
 }
 
 /// The words for the characters that there may be.
@@ -227,6 +171,20 @@ fn character_words(encoding: Encoding) -> &'static [u8]
         Encoding::Utf8 => {
             b"  beside U+F780 to U+F7FF, which are bytes, there are only the characters up to U+007F\n"
         }
+    }
+}
+
+/// Adds the line that helps against a fault, if there is one.
+fn hint_text<W: Target>(encoding: Encoding, fault: &LineFault, pen: &mut Pen<'_, W>)
+    ensures { Adds W.contents W.failures (hint_text encoding fault.now) pen.old pen.new }
+{
+    match (&fault.why, fault.kind, &fault.key) {
+        (Why::UnknownKey, Some(kind), _) => keys_text(kind, pen),
+        (Why::UnknownKey, None, _) => pen.text(b"  keys of a line: records\n"),
+        (Why::NotAByte, _, _) => pen.text(character_words(encoding)),
+        (Why::TooWide, Some(kind), Key::Field(j)) => width_text(kind, *j, pen),
+        (Why::Incomplete(lack), _, _) => lack_text(*lack, pen),
+        _ => {}
     }
 }
 
@@ -242,13 +200,7 @@ pub fn put_hint<W: Target>(
     ensures puts { Puts W.contents W.failures (hint_text encoding refusal.now.fault) result sink.old sink.new }
     ensures fault { IfErr result (λ f. f.written ≡ written_of sink.new) }
 {
-    let fault = &refusal.fault;
-    match (&fault.why, fault.kind, &fault.key) {
-        (Why::UnknownKey, Some(kind), _) => put_keys(kind, sink),
-        (Why::UnknownKey, None, _) => put_text(b"  keys of a line: records\n", sink),
-        (Why::NotAByte, _, _) => put_text(character_words(encoding), sink),
-        (Why::TooWide, Some(kind), Key::Field(j)) => put_width(kind, *j, sink),
-        (Why::Incomplete(lack), _, _) => put_lack(*lack, sink),
-        _ => Ok(()),
-    }
+    let mut pen = Pen::new(sink);
+    hint_text(encoding, &refusal.fault, &mut pen);
+    pen.end()
 }

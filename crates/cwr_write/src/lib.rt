@@ -6,7 +6,6 @@ mod input_lines;
 mod items;
 mod keys;
 pub mod laws;
-mod putting;
 mod records;
 mod refusals;
 mod writing;

@@ -1,19 +1,17 @@
 //! Why lines of JSON aren't written as a transmission.
 
-ghost use Rattle.std.specs.Prelude.{◌≡◌, ◌++◌, [], ◌∷◌, codes, flat_map, IfErr, None, false};
-ghost use Rattle.cwr_devices.specs.Steps.Sinks.{Puts, has_failed, written_of};
-ghost use Rattle.cwr_json.specs.Format.Forms.{key_byte, key_of};
+ghost use Rattle.std.specs.Prelude.{◌≡◌, flat_map, None};
+ghost use Rattle.cwr_devices.specs.Steps.Pens.{Adds};
 ghost use Rattle.cwr_write.specs.Format.Faults.{IsOfLine, TellsKey};
 ghost use Rattle.cwr_write.specs.Format.OutcomeTexts.{colon_if, fault_words, field_key, key_in, key_words, kind_words, printable_byte, quoted_key};
 ghost use Rattle.cwr_write.specs.Format.OutcomeTexts.{line_words, record_words, refused_text, shown_byte, where_words, why_words};
 
 use crate::hints::Lack;
-use crate::putting::{put_each, put_text};
 use arrayvec::ArrayVec;
-use cwr_devices::{Sink, SinkFault, Target};
+use cwr_devices::{Pen, Target};
 use cwr_fields::{CellFault, Kind, field, letters};
+use cwr_json::key_of;
 use cwr_shape::LimitKind;
-use itoa::Buffer;
 
 /// The most bytes that are shown of a key.
 const LONGEST_KEY: usize = 40;
@@ -165,252 +163,162 @@ fn words(why: &Why) -> &'static [u8]
     }
 }
 
-/// Puts a byte as it is where it is printable, and else by its number.
-fn put_printable<W: Target>(b: u8, sink: &mut Sink<W>) -> Result<(), SinkFault>
-    requires { has_failed sink.old ≡ false }
-    ensures puts { Puts W.contents W.failures (printable_byte b) result sink.old sink.new }
-    ensures fault { IfErr result (λ f. f.written ≡ written_of sink.new) }
+/// Adds a byte as it is where it is printable, and else by its number.
+fn printable_byte<W: Target>(b: u8, pen: &mut Pen<'_, W>)
+    ensures { Adds W.contents W.failures (printable_byte b) pen.old pen.new }
 {
     if 32 <= b && b < 127 {
-        return put_text(&[b], sink);
+        pen.text(&[b]);
+        return;
     }
     let digits = b"0123456789abcdef";
-    let number = [digits[usize::from(b / 16)], digits[usize::from(b % 16)]];
-    put_each(&[b"\\x", &number], sink)
+    pen.text(&[
+        b'\\',
+        b'x',
+        digits[usize::from(b / 16)],
+        digits[usize::from(b % 16)],
+    ]);
 }
 
-/// Puts a byte so that it can be shown.
-fn put_shown<W: Target>(b: u8, sink: &mut Sink<W>) -> Result<(), SinkFault>
-    requires { has_failed sink.old ≡ false }
-    ensures puts { Puts W.contents W.failures (shown_byte b) result sink.old sink.new }
-    ensures fault { IfErr result (λ f. f.written ≡ written_of sink.new) }
+/// Adds a byte so that it can be shown.
+fn shown_byte<W: Target>(b: u8, pen: &mut Pen<'_, W>)
+    ensures { Adds W.contents W.failures (shown_byte b) pen.old pen.new }
 {
     match b {
-        b'\t' => put_text(b"\\t", sink),
-        b'\n' => put_text(b"\\n", sink),
-        b'\r' => put_text(b"\\r", sink),
-        b'"' => put_text(b"\\\"", sink),
-        b'\'' => put_text(b"\\'", sink),
-        b'\\' => put_text(b"\\\\", sink),
-        _ => put_printable(b, sink),
+        b'\t' => pen.text(b"\\t"),
+        b'\n' => pen.text(b"\\n"),
+        b'\r' => pen.text(b"\\r"),
+        b'"' => pen.text(b"\\\""),
+        b'\'' => pen.text(b"\\'"),
+        b'\\' => pen.text(b"\\\\"),
+        _ => printable_byte(b, pen),
     }
 }
 
-/// A byte of a field's key.
-fn key_byte(b: u8) -> u8
-    ensures { result ≡ key_byte b }
-{
-    if b == b' ' || b == b'-' { b'_' } else { b }
-}
-
-/// Puts a byte of a field's key.
-fn put_key_byte<W: Target>(b: u8, sink: &mut Sink<W>) -> Result<(), SinkFault>
-    requires { has_failed sink.old ≡ false }
-    ensures puts { Puts W.contents W.failures (key_byte b ∷ []) result sink.old sink.new }
-    ensures fault { IfErr result (λ f. f.written ≡ written_of sink.new) }
-{
-    put_text(&[key_byte(b)], sink)
-}
-
-/// Puts the name of a field as a key.
-pub(crate) fn put_name<W: Target>(name: &str, sink: &mut Sink<W>) -> Result<(), SinkFault>
-    requires { has_failed sink.old ≡ false }
-    ensures puts { Puts W.contents W.failures (key_of name.now) result sink.old sink.new }
-    ensures fault { IfErr result (λ f. f.written ≡ written_of sink.new) }
-{
-    for b in name.as_bytes() {
-        put_key_byte(*b, sink)?;
-    }
-    Ok(())
-}
-
-/// Puts the key of field `j`.
-fn put_key_of<W: Target>(kind: Kind, j: u8, sink: &mut Sink<W>) -> Result<(), SinkFault>
-    requires { has_failed sink.old ≡ false }
-    ensures puts { Puts W.contents W.failures (field_key kind j) result sink.old sink.new }
-    ensures fault { IfErr result (λ f. f.written ≡ written_of sink.new) }
-{
-    match field(kind, j) {
-        Some(place) => put_name(place.name, sink),
-        None => Ok(()),
-    }
-}
-
-/// Puts bytes so that they can be shown.
-fn put_all_shown<W: Target>(text: &[u8], sink: &mut Sink<W>) -> Result<(), SinkFault>
-    requires { has_failed sink.old ≡ false }
-    ensures puts { Puts W.contents W.failures (flat_map shown_byte text.now) result sink.old sink.new }
-    ensures fault { IfErr result (λ f. f.written ≡ written_of sink.new) }
+/// Adds bytes so that they can be shown.
+fn shown_bytes<W: Target>(text: &[u8], pen: &mut Pen<'_, W>)
+    ensures { Adds W.contents W.failures (flat_map shown_byte text.now) pen.old pen.new }
 {
     for b in text {
-        put_shown(*b, sink)?;
+        shown_byte(*b, pen);
     }
-    Ok(())
 }
 
-/// Puts the first bytes of a key, after a quote.
-fn put_opened<W: Target>(text: &[u8], sink: &mut Sink<W>) -> Result<(), SinkFault>
-    requires { has_failed sink.old ≡ false }
-    ensures puts { Puts W.contents W.failures (codes " \"" ++ flat_map shown_byte text.now) result sink.old sink.new }
-    ensures fault { IfErr result (λ f. f.written ≡ written_of sink.new) }
+/// Adds the first bytes of a key, in quotes.
+fn quoted_key<W: Target>(text: &[u8], pen: &mut Pen<'_, W>)
+    ensures { Adds W.contents W.failures (quoted_key text.now) pen.old pen.new }
 {
-    put_text(b" \"", sink)?;
-    put_all_shown(text, sink)
+    pen.text(b" \"");
+    shown_bytes(text, pen);
+    pen.text(b"\"");
 }
 
-/// Puts the first bytes of a key, in quotes.
-fn put_quoted<W: Target>(text: &[u8], sink: &mut Sink<W>) -> Result<(), SinkFault>
-    requires { has_failed sink.old ≡ false }
-    ensures puts { Puts W.contents W.failures (quoted_key text.now) result sink.old sink.new }
-    ensures fault { IfErr result (λ f. f.written ≡ written_of sink.new) }
+/// Adds the key of field `j`.
+fn field_key<W: Target>(kind: Kind, j: u8, pen: &mut Pen<'_, W>)
+    ensures { Adds W.contents W.failures (field_key kind j) pen.old pen.new }
 {
-    put_opened(text, sink)?;
-    put_text(b"\"", sink)
+    match field(kind, j) {
+        Some(place) => key_of(place.name.as_bytes(), pen),
+        None => {}
+    }
 }
 
-/// Puts the number of a record in its line, where it has one.
-fn put_record<W: Target>(number: u32, sink: &mut Sink<W>) -> Result<(), SinkFault>
-    requires { has_failed sink.old ≡ false }
-    ensures puts { Puts W.contents W.failures (record_words number) result sink.old sink.new }
-    ensures fault { IfErr result (λ f. f.written ≡ written_of sink.new) }
+/// Adds the number of a record in its line, where it has one.
+fn record_words<W: Target>(number: u32, pen: &mut Pen<'_, W>)
+    ensures { Adds W.contents W.failures (record_words number) pen.old pen.new }
 {
     if number > 0 {
-        let mut digits = Buffer::new();
-        put_each(&[b" record ", digits.format(number).as_bytes()], sink)
-    } else {
-        Ok(())
+        pen.text(b" record ");
+        pen.number(number as u64);
     }
 }
 
-/// Puts a kind, where it is known.
-fn put_kind<W: Target>(kind: Option<Kind>, sink: &mut Sink<W>) -> Result<(), SinkFault>
-    requires { has_failed sink.old ≡ false }
-    ensures puts { Puts W.contents W.failures (kind_words kind) result sink.old sink.new }
-    ensures fault { IfErr result (λ f. f.written ≡ written_of sink.new) }
+/// Adds a kind, where it is known.
+fn kind_words<W: Target>(kind: Option<Kind>, pen: &mut Pen<'_, W>)
+    ensures { Adds W.contents W.failures (kind_words kind) pen.old pen.new }
 {
     match kind {
-        Some(kind) => put_each(&[b" ", letters(kind)], sink),
-        None => Ok(()),
+        Some(kind) => {
+            pen.text(b" ");
+            pen.text(letters(kind));
+        }
+        None => {}
     }
 }
 
-/// Puts the key of a record's field; before its kind is known that is the one of its kind.
-fn put_key_in<W: Target>(kind: Option<Kind>, j: u8, sink: &mut Sink<W>) -> Result<(), SinkFault>
-    requires { has_failed sink.old ≡ false }
-    ensures puts { Puts W.contents W.failures (key_in kind j) result sink.old sink.new }
-    ensures fault { IfErr result (λ f. f.written ≡ written_of sink.new) }
+/// Adds the key of a record's field; before its kind is known that is the one of its kind.
+fn key_in<W: Target>(kind: Option<Kind>, j: u8, pen: &mut Pen<'_, W>)
+    ensures { Adds W.contents W.failures (key_in kind j) pen.old pen.new }
 {
     match kind {
-        Some(kind) => put_key_of(kind, j, sink),
-        None => put_text(b"record_type", sink),
+        Some(kind) => field_key(kind, j, pen),
+        None => pen.text(b"record_type"),
     }
 }
 
-/// Puts the key of a record's field, after a space.
-fn put_field_key<W: Target>(kind: Option<Kind>, j: u8, sink: &mut Sink<W>) -> Result<(), SinkFault>
-    requires { has_failed sink.old ≡ false }
-    ensures puts { Puts W.contents W.failures (codes " " ++ key_in kind j) result sink.old sink.new }
-    ensures fault { IfErr result (λ f. f.written ≡ written_of sink.new) }
-{
-    put_text(b" ", sink)?;
-    put_key_in(kind, j, sink)
-}
-
-/// Puts a colon before what is said of the whole line.
-fn put_colon<W: Target>(is_line: bool, sink: &mut Sink<W>) -> Result<(), SinkFault>
-    requires { has_failed sink.old ≡ false }
-    ensures puts { Puts W.contents W.failures (colon_if is_line) result sink.old sink.new }
-    ensures fault { IfErr result (λ f. f.written ≡ written_of sink.new) }
+/// Adds a colon before what is said of the whole line.
+fn colon_if<W: Target>(is_line: bool, pen: &mut Pen<'_, W>)
+    ensures { Adds W.contents W.failures (colon_if is_line) pen.old pen.new }
 {
     match is_line {
-        true => put_text(b":", sink),
-        false => Ok(()),
+        true => pen.text(b":"),
+        false => {}
     }
-}
-
-/// Puts the first bytes of a key of the line or of a record.
-fn put_text_key<W: Target>(is_line: bool, text: &[u8], sink: &mut Sink<W>) -> Result<(), SinkFault>
-    requires { has_failed sink.old ≡ false }
-    ensures puts { Puts W.contents W.failures (colon_if is_line ++ quoted_key text.now) result sink.old sink.new }
-    ensures fault { IfErr result (λ f. f.written ≡ written_of sink.new) }
-{
-    put_colon(is_line, sink)?;
-    put_quoted(text, sink)
 }
 
 impl LineFault {
-    /// Puts the key.
-    fn put_key<W: Target>(&self, sink: &mut Sink<W>) -> Result<(), SinkFault>
-        requires { has_failed sink.old ≡ false }
-        ensures puts { Puts W.contents W.failures (key_words self.now.kind self.now.«record» self.now.key) result sink.old sink.new }
-        ensures fault { IfErr result (λ f. f.written ≡ written_of sink.new) }
+    /// Adds the key.
+    fn key_words<W: Target>(&self, pen: &mut Pen<'_, W>)
+        ensures { Adds W.contents W.failures
+            (key_words self.now.kind self.now.«record» self.now.key) pen.old pen.new }
     {
         match &self.key {
-            Key::None => Ok(()),
-            Key::Field(j) => put_field_key(self.kind, *j, sink),
-            Key::Text(text) => put_text_key(self.record == 0, text.as_slice(), sink),
+            Key::None => {}
+            Key::Field(j) => {
+                pen.text(b" ");
+                key_in(self.kind, *j, pen);
+            }
+            Key::Text(text) => {
+                colon_if(self.record == 0, pen);
+                quoted_key(text.as_slice(), pen);
+            }
         }
     }
 
-    /// Puts the record.
-    fn put_place<W: Target>(&self, sink: &mut Sink<W>) -> Result<(), SinkFault>
-        requires { has_failed sink.old ≡ false }
-        ensures puts { Puts W.contents W.failures (record_words self.now.«record» ++ kind_words self.now.kind) result sink.old sink.new }
-        ensures fault { IfErr result (λ f. f.written ≡ written_of sink.new) }
+    /// Adds where in its line it is.
+    fn where_words<W: Target>(&self, pen: &mut Pen<'_, W>)
+        ensures { Adds W.contents W.failures (where_words self.now) pen.old pen.new }
     {
-        put_record(self.record, sink)?;
-        put_kind(self.kind, sink)
+        record_words(self.record, pen);
+        kind_words(self.kind, pen);
+        self.key_words(pen);
     }
 
-    /// Puts where in its line it is.
-    fn put_where<W: Target>(&self, sink: &mut Sink<W>) -> Result<(), SinkFault>
-        requires { has_failed sink.old ≡ false }
-        ensures puts { Puts W.contents W.failures (where_words self.now) result sink.old sink.new }
-        ensures fault { IfErr result (λ f. f.written ≡ written_of sink.new) }
+    /// Adds where in its line it is, and why.
+    fn fault_words<W: Target>(&self, pen: &mut Pen<'_, W>)
+        ensures { Adds W.contents W.failures (fault_words self.now) pen.old pen.new }
     {
-        self.put_place(sink)?;
-        self.put_key(sink)
-    }
-
-    /// Puts where in its line it is, and why.
-    fn put<W: Target>(&self, sink: &mut Sink<W>) -> Result<(), SinkFault>
-        requires { has_failed sink.old ≡ false }
-        ensures puts { Puts W.contents W.failures (fault_words self.now) result sink.old sink.new }
-        ensures fault { IfErr result (λ f. f.written ≡ written_of sink.new) }
-    {
-        self.put_where(sink)?;
-        put_each(&[b": ", words(&self.why)], sink)
+        self.where_words(pen);
+        pen.text(b": ");
+        pen.text(words(&self.why));
     }
 }
 
-/// Puts the number of a line that is refused.
-fn put_line_number<W: Target>(line: u64, sink: &mut Sink<W>) -> Result<(), SinkFault>
-    requires { has_failed sink.old ≡ false }
-    ensures puts { Puts W.contents W.failures (line_words line) result sink.old sink.new }
-    ensures fault { IfErr result (λ f. f.written ≡ written_of sink.new) }
+/// Adds the number of a line that is refused.
+fn line_words<W: Target>(line: u64, pen: &mut Pen<'_, W>)
+    ensures { Adds W.contents W.failures (line_words line) pen.old pen.new }
 {
-    let mut digits = Buffer::new();
-    put_each(&[b"REFUSED line ", digits.format(line).as_bytes()], sink)
+    pen.text(b"REFUSED line ");
+    pen.number(line);
 }
 
 impl Refusal {
-    /// Puts the line that says it, but for its end.
-    fn put_begun<W: Target>(&self, sink: &mut Sink<W>) -> Result<(), SinkFault>
-        requires { has_failed sink.old ≡ false }
-        ensures puts { Puts W.contents W.failures (line_words self.now.line ++ fault_words self.now.fault) result sink.old sink.new }
-        ensures fault { IfErr result (λ f. f.written ≡ written_of sink.new) }
+    /// Adds the line that says it.
+    pub(crate) fn refused_text<W: Target>(&self, pen: &mut Pen<'_, W>)
+        ensures { Adds W.contents W.failures (refused_text self.now) pen.old pen.new }
     {
-        put_line_number(self.line, sink)?;
-        self.fault.put(sink)
-    }
-
-    /// Puts the line that says it.
-    pub fn put<W: Target>(&self, sink: &mut Sink<W>) -> Result<(), SinkFault>
-        requires { has_failed sink.old ≡ false }
-        ensures puts { Puts W.contents W.failures (refused_text self.now) result sink.old sink.new }
-        ensures fault { IfErr result (λ f. f.written ≡ written_of sink.new) }
-    {
-        self.put_begun(sink)?;
-        put_text(b"\n", sink)
+        line_words(self.line, pen);
+        self.fault.fault_words(pen);
+        pen.text(b"\n");
     }
 }

@@ -9,6 +9,7 @@ ghost use Rattle.cwr_encode.specs.Steps.Encoders.{AddsRecords, Encodes, OfEncode
 ghost use Rattle.cwr_encode.specs.Steps.Finishing.{FinishesWriting};
 ghost use Rattle.cwr_write.specs.Format.Imports.{CountsReaderFault, CountsWriterFault, SaysItem, WritesWhole, given_records};
 ghost use Rattle.cwr_write.specs.Format.Faults.{IsOfLine, IsPlaceReason, IsReason, JudgesTrailer, reached_with};
+ghost use Rattle.cwr_devices.specs.Steps.Pens.{Adds};
 ghost use Rattle.cwr_devices.specs.Steps.Sinks.{Puts, has_failed, written_of};
 ghost use Rattle.cwr_write.specs.Format.OutcomeTexts.{outcome_text, written_text};
 ghost use Rattle.cwr_write.specs.Format.Endings.{EndsAtLine, LeavesAfter, WritesWhatIsSaid};
@@ -17,14 +18,12 @@ ghost use Rattle.cwr_write.specs.Steps.Taking.{NoReader, Stands, TakesLine, Take
 
 use crate::input_lines::{ReadFault, is_blank, next_line};
 use crate::items::{ItemFault, encode_fault, item_in, write_item};
-use crate::putting::{put_each, put_text};
 use crate::refusals::{Refusal, Why, of_line};
-use cwr_devices::{Sink, SinkFault, Source, Target};
+use cwr_devices::{Pen, Sink, SinkFault, Source, Target};
 use cwr_encode::{EncodeFault, Encoder};
 use cwr_json::Encoding;
 use cwr_shape::Limits;
 use cwr_values::Item;
-use itoa::Buffer;
 use json::{Scratch, Value};
 use std::alloc::Global;
 
@@ -58,24 +57,29 @@ pub enum WriteFault {
     Memory,
 }
 
-/// Puts the numbers of a transmission that was written.
-fn put_written<W: Target>(written: &Written, sink: &mut Sink<W>) -> Result<(), SinkFault>
-    requires { has_failed sink.old ≡ false }
-    ensures puts { Puts W.contents W.failures (written_text written.now) result sink.old sink.new }
-    ensures fault { IfErr result (λ f. f.written ≡ written_of sink.new) }
+/// Adds the line on a transmission that was written.
+fn written_text<W: Target>(written: &Written, pen: &mut Pen<'_, W>)
+    ensures { Adds W.contents W.failures (written_text written.now) pen.old pen.new }
 {
-    let mut lines = Buffer::new();
-    let mut bytes = Buffer::new();
-    put_each(
-        &[
-            b"WRITTEN lines ",
-            lines.format(written.lines).as_bytes(),
-            b" bytes ",
-            bytes.format(written.bytes).as_bytes(),
-            b"\n",
-        ],
-        sink,
-    )
+    pen.text(b"WRITTEN lines ");
+    pen.number(written.lines);
+    pen.text(b" bytes ");
+    pen.number(written.bytes);
+    pen.text(b"\n");
+}
+
+/// Adds the line on how a write ended, if there is one.
+fn outcome_text<W: Target>(outcome: &Result<Written, WriteFault>, pen: &mut Pen<'_, W>)
+    ensures { Adds W.contents W.failures (outcome_text outcome.now) pen.old pen.new }
+{
+    match outcome {
+        Ok(written) => written_text(written, pen),
+        Err(WriteFault::Refused(refusal)) => refusal.refused_text(pen),
+        Err(WriteFault::Early { .. }) => {
+            pen.text(b"REFUSED the input ends before the trailer\n");
+        }
+        Err(WriteFault::Reader | WriteFault::Writer { .. } | WriteFault::Memory) => {}
+    }
 }
 
 /// Puts the line that says how a write ended: `WRITTEN` with its numbers, or what isn't taken and why. Where a device or memory
@@ -88,14 +92,9 @@ pub fn put_write_outcome<W: Target>(
     ensures puts { Puts W.contents W.failures (outcome_text outcome.now) result sink.old sink.new }
     ensures fault { IfErr result (λ f. f.written ≡ written_of sink.new) }
 {
-    match outcome {
-        Ok(written) => put_written(written, sink),
-        Err(WriteFault::Refused(refusal)) => refusal.put(sink),
-        Err(WriteFault::Early { .. }) => {
-            put_text(b"REFUSED the input ends before the trailer\n", sink)
-        }
-        Err(WriteFault::Reader | WriteFault::Writer { .. } | WriteFault::Memory) => Ok(()),
-    }
+    let mut pen = Pen::new(sink);
+    outcome_text(outcome, &mut pen);
+    pen.end()
 }
 
 /// How far the lines have come.

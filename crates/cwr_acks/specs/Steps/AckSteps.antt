@@ -8,9 +8,9 @@ use Rattle.cwr_fields.specs.declared.message_codes.MessageLevel.{MessageLevel}
 use Rattle.cwr_fields.specs.Format.MessageCodes.{status_code, transaction_statuses}
 use Rattle.cwr_devices.specs.declared.sinks.Sink.{Sink}
 use Rattle.cwr_devices.specs.declared.sinks.SinkFault.{SinkFault}
-use Rattle.cwr_devices.specs.Steps.Sinks.{Puts}
+use Rattle.cwr_devices.specs.Steps.Sinks.{PutsText}
 use Rattle.cwr_shape.specs.declared.limits.Limits.{Limits}
-use Rattle.cwr_lines.specs.Format.Records.{RecordValue}
+use Rattle.cwr_lines.specs.Format.Records.{RecordValue, cell_named}
 use Rattle.cwr_values.specs.declared.items.Item.{Item}
 use Rattle.cwr_values.specs.declared.items.Item.TheVariants.{Opened, Transaction, Ended}
 use Rattle.cwr_tools.specs.declared.verdicts.ToolFault.{ToolFault}
@@ -32,7 +32,8 @@ use Rattle.cwr_acks.specs.declared.counts.Answers.{Answers}
 use Rattle.cwr_acks.specs.declared.forms.Form.{Form}
 use Rattle.cwr_acks.specs.declared.forms.Form.TheVariants as forms
 use Rattle.cwr_acks.specs.declared.forms.Manner.{Manner}
-use Rattle.cwr_acks.specs.Format.AckTexts.{ack_text, message_line, name_before, sent_part, status_part, unanswered_text}
+use Rattle.cwr_acks.specs.declared.forms.Cells.{Cells}
+use Rattle.cwr_acks.specs.Format.AckTexts.{ack_text, cell_part, message_line, original_text, name_before, sent_part, status_part, unanswered_text}
 use Rattle.cwr_acks.specs.Format.AckLines.{is_told, IsToldSo, Matched, Telling, keeps_of, lines_of_acks, matched_after, name_of_notes, note_lines_if, telling_of}
 use Rattle.cwr_acks.specs.Steps.DataTexts.{ack_members, counts_data_text, message_part, name_member, unanswered_members}
 
@@ -55,6 +56,16 @@ pub record HasRoom (answers : Answers) : Type 0 where
   pub all : answers.all ≤ 199999998
   pub each : (k : ℕ) → slice_index answers.by_status k ≤ 199999998
   pub ten : length answers.by_status ≡ 10
+
+-- a word on an acknowledgement, and what that says of itself
+abbrev pub marked_text : Cells → List ℕ → RecordValue → List ℕ
+marked_text cells word a =
+    word ++ original_text a ++ cell_part cells (codes " submitter ") (cell_named "submitter creation number" a)
+    ++ cell_part cells (codes " title ") (cell_named "creation title" a)
+
+-- how many there are of each status
+abbrev pub status_parts : List ℕ → List ℕ
+status_parts by_status = flat_map (λ p. status_part (status_code p.0) p.1) (zip transaction_statuses by_status)
 
 -- the line of counts
 abbrev pub counts_text : Answers → List ℕ
@@ -256,4 +267,4 @@ KeepsAnswers delivery limits before after outcome left answers =
 abbrev pub PutsRest : {W : Type 0} → (W → Option (List ℕ)) → (W → ℕ) → Manner → Option Delivery → Answers → Result (Unit {0}) SinkFault
     → Sink W → Sink W → Type 0
 PutsRest contents failures manner delivery answers result old new =
-    Puts contents failures (end_at (record (telling_of manner) { file = None }) (held_if delivery) answers) result old new
+    PutsText contents failures (end_at (record (telling_of manner) { file = None }) (held_if delivery) answers) result old new

@@ -1,7 +1,8 @@
 -- Which advice is told, by how many pieces of each rule stand before it.
 use Rattle.std.specs.Prelude.{◌≡◌, ℕ, ◌+◌, ◌||◌, nat_lt, Bool, List, [], ◌∷◌, ◌++◌, flat_map, map, slice_index, slice_set, if◌then◌else◌, Option, Result}
 use Rattle.cwr_devices.specs.declared.sinks.Sink.{Sink}
-use Rattle.cwr_devices.specs.Steps.Sinks.{Puts}
+use Rattle.cwr_devices.specs.declared.sinks.SinkFault.{SinkFault}
+use Rattle.cwr_devices.specs.Steps.Sinks.{PutsText}
 use Rattle.cwr_advice.specs.declared.rules.Advice.{Advice}
 use Rattle.cwr_advice.specs.declared.rules.AdviceRule.{AdviceRule}
 use Rattle.cwr_advice.specs.Format.RuleOrder.{all_rules, place_of_rule}
@@ -45,9 +46,9 @@ abbrev pub summary_by : Bool → List ℕ → List ℕ
 summary_by all counts = flat_map (λ rule. summary_line all rule (slice_index counts (place_of_rule rule))) all_rules
 
 -- that is put
-abbrev pub PutsSummary : {W E : Type 0} → (W → Option (List ℕ)) → (W → ℕ) → Bool → List ℕ → Result (Unit {0}) E → Sink W → Sink W
-    → Type 0
-PutsSummary contents failures all counts result old new = Puts contents failures (summary_by all counts) result old new
+abbrev pub PutsSummary : {W : Type 0} → (W → Option (List ℕ)) → (W → ℕ) → Bool → List ℕ → Result (Unit {0}) SinkFault → Sink W
+    → Sink W → Type 0
+PutsSummary contents failures all counts result old new = PutsText contents failures (summary_by all counts) result old new
 
 -- ---- what the counts of advice stand for
 

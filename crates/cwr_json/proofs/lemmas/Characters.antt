@@ -44,10 +44,3 @@ characters_same enc text e = by (are_shown_as_is enc text)
     by : (x : Bool) → cond x text (byte_by_byte enc text) ≡ text
     by true = refl
     by false = e
-
-space_alone : (enc : Encoding) → byte_by_byte enc (32 ∷ []) ≡ 32 ∷ []
-unfolding byte_by_byte
-space_alone enc = refl
-
-pub characters_space : (enc : Encoding) → characters enc (32 ∷ []) ≡ 32 ∷ []
-characters_space enc = characters_same enc (32 ∷ []) (space_alone enc)

@@ -30,9 +30,6 @@ pub field_member-some : (enc : Encoding) (r : RecordValue) (j : ℕ) (p : ℕ ×
 field_member-some enc r j p cell e place =
     ap₂ (λ (o : Option FieldLayout) (found : Option (List ℕ)). member_of enc o found) (carried_field r j p cell e place) (sym e)
 
-pub field_member-no_cell : (enc : Encoding) (r : RecordValue) (j : ℕ) → None ≡ record_cell r j → field_member enc r j ≡ []
-field_member-no_cell enc r j e = ap (member_of enc (carried_at r.kind j)) (sym e) ∙ member_of-none enc (carried_at r.kind j)
-
 -- ---- the members of the first fields
 
 abbrev carried : List FieldLayout → List FieldLayout

@@ -2,7 +2,7 @@
 use Rattle.std.proofs.Common.{◌≡◌, ◌⊎◌, ℕ, ◌+◌, ◌-◌, ◌/◌, ◌%◌, ◌<◌, ◌≤◌, Bool, true, false, cond, List, [], ◌∷◌, ◌++◌}
 use Rattle.std.proofs.Common.{length, take, get_or, refl, sym, subst, ap, ap₂, ◌∙◌, inl, inr, arith, append-nil, lt-ltb, le-ltb}
 use Rattle.std.specs.Prelude.{nat_lt}
-use Rattle.std.proofs.lemmas.List.{take_more, map-append}
+use Rattle.std.proofs.lemmas.List.{take_more}
 use Rattle.std.proofs.lemmas.Grind.{flat_map-append}
 use Rattle.std.proofs.lemmas.Bool.{ltb-false}
 use Rattle.json.specs.Print.{escape, escape_byte}
@@ -10,7 +10,6 @@ use Rattle.json.proofs.Printed.Strings.{escape_byte_plain}
 use Rattle.cwr_json.specs.declared.encodings.Encoding.{Encoding}
 use Rattle.cwr_json.specs.declared.encodings.Encoding.TheVariants.{Latin1, Utf8}
 use Rattle.cwr_json.specs.Format.Encodings.{are_shown_as_is, byte_by_byte, character, characters, high_character}
-use Rattle.cwr_json.specs.Format.Forms.{key_byte, key_of}
 use Rattle.cwr_json.specs.Steps.FormTexts.{IsSimple, spelled, spelled_byte, spelled_bytes}
 
 -- ---- one byte
@@ -48,12 +47,6 @@ spelled_low enc b h =
 
 pub spelled_high : (enc : Encoding) (b : ℕ) → 128 ≤ b → spelled_byte enc b ≡ high_character enc b
 spelled_high enc b h = ap (λ (x : Bool). escape (cond x (b ∷ []) (high_character enc b))) (le-ltb b 128 h) ∙ escaped_high enc b h
-
-pub high_low : (b : ℕ) → b < 192 → high_character Utf8 b ≡ 239 ∷ 158 ∷ b ∷ []
-high_low b h = ap (λ (x : Bool). cond x (239 ∷ 158 ∷ b ∷ []) (239 ∷ 159 ∷ (b - 64) ∷ [])) (lt-ltb b 192 h)
-
-pub high_high : (b : ℕ) → 192 ≤ b → high_character Utf8 b ≡ 239 ∷ 159 ∷ (b - 64) ∷ []
-high_high b h = ap (λ (x : Bool). cond x (239 ∷ 158 ∷ b ∷ []) (239 ∷ 159 ∷ (b - 64) ∷ [])) (le-ltb b 192 h)
 
 -- ---- a byte that stands for itself
 
@@ -117,7 +110,3 @@ pub spelled_more : (enc : Encoding) (text : List ℕ) (i : ℕ) → i < length t
 spelled_more enc text i h =
     ap (spelled_bytes enc) (take_more text i 0 h) ∙ flat_map-append (spelled_byte enc) (take i text) (get_or text i 0 ∷ [])
     ∙ ap (λ (l : List ℕ). spelled_bytes enc (take i text) ++ l) (append-nil (spelled_byte enc (get_or text i 0)))
-
-pub key_more : (name : List ℕ) (i : ℕ) → i < length name
-    → key_of (take (i + 1) name) ≡ key_of (take i name) ++ key_byte (get_or name i 0) ∷ []
-key_more name i h = ap key_of (take_more name i 0 h) ∙ map-append key_byte (take i name) (get_or name i 0 ∷ [])

@@ -4,7 +4,7 @@ use Rattle.std.specs.Prelude.{Bool, Result, Ok, Err, IfErr, IfOk, OnOk, is_err}
 use Rattle.cwr_devices.specs.declared.sinks.Sink.{Sink}
 use Rattle.cwr_devices.specs.declared.sinks.SinkFault.{SinkFault}
 use Rattle.cwr_devices.specs.Steps.Sinks.{CountsOn, HasWritten, has_failed, writer_of}
-use Rattle.cwr_findings.specs.Steps.Putting.{PutsText}
+use Rattle.cwr_devices.specs.Steps.Sinks.{PutsText}
 use Rattle.cwr_tools.specs.declared.verdicts.ToolFault.{ToolFault}
 use Rattle.cwr_tools.specs.declared.verdicts.ToolFault.TheVariants as faults
 use Rattle.cwr_tools.specs.Steps.Reports.{PutsLines}

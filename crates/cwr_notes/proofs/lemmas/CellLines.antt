@@ -1,11 +1,13 @@
--- The line of a cell, put part by part, and the numbers of fields digit by digit.
+-- The line of a cell, part by part, and the numbers of fields digit by digit.
 use Rattle.std.proofs.Common.{◌≡◌, ℕ, ◌+◌, ◌<◌, ◌≤◌, ◌/◌, ◌%◌, Bool, true, false, List, [], ◌∷◌, ◌++◌, length, codes, decimal, if◌then◌else◌}
-use Rattle.std.proofs.Common.{sym, ap, ◌∙◌, arith, append_assoc}
+use Rattle.std.proofs.Common.{sym, ap, ◌∙◌, arith}
 use Rattle.std.specs.Prelude.{◌==◌}
 use Rattle.std.proofs.lemmas.Fmt.{decimal_digit, decimal_step}
+use Rattle.std.proofs.lemmas.List.{length-append}
 use Rattle.cwr_fields.specs.Format.Bytes.{is_spaces, trimmed}
 use Rattle.cwr_fields.specs.Format.Layouts.{FieldLayout}
 use Rattle.cwr_fields.proofs.lemmas.Trims.{blank_when_trimmed}
+use Rattle.cwr_fields.proofs.lemmas.TrimmedTexts.{spaces_after}
 use Rattle.cwr_notes.specs.Format.RecordTexts.{cell_line}
 
 -- a number of two digits, and one of three
@@ -27,16 +29,14 @@ blank_line j f cell shown b same is blank = rw none
     none : is_spaces cell ≡ true
     none = blank_when_trimmed cell ∙ ap (λ (xs : List ℕ). length xs == 0) (sym same) ∙ sym is ∙ blank
 
--- one text more
-more : (old a b p q : List ℕ) → a ≡ old ++ p → b ≡ a ++ q → b ≡ old ++ (p ++ q)
-more old a b p q first second = second ∙ ap (λ (xs : List ℕ). xs ++ q) first ∙ append_assoc old p q
-
--- of any other its number, its name, what trimming leaves and the line's end
-pub shown_line : (j : ℕ) (f : FieldLayout) (cell shown old a b c d new : List ℕ) (blank : Bool) → shown ≡ trimmed cell
-    → blank ≡ (length shown == 0) → blank ≡ false → a ≡ old ++ (codes "  " ++ decimal j ++ codes " ") → b ≡ a ++ f.name
-    → c ≡ b ++ codes ": " → d ≡ c ++ shown → new ≡ d ++ 10 ∷ [] → new ≡ old ++ cell_line j f cell
-shown_line j f cell shown old a b c d new blank same is some first second third fourth fifth =
-    more old d new _ _ (more old c d _ _ (more old b c _ _ (more old a b _ _ first second) third) fourth) fifth
-    ∙ ap (λ (xs : List ℕ). old ++ (codes "  " ++ decimal j ++ codes " " ++ f.name ++ codes ": " ++ xs ++ 10 ∷ [])) same
-    ∙ ap (λ (b : Bool). old ++ (if b then [] else codes "  " ++ decimal j ++ codes " " ++ f.name ++ codes ": " ++ trimmed cell ++ 10 ∷ []))
+-- of any other its number, its name, what trimming leaves and the line's end are
+pub shown_line : (j : ℕ) (f : FieldLayout) (cell shown : List ℕ) (b : Bool) → shown ≡ trimmed cell → b ≡ (length shown == 0)
+    → b ≡ false → codes "  " ++ decimal j ++ codes " " ++ f.name ++ codes ": " ++ shown ++ 10 ∷ [] ≡ cell_line j f cell
+shown_line j f cell shown b same is some =
+    ap (λ (xs : List ℕ). codes "  " ++ decimal j ++ codes " " ++ f.name ++ codes ": " ++ xs ++ 10 ∷ []) same
+    ∙ ap (λ (b : Bool). if b then [] else codes "  " ++ decimal j ++ codes " " ++ f.name ++ codes ": " ++ trimmed cell ++ 10 ∷ [])
     (sym (blank_when_trimmed cell ∙ ap (λ (xs : List ℕ). length xs == 0) (sym same) ∙ sym is ∙ some))
+
+-- no cell gets longer
+pub length-trimmed-le : (text : List ℕ) → length (trimmed text) ≤ length text
+length-trimmed-le text = let p = spaces_after text in omega (arith, ap length p.1, length-append (trimmed text))

@@ -99,27 +99,26 @@ noted_line-none : (n : ℕ) (this_kind : Kind) (o : Option FieldLayout) → note
 noted_line-none n this_kind None = refl
 noted_line-none n this_kind (Some f) = refl
 
-pub named_line-uncarried : (n : ℕ) (r : RecordValue) (name : List ℕ) → None ≡ record_cell r (number_of_field name r.kind)
-    → named_line n r name ≡ []
-unfolding named_line
-named_line-uncarried n r name e =
-    ap (noted_line n r.kind (carried_at r.kind (number_of_field name r.kind))) (sym e)
-    ∙ noted_line-none n r.kind (carried_at r.kind (number_of_field name r.kind))
+pub uncarried_note : (n : ℕ) (r : RecordValue) (j : ℕ) → None ≡ record_cell r j
+    → noted_line n r.kind (carried_at r.kind j) (record_cell r j) ≡ []
+uncarried_note n r j e =
+    ap (noted_line n r.kind (carried_at r.kind j)) (sym e) ∙ noted_line-none n r.kind (carried_at r.kind j)
 
-pub named_line-none : (n : ℕ) (r : RecordValue) (name : List ℕ) → None ≡ field_with_start r.kind (number_of_field name r.kind)
-    → named_line n r name ≡ []
-unfolding named_line
-named_line-none n r name place =
-    let j : ℕ = number_of_field name r.kind in
+pub no_note : (n : ℕ) (r : RecordValue) (j : ℕ) → None ≡ field_with_start r.kind j
+    → noted_line n r.kind (carried_at r.kind j) (record_cell r j) ≡ []
+no_note n r j place =
     let none : field_at r.kind j ≡ None =
     sym (field_at-start r.kind j) ∙ ap (option_map (λ (q : ℕ × FieldLayout). q.1)) (sym place) in
     ap (λ (o : Option FieldLayout). noted_line n r.kind (option_and_then (λ f. cond f.derived None (Some f)) o) (record_cell r j))
     none
 
-pub named_line-some : (n : ℕ) (r : RecordValue) (name : List ℕ) (p : ℕ × FieldLayout) (cell : List ℕ)
-    → Some cell ≡ record_cell r (number_of_field name r.kind) → Some p ≡ field_with_start r.kind (number_of_field name r.kind)
-    → named_line n r name ≡ noted_line n r.kind (Some p.1) (Some cell)
+pub carried_note : (n : ℕ) (r : RecordValue) (j : ℕ) (p : ℕ × FieldLayout) (cell : List ℕ) → Some cell ≡ record_cell r j
+    → Some p ≡ field_with_start r.kind j
+    → noted_line n r.kind (Some p.1) (Some cell) ≡ noted_line n r.kind (carried_at r.kind j) (record_cell r j)
+carried_note n r j p cell e place =
+    ap₂ (λ (o : Option FieldLayout) (found : Option (List ℕ)). noted_line n r.kind o found) (sym (carried_field r j p cell e place)) e
+
+pub named_at : (n : ℕ) (r : RecordValue) (name : List ℕ) (j : ℕ) → j ≡ number_of_field name r.kind
+    → noted_line n r.kind (carried_at r.kind j) (record_cell r j) ≡ named_line n r name
 unfolding named_line
-named_line-some n r name p cell e place =
-    ap₂ (λ (o : Option FieldLayout) (found : Option (List ℕ)). noted_line n r.kind o found)
-    (carried_field r (number_of_field name r.kind) p cell e place) (sym e)
+named_at n r name j e = ap (λ (i : ℕ). noted_line n r.kind (carried_at r.kind i) (record_cell r i)) e

@@ -1,11 +1,9 @@
 -- The names of the owners among the first records, with one record more.
-use Rattle.std.proofs.Common.{◌≡◌, ℕ, ◌+◌, Bool, true, false, cond, List, [], ◌∷◌, ◌++◌, take, drop, refl, sym, ap, ◌∙◌}
+use Rattle.std.proofs.Common.{◌≡◌, ℕ, ◌+◌, Bool, true, false, cond, List, [], ◌∷◌, ◌++◌, take, refl, sym, ap, ◌∙◌}
 use Rattle.std.proofs.Common.{append_assoc, append-nil}
 use Rattle.std.specs.Prelude.{Some, slice_get, codes, ◌||◌}
 use Rattle.std.specs.List.{flat_map, join_by, list_any}
 use Rattle.std.proofs.lemmas.Grind.{flat_map-append}
-use Rattle.std.proofs.lemmas.List.{take-append-drop}
-use Rattle.std.proofs.lemmas.List.Elements.{filter-append}
 use Rattle.std.proofs.lemmas.List.Folds.{list_any-append}
 use Rattle.cwr_lines.specs.Format.Records.{RecordValue}
 use Rattle.cwr_findings.proofs.lemmas.OneMore.{take_more}
@@ -31,18 +29,16 @@ join_more f (y ∷ ys) x =
     ap (λ (l : List ℕ). f y ++ l) (flat_map-append g ys (x ∷ []) ∙ ap (λ (l : List ℕ). flat_map g ys ++ l) (append-nil (g x)))
     ∙ sym (append_assoc (f y) (flat_map g ys) (g x))
 
-join_longer : {X : Type 0} (f : X → List ℕ) (xs ys : List X)
-    → (rest : List ℕ) × (join_by f semicolon (xs ++ ys) ≡ join_by f semicolon xs ++ rest)
-join_longer f [] ys = (join_by f semicolon ys, refl)
-join_longer f (x ∷ xs) ys =
-    let g : _ → List ℕ = λ z. semicolon ++ f z in (
-      flat_map g ys,
-      ap (λ (l : List ℕ). f x ++ l) (flat_map-append g xs ys) ∙ sym (append_assoc (f x) (flat_map g xs) (flat_map g ys)),
-    )
-
-pub within-append : (quoted : Bool) (a b : List ℕ) → within quoted (a ++ b) ≡ within quoted a ++ within quoted b
+within-append : (quoted : Bool) (a b : List ℕ) → within quoted (a ++ b) ≡ within quoted a ++ within quoted b
 within-append true a b = flat_map-append doubled a b
 within-append false a b = refl
+
+-- two parts with a space between them
+pub within_both : (quoted : Bool) (a b : List ℕ)
+    → (within quoted a ++ codes " ") ++ within quoted b ≡ within quoted (a ++ (codes " " ++ b))
+within_both true a b =
+    append_assoc (within true a) (codes " ") (within true b) ∙ sym (flat_map-append doubled a (codes " " ++ b))
+within_both false a b = append_assoc a (codes " ") b
 
 within_between : (quoted later : Bool) → within quoted (between later) ≡ between later
 within_between true true = refl
@@ -90,19 +86,6 @@ pub has_owners_more : (side : Side) (t : List RecordValue) (i : ℕ) (r : Record
 has_owners_more side t i r e =
     ap (list_any (is_on side)) (take_more t i r (sym e)) ∙ list_any-append (is_on side) (take i t) (r ∷ [])
     ∙ ap (λ (b : Bool). has_owners side (take i t) || b) (or_false (is_on side r))
-
--- and with those of all records
-pub names_longer : (enc : Encoding) (side : Side) (quoted : Bool) (t : List RecordValue) (n : ℕ)
-    → (rest : List ℕ) × (within quoted (names enc side t) ≡ within quoted (names enc side (take n t)) ++ rest)
-names_longer enc side quoted t n =
-    let split : owners side t ≡ owners side (take n t) ++ owners side (drop n t)
-    = ap (owners side) (sym (take-append-drop n t)) ∙ filter-append (is_on side) (take n t) (drop n t) in
-    let longer = join_longer (name_of_owner enc side) (owners side (take n t)) (owners side (drop n t)) in (
-      within quoted longer.0,
-      ap (λ (l : List RecordValue). within quoted (join_by (name_of_owner enc side) semicolon l)) split
-          ∙ ap (within quoted) longer.1
-          ∙ within-append quoted (names enc side (take n t)) longer.0,
-    )
 
 -- no records have no names
 pub names_none : (enc : Encoding) (side : Side) (quoted : Bool) → within quoted (names enc side []) ≡ []

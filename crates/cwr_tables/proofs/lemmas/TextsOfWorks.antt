@@ -1,37 +1,23 @@
 -- The text of a work's row is that of its pieces.
 use Rattle.std.proofs.Common.{◌≡◌, ℕ, Bool, true, false, List, [], ◌∷◌, ◌++◌, refl, sym, ap, ◌∙◌, append_assoc, append-nil, cond}
 use Rattle.std.specs.Prelude.{codes, decimal, Some, None, slice_get}
-use Rattle.std.specs.List.{list_any}
 use Rattle.cwr_fields.specs.Format.Kinds.{letters}
 use Rattle.cwr_lines.specs.Format.Records.{RecordValue, cell_named}
 use Rattle.cwr_json.specs.declared.encodings.Encoding.{Encoding}
 use Rattle.cwr_tables.specs.declared.places.Place.{Place}
-use Rattle.cwr_tables.specs.declared.works.Side.{Side}
 use Rattle.cwr_tables.specs.declared.works.Side.TheVariants.{Publishers, Writers}
 use Rattle.cwr_tables.specs.declared.works.Sums.{Sums}
-use Rattle.cwr_tables.specs.Format.Tables.{calls_for_quotes, cell_text, row_text}
+use Rattle.cwr_tables.specs.Format.Tables.{cell_text, row_text}
 use Rattle.cwr_tables.specs.Format.RecordTables.{shown_cell}
 use Rattle.cwr_tables.specs.Format.WorkTables.{is_header, names, percent, sums, transaction_row, work_cells, work_heading}
 use Rattle.cwr_tables.specs.Steps.RowTexts.{next_cell}
-use Rattle.cwr_tables.specs.Steps.WorkTexts.{edge, front_text, quotes, tail_text, within}
-use Rattle.cwr_tables.proofs.lemmas.CellTexts.{cell_plain, cell_quoted}
+use Rattle.cwr_tables.specs.Steps.WorkTexts.{front_text, tail_text}
 
 pub heading_is : codes
     "group,transaction,record_type,submitter_work_number,title,iswc,writers,publishers,writers_pr_share,writers_mr_share,writers_sr_share,publishers_pr_share,publishers_mr_share,publishers_sr_share\r\n"
     ≡ work_heading
 unfolding row_text cell_text
 heading_is = refl
-
--- the cell of names
-names_by : (cell : List ℕ) (b : Bool) → list_any calls_for_quotes cell ≡ b
-    → ((codes "," ++ edge b) ++ within b cell) ++ edge b ≡ next_cell cell
-names_by cell true h = sym (ap (λ (l : List ℕ). codes "," ++ l) (cell_quoted cell h))
-names_by cell false h = append-nil (codes "," ++ cell) ∙ sym (ap (λ (l : List ℕ). codes "," ++ l) (cell_plain cell h))
-
-pub names_cell : (enc : Encoding) (side : Side) (t : List RecordValue)
-    → ((codes "," ++ edge (quotes enc side t)) ++ within (quotes enc side t) (names enc side t)) ++ edge (quotes enc side t)
-    ≡ next_cell (names enc side t)
-names_cell enc side t = names_by (names enc side t) (quotes enc side t) refl
 
 in_turn : (a b c d e f w p k l m n o q z : List ℕ)
     → (((((((a ++ b) ++ c) ++ d) ++ e) ++ f) ++ w) ++ p) ++ ((((k ++ l) ++ m) ++ ((n ++ o) ++ q)) ++ z)

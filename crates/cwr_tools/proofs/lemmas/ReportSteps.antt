@@ -4,7 +4,7 @@ use Rattle.std.specs.Prelude.{Result, Ok, Err}
 use Rattle.cwr_devices.specs.declared.sinks.Sink.{Sink}
 use Rattle.cwr_devices.specs.declared.sinks.SinkFault.{SinkFault}
 use Rattle.cwr_devices.specs.Steps.Sinks.{HasWritten, Puts, has_failed, written_of}
-use Rattle.cwr_findings.specs.Steps.Putting.{PutsText}
+use Rattle.cwr_devices.specs.Steps.Sinks.{PutsText}
 use Rattle.cwr_values.specs.declared.items.Item.{Item}
 use Rattle.cwr_tools.specs.declared.verdicts.ToolFault.{ToolFault}
 use Rattle.cwr_tools.specs.declared.verdicts.ToolFault.TheVariants.{Memory, Writer}

@@ -11,7 +11,7 @@ use Rattle.cwr_devices.specs.declared.sinks.SinkFault.{SinkFault}
 use Rattle.cwr_devices.specs.Steps.Sinks.{HasWritten, writer_of, written_of}
 use Rattle.cwr_encode.specs.Format.Finishing.{HasFront}
 use Rattle.cwr_encode.proofs.lemmas.Ends.{all_written, appends_kept}
-use Rattle.cwr_findings.specs.Steps.Putting.{PutsText}
+use Rattle.cwr_devices.specs.Steps.Sinks.{PutsText}
 use Rattle.cwr_values.specs.declared.items.Item.{Item}
 use Rattle.cwr_tools.specs.declared.verdicts.Verdict.{Verdict}
 use Rattle.cwr_tools.specs.declared.verdicts.ToolFault.{ToolFault}

@@ -2,7 +2,7 @@ use Rattle.std.proofs.Common.{subst}
 use Rattle.cwr_tools.specs.Format.Reports.{ItemLines}
 use Rattle.cwr_tools.specs.Steps.Reports.{Reports}
 use Rattle.cwr_acks.specs.Format.AckLines.{lines_of_acks, telling_of}
-use Rattle.cwr_acks.specs.Steps.AckSteps.{held_if, lines_of_held}
+use Rattle.cwr_acks.specs.Steps.AckSteps.{held_if}
 use Rattle.cwr_acks.proofs.lemmas.LeftHeld.{keeps_answers}
 use Rattle.cwr_acks.proofs.lemmas.LinesOfItems.{same_lines}
 use Rattle.cwr_tools.proofs.lemmas.ToldTexts.{reports_text}

@@ -1,6 +1,6 @@
 use Rattle.std.proofs.Common.{◌≡◌, ℕ, List, refl, sym, ap, ap₂, ◌∙◌, arith}
 use Rattle.std.specs.Prelude.{Err, Ok, Option, Some, map, slice_get}
-use Rattle.cwr_tables.proofs.lemmas.NothingPut.{puts_nothing}
+use Rattle.cwr_state_rows.proofs.lemmas.NothingPut.{puts_nothing}
 use Rattle.cwr_encode.proofs.lemmas.Numbered.{puts_as}
 use Rattle.cwr_sent.specs.declared.answers.AnsweringFile.{AnsweringFile}
 use Rattle.cwr_sent.specs.Format.SentRows.{SentShown, shown_in}

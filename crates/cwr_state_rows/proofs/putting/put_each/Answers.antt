@@ -2,7 +2,7 @@ use Rattle.std.proofs.Common.{◌≡◌, ◌≤◌, ℕ, List, Some, length, ref
 use Rattle.std.specs.Prelude.{is_some, slice_get}
 use Rattle.std.proofs.lemmas.Bool.{ltb-false}
 use Rattle.std.proofs.lemmas.Option.{slice_get_read}
-use Rattle.cwr_tables.proofs.lemmas.NothingPut.{puts_nothing}
+use Rattle.cwr_state_rows.proofs.lemmas.NothingPut.{puts_nothing}
 use Rattle.cwr_sent.specs.declared.answers.KeptAnswer.{KeptAnswer}
 use Rattle.cwr_state_rows.specs.Steps.HeldRows.{kept_text, shared_by}
 use Rattle.cwr_state_rows.proofs.lemmas.PutInTurn.{rows_more, rows_stopped, rows_whole}

@@ -1,7 +1,7 @@
 use Rattle.std.proofs.Common.{ℕ, List, refl, sym, ◌∙◌, arith}
 use Rattle.std.specs.Prelude.{option_map}
 use Rattle.std.proofs.lemmas.Option.{slice_get_within}
-use Rattle.cwr_tables.proofs.lemmas.NothingPut.{puts_nothing}
+use Rattle.cwr_state_rows.proofs.lemmas.NothingPut.{puts_nothing}
 use Rattle.cwr_sent.specs.declared.facts.SentFacts.{SentFacts}
 use Rattle.cwr_state_rows.specs.Steps.HeldRows.{transaction_text}
 use Rattle.cwr_state_rows.proofs.lemmas.NumberedMore.{none_past}

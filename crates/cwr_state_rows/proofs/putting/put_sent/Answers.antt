@@ -1,7 +1,7 @@
 use Rattle.std.proofs.Common.{◌≡◌, ◌+◌, ℕ, List, length, refl, sym, ap, ◌∙◌, arith}
 use Rattle.std.specs.Prelude.{Some, option_map, slice_get}
 use Rattle.std.proofs.lemmas.Option.{slice_get_read}
-use Rattle.cwr_tables.proofs.lemmas.NothingPut.{puts_nothing}
+use Rattle.cwr_state_rows.proofs.lemmas.NothingPut.{puts_nothing}
 use Rattle.cwr_sent.specs.Format.GroupRows.{GroupRows}
 use Rattle.cwr_sent.specs.Format.SentRows.{shown_in}
 use Rattle.cwr_state_rows.specs.Steps.HeldRows.{group_text}

@@ -1,5 +1,5 @@
 use Rattle.std.proofs.Common.{[], refl}
-use Rattle.cwr_tables.proofs.lemmas.NothingPut.{puts_nothing}
+use Rattle.cwr_state_rows.proofs.lemmas.NothingPut.{puts_nothing}
 use Rattle.cwr_state_rows.proofs.putting.put_transaction.Goals as goal
 
 pub returns-in-Err : goal.returns-in-Err

@@ -1,7 +1,7 @@
 use Rattle.std.proofs.Common.{ℕ, List, [], refl, sym, subst, append-nil}
 use Rattle.std.specs.Prelude.{Ok}
 use Rattle.cwr_devices.specs.Steps.Sinks.{HasWritten}
-use Rattle.cwr_findings.specs.Steps.Putting.{PutsText}
+use Rattle.cwr_devices.specs.Steps.Sinks.{PutsText}
 use Rattle.cwr_tools.specs.declared.verdicts.Verdict.{Verdict}
 use Rattle.cwr_tools.specs.Format.Reports.{unrefused_line}
 use Rattle.cwr_tools.proofs.reporting.put_unrefused_line.Goals as goal

@@ -1,5 +1,5 @@
 use Rattle.std.proofs.Common.{sym, ◌∙◌}
-use Rattle.cwr_notes.proofs.lemmas.NotesPut.{work_none, work_some}
+use Rattle.cwr_notes.proofs.lemmas.RecordsThere.{work_none, work_some}
 use Rattle.cwr_notes.proofs.work_lines.WorkLine.of.Goals as goal
 
 pub returns-in-Some : goal.returns-in-Some

@@ -1,6 +1,7 @@
 use Rattle.std.proofs.Common.{◌+◌, refl, rules}
 use Rattle.std.specs.Prelude.{Ok, Err}
 use Rattle.cwr_judge.specs.Format.Items.{item_records}
+use Rattle.cwr_devices.proofs.lemmas.Adding.{puts_unfailed}
 use Rattle.cwr_tools.specs.Format.Reports.{has_findings, lines_of_counted}
 use Rattle.cwr_notes.specs.Format.RecordTexts.{numbered_records}
 use Rattle.cwr_tools.proofs.lemmas.LinesOfItems.{records_from}
@@ -25,7 +26,7 @@ returns-in-Ok-clause-puts g c = λ of given counted e.
     next_lines g.W.Target.contents g.W.Target.failures of lines_of_counted given c.args.item.now text (Ok tt) c.args.sink.now
     c.put_records.new.sink e.0 (records_from c.args.counts.now given c.args.item.now c.from.result counted (search rules))
     (lines_put g.W.Target.contents g.W.Target.failures (has_findings c.args.item.now) text tt c.args.sink.now
-    c.put_records.new.sink c.in-Ok.ensures.puts)
+    c.put_records.new.sink (puts_unfailed c.requires.unfailed c.in-Ok.ensures))
 
 pub returns-in-Err-clause-puts : goal.returns-in-Err-clause-puts
 returns-in-Err-clause-puts g c = λ of given counted e.
@@ -34,4 +35,4 @@ returns-in-Err-clause-puts g c = λ of given counted e.
     c.args.sink.now c.put_records.new.sink e.0
     (records_from c.args.counts.now given c.args.item.now c.from.result counted (search rules))
     (lines_cut g.W.Target.contents g.W.Target.failures (has_findings c.args.item.now) text c.in-Err.fault c.writer_fault.result
-    c.args.sink.now c.put_records.new.sink c.writer_fault.ensures c.in-Err.ensures.fault c.in-Err.ensures.puts)
+    c.args.sink.now c.put_records.new.sink c.writer_fault.ensures c.in-Err.ensures.fault (puts_unfailed c.requires.unfailed c.in-Err.ensures))

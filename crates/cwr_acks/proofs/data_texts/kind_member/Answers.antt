@@ -1,0 +1,6 @@
+use Rattle.cwr_devices.proofs.lemmas.Adding.{adds_as, adds_both}
+use Rattle.cwr_acks.proofs.data_texts.kind_member.Goals as goal
+
+pub returns : goal.returns
+returns g c =
+    adds_both (adds_both c.text.ensures (adds_as c.letters.ensures c.text-2.ensures)) c.text-3.ensures

@@ -1,9 +1,0 @@
-use Rattle.std.proofs.Common.{length, ap, arith}
-use Rattle.cwr_notes.proofs.lemmas.CellsOfFields.{length-trimmed-le}
-use Rattle.cwr_notes.proofs.note_lines.push_value.Goals as goal
-
-pub push-requires-else-is_spaces : goal.push-requires-else-is_spaces
-push-requires-else-is_spaces c = omega (arith, length-trimmed-le c.args.cell.now, ap length c.trimmed.ensures)
-
-pub returns-else-is_spaces-clause-len : goal.returns-else-is_spaces-clause-len
-returns-else-is_spaces-clause-len c = omega (arith, length-trimmed-le c.args.cell.now, ap length c.trimmed.ensures)

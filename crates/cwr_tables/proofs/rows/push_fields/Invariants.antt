@@ -1,9 +1,0 @@
-use Rattle.std.proofs.Common.{◌≡◌, ◌+◌, ◌*◌, ◌≤◌, ◌++◌, length}
-use Rattle.cwr_tables.proofs.lemmas.CellsOfRows.{cells_before}
-use Rattle.cwr_tables.proofs.rows.push_fields.Given as goal
-
-abbrev pub invariant-loop-before : goal.invariant-loop-before
-invariant-loop-before l = record {
-  value : l.text.items ≡ l.fn.text.items ++ cells_before l.encoding l.shown l.before;
-  len : length l.text.items ≤ 150 + 4323 * l.before;
-}

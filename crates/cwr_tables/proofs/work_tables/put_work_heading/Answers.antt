@@ -1,6 +1,0 @@
-use Rattle.cwr_encode.proofs.lemmas.Numbered.{puts_as}
-use Rattle.cwr_tables.proofs.work_tables.put_work_heading.Goals as goal
-
-pub returns-clause-puts : goal.returns-clause-puts
-returns-clause-puts g c =
-    puts_as g.W.Target.contents g.W.Target.failures _ _ _ _ _ c.set_work_heading.ensures c.put_text.ensures.puts
