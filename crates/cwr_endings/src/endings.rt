@@ -1,16 +1,18 @@
 //! How a run ends, by its verdict and by what is wanted beside it.
 
-ghost use Rattle.std.specs.Prelude.{◌≡◌, true};
+ghost use Rattle.std.specs.Prelude.{◌≡◌, ℕ, List, Some, None, true, false, OnOk};
 ghost use Rattle.cwr_files.specs.Format.Faults.{IfErr, IsUnkept};
+ghost use Rattle.cwr_files.specs.Format.Files.{Texts, counted_on};
+ghost use Rattle.cwr_files.specs.Steps.NewFiles.{EndsDropped, EndsKept, HasBegun};
+ghost use Rattle.cwr_files.specs.Format.Written.{is_whole, times_failed, writer_in};
 ghost use Rattle.cwr_endings.specs.Format.Endings.{EndsAfterFault};
 ghost use Rattle.cwr_endings.specs.Steps.Looks.{follows, good_status, status_in, whole_status};
 
 use cwr_causes::Trailing;
-use cwr_files::{Fault, Name, NewFile, Told};
+use cwr_files::{Fault, Name, NewFile, Store, Told, Written};
 use cwr_shape::Level;
 use cwr_tools::{ToolFault, Verdict};
 use std::io::Write;
-use std::rt::Files;
 
 /// How a run ended, as its exit status, from the best to the worst.
 #[derive(Clone, Copy, Debug, PartialEq, Eq, PartialOrd, Ord)]
@@ -112,19 +114,29 @@ pub fn ended_by<'a>(
 }
 
 /// Gives a file its name where it is wanted, and else removes it. A file that it replaces is told of on standard error.
-pub fn settle<'a, R: Files, E: Write>(
-    rt: &R,
+pub fn settle<'a, S: Store, E: Write>(
+    store: &mut S,
     made: NewFile,
+    written: Written<S::Writer>,
     out: &'a str,
     is_wanted: bool,
     error: &mut E,
 ) -> Result<(), Fault<'a>>
-    ensures { IfErr result (λ fault. (is_wanted ≡ true) × IsUnkept (Name.File out.entry) fault) }
+    ensures kept { is_wanted ≡ true → (texts : Texts) (text : List ℕ)
+        → HasBegun made (S.making store.old) texts (S.held store.old)
+        → S.Writer.contents (writer_in written) ≡ Some text
+        → EndsKept made text (S.failures store.old) (S.failures store.new) result texts (S.held store.new) }
+    ensures whole { is_wanted ≡ true → OnOk result (is_whole written ≡ true) }
+    ensures dropped { is_wanted ≡ false → (texts : Texts)
+        → HasBegun made (S.making store.old) texts (S.held store.old)
+        → EndsDropped made (counted_on (times_failed written) (S.failures store.old)) (S.failures store.new) texts (S.held store.new) }
+    ensures making { S.making store.new ≡ None }
+    ensures fault { IfErr result (λ fault. (is_wanted ≡ true) × IsUnkept (Name.File out.entry) fault) }
 {
     if is_wanted {
-        made.keep_as(rt, Name::File(out), error)
+        made.keep_as(store, written, Name::File(out), error)
     } else {
-        made.discard(rt);
+        made.give_up(store, written);
         Ok(())
     }
 }

@@ -4,7 +4,9 @@ ghost use Rattle.cwr_files.specs.Format.Faults.{IfErr};
 ghost use Rattle.cwr_endings.specs.Format.Endings.{IsRefusedOut, IsUnwritten};
 
 use cwr_devices::{Sink, SinkFault, Target};
-use cwr_files::{Fault, Gathered, Name, identity_of, identity_of_input, is_there, told_of};
+use cwr_files::{
+    Fault, Gathered, Name, SystemStore, identity_of, identity_of_input, is_there, told_of,
+};
 use std::io::Write;
 use std::rt::Files;
 
@@ -23,7 +25,7 @@ pub fn refuse_out<'a, R: Files>(
             return Err(Fault::IsInput(Name::File(out)));
         }
     }
-    if only_new && is_there(rt, out) {
+    if only_new && is_there(&mut SystemStore::new(rt), out) {
         return Err(Fault::IsThere(Name::File(out)));
     }
     Ok(())

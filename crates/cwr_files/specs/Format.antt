@@ -1,5 +1,8 @@
 -- What is promised, in the words of the format.
 pub mod Faults
+pub mod Files
 pub mod Fronts
 pub mod Inputs
+pub mod NewFiles
 pub mod Stamps
+pub mod Written

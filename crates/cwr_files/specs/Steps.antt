@@ -1,3 +1,6 @@
 -- What the code keeps, and what its calls do to that.
+pub mod Gathering
 pub mod Inputs
+pub mod MemoryStores
+pub mod NewFiles
 pub mod NumberedFiles

@@ -58,6 +58,11 @@ impl Reason {
     pub fn kind(kind: io::ErrorKind) -> Reason {
         Reason { kind, code: None }
     }
+
+    /// Whether there was no memory.
+    pub(crate) fn is_of_memory(&self) -> bool {
+        self.kind == io::ErrorKind::OutOfMemory
+    }
 }
 
 impl Display for Reason {

@@ -6,21 +6,27 @@ mod faults;
 mod file_lines;
 mod fronts;
 mod inputs;
+mod memory_stores;
 mod new_files;
+mod numbered_files;
 mod outputs;
 mod progress;
 mod same_files;
 mod shown_names;
 mod stamps;
+mod stores;
+mod system_store;
 
 pub use faults::{Fault, Name, Reason, Told, tell_fault};
 pub use file_lines::{FileLines, Passing};
 pub use inputs::{DASH, Input, is_standard, open_input};
-pub use new_files::{NewFile, NumberedFiles, create_output};
-pub use outputs::{Gathered, Output, gathered, print, told_of};
+pub use memory_stores::MemoryStore;
+pub use new_files::{NewFile, create_output, is_there};
+pub use numbered_files::NumberedFiles;
+pub use outputs::{Gathered, Output, Written, gathered, print, take_back, told_of};
 pub use progress::{Pace, Paced, Progress, Unwatched};
-pub use same_files::{
-    Identity, identity_of, identity_of_input, is_there, part_number, part_that_is,
-};
+pub use same_files::{Identity, identity_of, identity_of_input, part_number, part_that_is};
 pub use shown_names::{ShellWord, Shown, input_name, shown_name};
 pub use stamps::Stamped;
+pub use stores::{Found, Store, Unmade};
+pub use system_store::SystemStore;

@@ -1,27 +1,26 @@
 //! Files that are written, and that have their names only once they are whole.
 
-ghost use Rattle.std.specs.Prelude.{◌≡◌, ◌+◌, ℕ, None, Some, IfOk, IsSome, OnOk, string_bytes};
-ghost use Rattle.cwr_files.specs.Format.Faults.{IfErr, IsOfOutput, IsUnkept, IsUnmade};
-ghost use Rattle.cwr_devices.specs.Steps.Counted.{failures_of};
-ghost use Rattle.cwr_devices.specs.Format.Failures.{one_more_failure};
-ghost use Rattle.cwr_files.specs.Steps.NumberedFiles.{IsPartUnmade, asked_of, created_of, failed_calls_of, given_up_of, lent_of, name_of, part_name, replaces_none};
+ghost use Rattle.std.specs.Prelude.{◌≡◌, ◌+◌, ℕ, [], List, None, Some, true, IfOk, IfSome, IsSome, MatchResult, OnErr, OnOk, string_bytes};
+ghost use Rattle.cwr_files.specs.Format.Faults.{IfErr, IsUnkept, IsUnmade};
+ghost use Rattle.cwr_files.specs.Format.Files.{Same, Texts, Turns, counted_on};
+ghost use Rattle.cwr_files.specs.Format.NewFiles.{unfinished_name};
+ghost use Rattle.cwr_files.specs.Steps.NewFiles.{EndsDropped, EndsKept, HasBegun, HasCounted, HasKeptCount, IsBegun, IsDropped, IsFinished, IsPartOf, final_name};
+ghost use Rattle.cwr_files.specs.Format.Written.{is_whole, times_failed, writer_in};
 
 use crate::faults::{Fault, Name, Reason};
-use crate::outputs::{Gathered, gathered, told_of};
-use crate::same_files::{Identity, identity_of, is_there};
-use crate::stamps::Stamped;
-use cwr_devices::{OutputFault, Outputs};
-use cwr_moments::Moment;
+use crate::outputs::Written;
+use crate::stores::{Found, Store, Unmade};
 use std::alloc::{AllocError, Global};
-use std::fs::File;
 use std::io;
-use std::rt::Files;
+use std::io::Write;
 
 /// How many names are tried for a file that isn't whole yet.
 const MOST_PARTS: u32 = 100;
 
 /// A name for a file that isn't whole yet: that of the whole one and `.part`, and where others are tried the number of the try.
-fn part_name(alloc: Global, name: &str, tries: u32) -> Result<String, AllocError> {
+fn part_name(alloc: Global, name: &str, tries: u32) -> Result<String, AllocError>
+    ensures { IfOk result (λ part. string_bytes part ≡ unfinished_name name.now tries) }
+{
     if tries == 0 {
         format!(in alloc; "{name}.part")
     } else {
@@ -30,24 +29,61 @@ fn part_name(alloc: Global, name: &str, tries: u32) -> Result<String, AllocError
 }
 
 /// Makes a file that isn't whole yet, under the first of its names that nothing has: what is there stays as it is.
-fn create_part<R: Files>(rt: &R, alloc: Global, name: &str) -> io::Result<(String, R::File)> {
+fn create_part<S: Store>(
+    store: &mut S,
+    alloc: Global,
+    name: &str,
+) -> Result<(String, S::Writer), Reason>
+    ensures begun { S.making store.old ≡ None → Turns (S.held store.old) (S.held store.new) (λ texts new.
+        MatchResult result
+        (λ made. IsPartOf name.now (string_bytes made.0) (S.making store.new) texts new × (S.Writer.contents made.1 ≡ Some []))
+        (λ _. Same texts new)) }
+    ensures making { S.making store.old ≡ None → OnErr result (S.making store.new ≡ None) }
+{
     for tries in 0..MOST_PARTS {
-        let part = part_name(alloc, name, tries)?;
-        match File::create_new(rt, part.as_str()) {
+        let Ok(part) = part_name(alloc, name, tries) else {
+            return Err(Reason::kind(io::ErrorKind::OutOfMemory));
+        };
+        match store.create_new(part.as_str()) {
             Ok(file) => return Ok((part, file)),
-            Err(fault) if fault.kind() == io::ErrorKind::AlreadyExists => {}
-            Err(fault) => return Err(fault),
+            Err(Unmade::IsThere) => {}
+            Err(Unmade::Failed(reason)) => return Err(reason),
         }
     }
-    Err(io::Error::from(io::ErrorKind::AlreadyExists))
+    Err(Reason::kind(io::ErrorKind::AlreadyExists))
 }
 
-/// Whether what has the name is written in place: it is there, and isn't a file of its own.
-fn is_in_place<R: Files>(rt: &R, name: &str) -> io::Result<bool> {
-    match rt.symlink_metadata(name) {
-        Ok(found) => Ok(!found.is_file()),
-        Err(fault) if fault.kind() == io::ErrorKind::NotFound => Ok(false),
-        Err(fault) => Err(fault),
+/// Removes what isn't whole. Where that can't be done it stays under the name that says so.
+fn drop_part<S: Store>(store: &mut S, part: &str)
+    ensures dropped { Turns (S.held store.old) (S.held store.new)
+        (IsDropped part.now (S.failures store.old) (S.failures store.new)) }
+    ensures making { S.making store.new ≡ S.making store.old }
+    ensures failures { HasKeptCount (S.failures store.old) (S.failures store.new) }
+{
+    let _ = store.remove(part);
+}
+
+/// Closes the part that was written, and gives it its name. Where that can't be done it is removed.
+fn finish<S: Store>(store: &mut S, writer: S::Writer, part: &str, name: &str) -> Result<(), Reason>
+    ensures finished { (text : List ℕ) → S.making store.old ≡ Some part.now
+        → S.Writer.contents writer ≡ Some text → Turns (S.held store.old) (S.held store.new)
+        (IsFinished part.now name.now text (S.failures store.old) (S.failures store.new) result) }
+    ensures making { S.making store.new ≡ None }
+    ensures counted { OnErr result (HasCounted (S.failures store.old) (S.failures store.new)) }
+{
+    match store.close(writer) {
+        Ok(()) => {}
+        Err(reason) => {
+            drop_part(store, part);
+            return Err(reason);
+        }
+    }
+    match store.rename(part, name) {
+        Ok(()) => Ok(()),
+        Err(reason) => {
+            drop_part(store, part);
+            Err(reason)
+        }
     }
 }
 
@@ -65,51 +101,118 @@ impl NewFile {
     /// # Errors
     ///
     /// Out of memory, or what the system answers where nothing can be told of the name, or no file be made.
-    pub fn create<R: Files>(rt: &R, alloc: Global, name: String) -> io::Result<(NewFile, R::File)> {
-        if is_in_place(rt, name.as_str())? {
-            let file = File::create(rt, name.as_str())?;
-            return Ok((NewFile { name, part: None }, file));
+    pub fn create<S: Store>(
+        store: &mut S,
+        alloc: Global,
+        name: String,
+    ) -> Result<(NewFile, S::Writer), Reason>
+        ensures begun { S.making store.old ≡ None → Turns (S.held store.old) (S.held store.new) (λ texts new.
+            MatchResult result
+            (λ made. IsBegun made.0 (S.making store.new) texts new × (S.Writer.contents made.1 ≡ Some []))
+            (λ _. Same texts new)) }
+        ensures named { IfOk result (λ made. final_name made.0 ≡ string_bytes name) }
+        ensures making { S.making store.old ≡ None → OnErr result (S.making store.new ≡ None) }
+    {
+        match store.look(name.as_str()) {
+            Ok(Found::Other) => match store.create(name.as_str()) {
+                Ok(file) => Ok((NewFile { name, part: None }, file)),
+                Err(reason) => Err(reason),
+            },
+            Ok(Found::Nothing | Found::File) => match create_part(store, alloc, name.as_str()) {
+                Ok((part, file)) => {
+                    let part = Some(part);
+                    Ok((NewFile { name, part }, file))
+                }
+                Err(reason) => Err(reason),
+            },
+            Err(reason) => Err(reason),
         }
-        let (part, file) = create_part(rt, alloc, name.as_str())?;
-        let part = Some(part);
-        Ok((NewFile { name, part }, file))
     }
 
     /// Gives the file its name, now that it is whole. A file that had the name before is replaced. Where it can't have the name it is
     /// removed.
-    pub fn keep<R: Files>(self, rt: &R) -> io::Result<()> {
-        let Some(part) = &self.part else {
-            return Ok(());
-        };
-        let kept = rt.rename(part.as_str(), self.name.as_str());
-        if kept.is_err() {
-            let _ = rt.remove_file(part.as_str());
+    fn keep_file<S: Store>(self, store: &mut S, writer: S::Writer) -> Result<(), Reason>
+        ensures kept { (texts : Texts) (text : List ℕ) → HasBegun self (S.making store.old) texts (S.held store.old)
+            → S.Writer.contents writer ≡ Some text
+            → EndsKept self text (S.failures store.old) (S.failures store.new) result texts (S.held store.new) }
+        ensures making { S.making store.new ≡ None }
+        ensures counted { OnErr result (HasCounted (S.failures store.old) (S.failures store.new)) }
+    {
+        match &self.part {
+            Some(part) => finish(store, writer, part.as_str(), self.name.as_str()),
+            None => store.close(writer),
         }
-        kept
+    }
+
+    /// Gives the file its name, now that it is whole. A file that had the name before is replaced. Where it can't have the name, or
+    /// its writer couldn't hand on all of it, it is removed.
+    pub fn keep<S: Store>(self, store: &mut S, written: Written<S::Writer>) -> Result<(), Reason>
+        ensures kept { (texts : Texts) (text : List ℕ) → HasBegun self (S.making store.old) texts (S.held store.old)
+            → S.Writer.contents (writer_in written) ≡ Some text
+            → EndsKept self text (S.failures store.old) (S.failures store.new) result texts (S.held store.new) }
+        ensures whole { OnOk result (is_whole written ≡ true) }
+        ensures making { S.making store.new ≡ None }
+        ensures counted { OnErr result (HasCounted (S.failures store.old) (S.failures store.new)) }
+    {
+        let times = written.failures().max(1);
+        match written.into_whole() {
+            Some(writer) => self.keep_file(store, writer),
+            None => {
+                self.discard(store, times);
+                Err(Reason::kind(io::ErrorKind::WriteZero))
+            }
+        }
+    }
+
+    /// Whether a file will be replaced.
+    fn replaces<S: Store>(&self, store: &mut S) -> bool
+        ensures kept { S.held store.new ≡ S.held store.old }
+        ensures making { S.making store.new ≡ S.making store.old }
+        ensures failures { HasKeptCount (S.failures store.old) (S.failures store.new) }
+    {
+        self.part.is_some() && is_there(store, self.name.as_str())
     }
 
     /// Gives the file its name as `keep` does, and answers whether a file was replaced. Where it fails, what it is called is told.
-    fn keep_named<'a, R: Files>(self, rt: &R, name: Name<'a>) -> Result<bool, Fault<'a>>
-        ensures { IfErr result (IsUnkept name.entry) }
+    pub(crate) fn keep_named<'a, S: Store>(
+        self,
+        store: &mut S,
+        written: Written<S::Writer>,
+        name: Name<'a>,
+    ) -> Result<bool, Fault<'a>>
+        ensures kept { (texts : Texts) (text : List ℕ) → HasBegun self (S.making store.old) texts (S.held store.old)
+            → S.Writer.contents (writer_in written) ≡ Some text
+            → EndsKept self text (S.failures store.old) (S.failures store.new) result texts (S.held store.new) }
+        ensures whole { OnOk result (is_whole written ≡ true) }
+        ensures making { S.making store.new ≡ None }
+        ensures counted { OnErr result (HasCounted (S.failures store.old) (S.failures store.new)) }
+        ensures fault { IfErr result (IsUnkept name.entry) }
     {
-        let replaces = self.part.is_some() && is_there(rt, self.name.as_str());
-        match self.keep(rt) {
+        let replaces = self.replaces(store);
+        match self.keep(store, written) {
             Ok(()) => Ok(replaces),
-            Err(fault) => Err(Fault::Output(name, Some(Reason::of(&fault)))),
+            Err(reason) => Err(Fault::Output(name, Some(reason))),
         }
     }
 
     /// Gives the file its name as `keep` does, and tells on standard error that a file was replaced, if one was. Where it fails, what it is
     /// called is told.
-    pub fn keep_as<'a, R: Files, E: io::Write>(
+    pub fn keep_as<'a, S: Store, E: Write>(
         self,
-        rt: &R,
+        store: &mut S,
+        written: Written<S::Writer>,
         name: Name<'a>,
         error: &mut E,
     ) -> Result<(), Fault<'a>>
-        ensures { IfErr result (IsUnkept name.entry) }
+        ensures kept { (texts : Texts) (text : List ℕ) → HasBegun self (S.making store.old) texts (S.held store.old)
+            → S.Writer.contents (writer_in written) ≡ Some text
+            → EndsKept self text (S.failures store.old) (S.failures store.new) result texts (S.held store.new) }
+        ensures whole { OnOk result (is_whole written ≡ true) }
+        ensures making { S.making store.new ≡ None }
+        ensures counted { OnErr result (HasCounted (S.failures store.old) (S.failures store.new)) }
+        ensures fault { IfErr result (IsUnkept name.entry) }
     {
-        match self.keep_named(rt, name) {
+        match self.keep_named(store, written, name) {
             Ok(replaced) => {
                 if replaced {
                     // What standard error doesn't take is lost.
@@ -121,21 +224,57 @@ impl NewFile {
         }
     }
 
-    /// Removes the file. Where that can't be done it stays under the name that says so.
-    pub fn discard<R: Files>(self, rt: &R) {
+    /// Takes back the file's writer, and removes the file. Where that can't be done it stays under the name that says so.
+    pub fn give_up<S: Store>(self, store: &mut S, written: Written<S::Writer>)
+        ensures dropped { (texts : Texts) → HasBegun self (S.making store.old) texts (S.held store.old)
+            → EndsDropped self (counted_on (times_failed written) (S.failures store.old)) (S.failures store.new) texts (S.held store.new) }
+        ensures making { S.making store.new ≡ None }
+    {
+        let times = written.failures();
+        drop(written);
+        self.discard(store, times);
+    }
+
+    /// Removes the file, whose writer is gone and failed so often. Where that can't be done it stays under the name that says so.
+    pub fn discard<S: Store>(self, store: &mut S, times: u64)
+        ensures dropped { (texts : Texts) → HasBegun self (S.making store.old) texts (S.held store.old)
+            → EndsDropped self (counted_on times (S.failures store.old)) (S.failures store.new) texts (S.held store.new) }
+        ensures making { S.making store.new ≡ None }
+        ensures failures { HasKeptCount (counted_on times (S.failures store.old)) (S.failures store.new) }
+    {
+        store.give_up(times);
         if let Some(part) = &self.part {
-            let _ = rt.remove_file(part.as_str());
+            drop_part(store, part.as_str());
         }
     }
 }
 
+/// Whether something has the name. No is the answer too where nothing can be told of it.
+pub fn is_there<S: Store>(store: &mut S, name: &str) -> bool
+    ensures there { result ≡ true → IfSome (S.held store.old) (λ texts. IsSome (texts name.now)) }
+    ensures kept { S.held store.new ≡ S.held store.old }
+    ensures making { S.making store.new ≡ S.making store.old }
+    ensures failures { HasKeptCount (S.failures store.old) (S.failures store.new) }
+{
+    match store.look(name) {
+        Ok(Found::File | Found::Other) => true,
+        Ok(Found::Nothing) | Err(_) => false,
+    }
+}
+
 /// Makes the file that a transmission is written to. None has an empty name.
-pub fn create_output<'a, R: Files>(
-    rt: &R,
+pub fn create_output<'a, S: Store>(
+    store: &mut S,
     alloc: Global,
     out: &'a str,
-) -> Result<(NewFile, R::File), Fault<'a>>
-    ensures { IfErr result (IsUnmade (Name.File out.entry)) }
+) -> Result<(NewFile, S::Writer), Fault<'a>>
+    ensures begun { S.making store.old ≡ None → Turns (S.held store.old) (S.held store.new) (λ texts new.
+        MatchResult result
+        (λ made. IsBegun made.0 (S.making store.new) texts new × (S.Writer.contents made.1 ≡ Some []))
+        (λ _. Same texts new)) }
+    ensures named { IfOk result (λ made. final_name made.0 ≡ out.now) }
+    ensures making { S.making store.old ≡ None → OnErr result (S.making store.new ≡ None) }
+    ensures unmade { IfErr result (IsUnmade (Name.File out.entry)) }
 {
     if out.is_empty() {
         let reason = Reason::kind(io::ErrorKind::NotFound);
@@ -144,274 +283,9 @@ pub fn create_output<'a, R: Files>(
     let Ok(name) = out.to_string(alloc) else {
         return Err(Fault::Memory);
     };
-    match NewFile::create(rt, alloc, name) {
+    match NewFile::create(store, alloc, name) {
         Ok(made) => Ok(made),
-        Err(fault) if fault.kind() == io::ErrorKind::OutOfMemory => Err(Fault::Memory),
-        Err(fault) => Err(Fault::Open(Name::File(out), Some(Reason::of(&fault)))),
-    }
-}
-
-/// The name of the part of that number: what the names begin with, and eight digits.
-fn numbered_name(alloc: Global, prefix: &str, number: u32) -> Result<String, AllocError>
-    ensures { IfOk result (λ name. string_bytes name ≡ part_name prefix.now number) }
-{
-    format!(in alloc; "{prefix}{number:08}")
-}
-
-/// The files of a split, whose names are a prefix and eight digits, from `00000001` on.
-#[derive(Drop)]
-pub struct NumberedFiles<'r, 'a, R: Files> {
-    rt: &'r R,
-    alloc: Global,
-    prefix: &'a str,
-    /// The input, which no part may be.
-    input: Option<Identity>,
-    /// No part may replace a file.
-    only_new: bool,
-    /// When the first part is created, and each other one a second later; without it when the transmission was.
-    created: Option<Moment>,
-    /// How many were asked for.
-    asked: u32,
-    /// How many files were replaced, and the number of the part that replaced the first.
-    replaced: u32,
-    first_replaced: u32,
-    /// The one that is being written.
-    open_file: Option<NewFile>,
-    /// What is told of the file that couldn't be made, finished or written.
-    fault: Option<Fault<'a>>,
-    failed_calls: u64,
-    given_up: u64,
-}
-
-impl<'r, 'a, R: Files> NumberedFiles<'r, 'a, R> {
-    /// The files whose names begin with the prefix, none of which may be the input, or may be there where only new ones may be made. The
-    /// first one is created at that moment, and each other one a second later. None was asked for.
-    pub fn new(
-        rt: &'r R,
-        alloc: Global,
-        prefix: &'a str,
-        input: Option<Identity>,
-        only_new: bool,
-        created: Option<Moment>,
-    ) -> NumberedFiles<'r, 'a, R> {
-        NumberedFiles {
-            rt,
-            alloc,
-            prefix,
-            input,
-            only_new,
-            created,
-            asked: 0,
-            replaced: 0,
-            first_replaced: 0,
-            open_file: None,
-            fault: None,
-            failed_calls: 0,
-            given_up: 0,
-        }
-    }
-
-    /// What is told of the file that couldn't be made, finished or written.
-    pub fn fault(&self) -> Fault<'a> {
-        self.fault.unwrap_or(Fault::Output(self.name(), None))
-    }
-
-    /// Tells on standard error which files were replaced, if some were. What standard error doesn't take is lost.
-    pub fn tell_replaced<E: io::Write>(&self, error: &mut E) {
-        let first = Name::Part(self.prefix, self.first_replaced);
-        let _ = match self.replaced {
-            0 => Ok(()),
-            1 => writeln!(error, "cwr: {first} was replaced"),
-            count => writeln!(error, "cwr: {count} files were replaced, the first {first}"),
-        };
-    }
-
-    /// What the part in hand is called.
-    fn name(&self) -> Name<'a>
-        ensures { result ≡ name_of self.now }
-    {
-        Name::Part(self.prefix, self.asked)
-    }
-
-    /// When the part in hand is created, where that isn't when the transmission was.
-    fn moment(&self) -> Result<Option<Moment>, Fault<'a>>
-        ensures { IfErr result (λ fault. (fault ≡ Fault.IsLate (name_of self.now))
-            × IsSome (created_of self.now)) }
-    {
-        let Some(created) = self.created else {
-            return Ok(None);
-        };
-        match created.later(self.asked.saturating_sub(1)) {
-            Some(moment) => Ok(Some(moment)),
-            None => Err(Fault::IsLate(self.name())),
-        }
-    }
-
-    /// Makes the file of that name, which is the one that was asked for last.
-    fn create(&mut self, name: String) -> Result<Gathered<'a, Stamped<R::File>>, Fault<'a>>
-        requires { string_bytes name ≡ part_name self.old.prefix.now (asked_of self.old) }
-        ensures asked { asked_of self.new ≡ asked_of self.old }
-        ensures guarded { replaces_none self.new ≡ replaces_none self.old }
-        ensures failed_calls { failed_calls_of self.new ≡ failed_calls_of self.old }
-        ensures given_up { given_up_of self.new ≡ given_up_of self.old }
-        ensures unfailed { IfOk result (λ writer. failures_of writer ≡ 0) }
-        ensures lent { IfOk result (λ writer. lent_of self.new ≡ 1) }
-        ensures unmade { IfErr result (IsPartUnmade self.old) }
-    {
-        if self.input.is_some() && identity_of(self.rt, name.as_str()) == self.input {
-            return Err(Fault::IsInput(self.name()));
-        }
-        if self.only_new && is_there(self.rt, name.as_str()) {
-            return Err(Fault::IsThere(self.name()));
-        }
-        let moment = match self.moment() {
-            Ok(moment) => moment,
-            Err(fault) => return Err(fault),
-        };
-        match NewFile::create(self.rt, self.alloc, name) {
-            Ok((made, file)) => {
-                self.open_file = Some(made);
-                match gathered(self.alloc, Stamped::new(file, moment), self.name()) {
-                    Ok(writer) => Ok(writer),
-                    Err(_) => Err(Fault::Memory),
-                }
-            }
-            Err(fault) => Err(Fault::Output(self.name(), Some(Reason::of(&fault)))),
-        }
-    }
-
-    /// Makes the next file.
-    fn make(&mut self) -> Result<Gathered<'a, Stamped<R::File>>, Fault<'a>>
-        ensures asked { IfOk result (λ writer. asked_of self.new ≡ asked_of self.old + 1) }
-        ensures guarded { replaces_none self.new ≡ replaces_none self.old }
-        ensures failed_calls { failed_calls_of self.new ≡ failed_calls_of self.old }
-        ensures given_up { given_up_of self.new ≡ given_up_of self.old }
-        ensures unfailed { IfOk result (λ writer. failures_of writer ≡ 0) }
-        ensures lent { IfOk result (λ writer. lent_of self.new ≡ 1) }
-    {
-        let Some(number) = self.asked.checked_add(1) else {
-            return Err(Fault::Output(self.name(), None));
-        };
-        self.asked = number;
-        match numbered_name(self.alloc, self.prefix, number) {
-            Ok(name) => self.create(name),
-            Err(_) => Err(Fault::Memory),
-        }
-    }
-
-    /// Gives the file that was written its name.
-    fn keep(&mut self) -> Result<(), Fault<'a>>
-        ensures kept { OnOk result (lent_of self.old ≡ 1) }
-        ensures unkept { IfErr result (IsOfOutput (name_of self.old)) }
-        ensures asked { asked_of self.new ≡ asked_of self.old }
-        ensures guarded { replaces_none self.new ≡ replaces_none self.old }
-        ensures failed_calls { failed_calls_of self.new ≡ failed_calls_of self.old }
-        ensures given_up { given_up_of self.new ≡ given_up_of self.old }
-        ensures lent { lent_of self.new ≡ 0 }
-    {
-        let name = self.name();
-        match self.open_file.take() {
-            Some(made) => match made.keep_named(self.rt, name) {
-                Ok(replaced) => {
-                    if replaced {
-                        self.count_replaced();
-                    }
-                    Ok(())
-                }
-                Err(fault) => Err(fault),
-            },
-            None => Err(Fault::Output(name, None)),
-        }
-    }
-
-    /// Counts a file that the part in hand replaced.
-    fn count_replaced(&mut self)
-        ensures asked { asked_of self.new ≡ asked_of self.old }
-        ensures guarded { replaces_none self.new ≡ replaces_none self.old }
-        ensures failed_calls { failed_calls_of self.new ≡ failed_calls_of self.old }
-        ensures given_up { given_up_of self.new ≡ given_up_of self.old }
-        ensures lent { lent_of self.new ≡ lent_of self.old }
-    {
-        if self.replaced == 0 {
-            self.first_replaced = self.asked;
-        }
-        self.replaced = self.replaced.saturating_add(1);
-    }
-
-    /// Removes the file that was being written, if there is one.
-    fn discard(&mut self)
-        ensures asked { asked_of self.new ≡ asked_of self.old }
-        ensures guarded { replaces_none self.new ≡ replaces_none self.old }
-        ensures failed_calls { failed_calls_of self.new ≡ failed_calls_of self.old }
-        ensures given_up { given_up_of self.new ≡ given_up_of self.old }
-        ensures lent { lent_of self.new ≡ 0 }
-    {
-        if let Some(made) = self.open_file.take() {
-            made.discard(self.rt);
-        }
-    }
-
-    /// Counts a call that failed.
-    fn count_failure(&mut self, fault: Fault<'a>) -> OutputFault
-        ensures asked { asked_of self.new ≡ asked_of self.old }
-        ensures guarded { replaces_none self.new ≡ replaces_none self.old }
-        ensures failed_calls { failed_calls_of self.new
-            ≡ one_more_failure (failed_calls_of self.old) }
-        ensures given_up { given_up_of self.new ≡ given_up_of self.old }
-        ensures lent { lent_of self.new ≡ lent_of self.old }
-    {
-        self.fault = Some(fault);
-        self.failed_calls = self.failed_calls.saturating_add(1);
-        OutputFault
-    }
-}
-
-impl<'a, R: Files> Outputs for NumberedFiles<'_, 'a, R> {
-    type W = Gathered<'a, Stamped<R::File>>;
-
-    // What a file holds isn't known.
-    ghost texts = { λ files. None };
-
-    ghost failures = { failed_calls_of };
-
-    ghost given_up = { given_up_of };
-
-    // One file is written at a time.
-    ghost lent = { lent_of };
-
-    ghost had = { λ files. None };
-
-    fn next(&mut self) -> Result<Gathered<'a, Stamped<R::File>>, OutputFault> {
-        if self.open_file.is_some() || self.failed_calls == u64::MAX {
-            let fault = Fault::Output(self.name(), None);
-            return Err(self.count_failure(fault));
-        }
-        match self.make() {
-            Ok(writer) => Ok(writer),
-            Err(fault) => {
-                self.discard();
-                Err(self.count_failure(fault))
-            }
-        }
-    }
-
-    fn done(&mut self, writer: Gathered<'a, Stamped<R::File>>) -> Result<(), OutputFault> {
-        drop(writer);
-        match self.keep() {
-            Ok(()) if self.failed_calls < u64::MAX => Ok(()),
-            Ok(()) => {
-                let fault = Fault::Output(self.name(), None);
-                Err(self.count_failure(fault))
-            }
-            Err(fault) => Err(self.count_failure(fault)),
-        }
-    }
-
-    fn give_up(&mut self, writer: Gathered<'a, Stamped<R::File>>) {
-        if writer.failures() > 0 {
-            self.given_up = self.given_up.saturating_add(1);
-        }
-        self.fault = Some(Fault::Write(told_of(writer)));
-        self.discard();
+        Err(reason) if reason.is_of_memory() => Err(Fault::Memory),
+        Err(reason) => Err(Fault::Open(Name::File(out), Some(reason))),
     }
 }

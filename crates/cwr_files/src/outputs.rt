@@ -1,7 +1,10 @@
 //! Outputs: standard output, and files, with what is told of them where they fail.
 
-ghost use Rattle.std.specs.Prelude.{◌≡◌, IfOk};
+ghost use Rattle.std.specs.Prelude.{◌≡◌, true, false, IfOk, MatchOption};
+ghost use Rattle.std.specs.Io.KnownBytes.{Keeps};
 ghost use Rattle.cwr_devices.specs.Steps.Counted.{failures_of};
+ghost use Rattle.cwr_files.specs.Format.Written.{is_whole, times_failed, writer_in};
+ghost use Rattle.cwr_files.specs.Steps.Gathering.{written_to};
 
 use crate::faults::{Name, Reason, Told};
 use crate::fronts::CHARACTER_SET;
@@ -46,6 +49,15 @@ impl<'a, O> Output<'a, O> {
     }
 }
 
+impl<'a, O> Output<'a, O> {
+    /// The writer itself.
+    fn into_inner(self) -> O
+        ensures { result ≡ self.entry.output }
+    {
+        self.output
+    }
+}
+
 impl<O: Write> Write for Output<'_, O> {
     ghost contents = { λ it. O.contents it.output };
 
@@ -87,6 +99,68 @@ pub fn gathered<'a, O: Write + Drop>(
 /// What is known of a writer that is given up. What is left in it is written, where that can be.
 pub fn told_of<'a, O: Write + Drop>(writer: Gathered<'a, O>) -> Told<'a> {
     writer.into_inner().get_ref().told()
+}
+
+/// A writer that was taken back from the one that gathered for it.
+#[derive(Drop)]
+pub struct Written<F> {
+    pub(crate) writer: F,
+    /// How often it failed.
+    pub(crate) failures: u64,
+    /// It has all that was given to it.
+    pub(crate) is_whole: bool,
+}
+
+impl<F> Written<F> {
+    /// How often it failed.
+    pub fn failures(&self) -> u64
+        ensures { result ≡ times_failed self.now }
+    {
+        self.failures
+    }
+
+    /// The writer itself, where it has all that was given to it.
+    pub(crate) fn into_whole(self) -> Option<F>
+    where
+        F: Drop,
+        ensures { MatchOption result (is_whole self ≡ false)
+            (λ writer. (writer ≡ writer_in self) × (is_whole self ≡ true)) }
+    {
+        if self.is_whole {
+            Some(self.writer)
+        } else {
+            None
+        }
+    }
+}
+
+/// Takes back a writer, with what is known of it. What is left in the one that gathered is written, where that can be.
+pub fn take_back<'a, O: Write + Drop>(writer: Gathered<'a, O>) -> (Told<'a>, Written<O>)
+    ensures whole { is_whole result.1 ≡ true
+        → Keeps (written_to O.contents writer.entry) (O.contents (writer_in result.1)) }
+    ensures failures { times_failed result.1 ≡ failures_of writer.entry }
+{
+    let failures = writer.failures();
+    let gathered = writer.into_inner();
+    let told = gathered.get_ref().told();
+    match gathered.into_inner() {
+        Ok(output) => {
+            let written = Written {
+                writer: output.into_inner(),
+                failures,
+                is_whole: true,
+            };
+            (told, written)
+        }
+        Err(fault) => {
+            let written = Written {
+                writer: fault.into_inner().into_parts().0.into_inner(),
+                failures,
+                is_whole: false,
+            };
+            (told, written)
+        }
+    }
 }
 
 /// Writes a text to standard output, and hands it on. Where that fails, the error is what is known of the output.

@@ -1,6 +1,10 @@
 //! How far a long run is, on standard error.
 
+ghost use Rattle.std.specs.Prelude.{◌≡◌};
+ghost use Rattle.cwr_files.specs.Format.Written.{is_whole, paced_writer, times_failed, writer_in};
+
 use crate::faults::Name;
+use crate::outputs::Written;
 use memchr::memchr_iter;
 use std::io;
 use std::io::Write;
@@ -182,7 +186,33 @@ impl<'a, O, P: Pace> Paced<'a, O, P> {
     }
 }
 
+impl<'a, O, P: Drop> Paced<'a, O, P> {
+    /// The writer itself.
+    fn into_inner(self) -> O
+        ensures { result ≡ paced_writer self.entry }
+    {
+        self.output
+    }
+}
+
+impl<'a, O, P: Drop> Written<Paced<'a, O, P>> {
+    /// The writer that was paced.
+    pub fn unpaced(self) -> Written<O>
+        ensures writer { writer_in result ≡ paced_writer (writer_in self.entry) }
+        ensures whole { is_whole result ≡ is_whole self.entry }
+        ensures failures { times_failed result ≡ times_failed self.entry }
+    {
+        Written {
+            writer: self.writer.into_inner(),
+            failures: self.failures,
+            is_whole: self.is_whole,
+        }
+    }
+}
+
 impl<O: Write, P: Pace> Write for Paced<'_, O, P> {
+    ghost contents = { λ it. O.contents it.output };
+
     fn write(&mut self, text: &[u8]) -> io::Result<usize> {
         let count = self.output.write(text)?;
         self.bytes = self.bytes.saturating_add(count as u64);

@@ -46,11 +46,6 @@ pub fn size_of<R: Files>(rt: &R, name: &str) -> Option<u64> {
     }
 }
 
-/// Whether something has the name.
-pub fn is_there<R: Files>(rt: &R, name: &str) -> bool {
-    rt.symlink_metadata(name).is_ok()
-}
-
 /// The number in the name of a part: what follows the prefix, where that is eight digits.
 pub fn part_number(name: &str, prefix: &str) -> Option<u32> {
     let digits = name.strip_prefix(prefix)?;

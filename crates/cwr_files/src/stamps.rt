@@ -2,7 +2,9 @@
 
 ghost use Rattle.std.specs.Prelude.{◌≡◌, ◌≤◌, ℕ, List, length};
 ghost use Rattle.cwr_files.specs.Format.Stamps.{stamped};
+ghost use Rattle.cwr_files.specs.Format.Written.{is_whole, stamped_file, text_of_stamped, times_failed, writer_in};
 
+use crate::outputs::Written;
 use cwr_moments::Moment;
 use std::io;
 use std::io::Write;
@@ -48,7 +50,24 @@ fn next_piece<'t>(cells: &'t [u8; 14], at: u64, text: &'t [u8]) -> &'t [u8]
     &cells[from..from + text.len().min(14 - from)]
 }
 
+impl<F> Written<Stamped<F>> {
+    /// The file itself.
+    pub(crate) fn unstamped(self) -> Written<F>
+        ensures writer { writer_in result ≡ stamped_file (writer_in self) }
+        ensures whole { is_whole result ≡ is_whole self }
+        ensures failures { times_failed result ≡ times_failed self }
+    {
+        Written {
+            writer: self.writer.file,
+            failures: self.failures,
+            is_whole: self.is_whole,
+        }
+    }
+}
+
 impl<F: Write> Write for Stamped<F> {
+    ghost contents = { text_of_stamped F.contents };
+
     fn write(&mut self, text: &[u8]) -> io::Result<usize> {
         let count = match self.moment {
             Some(moment) => self.file.write(next_piece(&moment.cells(), self.at, text))?,

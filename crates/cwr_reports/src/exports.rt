@@ -8,7 +8,9 @@ ghost use Rattle.cwr_reports.specs.Steps.Looks.{tells_findings};
 
 use crate::tellings::{Asked, Telling, judge_input, tell_aside};
 use cwr_endings::{Judgement, Status, refuse_out, settle};
-use cwr_files::{DASH, Fault, Input, Name, Pace, create_output, gathered, open_input, told_of};
+use cwr_files::{
+    DASH, Fault, Input, Name, Pace, SystemStore, create_output, gathered, open_input, take_back,
+};
 use cwr_tools::{ToolFault, Verdict};
 use std::io::{Read, Write};
 use std::rt::Files;
@@ -49,13 +51,14 @@ fn report_to_file<'a, R: Files + AllocGlobal, I: Read + Drop, P: Pace + Drop, E:
     ensures { EndsAsExport (advice_in telling.entry) asked.now.limits asked.now.wanted
         (remaining_of R.File.remaining I.remaining input.entry) result }
 {
-    let (made, file) = create_output(rt, asked.alloc, out)?;
+    let mut store = SystemStore::new(rt);
+    let (made, file) = create_output(&mut store, asked.alloc, out)?;
     let Ok(lines) = gathered(asked.alloc, file, Name::File(out)) else {
-        made.discard(rt);
+        made.discard(&mut store, 0);
         return Err(Fault::Memory);
     };
     let (lines, judged, told, count) = judge_input(asked, telling, input, lines);
-    let written = told_of(lines);
+    let (of_file, written) = take_back(lines);
     let is_wanted = matches!(
         judged,
         Ok(Judgement {
@@ -63,14 +66,14 @@ fn report_to_file<'a, R: Files + AllocGlobal, I: Read + Drop, P: Pace + Drop, E:
             ..
         },)
     );
-    settle(rt, made, out, is_wanted, &mut *error)?;
+    settle(&mut store, made, written, out, is_wanted, &mut *error)?;
     match judged {
         Ok(judgement) => {
             tell_aside(error, telling, &told, &judgement, &count, false);
             Ok(judgement.status)
         }
         Err(ToolFault::Reader) => Err(Fault::Read(told)),
-        Err(ToolFault::Writer { .. }) => Err(Fault::Write(written)),
+        Err(ToolFault::Writer { .. }) => Err(Fault::Write(of_file)),
         Err(_) => Err(Fault::Memory),
     }
 }

@@ -5,7 +5,10 @@ ghost use Rattle.cwr_transform.specs.Format.Imports.{EndsAsFileImport, EndsAsImp
 
 use cwr_devices::{Counted, ReadAhead, Sink};
 use cwr_endings::{Status, settle};
-use cwr_files::{Fault, Gathered, Input, Name, Pace, Told, create_output, gathered, told_of};
+use cwr_files::{
+    Fault, Gathered, Input, Name, Pace, SystemStore, Told, create_output, gathered, take_back,
+    told_of,
+};
 use cwr_json::Encoding;
 use cwr_shape::Limits;
 use cwr_write::{WriteFault, Written, put_hint, put_write_outcome, write};
@@ -53,13 +56,14 @@ pub struct Import {
     pub most: usize,
 }
 
-/// Writes the transmission that the input's lines are to the writer. Beside how that ended comes what is known of both.
+/// Writes the transmission that the input's lines are to the writer, which comes back. Beside how that ended comes what is known of the
+/// input.
 fn import_from<'a, F: Read + Drop, I: Read + Drop, P: Pace + Drop, O: Write + Drop>(
     alloc: Global,
     import: &Import,
     input: Input<'a, F, I, P>,
     writer: Gathered<'a, O>,
-) -> (Result<Written, WriteFault>, Told<'a>, Told<'a>)
+) -> (Result<Written, WriteFault>, Told<'a>, Gathered<'a, O>)
     ensures { JudgesImport import.now (remaining_of F.remaining I.remaining input.entry) result.0 }
 {
     let mut reader = ReadAhead::new(input);
@@ -71,7 +75,7 @@ fn import_from<'a, F: Read + Drop, I: Read + Drop, P: Pace + Drop, O: Write + Dr
         &mut reader,
         writer,
     );
-    (outcome, reader.into_inner().told(), told_of(writer))
+    (outcome, reader.into_inner().told(), writer)
 }
 
 /// Writes the transmission that the input's lines are to the output.
@@ -87,7 +91,8 @@ pub fn import_input<'a, F: Read + Drop, I: Read + Drop, P: Pace + Drop, O: Write
     let Ok(writer) = gathered(alloc, output, Name::StandardOutput) else {
         return Err(Fault::Memory);
     };
-    let (outcome, read, written) = import_from(alloc, import, input, writer);
+    let (outcome, read, writer) = import_from(alloc, import, input, writer);
+    let written = told_of(writer);
     tell_import(import, &outcome, error);
     import_ending(outcome, read, written)
 }
@@ -110,18 +115,20 @@ pub fn import_file<
     ensures { EndsAsFileImport import.now (remaining_of F.remaining I.remaining input.entry) result }
 {
     let alloc = rt.alloc();
-    let (made, file) = match create_output(rt, alloc, out) {
+    let mut store = SystemStore::new(rt);
+    let (made, file) = match create_output(&mut store, alloc, out) {
         Ok(made) => made,
         Err(fault) => return Err(fault),
     };
     let Ok(writer) = gathered(alloc, file, Name::File(out)) else {
-        made.discard(rt);
+        made.discard(&mut store, 0);
         return Err(Fault::Memory);
     };
-    let (outcome, read, written) = import_from(alloc, import, input, writer);
-    if let Err(fault) = settle(rt, made, out, outcome.is_ok(), error) {
+    let (outcome, read, writer) = import_from(alloc, import, input, writer);
+    let (told, written) = take_back(writer);
+    if let Err(fault) = settle(&mut store, made, written, out, outcome.is_ok(), error) {
         return Err(fault);
     }
     tell_import(import, &outcome, error);
-    import_ending(outcome, read, written)
+    import_ending(outcome, read, told)
 }

@@ -13,8 +13,8 @@ use cwr_endings::{
     tell_findings, tell_following, tell_unjoined,
 };
 use cwr_files::{
-    Fault, Gathered, Input, Name, Pace, Paced, Told, Unwatched, create_output, gathered,
-    identity_of, identity_of_input, is_standard, is_there, open_input, told_of,
+    Fault, Gathered, Input, Name, Pace, Paced, Store, SystemStore, Told, Unwatched, Written,
+    create_output, gathered, is_standard, open_input, take_back,
 };
 use cwr_parts::{join_viewed, put_join_outcome};
 use cwr_shape::Limits;
@@ -148,15 +148,16 @@ fn write_joined<'a, R: Source, F: Write + Drop, P: Pace>(
     view: &mut JoinView,
     file: F,
     pace: &mut P,
-) -> Option<(Result<JoinReport, JoinFault>, Told<'a>)>
+) -> Option<(Result<JoinReport, JoinFault>, Told<'a>, Written<F>)>
     requires { 0 < length readers.old }
 {
     let name = Name::File(union.out);
     let writer = gathered(alloc, Paced::new(file, name, &mut *pace), name).ok()?;
     let (writer, outcome) = join_viewed(alloc, union.limits, readers, view, writer);
-    let written = told_of(writer);
+    let (told, written) = take_back(writer);
+    let written = written.unpaced();
     pace.end();
-    Some((outcome, written))
+    Some((outcome, told, written))
 }
 
 /// Tells what was seen of transmissions that are joined: who sent them, which works stand in two of them, and their findings. `is_kept`
@@ -196,31 +197,37 @@ fn fault_seen<'a>(union: &Union<'_>, names: &[&'a str], view: &JoinView) -> Opti
 }
 
 /// Joins the inputs to a file, which gets its name where that is what is wanted.
-fn join_to_file<'a, R: Files + AllocGlobal, S: Source, P: Pace, E: Write>(
-    rt: &R,
+fn join_to_file<'a, S: Store, R: Source, P: Pace, E: Write>(
+    store: &mut S,
+    alloc: Global,
     union: &Union<'a>,
     names: &[&'a str],
-    readers: &mut [S],
+    readers: &mut [R],
     pace: &mut P,
     error: &mut E,
 ) -> Result<Joined<'a>, Fault<'a>>
     requires { 0 < length readers.old }
     ensures { IfErr result (IsUnjoined union.now) }
 {
-    let alloc = rt.alloc();
-    let (made, file) = match create_output(rt, alloc, union.out) {
+    let (made, file) = match create_output(store, alloc, union.out) {
         Ok(made) => made,
         Err(fault) => return Err(fault),
     };
     let mut view = JoinView::new(alloc, union.repeated);
-    let Some((outcome, written)) = write_joined(alloc, union, &mut *readers, &mut view, file, pace)
-    else {
-        made.discard(rt);
+    let Some((outcome, told, written)) = write_joined(
+        alloc,
+        union,
+        &mut *readers,
+        &mut view,
+        file,
+        pace,
+    ) else {
+        made.discard(store, 0);
         return Err(Fault::Memory);
     };
     if outcome.is_ok() {
         if let Some(fault) = fault_seen(union, names, &view) {
-            made.discard(rt);
+            made.give_up(store, written);
             tell_senders(error, names, view.openings.as_slice(), false);
             return Err(fault);
         }
@@ -233,10 +240,10 @@ fn join_to_file<'a, R: Files + AllocGlobal, S: Source, P: Pace, E: Write>(
         outcome,
         after,
         found: outcome.is_ok() && view.findings.count.reaches(union.wanted.fail_on),
-        written,
+        written: told,
     };
     let is_kept = joined.is_wanted(union.wanted.whole);
-    match settle(rt, made, union.out, is_kept, &mut *error) {
+    match settle(store, made, written, union.out, is_kept, &mut *error) {
         Ok(()) => {
             if joined.outcome.is_ok() {
                 let name = Name::File(union.out);
@@ -335,7 +342,16 @@ pub fn join_files<'a, R: Files + AllocGlobal, I: Read + Drop, P: Pace, O: Write 
     if let Err(fault) = refuse_out(rt, union.out, union.only_new, names) {
         return Err(fault);
     }
-    let joined = match join_to_file(rt, union, names, readers.as_mut_slice(), pace, error) {
+    let mut store = SystemStore::new(rt);
+    let joined = match join_to_file(
+        &mut store,
+        alloc,
+        union,
+        names,
+        readers.as_mut_slice(),
+        pace,
+        error,
+    ) {
         Ok(joined) => joined,
         Err(fault) => return Err(fault),
     };

@@ -6,7 +6,8 @@ use cwr_endings::{
     tell_findings, tell_following, tell_unwritten,
 };
 use cwr_files::{
-    DASH, Fault, Gathered, Input, Name, Pace, Told, create_output, gathered, open_input, told_of,
+    DASH, Fault, Gathered, Input, Name, Pace, SystemStore, Told, create_output, gathered,
+    open_input, take_back, told_of,
 };
 use cwr_renumber::{Count, Jump, Jumps, Step, put_renumber_outcome, renumber_viewed};
 use cwr_shape::Limits;
@@ -46,8 +47,6 @@ struct Repaired<'a> {
     mixed: bool,
     /// What is known of the input.
     read: Told<'a>,
-    /// What is known of the output.
-    written: Told<'a>,
 }
 
 impl Repaired<'_> {
@@ -164,14 +163,14 @@ fn tell_mixed<E: Write>(error: &mut E, name: Name<'_>) {
     );
 }
 
-/// Writes the transmission of an input with its numbers put right, and looks what follows it there.
+/// Writes the transmission of an input with its numbers put right, and looks what follows it there. The writer comes back.
 fn run<'a, F: Read + Drop, I: Read + Drop, P: Pace + Drop, O: Write + Drop, E: Write>(
     alloc: Global,
     repair: &Repair<'_>,
     input: Input<'a, F, I, P>,
     writer: Gathered<'a, O>,
     error: &mut E,
-) -> Repaired<'a> {
+) -> (Repaired<'a>, Gathered<'a, O>) {
     let mut reader = ReadAhead::new(input);
     let mut view = FindingView::new(alloc);
     let (writer, outcome, jumps) = renumber_viewed(
@@ -196,15 +195,15 @@ fn run<'a, F: Read + Drop, I: Read + Drop, P: Pace + Drop, O: Write + Drop, E: W
         tell_mixed(error, read.name);
     }
     tell_following(error, read.name, &look);
-    Repaired {
+    let repaired = Repaired {
         outcome,
         look,
         found: outcome.is_ok() && view.count.reaches(repair.wanted.fail_on),
         mixed,
         count: view.count,
         read,
-        written: told_of(writer),
-    }
+    };
+    (repaired, writer)
 }
 
 /// Tells on standard error what the findings in a transmission mean that was written under that name, or because of which it wasn't.
@@ -219,13 +218,18 @@ fn tell_count<E: Write>(error: &mut E, name: Name<'_>, repaired: &Repaired<'_>, 
     }
 }
 
-/// How a run ends, where `made` is what the output's fault is.
-fn ending<'a>(repaired: Repaired<'a>, whole: bool, made: Fault<'a>) -> Result<Status, Fault<'a>> {
+/// How a run ends, where `written` is known of the output, and `made` is what its fault is.
+fn ending<'a>(
+    repaired: Repaired<'a>,
+    whole: bool,
+    written: Told<'a>,
+    made: Fault<'a>,
+) -> Result<Status, Fault<'a>> {
     let is_wanted = repaired.is_wanted(whole);
     match (repaired.outcome, repaired.look) {
         (Ok(_), Look::Failed) if !is_wanted => Err(Fault::Read(repaired.read)),
         (Ok(_), _) if !is_wanted => Ok(Status::Refused),
-        (outcome, _) => ended_by(outcome.err(), repaired.read, repaired.written, made),
+        (outcome, _) => ended_by(outcome.err(), repaired.read, written, made),
     }
 }
 
@@ -249,22 +253,25 @@ fn repair_to_file<
     let name = Name::File(out);
     let lines = gathered(alloc, output, Name::StandardOutput).map_err(|_| Fault::Memory)?;
     refuse_out(rt, out, repair.only_new, &[repair.file.unwrap_or(DASH)])?;
-    let (made, file) = create_output(rt, alloc, out)?;
+    let mut store = SystemStore::new(rt);
+    let (made, file) = create_output(&mut store, alloc, out)?;
     let Ok(writer) = gathered(alloc, file, name) else {
-        made.discard(rt);
+        made.discard(&mut store, 0);
         return Err(Fault::Memory);
     };
-    let repaired = run(alloc, repair, input, writer, &mut *error);
+    let (repaired, writer) = run(alloc, repair, input, writer, &mut *error);
+    let (told, written) = take_back(writer);
     let is_kept = repaired.is_wanted(repair.wanted.whole);
-    settle(rt, made, out, is_kept, &mut *error)?;
+    settle(&mut store, made, written, out, is_kept, &mut *error)?;
     tell_count(error, name, &repaired, is_kept);
+    let whole = repair.wanted.whole;
     if !is_kept && repaired.outcome.is_ok() {
-        return ending(repaired, repair.wanted.whole, Fault::Output(name, None));
+        return ending(repaired, whole, told, Fault::Output(name, None));
     }
     let mut sink = Sink::new(lines);
     let put = put_renumber_outcome(&repaired.outcome, &mut sink);
     hand_on(put, sink)?;
-    ending(repaired, repair.wanted.whole, Fault::Output(name, None))
+    ending(repaired, whole, told, Fault::Output(name, None))
 }
 
 /// Writes the transmission of a file, or of standard input, with its numbers put right: to a file, or to the output. There the line
@@ -290,10 +297,15 @@ pub fn repair_numbers<
         return repair_to_file(rt, repair, input, out, output, error);
     }
     let writer = gathered(alloc, output, Name::StandardOutput).map_err(|_| Fault::Memory)?;
-    let repaired = run(alloc, repair, input, writer, &mut *error);
+    let (repaired, writer) = run(alloc, repair, input, writer, &mut *error);
+    let written = told_of(writer);
     // What standard error doesn't take is lost.
     let _ = put_renumber_outcome(&repaired.outcome, &mut Sink::new(Counted::new(&mut *error)));
     tell_count(error, Name::StandardOutput, &repaired, true);
-    let written = repaired.written;
-    ending(repaired, repair.wanted.whole, Fault::Write(written))
+    ending(
+        repaired,
+        repair.wanted.whole,
+        written,
+        Fault::Write(written),
+    )
 }

@@ -15,8 +15,8 @@ use cwr_endings::{
     tell_following,
 };
 use cwr_files::{
-    Fault, Gathered, Identity, Input, Name, NumberedFiles, Pace, Told, gathered, identity_of_input,
-    part_number, part_that_is, told_of,
+    Fault, Gathered, Identity, Input, Name, NumberedFiles, Pace, SystemStore, Told, gathered,
+    identity_of_input, part_number, part_that_is,
 };
 use cwr_moments::Moment;
 use cwr_parts::{put_split_outcome, split_viewed};
@@ -110,7 +110,15 @@ pub fn split_file<
     }
     let lines = gathered(alloc, output, Name::StandardOutput).map_err(|_| Fault::Memory)?;
     let mut reader = ReadAhead::new(input);
-    let mut files = NumberedFiles::new(rt, alloc, cut.prefix, own, cut.only_new, cut.created);
+    let mut files = NumberedFiles::new(
+        rt,
+        SystemStore::new(rt),
+        alloc,
+        cut.prefix,
+        own,
+        cut.only_new,
+        cut.created,
+    );
     let (outcome, look, count) = cut_source(alloc, cut, &mut reader, &mut files);
     let told = reader.into_inner().told();
     let mut sink = Sink::new(lines);
