@@ -34,11 +34,11 @@ uint32_t cwr_interface(void);
 #define CWR_MOST_RECORDS_OF_TRANSACTION 999999u
 #define CWR_NO_LIMITS CWR_MOST_RECORDS, CWR_MOST_GROUPS, CWR_MOST_RECORDS_OF_TRANSACTION
 
-/// The bytes of stack that a call takes at most, whatever the text; cwr_write, cwr_write_json and cwr_report take more.
+/// The bytes of stack that a call takes at most, whatever the text; of cwr_write and cwr_write_json, and of cwr_report.
 /// That is measured, and not proved.
 #define CWR_STACK (64u << 10)
-#define CWR_STACK_OF_WRITING (128u << 10)
-#define CWR_STACK_OF_REPORTS (128u << 10)
+#define CWR_STACK_OF_WRITING (64u << 10)
+#define CWR_STACK_OF_REPORTS (64u << 10)
 
 /// How a text ended.
 enum cwr_ending {
