@@ -12,7 +12,7 @@ pub mod PrintedAcks
 pub mod LinesOfItems
 -- Where nothing is read any more, the list was walked whole.
 pub mod PastEnds
--- The lines of one item more, as a report puts them.
+-- The lines of one item more, as a report adds them.
 pub mod OneItem
 -- What a run leaves of what was kept before it.
 pub mod LeftHeld

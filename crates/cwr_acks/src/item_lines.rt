@@ -2,8 +2,6 @@
 
 ghost use Rattle.std.specs.Prelude.{◌≡◌, [], is_none, length, option_map, true, false, if◌then◌else◌};
 ghost use Rattle.cwr_devices.specs.Steps.Pens.{Adds};
-ghost use Rattle.cwr_devices.specs.Steps.Sinks.{PutsText, has_failed};
-ghost use Rattle.cwr_tools.specs.Steps.Reports.{PutsLines};
 ghost use Rattle.cwr_delivery.specs.Format.Acknowledgements.{is_ack, worst_level};
 ghost use Rattle.cwr_acks.specs.Format.AckTexts.{marked_if, note_lines, outcome_line};
 ghost use Rattle.cwr_acks.specs.Format.AckLines.{has_one_of, is_told, note_lines_if, telling_of};
@@ -17,10 +15,9 @@ use crate::line_texts::{counts_text, marked_line, renumbered_line};
 use crate::names::{name_member, name_of_notes, sent_part};
 use crate::unanswered::held_lines_if;
 use cwr_delivery::{Delivery, Notes, Outcome, has_status, is_ack, is_message, worst_level};
-use cwr_devices::{Pen, Sink, SinkFault, Target};
+use cwr_devices::{Pen, Target};
 use cwr_fields::{TransactionStatus, letters};
 use cwr_lines::RecordRef;
-use cwr_tools::{ToolFault, writer_fault};
 use cwr_values::{Item, Transaction};
 
 /// Adds what stands before the text of an acknowledgement.
@@ -273,7 +270,7 @@ pub(crate) fn end_at<W: Target>(
 }
 
 /// Adds the lines of an item that comes after so many acknowledgements.
-fn lines_at<W: Target>(
+pub(crate) fn lines_at<W: Target>(
     manner: &Manner<'_>,
     delivery: &Option<Delivery>,
     notes: &Option<Notes>,
@@ -289,43 +286,5 @@ fn lines_at<W: Target>(
         Item::Transaction(transaction) => transaction_at(manner, notes, transaction, pen),
         Item::Ended => end_at(manner, delivery, answers, pen),
         Item::Opened(_) | Item::GroupOpened(_) | Item::GroupClosed(_) => {}
-    }
-}
-
-/// Puts them.
-fn put_lines<W: Target>(
-    manner: &Manner<'_>,
-    delivery: &Option<Delivery>,
-    notes: &Option<Notes>,
-    answers: &Answers,
-    item: &Item,
-    sink: &mut Sink<W>,
-) -> Result<(), SinkFault>
-    requires { length answers.now.by_status ≡ 10 }
-    ensures { PutsText W.contents W.failures (lines_at (telling_of manner.now) (held_if delivery.now)
-        notes.now answers.now item.now) result sink.old sink.new }
-{
-    let mut pen = Pen::new(sink);
-    lines_at(manner, delivery, notes, answers, item, &mut pen);
-    pen.end()
-}
-
-/// The same, with the run's fault where the writer fails.
-pub(crate) fn put_item<W: Target>(
-    manner: &Manner<'_>,
-    delivery: &Option<Delivery>,
-    notes: &Option<Notes>,
-    answers: &Answers,
-    item: &Item,
-    sink: &mut Sink<W>,
-) -> Result<(), ToolFault>
-    requires unfailed { has_failed sink.old ≡ false }
-    requires ten { length answers.now.by_status ≡ 10 }
-    ensures { PutsLines W.contents W.failures false (lines_at (telling_of manner.now)
-        (held_if delivery.now) notes.now answers.now item.now) result sink.old sink.new }
-{
-    match put_lines(manner, delivery, notes, answers, item, sink) {
-        Ok(()) => Ok(()),
-        Err(fault) => Err(writer_fault(fault)),
     }
 }

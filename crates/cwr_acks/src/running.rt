@@ -10,14 +10,14 @@ ghost use Rattle.cwr_tools.specs.Steps.Runs.{Runs};
 
 use crate::counts::Answers;
 use crate::forms::Manner;
-use crate::item_lines::put_item;
+use crate::item_lines::lines_at;
 use crate::matching::keep_item_if;
 use cwr_delivery::Delivery;
-use cwr_devices::{Sink, SinkFault, Source, Target};
+use cwr_devices::{Pen, Source, Target};
 use cwr_shape::Limits;
 use cwr_tools::{NothingKept, Report, ToolFault, Totals, Verdict, write_report};
 use cwr_values::Item;
-use std::alloc::Global;
+use std::alloc::{AllocError, Global};
 use std::marker::{Brand, PhantomData};
 
 /// What is kept before a run, for clauses to name.
@@ -58,35 +58,29 @@ impl<B: Before> Report for AnswerLines<'_, B> {
         false
     }
 
-    fn put_first<W: Target>(&mut self, _: &mut Sink<W>) -> Result<(), ToolFault> {
-        Ok(())
-    }
+    fn first_lines<W: Target>(&self, _: &mut Pen<'_, W>) {}
 
-    fn put_item<W: Target>(
+    fn item_lines<W: Target>(
         &mut self,
         _: Global,
         _: &Totals,
         item: &Item,
-        sink: &mut Sink<W>,
-    ) -> Result<(), ToolFault> {
-        let Ok(notes) = keep_item_if(&mut self.delivery, item) else {
-            return Err(ToolFault::Memory);
-        };
-        put_item(
+        pen: &mut Pen<'_, W>,
+    ) -> Result<(), AllocError> {
+        let notes = keep_item_if(&mut self.delivery, item)?;
+        lines_at(
             &self.manner,
             &self.delivery,
             &notes,
             &self.answers,
             item,
-            sink,
-        )?;
+            pen,
+        );
         self.answers.count_answer(item);
         Ok(())
     }
 
-    fn put_verdict<W: Target>(&self, _: &Verdict, _: &mut Sink<W>) -> Result<(), SinkFault> {
-        Ok(())
-    }
+    fn last_lines<W: Target>(&self, _: &Verdict, _: &mut Pen<'_, W>) {}
 }
 
 /// Writes what the acknowledgements of a transmission say, as `acks` does, where that is what is kept before it.

@@ -1,4 +1,4 @@
--- What is put of advice, one text after another.
+-- What is added of advice.
 pub mod AdvicePut
 -- What is told of advice, and how much isn't, by how many pieces of each rule stand before it.
 pub mod AdviceCounted

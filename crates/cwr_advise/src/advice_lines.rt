@@ -2,7 +2,6 @@
 
 ghost use Rattle.std.specs.Prelude.{◌≡◌, List, [], ◌++◌, true, None};
 ghost use Rattle.cwr_devices.specs.Steps.Pens.{Adds};
-ghost use Rattle.cwr_devices.specs.Steps.Sinks.{PutsText};
 ghost use Rattle.cwr_values.specs.declared.items.Item.{Item};
 ghost use Rattle.cwr_tools.specs.Format.Reports.{ItemLines};
 ghost use Rattle.cwr_tools.specs.Format.Texts.{verdict_line};
@@ -14,17 +13,17 @@ ghost use Rattle.cwr_advise.specs.Steps.AdvisedItems.{IsBefore, last_by};
 ghost use Rattle.cwr_advise.specs.Steps.KeptWorks.{AreKeptOf};
 
 use crate::before::Before;
-use crate::item_advice::{Manner, put_item};
+use crate::item_advice::{Manner, item_lines};
 use crate::kept_works::AdvisedSums;
 use crate::repeats::Repeats;
 use crate::told::AdviceCounts;
 use crate::worst::Worst;
 use cwr_advice::Said;
-use cwr_devices::{Pen, Sink, SinkFault, Target};
+use cwr_devices::{Pen, Target};
 use cwr_shape::Level;
-use cwr_tools::{Report, ToolFault, Totals, Verdict, verdict_line};
+use cwr_tools::{Report, Totals, Verdict, verdict_line};
 use cwr_values::Item;
-use std::alloc::Global;
+use std::alloc::{AllocError, Global};
 
 /// The findings in each transaction, with what explains them, and after them the advice on it, and the line of the verdict.
 ///
@@ -154,22 +153,18 @@ impl Report for AdviceLines {
         self.repeats.limit() == 0
     }
 
-    fn put_first<W: Target>(&mut self, _: &mut Sink<W>) -> Result<(), ToolFault> {
-        Ok(())
-    }
+    fn first_lines<W: Target>(&self, _: &mut Pen<'_, W>) {}
 
-    fn put_item<W: Target>(
+    fn item_lines<W: Target>(
         &mut self,
         alloc: Global,
         counts: &Totals,
         item: &Item,
-        sink: &mut Sink<W>,
-    ) -> Result<(), ToolFault> {
+        pen: &mut Pen<'_, W>,
+    ) -> Result<(), AllocError> {
         let limit = self.repeats.limit();
-        let Ok(repeated) = self.repeats.take_item(counts, item) else {
-            return Err(ToolFault::Memory);
-        };
-        put_item(
+        let repeated = self.repeats.take_item(counts, item)?;
+        item_lines(
             self.manner,
             alloc,
             self.before.said(),
@@ -180,18 +175,14 @@ impl Report for AdviceLines {
             &mut self.findings,
             &mut self.told,
             &mut self.worst,
-            sink,
+            pen,
         )?;
         self.before = self.before.with(item);
         Ok(())
     }
 
-    fn put_verdict<W: Target>(
-        &self,
-        verdict: &Verdict,
-        sink: &mut Sink<W>,
-    ) -> Result<(), SinkFault> {
-        put_last(self.up_to_fault, self.manner.all, &self.told, verdict, sink)
+    fn last_lines<W: Target>(&self, verdict: &Verdict, pen: &mut Pen<'_, W>) {
+        last_lines(self.up_to_fault, self.manner.all, &self.told, verdict, pen);
     }
 }
 
@@ -219,20 +210,4 @@ fn last_lines<W: Target>(
         (true, Verdict::Refused(_)) => {}
         _ => summed(all, told, verdict, pen),
     }
-}
-
-/// Puts what stands for the verdict.
-fn put_last<W: Target>(
-    up_to_fault: bool,
-    all: bool,
-    told: &AdviceCounts,
-    verdict: &Verdict,
-    sink: &mut Sink<W>,
-) -> Result<(), SinkFault>
-    ensures { PutsText W.contents W.failures (last_by up_to_fault all told.now verdict.now) result
-        sink.old sink.new }
-{
-    let mut pen = Pen::new(sink);
-    last_lines(up_to_fault, all, told, verdict, &mut pen);
-    pen.end()
 }

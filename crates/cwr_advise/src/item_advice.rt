@@ -1,22 +1,21 @@
-//! The lines of advice on items, put to a sink.
+//! The lines of advice on items.
 
-ghost use Rattle.std.specs.Prelude.{◌≡◌, ◌+◌, ◌≤◌, ◌++◌, ◌||◌, false, length, OnOk, Option};
+ghost use Rattle.std.specs.Prelude.{◌≡◌, ◌+◌, ◌≤◌, ◌++◌, ◌||◌, length, OnOk, Option};
 ghost use Rattle.std.specs.List.{flat_map};
 ghost use Rattle.cwr_shape.specs.declared.reasons.Level.{Level};
 ghost use Rattle.cwr_devices.specs.Steps.Pens.{Adds};
-ghost use Rattle.cwr_devices.specs.Steps.Sinks.{PutsText, has_failed};
 ghost use Rattle.cwr_judge.specs.Format.Items.{item_records};
 ghost use Rattle.cwr_findings.specs.Format.Findings.{findings};
 ghost use Rattle.cwr_notes.specs.Format.WorkNames.{work_of};
 ghost use Rattle.cwr_tools.specs.Format.Reports.{has_findings, transaction_lines};
 ghost use Rattle.cwr_tools.specs.Format.Watching.{has_from, is_reached};
-ghost use Rattle.cwr_tools.specs.Steps.Reports.{PutsLines};
+ghost use Rattle.cwr_tools.specs.Steps.Reports.{AddsLines};
 ghost use Rattle.cwr_advice.specs.Format.Rules.{advice_of};
 ghost use Rattle.cwr_advise.specs.Format.AdviceLevels.{own_reaches};
 ghost use Rattle.cwr_advise.specs.Format.AdviceLines.{has_advice, has_advised, own_advice};
 ghost use Rattle.cwr_advise.specs.Format.AdviceTexts.{noted_advice};
 ghost use Rattle.cwr_advise.specs.Steps.AdviceCounts.{counts_after, counts_with, lines_by, told_by};
-ghost use Rattle.cwr_advise.specs.Steps.AdvisedItems.{PutsAdvised, advised_after, advised_at, told_with};
+ghost use Rattle.cwr_advise.specs.Steps.AdvisedItems.{AddsAdvised, advised_after, advised_at, told_with};
 ghost use Rattle.cwr_advise.specs.Steps.KeptWorks.{counts_with_repeated, reaches_at, repeated_at, shown_repeated};
 
 use crate::advice_texts::{lines_at_record, repeated_text};
@@ -24,12 +23,12 @@ use crate::repeats::{Place, Repeated, work_header};
 use crate::told::AdviceCounts;
 use crate::worst::Worst;
 use cwr_advice::{Advice, Said, advice};
-use cwr_devices::{Pen, Sink, SinkFault, Target};
+use cwr_devices::{Pen, Target};
 use cwr_findings::findings;
 use cwr_notes::WorkLine;
-use cwr_tools::{ToolFault, Totals, put_transaction_findings, writer_fault};
+use cwr_tools::{Totals, transaction_findings};
 use cwr_values::{Item, Transaction};
-use std::alloc::Global;
+use std::alloc::{AllocError, Global};
 
 /// How findings and advice are told.
 #[derive(Clone, Copy, Debug)]
@@ -144,74 +143,9 @@ fn told_lines<W: Target>(
     }
 }
 
-/// Puts them.
-fn put_told<W: Target>(
-    manner: Manner,
-    group: u32,
-    sequence: u32,
-    first: u64,
-    transaction: &Transaction,
-    found: &[Advice],
-    told: &mut AdviceCounts,
-    sink: &mut Sink<W>,
-) -> Result<(), SinkFault>
-    requires { first + length transaction.now ≤ 100000000 }
-    ensures puts { PutsText W.contents W.failures
-        (flat_map (noted_advice manner.apart group sequence first transaction.now)
-        (told_by manner.all told.old found.now)) result sink.old sink.new }
-    ensures told { told.new ≡ counts_after told.old found.now }
-{
-    let mut pen = Pen::new(sink);
-    told_lines(
-        manner,
-        group,
-        sequence,
-        first,
-        transaction,
-        found,
-        told,
-        &mut pen,
-    );
-    pen.end()
-}
-
-/// The same, after the lines of its findings, which were put.
-fn put_advice<W: Target>(
-    manner: Manner,
-    group: u32,
-    sequence: u32,
-    first: u64,
-    transaction: &Transaction,
-    found: &[Advice],
-    told: &mut AdviceCounts,
-    sink: &mut Sink<W>,
-) -> Result<(), ToolFault>
-    requires unfailed { has_failed sink.old ≡ false }
-    requires few { first + length transaction.now ≤ 100000000 }
-    ensures puts { PutsLines W.contents W.failures false
-        (flat_map (noted_advice manner.apart group sequence first transaction.now)
-        (told_by manner.all told.old found.now)) result sink.old sink.new }
-    ensures told { OnOk result (told.new ≡ counts_after told.old found.now) }
-{
-    let put = put_told(
-        manner,
-        group,
-        sequence,
-        first,
-        transaction,
-        found,
-        told,
-        sink,
-    );
-    match put {
-        Ok(()) => Ok(()),
-        Err(fault) => Err(writer_fault(fault)),
-    }
-}
-
-/// Puts the lines of findings in the transaction of that sequence in the group of that ID, with what explains them where that is asked
+/// Adds the lines of findings in the transaction of that sequence in the group of that ID, with what explains them where that is asked
 /// for, counts them, and notes their levels. Its first record is on that line of the file.
-fn put_findings<W: Target>(
+fn counted_findings<W: Target>(
     explained: bool,
     apart: bool,
     alloc: Global,
@@ -221,22 +155,19 @@ fn put_findings<W: Target>(
     transaction: &Transaction,
     count: &mut u64,
     worst: &mut Worst,
-    sink: &mut Sink<W>,
-) -> Result<(), ToolFault>
-    requires unfailed { has_failed sink.old ≡ false }
+    pen: &mut Pen<'_, W>,
+) -> Result<(), AllocError>
     requires few { first + length transaction.now ≤ 100000000 }
-    ensures puts { PutsLines W.contents W.failures (has_findings (Item.Transaction transaction.now))
-        (transaction_lines explained apart group sequence first transaction.now) result sink.old
-        sink.new }
+    ensures adds { AddsLines W.contents W.failures (has_findings (Item.Transaction transaction.now))
+        (transaction_lines explained apart group sequence first transaction.now) result pen.old
+        pen.new }
     ensures counted { OnOk result (count.new ≡ told_with count.old (Item.Transaction transaction.now)) }
     ensures seen { OnOk result ((asked : Option Level) → is_reached asked worst.new.level
         ≡ (is_reached asked worst.old.level || has_from asked (findings transaction.now))) }
 {
-    let Ok(found) = findings(alloc, transaction) else {
-        return Err(ToolFault::Memory);
-    };
+    let found = findings(alloc, transaction)?;
     worst.see_findings(found.as_slice());
-    put_transaction_findings(
+    transaction_findings(
         explained,
         apart,
         alloc,
@@ -245,15 +176,15 @@ fn put_findings<W: Target>(
         first,
         transaction,
         count,
-        sink,
+        pen,
     )
 }
 
-/// Puts the lines of findings in the transaction of that sequence in the group of that ID, with what explains them where that is asked
-/// for, counts them, and then puts the lines of the advice that is told after so many pieces of each rule, and counts all advice. Its
+/// Adds the lines of findings in the transaction of that sequence in the group of that ID, with what explains them where that is asked
+/// for, counts them, and then adds the lines of the advice that is told after so many pieces of each rule, and counts all advice. Its
 /// first record is on that line of the file. So much is said of the transmission. The levels
 /// of all findings and all advice are noted.
-fn put_advised_in<W: Target>(
+fn advised_in<W: Target>(
     manner: Manner,
     alloc: Global,
     said: Said,
@@ -264,22 +195,19 @@ fn put_advised_in<W: Target>(
     count: &mut u64,
     told: &mut AdviceCounts,
     worst: &mut Worst,
-    sink: &mut Sink<W>,
-) -> Result<(), ToolFault>
-    requires unfailed { has_failed sink.old ≡ false }
+    pen: &mut Pen<'_, W>,
+) -> Result<(), AllocError>
     requires few { first + length transaction.now ≤ 100000000 }
-    ensures puts { PutsLines W.contents W.failures (has_advice transaction.now)
-        (advised_after manner told.old said group sequence first transaction.now) result sink.old
-        sink.new }
+    ensures adds { AddsLines W.contents W.failures (has_advice transaction.now)
+        (advised_after manner told.old said group sequence first transaction.now) result pen.old
+        pen.new }
     ensures counted { OnOk result (count.new ≡ told_with count.old (Item.Transaction transaction.now)) }
     ensures told { OnOk result (told.new ≡ counts_after told.old (advice_of said transaction.now)) }
     ensures seen { OnOk result ((asked : Option Level) → is_reached asked worst.new.level
         ≡ (is_reached asked worst.old.level || own_reaches asked said (Item.Transaction transaction.now))) }
 {
-    let Ok(found) = advice(alloc, said, transaction) else {
-        return Err(ToolFault::Memory);
-    };
-    put_findings(
+    let found = advice(alloc, said, transaction)?;
+    counted_findings(
         manner.explained,
         manner.apart,
         alloc,
@@ -289,10 +217,10 @@ fn put_advised_in<W: Target>(
         transaction,
         count,
         worst,
-        sink,
+        pen,
     )?;
     worst.see_advice(found.as_slice());
-    put_advice(
+    told_lines(
         manner,
         group,
         sequence,
@@ -300,14 +228,15 @@ fn put_advised_in<W: Target>(
         transaction,
         found.as_slice(),
         told,
-        sink,
-    )
+        pen,
+    );
+    Ok(())
 }
 
-/// Puts the lines of findings in the transaction of that sequence in the group of that ID, with what explains them where that is asked
-/// for, counts them, and then puts the lines of the advice that is told after so many pieces of each rule, and counts all advice. Its
+/// Adds the lines of findings in the transaction of that sequence in the group of that ID, with what explains them where that is asked
+/// for, counts them, and then adds the lines of the advice that is told after so many pieces of each rule, and counts all advice. Its
 /// first record is on that line of the file. So much is said of the transmission.
-pub fn put_advised<W: Target>(
+pub fn advised<W: Target>(
     manner: Manner,
     alloc: Global,
     said: Said,
@@ -317,16 +246,15 @@ pub fn put_advised<W: Target>(
     transaction: &Transaction,
     count: &mut u64,
     told: &mut AdviceCounts,
-    sink: &mut Sink<W>,
-) -> Result<(), ToolFault>
-    requires unfailed { has_failed sink.old ≡ false }
+    pen: &mut Pen<'_, W>,
+) -> Result<(), AllocError>
     requires few { first + length transaction.now ≤ 100000000 }
-    ensures puts { PutsAdvised W.contents W.failures manner told.old said group sequence first
-        transaction.now result sink.old sink.new }
+    ensures adds { AddsAdvised W.contents W.failures manner told.old said group sequence first
+        transaction.now result pen.old pen.new }
     ensures counted { OnOk result (count.new ≡ told_with count.old (Item.Transaction transaction.now)) }
     ensures told { OnOk result (told.new ≡ counts_after told.old (advice_of said transaction.now)) }
 {
-    put_advised_in(
+    advised_in(
         manner,
         alloc,
         said,
@@ -337,14 +265,14 @@ pub fn put_advised<W: Target>(
         count,
         told,
         &mut Worst::nothing(),
-        sink,
+        pen,
     )
 }
 
-/// Puts the findings of an item that comes after items with these numbers, which say so much of the transmission, and of its advice what
+/// Adds the findings of an item that comes after items with these numbers, which say so much of the transmission, and of its advice what
 /// is told after so many pieces of each rule, and counts both. The levels of all findings and
 /// all advice are noted.
-fn put_own<W: Target>(
+fn own_lines<W: Target>(
     manner: Manner,
     alloc: Global,
     said: Said,
@@ -353,19 +281,18 @@ fn put_own<W: Target>(
     count: &mut u64,
     told: &mut AdviceCounts,
     worst: &mut Worst,
-    sink: &mut Sink<W>,
-) -> Result<(), ToolFault>
-    requires unfailed { has_failed sink.old ≡ false }
+    pen: &mut Pen<'_, W>,
+) -> Result<(), AllocError>
     requires few { counts.now.records + length (item_records item.now) ≤ 99999999 }
-    ensures puts { PutsLines W.contents W.failures (has_advised item.now)
-        (advised_at manner told.old said counts.now item.now) result sink.old sink.new }
+    ensures adds { AddsLines W.contents W.failures (has_advised item.now)
+        (advised_at manner told.old said counts.now item.now) result pen.old pen.new }
     ensures counted { OnOk result (count.new ≡ told_with count.old item.now) }
     ensures told { OnOk result (told.new ≡ counts_after told.old (own_advice said item.now)) }
     ensures seen { OnOk result ((asked : Option Level) → is_reached asked worst.new.level
         ≡ (is_reached asked worst.old.level || own_reaches asked said item.now)) }
 {
     match item {
-        Item::Transaction(transaction) => put_advised_in(
+        Item::Transaction(transaction) => advised_in(
             manner,
             alloc,
             said,
@@ -376,7 +303,7 @@ fn put_own<W: Target>(
             count,
             told,
             worst,
-            sink,
+            pen,
         ),
         Item::Opened(_) | Item::GroupOpened(_) | Item::GroupClosed(_) | Item::Ended => Ok(()),
     }
@@ -400,50 +327,29 @@ fn work_lines<W: Target>(
     repeated_text(limit, &Place::after(counts), &header, repeated, pen);
 }
 
-/// Puts it.
-fn put_work<W: Target>(
-    limit: u32,
-    counts: &Totals,
-    item: &Item,
-    repeated: &Repeated,
-    sink: &mut Sink<W>,
-) -> Result<(), SinkFault>
-    requires { counts.now.records ≤ 99999999 }
-    ensures { PutsText W.contents W.failures (repeated_at limit counts.now item.now repeated.now)
-        result sink.old sink.new }
-{
-    let mut pen = Pen::new(sink);
-    work_lines(limit, counts, item, repeated, &mut pen);
-    pen.end()
-}
-
-/// The same as a part of what is written of items, so far as it is told after so many pieces of advice of each rule. It is counted.
-fn put_repeated<W: Target>(
+/// Adds the same so far as it is told after so many pieces of advice of each rule, and counts it.
+fn repeated_lines<W: Target>(
     all: bool,
     limit: u32,
     counts: &Totals,
     item: &Item,
     repeated: &Repeated,
     told: &mut AdviceCounts,
-    sink: &mut Sink<W>,
-) -> Result<(), ToolFault>
-    requires unfailed { has_failed sink.old ≡ false }
-    requires few { counts.now.records ≤ 99999999 }
-    ensures puts { PutsLines W.contents W.failures false (repeated_at limit counts.now item.now
-        (shown_repeated all told.old repeated.now)) result sink.old sink.new }
+    pen: &mut Pen<'_, W>,
+)
+    requires { counts.now.records ≤ 99999999 }
+    ensures adds { Adds W.contents W.failures (repeated_at limit counts.now item.now
+        (shown_repeated all told.old repeated.now)) pen.old pen.new }
     ensures told { told.new ≡ counts_with_repeated told.old repeated.now }
 {
     let shown = told.take_repeated(all, repeated);
-    match put_work(limit, counts, item, &shown, sink) {
-        Ok(()) => Ok(()),
-        Err(fault) => Err(writer_fault(fault)),
-    }
+    work_lines(limit, counts, item, &shown, pen);
 }
 
-/// Puts what is written of an item that comes after items with these numbers, which say so much of the transmission: its findings, and
+/// Adds what is written of an item that comes after items with these numbers, which say so much of the transmission: its findings, and
 /// after so many pieces of advice of each rule its advice, and what is to be told of it among the works before. Findings and advice are
 /// counted. The numbers of so many works are kept. The levels of all findings and all advice are noted.
-pub(crate) fn put_item<W: Target>(
+pub(crate) fn item_lines<W: Target>(
     manner: Manner,
     alloc: Global,
     said: Said,
@@ -454,23 +360,23 @@ pub(crate) fn put_item<W: Target>(
     count: &mut u64,
     told: &mut AdviceCounts,
     worst: &mut Worst,
-    sink: &mut Sink<W>,
-) -> Result<(), ToolFault>
-    requires unfailed { has_failed sink.old ≡ false }
+    pen: &mut Pen<'_, W>,
+) -> Result<(), AllocError>
     requires room { counts.now.records ≤ 99999999 }
     requires few { counts.now.records + length (item_records item.now) ≤ 99999999 }
-    ensures puts { PutsLines W.contents W.failures (has_advised item.now)
+    ensures adds { AddsLines W.contents W.failures (has_advised item.now)
         (advised_at manner told.old said counts.now item.now
         ++ repeated_at limit counts.now item.now
         (shown_repeated manner.all (counts_after told.old (own_advice said item.now)) repeated.now))
-        result sink.old sink.new }
+        result pen.old pen.new }
     ensures counted { OnOk result (count.new ≡ told_with count.old item.now) }
     ensures told { OnOk result (told.new ≡ counts_with_repeated
         (counts_after told.old (own_advice said item.now)) repeated.now) }
     ensures seen { OnOk result ((asked : Option Level) → is_reached asked worst.new.level
         ≡ (is_reached asked worst.old.level || reaches_at asked said item.now repeated.now)) }
 {
-    put_own(manner, alloc, said, counts, item, count, told, worst, sink)?;
+    own_lines(manner, alloc, said, counts, item, count, told, worst, pen)?;
     worst.see_repeated(repeated);
-    put_repeated(manner.all, limit, counts, item, repeated, told, sink)
+    repeated_lines(manner.all, limit, counts, item, repeated, told, pen);
+    Ok(())
 }

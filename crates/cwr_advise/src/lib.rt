@@ -12,5 +12,5 @@ mod told;
 mod worst;
 
 pub use advice_lines::AdviceLines;
-pub use item_advice::{Manner, put_advised};
+pub use item_advice::{Manner, advised};
 pub use told::AdviceCounts;

@@ -1,15 +1,14 @@
 //! How much advice comes from each rule, and which of it is told.
 
 ghost use Rattle.std.specs.Prelude.{◌≡◌, [], slice_index};
-ghost use Rattle.cwr_devices.specs.Steps.Pens.{Adds};
 ghost use Rattle.cwr_advice.specs.Format.RuleOrder.{place_of_rule};
-ghost use Rattle.cwr_advise.specs.Steps.AdviceCounts.{PutsSummary, counts_of, counts_with, is_told_by, summary_by};
+ghost use Rattle.cwr_advise.specs.Steps.AdviceCounts.{AddsSummary, counts_of, counts_with, is_told_by};
 ghost use Rattle.cwr_advise.specs.Steps.KeptWorks.{counts_with_repeated, shown_repeated};
 
 use crate::advice_texts::{MOST_TOLD, summary_line};
 use crate::repeats::Repeated;
 use cwr_advice::{AdviceRule, RULE_COUNT, rule_at};
-use cwr_devices::{Pen, Sink, SinkFault, Target};
+use cwr_devices::{Pen, Target};
 use std::marker::Model;
 
 /// How much advice came from each rule.
@@ -98,22 +97,13 @@ impl AdviceCounts {
     }
 
     /// Adds how many pieces came from each rule, where not all of them were told.
-    pub(crate) fn summary<W: Target>(&self, all: bool, pen: &mut Pen<'_, W>)
-        ensures { Adds W.contents W.failures (summary_by all self.now) pen.old pen.new }
+    pub fn summary<W: Target>(&self, all: bool, pen: &mut Pen<'_, W>)
+        ensures { AddsSummary W.contents W.failures all self.now pen.old pen.new }
     {
         let mut i = 0;
         while let Some(rule) = rule_at(i) {
             summary_line(all, rule, self.of(rule), pen);
             i += 1;
         }
-    }
-
-    /// Puts how many pieces came from each rule, where not all of them were told.
-    pub fn put_summary<W: Target>(&self, all: bool, sink: &mut Sink<W>) -> Result<(), SinkFault>
-        ensures { PutsSummary W.contents W.failures all self.now result sink.old sink.new }
-    {
-        let mut pen = Pen::new(sink);
-        self.summary(all, &mut pen);
-        pen.end()
     }
 }

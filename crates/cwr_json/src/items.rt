@@ -1,8 +1,7 @@
 //! The lines of items.
 
-ghost use Rattle.std.specs.Prelude.{◌≡◌, [], ◌∷◌, IfErr, false};
+ghost use Rattle.std.specs.Prelude.{[], ◌∷◌};
 ghost use Rattle.cwr_devices.specs.Steps.Pens.{Adds};
-ghost use Rattle.cwr_devices.specs.Steps.Sinks.{Puts, has_failed, written_of};
 ghost use Rattle.cwr_judge.specs.Format.Items.{item_records};
 ghost use Rattle.cwr_json.specs.Format.Forms.{item_line};
 ghost use Rattle.cwr_json.specs.Steps.FormTexts.{group_notes_text, listed_text, listed_texts, note_text, notes_text, opening_text};
@@ -10,7 +9,7 @@ ghost use Rattle.cwr_json.specs.Steps.FormTexts.{group_notes_text, listed_text, 
 use crate::encodings::Encoding;
 use crate::notes::Notes;
 use crate::records::record_text;
-use cwr_devices::{Pen, Sink, SinkFault, Target};
+use cwr_devices::{Pen, Target};
 use cwr_lines::RecordRef;
 use cwr_values::{Item, Transaction};
 
@@ -109,27 +108,15 @@ fn item_texts<W: Target>(encoding: Encoding, item: &Item, pen: &mut Pen<'_, W>)
 }
 
 /// Adds the data of an item as one line, with its notes if there are any, its cells shown by the encoding.
-fn item_line<W: Target>(encoding: Encoding, notes: Option<Notes>, item: &Item, pen: &mut Pen<'_, W>)
+pub fn item_line<W: Target>(
+    encoding: Encoding,
+    notes: Option<Notes>,
+    item: &Item,
+    pen: &mut Pen<'_, W>,
+)
     ensures { Adds W.contents W.failures (item_line encoding notes item.now) pen.old pen.new }
 {
     opening_text(notes, item, pen);
     item_texts(encoding, item, pen);
     pen.text(b"]}\n");
-}
-
-/// Puts the data of an item as one line, with its notes if there are any, its cells shown by the encoding.
-pub fn put_data<W: Target>(
-    encoding: Encoding,
-    notes: Option<Notes>,
-    item: &Item,
-    sink: &mut Sink<W>,
-) -> Result<(), SinkFault>
-    requires unfailed { has_failed sink.old ≡ false }
-    ensures puts { Puts W.contents W.failures (item_line encoding notes item.now) result sink.old
-        sink.new }
-    ensures fault { IfErr result (λ f. f.written ≡ written_of sink.new) }
-{
-    let mut pen = Pen::new(sink);
-    item_line(encoding, notes, item, &mut pen);
-    pen.end()
 }

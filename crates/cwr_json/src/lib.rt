@@ -9,7 +9,7 @@ mod records;
 mod spelling;
 
 pub use encodings::Encoding;
-pub use items::put_data;
+pub use items::item_line;
 pub use notes::Notes;
 pub use records::key_of;
 pub use spelling::{are_shown_as_is, character, characters, escaped_characters, has_escape};

@@ -3,19 +3,19 @@
 
 mod cells;
 mod headers;
-mod item_rows;
 pub mod laws;
 mod places;
 mod record_tables;
 mod rows;
+mod table_rows;
 mod tables;
 mod work_tables;
 mod work_texts;
 mod works;
 
 pub use cells::{next_characters, next_number};
-pub use item_rows::TableRows;
 pub use places::Place;
-pub use record_tables::{put_heading, put_rows};
+pub use record_tables::item_rows;
+pub use table_rows::TableRows;
 pub use tables::Table;
-pub use work_tables::{put_work_heading, put_work_row};
+pub use work_tables::work_row;

@@ -1,15 +1,13 @@
 //! The table of the records of a kind.
 
-ghost use Rattle.std.specs.Prelude.{◌≡◌, IfErr, false};
 ghost use Rattle.cwr_devices.specs.Steps.Pens.{Adds};
-ghost use Rattle.cwr_devices.specs.Steps.Sinks.{Puts, has_failed, written_of};
 ghost use Rattle.cwr_values.specs.Format.Rows.{trailer};
 ghost use Rattle.cwr_tables.specs.declared.places.RowNumbers.TheVariants.{Outside};
-ghost use Rattle.cwr_tables.specs.Format.RecordTables.{heading, inner_of_kind, item_rows, row_of_kind, rows_under, transaction_rows};
+ghost use Rattle.cwr_tables.specs.Format.RecordTables.{inner_of_kind, item_rows, row_of_kind, rows_under, transaction_rows};
 
 use crate::places::{Place, RowNumbers};
-use crate::rows::{heading, inner_row, record_row};
-use cwr_devices::{Pen, Sink, SinkFault, Target};
+use crate::rows::{inner_row, record_row};
+use cwr_devices::{Pen, Target};
 use cwr_fields::Kind;
 use cwr_findings::is_of;
 use cwr_json::Encoding;
@@ -101,8 +99,8 @@ fn transaction_rows<W: Target>(
     rows_under(encoding, kind, place, &head, transaction, pen);
 }
 
-/// Adds the rows of an item's records of the kind.
-fn item_rows<W: Target>(
+/// Adds the rows of an item's records of the kind, their cells shown by the encoding.
+pub fn item_rows<W: Target>(
     encoding: Encoding,
     kind: Kind,
     place: Place,
@@ -128,33 +126,4 @@ fn item_rows<W: Target>(
         }
         Item::Ended => trailer_row(encoding, kind, pen),
     }
-}
-
-/// Puts the heading of the table of the kind.
-pub fn put_heading<W: Target>(kind: Kind, sink: &mut Sink<W>) -> Result<(), SinkFault>
-    requires { has_failed sink.old ≡ false }
-    ensures puts { Puts W.contents W.failures (heading kind) result sink.old sink.new }
-    ensures fault { IfErr result (λ f. f.written ≡ written_of sink.new) }
-{
-    let mut pen = Pen::new(sink);
-    heading(kind, &mut pen);
-    pen.end()
-}
-
-/// Puts the rows of an item's records of the kind, their cells shown by the encoding.
-pub fn put_rows<W: Target>(
-    encoding: Encoding,
-    kind: Kind,
-    place: Place,
-    item: &Item,
-    sink: &mut Sink<W>,
-) -> Result<(), SinkFault>
-    requires { has_failed sink.old ≡ false }
-    ensures puts { Puts W.contents W.failures (item_rows encoding kind place item.now) result sink.old
-        sink.new }
-    ensures fault { IfErr result (λ f. f.written ≡ written_of sink.new) }
-{
-    let mut pen = Pen::new(sink);
-    item_rows(encoding, kind, place, item, &mut pen);
-    pen.end()
 }

@@ -1,16 +1,15 @@
 //! The table of works.
 
-ghost use Rattle.std.specs.Prelude.{◌≡◌, ◌≤◌, IfErr, false, length, slice_get, Some, true};
+ghost use Rattle.std.specs.Prelude.{◌≡◌, ◌≤◌, length, slice_get, Some, true};
 ghost use Rattle.cwr_devices.specs.Steps.Pens.{Adds};
-ghost use Rattle.cwr_devices.specs.Steps.Sinks.{Puts, has_failed, written_of};
 ghost use Rattle.cwr_judge.specs.Format.Items.{item_records};
-ghost use Rattle.cwr_tables.specs.Format.WorkTables.{is_header, transaction_row, work_heading, work_row};
+ghost use Rattle.cwr_tables.specs.Format.WorkTables.{is_header, transaction_row, work_row};
 
 use crate::headers::is_header;
 use crate::places::Place;
-use crate::work_texts::{front_text, next_names, tail_text, work_heading};
+use crate::work_texts::{front_text, next_names, tail_text};
 use crate::works::{Side, add_up};
-use cwr_devices::{Pen, Sink, SinkFault, Target};
+use cwr_devices::{Pen, Target};
 use cwr_json::Encoding;
 use cwr_lines::RecordRef;
 use cwr_values::{Item, Transaction};
@@ -55,8 +54,8 @@ fn transaction_row<W: Target>(
     work_text(encoding, place, &head, transaction, pen);
 }
 
-/// Adds the row of an item, if that is a work.
-fn work_row<W: Target>(encoding: Encoding, place: Place, item: &Item, pen: &mut Pen<'_, W>)
+/// Adds the row of an item, if that is a work, its cells shown by the encoding.
+pub fn work_row<W: Target>(encoding: Encoding, place: Place, item: &Item, pen: &mut Pen<'_, W>)
     requires { length (item_records item.now) ≤ 100000000 }
     ensures { Adds W.contents W.failures (work_row encoding place item.now) pen.old pen.new }
 {
@@ -64,32 +63,4 @@ fn work_row<W: Target>(encoding: Encoding, place: Place, item: &Item, pen: &mut 
         Item::Transaction(transaction) => transaction_row(encoding, place, transaction, pen),
         _ => {}
     }
-}
-
-/// Puts the heading of the table of works.
-pub fn put_work_heading<W: Target>(sink: &mut Sink<W>) -> Result<(), SinkFault>
-    requires { has_failed sink.old ≡ false }
-    ensures puts { Puts W.contents W.failures work_heading result sink.old sink.new }
-    ensures fault { IfErr result (λ f. f.written ≡ written_of sink.new) }
-{
-    let mut pen = Pen::new(sink);
-    work_heading(&mut pen);
-    pen.end()
-}
-
-/// Puts the row of an item, if that is a work, its cells shown by the encoding.
-pub fn put_work_row<W: Target>(
-    encoding: Encoding,
-    place: Place,
-    item: &Item,
-    sink: &mut Sink<W>,
-) -> Result<(), SinkFault>
-    requires unfailed { has_failed sink.old ≡ false }
-    requires few { length (item_records item.now) ≤ 100000000 }
-    ensures puts { Puts W.contents W.failures (work_row encoding place item.now) result sink.old sink.new }
-    ensures fault { IfErr result (λ f. f.written ≡ written_of sink.new) }
-{
-    let mut pen = Pen::new(sink);
-    work_row(encoding, place, item, &mut pen);
-    pen.end()
 }

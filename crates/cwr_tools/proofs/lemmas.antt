@@ -4,7 +4,7 @@ pub mod CountedTotals
 pub mod LinesOfItems
 -- What a run has put so far continues with each item, up to the verdict or a fault.
 pub mod ReportsOn
--- What a report puts, from what stands before the items to what stands for the verdict, where it writes the lines of `it`.
+-- What a report adds and puts, from what stands before the items to what stands for the verdict, where it writes the lines of `it`.
 pub mod ReportSteps
 -- What was read last, from item to item and at the end of a run.
 pub mod LastReported

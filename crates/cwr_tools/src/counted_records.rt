@@ -1,39 +1,33 @@
-//! The lines of records, put to a sink while their findings are counted.
+//! The lines of records, while their findings are counted.
 
-ghost use Rattle.std.specs.Prelude.{◌≡◌, ◌++◌, ◌∷◌, [], List, true, IfErr, OnOk};
+ghost use Rattle.std.specs.Prelude.{◌≡◌, ◌++◌, ◌∷◌, [], List, true, OnErr, OnOk};
 ghost use Rattle.cwr_values.specs.declared.items.Item.{Item};
 ghost use Rattle.cwr_tools.specs.Format.Reports.{ItemLines, has_findings, lines_of_counted};
 ghost use Rattle.cwr_tools.specs.Format.Watching.{AreFindingsIn};
 
 use crate::finding_counts::FindingCount;
-use crate::finding_lines::writer_fault;
-use crate::reporting::put_verdict_line;
+use crate::reporting::verdict_line;
 use crate::reports::{NothingKept, Report};
-use crate::shown_records::put_records;
+use crate::shown_records::item_lines;
 use crate::totals::Totals;
-use crate::verdicts::{ToolFault, Verdict};
-use cwr_devices::{Sink, SinkFault, Target};
+use crate::verdicts::Verdict;
+use cwr_devices::{Pen, Target};
 use cwr_findings::findings;
 use cwr_values::Item;
-use std::alloc::Global;
+use std::alloc::{AllocError, Global};
 
 /// Adds the findings in an item to those that were counted.
-fn count_findings(alloc: Global, item: &Item, count: &mut FindingCount) -> Result<(), ToolFault>
+fn count_findings(alloc: Global, item: &Item, count: &mut FindingCount) -> Result<(), AllocError>
     ensures more { (given : List Item) → AreFindingsIn count.old given
         → OnOk result (AreFindingsIn count.new (given ++ item.now ∷ [])) }
-    ensures memory { IfErr result
-        (λ fault. (fault ≡ ToolFault.Memory) × (has_findings item.now ≡ true)) }
+    ensures memory { OnErr result (has_findings item.now ≡ true) }
 {
     let Item::Transaction(transaction) = item else {
         return Ok(());
     };
-    match findings(alloc, transaction) {
-        Ok(found) => {
-            count.add(found.as_slice());
-            Ok(())
-        }
-        Err(_) => Err(ToolFault::Memory),
-    }
+    let found = findings(alloc, transaction)?;
+    count.add(found.as_slice());
+    Ok(())
 }
 
 /// Each record with its cells, and the line of the verdict. The findings are counted, none of which is written.
@@ -79,29 +73,21 @@ impl Report for CountedRecords {
         false
     }
 
-    fn put_first<W: Target>(&mut self, _: &mut Sink<W>) -> Result<(), ToolFault> {
-        Ok(())
-    }
+    fn first_lines<W: Target>(&self, _: &mut Pen<'_, W>) {}
 
-    fn put_item<W: Target>(
+    fn item_lines<W: Target>(
         &mut self,
         alloc: Global,
         counts: &Totals,
         item: &Item,
-        sink: &mut Sink<W>,
-    ) -> Result<(), ToolFault> {
+        pen: &mut Pen<'_, W>,
+    ) -> Result<(), AllocError> {
         count_findings(alloc, item, &mut self.found)?;
-        match put_records(u64::from(counts.records) + 1, item, sink) {
-            Ok(()) => Ok(()),
-            Err(fault) => Err(writer_fault(fault)),
-        }
+        item_lines(u64::from(counts.records) + 1, item, pen);
+        Ok(())
     }
 
-    fn put_verdict<W: Target>(
-        &self,
-        verdict: &Verdict,
-        sink: &mut Sink<W>,
-    ) -> Result<(), SinkFault> {
-        put_verdict_line(verdict, sink)
+    fn last_lines<W: Target>(&self, verdict: &Verdict, pen: &mut Pen<'_, W>) {
+        verdict_line(verdict, pen);
     }
 }

@@ -1,39 +1,29 @@
-//! The lines of findings, put to a sink.
+//! The lines of findings.
 
-ghost use Rattle.std.specs.Prelude.{◌≡◌, ◌+◌, ◌≤◌, ◌∷◌, [], List, length, true, false, OnOk};
+ghost use Rattle.std.specs.Prelude.{◌≡◌, ◌+◌, ◌≤◌, ◌∷◌, [], List, length, true, OnOk};
 ghost use Rattle.std.specs.List.{flat_map};
 ghost use Rattle.cwr_devices.specs.Steps.Pens.{Adds};
-ghost use Rattle.cwr_devices.specs.Steps.Sinks.{PutsText, has_failed};
 ghost use Rattle.cwr_findings.specs.Format.Findings.{findings};
 ghost use Rattle.cwr_findings.specs.Format.ReportLines.{finding_line};
 ghost use Rattle.cwr_tools.specs.Format.Reports.{ItemLines, has_findings, lines_of_explained, lines_of_findings, lines_up_to_fault};
 ghost use Rattle.cwr_tools.specs.Format.Reports.{transaction_lines};
 ghost use Rattle.cwr_tools.specs.Format.Watching.{AreFindingsIn, findings_with};
 ghost use Rattle.cwr_tools.specs.Steps.Watching.{Sees};
-ghost use Rattle.cwr_tools.specs.Steps.Reports.{PutsLines, lines_told};
+ghost use Rattle.cwr_tools.specs.Steps.Reports.{AddsLines, lines_told};
 ghost use Rattle.cwr_values.specs.declared.items.Item.{Item};
 
 use crate::finding_counts::FindingCount;
-use crate::reporting::{put_unrefused_line, put_verdict_line};
+use crate::reporting::{unrefused_line, verdict_line};
 use crate::reports::Report;
 use crate::totals::Totals;
-use crate::verdicts::{ToolFault, Verdict};
+use crate::verdicts::Verdict;
 use cwr_decode::Keeper;
-use cwr_devices::{Pen, Sink, SinkFault, Target};
+use cwr_devices::{Pen, Target};
 use cwr_findings::{Finding, Sums, finding_line, findings};
 use cwr_lines::RecordRef;
 use cwr_notes::all_explained;
 use cwr_values::{Item, Transaction};
-use std::alloc::Global;
-
-/// The fault of a run whose writer failed.
-pub fn writer_fault(fault: SinkFault) -> ToolFault
-    ensures { result ≡ ToolFault.Writer fault.written }
-{
-    ToolFault::Writer {
-        written: fault.written,
-    }
-}
+use std::alloc::{AllocError, Global};
 
 /// Adds the lines of findings in the transaction of that sequence in the group of that ID.
 fn found_lines<W: Target>(group: u32, sequence: u32, found: &[Finding], pen: &mut Pen<'_, W>)
@@ -70,41 +60,10 @@ fn told_lines<W: Target>(
     }
 }
 
-/// Puts them.
-fn put_told<W: Target>(
-    explained: bool,
-    apart: bool,
-    group: u32,
-    sequence: u32,
-    first: u64,
-    transaction: &Transaction,
-    found: &[Finding],
-    sink: &mut Sink<W>,
-) -> Result<(), SinkFault>
-    requires few { explained ≡ true → first + length transaction.now ≤ 100000000 }
-    requires found { found.now ≡ findings transaction.now }
-    ensures { PutsText W.contents W.failures
-        (transaction_lines explained apart group sequence first transaction.now) result sink.old
-        sink.new }
-{
-    let mut pen = Pen::new(sink);
-    told_lines(
-        explained,
-        apart,
-        group,
-        sequence,
-        first,
-        transaction,
-        found,
-        &mut pen,
-    );
-    pen.end()
-}
-
-/// Puts the lines of findings in the transaction of that sequence in the group of that ID, and notes that they are told. Where they are
+/// Adds the lines of findings in the transaction of that sequence in the group of that ID, and notes that they are told. Where they are
 /// explained, lines follow each, and the transaction's first record is on that line of the file. Where those stand apart an empty line
 /// follows.
-fn put_findings_in<W: Target>(
+fn findings_in<W: Target>(
     explained: bool,
     apart: bool,
     alloc: Global,
@@ -113,23 +72,20 @@ fn put_findings_in<W: Target>(
     first: u64,
     transaction: &Transaction,
     told: &mut FindingCount,
-    sink: &mut Sink<W>,
-) -> Result<(), ToolFault>
-    requires unfailed { has_failed sink.old ≡ false }
+    pen: &mut Pen<'_, W>,
+) -> Result<(), AllocError>
     requires few { explained ≡ true → first + length transaction.now ≤ 100000000 }
-    ensures puts { PutsLines W.contents W.failures (has_findings (Item.Transaction transaction.now))
-        (transaction_lines explained apart group sequence first transaction.now) result sink.old
-        sink.new }
+    ensures adds { AddsLines W.contents W.failures (has_findings (Item.Transaction transaction.now))
+        (transaction_lines explained apart group sequence first transaction.now) result pen.old
+        pen.new }
     ensures seen { OnOk result
         (Sees told.old.worst told.new.worst (Item.Transaction transaction.now ∷ [])) }
     ensures counted { OnOk result
         (told.new.findings ≡ findings_with told.old.findings (Item.Transaction transaction.now ∷ [])) }
 {
-    let Ok(found) = findings(alloc, transaction) else {
-        return Err(ToolFault::Memory);
-    };
+    let found = findings(alloc, transaction)?;
     told.add(found.as_slice());
-    let put = put_told(
+    told_lines(
         explained,
         apart,
         group,
@@ -137,17 +93,14 @@ fn put_findings_in<W: Target>(
         first,
         transaction,
         found.as_slice(),
-        sink,
+        pen,
     );
-    match put {
-        Ok(()) => Ok(()),
-        Err(fault) => Err(writer_fault(fault)),
-    }
+    Ok(())
 }
 
-/// Puts the lines of findings in the transaction of that sequence in the group of that ID, and counts them. Where they are explained,
+/// Adds the lines of findings in the transaction of that sequence in the group of that ID, and counts them. Where they are explained,
 /// lines follow each, and the transaction's first record is on that line of the file. Where those stand apart an empty line follows.
-pub fn put_transaction_findings<W: Target>(
+pub fn transaction_findings<W: Target>(
     explained: bool,
     apart: bool,
     alloc: Global,
@@ -156,18 +109,17 @@ pub fn put_transaction_findings<W: Target>(
     first: u64,
     transaction: &Transaction,
     count: &mut u64,
-    sink: &mut Sink<W>,
-) -> Result<(), ToolFault>
-    requires unfailed { has_failed sink.old ≡ false }
+    pen: &mut Pen<'_, W>,
+) -> Result<(), AllocError>
     requires few { explained ≡ true → first + length transaction.now ≤ 100000000 }
-    ensures puts { PutsLines W.contents W.failures (has_findings (Item.Transaction transaction.now))
-        (transaction_lines explained apart group sequence first transaction.now) result sink.old
-        sink.new }
+    ensures adds { AddsLines W.contents W.failures (has_findings (Item.Transaction transaction.now))
+        (transaction_lines explained apart group sequence first transaction.now) result pen.old
+        pen.new }
     ensures counted { OnOk result
         (count.new ≡ findings_with count.old (Item.Transaction transaction.now ∷ [])) }
 {
     let mut told = FindingCount::new();
-    let put = put_findings_in(
+    findings_in(
         explained,
         apart,
         alloc,
@@ -176,10 +128,10 @@ pub fn put_transaction_findings<W: Target>(
         first,
         transaction,
         &mut told,
-        sink,
-    );
+        pen,
+    )?;
     *count = count.saturating_add(told.findings);
-    put
+    Ok(())
 }
 
 /// The findings in each transaction, a line each, and the line of the verdict.
@@ -283,19 +235,17 @@ impl Report for FindingLines {
         true
     }
 
-    fn put_first<W: Target>(&mut self, _: &mut Sink<W>) -> Result<(), ToolFault> {
-        Ok(())
-    }
+    fn first_lines<W: Target>(&self, _: &mut Pen<'_, W>) {}
 
-    fn put_item<W: Target>(
+    fn item_lines<W: Target>(
         &mut self,
         alloc: Global,
         counts: &Totals,
         item: &Item,
-        sink: &mut Sink<W>,
-    ) -> Result<(), ToolFault> {
+        pen: &mut Pen<'_, W>,
+    ) -> Result<(), AllocError> {
         match item {
-            Item::Transaction(transaction) => put_findings_in(
+            Item::Transaction(transaction) => findings_in(
                 self.explained,
                 self.up_to_fault,
                 alloc,
@@ -304,20 +254,16 @@ impl Report for FindingLines {
                 u64::from(counts.records) + 1,
                 transaction,
                 &mut self.told,
-                sink,
+                pen,
             ),
             Item::Opened(_) | Item::GroupOpened(_) | Item::GroupClosed(_) | Item::Ended => Ok(()),
         }
     }
 
-    fn put_verdict<W: Target>(
-        &self,
-        verdict: &Verdict,
-        sink: &mut Sink<W>,
-    ) -> Result<(), SinkFault> {
+    fn last_lines<W: Target>(&self, verdict: &Verdict, pen: &mut Pen<'_, W>) {
         match self.up_to_fault {
-            true => put_unrefused_line(verdict, sink),
-            false => put_verdict_line(verdict, sink),
+            true => unrefused_line(verdict, pen),
+            false => verdict_line(verdict, pen),
         }
     }
 }

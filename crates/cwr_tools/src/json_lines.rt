@@ -4,14 +4,13 @@ ghost use Rattle.std.specs.Prelude.{◌≡◌, []};
 ghost use Rattle.cwr_tools.specs.Format.Reports.{lines_of_data};
 ghost use Rattle.cwr_tools.specs.Steps.Reports.{notes_at};
 
-use crate::finding_lines::writer_fault;
 use crate::reports::{NothingKept, Report};
 use crate::totals::Totals;
-use crate::verdicts::{ToolFault, Verdict};
-use cwr_devices::{Sink, SinkFault, Target};
-use cwr_json::{Encoding, Notes, put_data};
+use crate::verdicts::Verdict;
+use cwr_devices::{Pen, Target};
+use cwr_json::{Encoding, Notes, item_line};
 use cwr_values::Item;
-use std::alloc::Global;
+use std::alloc::{AllocError, Global};
 
 /// The notes of an item that comes after items with these numbers.
 fn notes_at(noted: bool, counts: &Totals, item: &Item) -> Option<Notes>
@@ -65,25 +64,19 @@ impl Report for DataLines {
         false
     }
 
-    fn put_first<W: Target>(&mut self, _: &mut Sink<W>) -> Result<(), ToolFault> {
-        Ok(())
-    }
+    fn first_lines<W: Target>(&self, _: &mut Pen<'_, W>) {}
 
-    fn put_item<W: Target>(
+    fn item_lines<W: Target>(
         &mut self,
         _: Global,
         counts: &Totals,
         item: &Item,
-        sink: &mut Sink<W>,
-    ) -> Result<(), ToolFault> {
+        pen: &mut Pen<'_, W>,
+    ) -> Result<(), AllocError> {
         let notes = notes_at(self.noted, counts, item);
-        match put_data(self.encoding, notes, item, sink) {
-            Ok(()) => Ok(()),
-            Err(fault) => Err(writer_fault(fault)),
-        }
-    }
-
-    fn put_verdict<W: Target>(&self, _: &Verdict, _: &mut Sink<W>) -> Result<(), SinkFault> {
+        item_line(self.encoding, notes, item, pen);
         Ok(())
     }
+
+    fn last_lines<W: Target>(&self, _: &Verdict, _: &mut Pen<'_, W>) {}
 }

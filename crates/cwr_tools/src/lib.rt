@@ -19,12 +19,11 @@ mod viewing;
 pub use checking::{check, show};
 pub use counted_records::CountedRecords;
 pub use finding_counts::FindingCount;
-pub use finding_lines::{FindingLines, put_transaction_findings, writer_fault};
+pub use finding_lines::{FindingLines, transaction_findings};
 pub use json_lines::DataLines;
 pub use last_steps::LastStep;
 pub use reporting::{
-    Front, put_unrefused_line, put_verdict_line, verdict_line, verdict_of, write_report,
-    write_report_and,
+    Front, as_told, put_verdict_line, verdict_line, verdict_of, write_report, write_report_and,
 };
 pub use reports::{NothingKept, Report};
 pub use shown_records::ShownRecords;

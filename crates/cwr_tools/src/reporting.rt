@@ -1,21 +1,23 @@
 //! Whole runs over a text: the lines of its items, and what stands for the verdict.
 
-ghost use Rattle.std.specs.Prelude.{◌≡◌, [], true, false, IfOk, OnOk, IsSomeAnd, None};
+ghost use Rattle.std.specs.Prelude.{◌≡◌, ◌+◌, ◌≤◌, ◌∷◌, ◌++◌, [], List, length, true, false, IfOk, OnOk, IsSomeAnd, None};
 ghost use Rattle.std.specs.Io.KnownBytes.{GrowsBy};
 ghost use Rattle.cwr_decode.specs.Steps.Decoding.{final_answer, has_ended, limits_of};
 ghost use Rattle.cwr_decode.specs.Steps.LastReads.{AreHeld};
 ghost use Rattle.cwr_decode.specs.Steps.Represents.{Represents};
 ghost use Rattle.cwr_devices.specs.Steps.Pens.{Adds};
-ghost use Rattle.cwr_devices.specs.Steps.Sinks.{HasWritten, PutsText, has_failed, writer_of};
+ghost use Rattle.cwr_devices.specs.Steps.Sinks.{PutsText};
 ghost use Rattle.cwr_tools.specs.Format.Reports.{CountsReaderFault, CountsWriterFault, ItemLines, unrefused_line};
 ghost use Rattle.cwr_tools.specs.Format.Texts.{verdict_line};
 ghost use Rattle.cwr_tools.specs.Format.Verdicts.{IsVerdictOf};
-ghost use Rattle.cwr_tools.specs.Steps.Reports.{PutsReport, Reports, StandsAtEnd, StandsPut};
+ghost use Rattle.cwr_tools.specs.Steps.Reports.{PutsLines, PutsNext, PutsReport, Reports, StandsAtEnd, StandsCounted, StandsPut, tool_result};
+ghost use Rattle.cwr_judge.specs.Format.Items.{item_records};
+ghost use Rattle.cwr_tools.specs.Steps.Counts.{HasRoomToCount, IsCount};
 ghost use Rattle.cwr_tools.specs.Steps.LastSteps.{RunsOn};
 ghost use Rattle.cwr_tools.specs.Steps.Runs.{Runs};
 ghost use Rattle.cwr_tools.specs.Steps.Verdicts.{IsReadLast};
+ghost use Rattle.cwr_values.specs.declared.items.Item.{Item};
 
-use crate::finding_lines::writer_fault;
 use crate::last_steps::LastStep;
 use crate::reading_on::{Passing, read_on};
 use crate::reports::Report;
@@ -25,6 +27,7 @@ use cwr_decode::{LastRead, ReadFault, Reading};
 use cwr_devices::{Pen, Sink, SinkFault, Source, Target};
 use cwr_findings::{good_line, refusal_line, truncated_line};
 use cwr_shape::Limits;
+use cwr_values::Item;
 use std::alloc::Global;
 
 /// How far a run came.
@@ -64,6 +67,16 @@ pub fn verdict_line<W: Target>(verdict: &Verdict, pen: &mut Pen<'_, W>)
     }
 }
 
+/// Adds the same of a text that isn't refused, and nothing of one that is.
+pub(crate) fn unrefused_line<W: Target>(verdict: &Verdict, pen: &mut Pen<'_, W>)
+    ensures { Adds W.contents W.failures (unrefused_line verdict.now) pen.old pen.new }
+{
+    match verdict {
+        Verdict::Good { .. } | Verdict::Truncated { .. } => verdict_line(verdict, pen),
+        Verdict::Refused(_) => {}
+    }
+}
+
 /// Puts the line that says how a text ended.
 pub fn put_verdict_line<W: Target>(verdict: &Verdict, sink: &mut Sink<W>) -> Result<(), SinkFault>
     ensures { PutsText W.contents W.failures (verdict_line verdict.now) result sink.old sink.new }
@@ -73,16 +86,63 @@ pub fn put_verdict_line<W: Target>(verdict: &Verdict, sink: &mut Sink<W>) -> Res
     pen.end()
 }
 
-/// Puts the same of a text that isn't refused, and nothing of one that is.
-pub fn put_unrefused_line<W: Target>(verdict: &Verdict, sink: &mut Sink<W>) -> Result<(), SinkFault>
-    requires { has_failed sink.old ≡ false }
-    ensures { PutsText W.contents W.failures (unrefused_line verdict.now) result sink.old sink.new }
+/// The answer of a sink, as one of a run.
+pub fn as_told(put: Result<(), SinkFault>) -> Result<(), ToolFault>
+    ensures { result ≡ tool_result put }
 {
-    match verdict {
-        Verdict::Good { .. } => put_verdict_line(verdict, sink),
-        Verdict::Refused(_) => Ok(()),
-        Verdict::Truncated { .. } => put_verdict_line(verdict, sink),
+    match put {
+        Ok(()) => Ok(()),
+        Err(SinkFault { written }) => Err(ToolFault::Writer { written }),
     }
+}
+
+/// Puts what stands before the items.
+fn put_first<L: Report, W: Target>(lines: &L, sink: &mut Sink<W>) -> Result<(), ToolFault>
+    ensures { (of : ItemLines) → L.stands lines.now of []
+        → PutsLines W.contents W.failures false (of.lines []) result sink.old sink.new }
+{
+    let mut pen = Pen::new(sink);
+    lines.first_lines(&mut pen);
+    as_told(pen.end())
+}
+
+/// Puts the lines of an item that comes after items with these numbers. Where memory for them is refused, none is put.
+fn put_item<L: Report, W: Target>(
+    lines: &mut L,
+    alloc: Global,
+    counts: &Totals,
+    item: &Item,
+    sink: &mut Sink<W>,
+) -> Result<(), ToolFault>
+    requires room { HasRoomToCount counts.now }
+    requires few { counts.now.records + length (item_records item.now) ≤ 99999999 }
+    requires stands { StandsCounted (L.stands lines.old) counts.now }
+    ensures puts { (of : ItemLines) (given : List Item) → IsCount counts.now given
+        → L.stands lines.old of given
+        → PutsNext W.contents W.failures of given item.now result sink.old sink.new }
+    ensures stands { (of : ItemLines) (given : List Item) → IsCount counts.now given
+        → L.stands lines.old of given
+        → OnOk result (L.stands lines.new of (given ++ item.now ∷ [])) }
+{
+    let mut pen = Pen::new(sink);
+    match lines.item_lines(alloc, counts, item, &mut pen) {
+        Ok(()) => as_told(pen.end()),
+        Err(_) => Err(ToolFault::Memory),
+    }
+}
+
+/// Puts what stands for the verdict.
+fn put_verdict<L: Report, W: Target>(
+    lines: &L,
+    verdict: &Verdict,
+    sink: &mut Sink<W>,
+) -> Result<(), ToolFault>
+    ensures { (of : ItemLines) (given : List Item) → L.stands lines.now of given
+        → PutsLines W.contents W.failures false (of.last given verdict.now) result sink.old sink.new }
+{
+    let mut pen = Pen::new(sink);
+    lines.last_lines(verdict, &mut pen);
+    as_told(pen.end())
 }
 
 /// A reading of a transmission. The last bytes are held where they are asked for.
@@ -118,8 +178,6 @@ fn put_items<L: Report, R: Source, W: Target>(
     sink: &mut Sink<W>,
 ) -> Result<Verdict, ToolFault>
     requires stands { (of : ItemLines) × L.stands lines.old of [] }
-    requires unfailed { has_failed sink.old ≡ false }
-    requires empty { HasWritten W.contents (W.contents (writer_of sink.old)) [] sink.old }
     ensures puts { (of : ItemLines) → L.stands lines.old of [] → PutsReport of (λ given verdict. [])
         limits (R.remaining reader.old) (R.remaining reader.new) W.contents W.failures result
         sink.old sink.new }
@@ -136,11 +194,11 @@ fn put_items<L: Report, R: Source, W: Target>(
     let mut counts = Totals::new();
     let mut works = Passing::new(lines.works());
     let mut spent = None;
-    lines.put_first(sink)?;
+    put_first(&*lines, sink)?;
     'items: loop {
         match read_on(lines.passes(), &mut reading, &mut works, &mut counts, spent) {
             Ok(Some(item)) => {
-                lines.put_item(alloc, &counts, &item, sink)?;
+                put_item(lines, alloc, &counts, &item, sink)?;
                 counts.count(&item);
                 spent = Some(item);
             }
@@ -167,8 +225,6 @@ fn put_report<L: Report, R: Source, W: Target>(
     sink: &mut Sink<W>,
 ) -> Result<Verdict, ToolFault>
     requires stands { (of : ItemLines) × L.stands lines.old of [] }
-    requires unfailed { has_failed sink.old ≡ false }
-    requires empty { HasWritten W.contents (W.contents (writer_of sink.old)) [] sink.old }
     ensures puts { (of : ItemLines) → L.stands lines.old of [] → PutsReport of of.last limits
         (R.remaining reader.old) (R.remaining reader.new) W.contents W.failures result sink.old
         sink.new }
@@ -179,10 +235,8 @@ fn put_report<L: Report, R: Source, W: Target>(
         (IsReadLast limits (R.remaining reader.old) (R.remaining reader.new) verdict)) }
 {
     let verdict = put_items(lines, holds_last, alloc, limits, reader, front, sink)?;
-    match lines.put_verdict(&verdict, sink) {
-        Ok(()) => Ok(verdict),
-        Err(fault) => Err(writer_fault(fault)),
-    }
+    put_verdict(&*lines, &verdict, sink)?;
+    Ok(verdict)
 }
 
 /// Reads a transmission as `write_report` does, and writes what that writes. How far the run came is answered too; the last bytes that were

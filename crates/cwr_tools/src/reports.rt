@@ -1,22 +1,21 @@
 //! What a run over a text writes: a report.
 
-ghost use Rattle.std.specs.Prelude.{◌≡◌, ◌+◌, ◌≤◌, ◌∷◌, ◌++◌, [], List, length, IsTrue, OnOk, false};
-ghost use Rattle.cwr_devices.specs.Steps.Sinks.{has_failed};
+ghost use Rattle.std.specs.Prelude.{◌+◌, ◌≤◌, ◌∷◌, ◌++◌, [], List, length, IsTrue, OnOk};
+ghost use Rattle.cwr_devices.specs.Steps.Pens.{Adds};
 ghost use Rattle.cwr_judge.specs.Format.Items.{item_records};
 ghost use Rattle.cwr_lines.specs.Format.Records.{RecordValue};
-ghost use Rattle.cwr_devices.specs.Steps.Sinks.{PutsText};
 ghost use Rattle.cwr_values.specs.declared.items.Item.{Item};
 ghost use Rattle.cwr_tools.specs.Format.Reports.{ItemLines};
 ghost use Rattle.cwr_tools.specs.Steps.Counts.{HasRoomToCount, IsCount};
-ghost use Rattle.cwr_tools.specs.Steps.Reports.{PassesOver, PutsLines, PutsNext, StandsCounted};
+ghost use Rattle.cwr_tools.specs.Steps.Reports.{AddsNext, PassesOver, StandsCounted};
 
 use crate::totals::Totals;
-use crate::verdicts::{ToolFault, Verdict};
+use crate::verdicts::Verdict;
 use cwr_decode::Keeper;
-use cwr_devices::{Sink, SinkFault, Target};
+use cwr_devices::{Pen, Target};
 use cwr_lines::RecordRef;
 use cwr_values::Item;
-use std::alloc::Global;
+use std::alloc::{AllocError, Global};
 
 /// What a run writes of a transmission: the lines of its items, one item after another, and what stands for the verdict.
 pub trait Report {
@@ -34,39 +33,33 @@ pub trait Report {
         ensures { IsTrue result → (of : ItemLines)
             → PassesOver Self.Works.are_clean of (stands self.now of) };
 
-    /// Puts what stands before the items.
-    fn put_first<W: Target>(&mut self, sink: &mut Sink<W>) -> Result<(), ToolFault>
-        requires unfailed { has_failed sink.old ≡ false }
-        requires stands { (of : ItemLines) × stands self.old of [] }
-        ensures puts { (of : ItemLines) → stands self.old of []
-            → PutsLines W.contents W.failures false (of.lines []) result sink.old sink.new }
-        ensures stands { (of : ItemLines) → stands self.old of []
-            → OnOk result (stands self.new of []) };
+    /// Adds what stands before the items.
+    fn first_lines<W: Target>(&self, pen: &mut Pen<'_, W>)
+        ensures { (of : ItemLines) → stands self.now of []
+            → Adds W.contents W.failures (of.lines []) pen.old pen.new };
 
-    /// Puts the lines of an item that comes after items with these numbers.
-    fn put_item<W: Target>(
+    /// Adds the lines of an item that comes after items with these numbers. Where memory for them is refused, none is added.
+    fn item_lines<W: Target>(
         &mut self,
         alloc: Global,
         counts: &Totals,
         item: &Item,
-        sink: &mut Sink<W>,
-    ) -> Result<(), ToolFault>
-        requires unfailed { has_failed sink.old ≡ false }
+        pen: &mut Pen<'_, W>,
+    ) -> Result<(), AllocError>
         requires room { HasRoomToCount counts.now }
         requires few { counts.now.records + length (item_records item.now) ≤ 99999999 }
         requires stands { StandsCounted (stands self.old) counts.now }
-        ensures puts { (of : ItemLines) (given : List Item) → IsCount counts.now given
+        ensures adds { (of : ItemLines) (given : List Item) → IsCount counts.now given
             → stands self.old of given
-            → PutsNext W.contents W.failures of given item.now result sink.old sink.new }
+            → AddsNext W.contents W.failures of given item.now result pen.old pen.new }
         ensures stands { (of : ItemLines) (given : List Item) → IsCount counts.now given
             → stands self.old of given
             → OnOk result (stands self.new of (given ++ item.now ∷ [])) };
 
-    /// Puts what stands for the verdict.
-    fn put_verdict<W: Target>(&self, verdict: &Verdict, sink: &mut Sink<W>) -> Result<(), SinkFault>
-        requires { has_failed sink.old ≡ false }
+    /// Adds what stands for the verdict.
+    fn last_lines<W: Target>(&self, verdict: &Verdict, pen: &mut Pen<'_, W>)
         ensures { (of : ItemLines) (given : List Item) → stands self.now of given
-            → PutsText W.contents W.failures (of.last given verdict.now) result sink.old sink.new };
+            → Adds W.contents W.failures (of.last given verdict.now) pen.old pen.new };
 }
 
 /// Keeps nothing of any transaction: none is passed over.

@@ -1,22 +1,20 @@
-//! The lines of records, put to a sink.
+//! The lines of records.
 
 ghost use Rattle.std.specs.Prelude.{◌≡◌, ◌+◌, ◌≤◌, [], length};
 ghost use Rattle.cwr_devices.specs.Steps.Pens.{Adds};
-ghost use Rattle.cwr_devices.specs.Steps.Sinks.{PutsText};
 ghost use Rattle.cwr_judge.specs.Format.Items.{item_records};
 ghost use Rattle.cwr_notes.specs.Format.RecordTexts.{numbered_records};
 ghost use Rattle.cwr_tools.specs.Format.Reports.{lines_of_records};
 
-use crate::finding_lines::writer_fault;
-use crate::reporting::put_verdict_line;
+use crate::reporting::verdict_line;
 use crate::reports::{NothingKept, Report};
 use crate::totals::Totals;
-use crate::verdicts::{ToolFault, Verdict};
-use cwr_devices::{Pen, Sink, SinkFault, Target};
+use crate::verdicts::Verdict;
+use cwr_devices::{Pen, Target};
 use cwr_fields::Kind;
 use cwr_notes::{head_line, record_lines};
 use cwr_values::{Item, Transaction};
-use std::alloc::Global;
+use std::alloc::{AllocError, Global};
 
 /// Adds the lines of a transaction's records, whose first has that number.
 fn transaction_lines<W: Target>(first: u64, transaction: &Transaction, pen: &mut Pen<'_, W>)
@@ -31,7 +29,7 @@ fn transaction_lines<W: Target>(first: u64, transaction: &Transaction, pen: &mut
 }
 
 /// Adds the lines of an item's records, whose first has that number.
-fn item_lines<W: Target>(first: u64, item: &Item, pen: &mut Pen<'_, W>)
+pub(crate) fn item_lines<W: Target>(first: u64, item: &Item, pen: &mut Pen<'_, W>)
     requires { first + length (item_records item.now) ≤ 100000000 }
     ensures { Adds W.contents W.failures (numbered_records first (item_records item.now)) pen.old
         pen.new }
@@ -43,21 +41,6 @@ fn item_lines<W: Target>(first: u64, item: &Item, pen: &mut Pen<'_, W>)
         Item::Transaction(transaction) => transaction_lines(first, transaction, pen),
         Item::Ended => head_line(first, Kind::Trl, pen),
     }
-}
-
-/// Puts the lines of an item's records, whose first has that number.
-pub(crate) fn put_records<W: Target>(
-    first: u64,
-    item: &Item,
-    sink: &mut Sink<W>,
-) -> Result<(), SinkFault>
-    requires { first + length (item_records item.now) ≤ 100000000 }
-    ensures { PutsText W.contents W.failures (numbered_records first (item_records item.now)) result
-        sink.old sink.new }
-{
-    let mut pen = Pen::new(sink);
-    item_lines(first, item, &mut pen);
-    pen.end()
 }
 
 /// Each record with its cells, and the line of the verdict.
@@ -89,28 +72,20 @@ impl Report for ShownRecords {
         false
     }
 
-    fn put_first<W: Target>(&mut self, _: &mut Sink<W>) -> Result<(), ToolFault> {
-        Ok(())
-    }
+    fn first_lines<W: Target>(&self, _: &mut Pen<'_, W>) {}
 
-    fn put_item<W: Target>(
+    fn item_lines<W: Target>(
         &mut self,
         _: Global,
         counts: &Totals,
         item: &Item,
-        sink: &mut Sink<W>,
-    ) -> Result<(), ToolFault> {
-        match put_records(u64::from(counts.records) + 1, item, sink) {
-            Ok(()) => Ok(()),
-            Err(fault) => Err(writer_fault(fault)),
-        }
+        pen: &mut Pen<'_, W>,
+    ) -> Result<(), AllocError> {
+        item_lines(u64::from(counts.records) + 1, item, pen);
+        Ok(())
     }
 
-    fn put_verdict<W: Target>(
-        &self,
-        verdict: &Verdict,
-        sink: &mut Sink<W>,
-    ) -> Result<(), SinkFault> {
-        put_verdict_line(verdict, sink)
+    fn last_lines<W: Target>(&self, verdict: &Verdict, pen: &mut Pen<'_, W>) {
+        verdict_line(verdict, pen);
     }
 }

@@ -1,7 +1,6 @@
--- The lines of one item more, as a report puts them.
-use Rattle.std.proofs.Common.{◌≡◌, Bool, false, List, [], ◌∷◌, ◌++◌, ℕ, Option, Some, None, refl, sym, ap, ap₂, ◌∙◌}
-use Rattle.std.specs.Prelude.{Result, Ok, Err, is_some}
-use Rattle.cwr_devices.specs.declared.sinks.Sink.{Sink}
+-- The lines of one item more, as a report adds them.
+use Rattle.std.proofs.Common.{◌≡◌, List, [], ◌∷◌, ◌++◌, Option, Some, None, refl, sym, ap, ap₂, ◌∙◌}
+use Rattle.std.specs.Prelude.{is_some}
 use Rattle.cwr_values.specs.declared.items.Item.{Item}
 use Rattle.cwr_delivery.specs.declared.deliveries.Delivery.{Delivery}
 use Rattle.cwr_delivery.specs.declared.outcomes.Notes.{Notes}
@@ -10,15 +9,12 @@ use Rattle.cwr_acks.specs.declared.counts.Answers.{Answers}
 use Rattle.cwr_acks.specs.Format.AckLines.{Telling}
 use Rattle.cwr_acks.specs.Steps.AckSteps.{answers_of, held_after, held_if, kept_if, lines_at, lines_held, notes_if}
 use Rattle.cwr_acks.proofs.lemmas.LinesOfItems.{lines_more}
-use Rattle.cwr_tools.specs.declared.verdicts.ToolFault.{ToolFault}
-use Rattle.cwr_tools.specs.declared.verdicts.ToolFault.TheVariants as faults
-use Rattle.cwr_tools.specs.Steps.Reports.{PutsLines}
 
--- the lines that were put are those of the item after the others
-pub lines_put : (telling : Telling) (held old new : Option Held) (notes : Option Notes) (answers : Answers) (given : List Item)
+-- the lines that were added are those of the item after the others
+pub lines_added : (telling : Telling) (held old new : Option Held) (notes : Option Notes) (answers : Answers) (given : List Item)
     (item : Item) → old ≡ held_after held given → answers ≡ answers_of given → new ≡ kept_if old item → notes ≡ notes_if old item
     → lines_held telling held (given ++ item ∷ []) ≡ lines_held telling held given ++ lines_at telling new notes answers item
-lines_put telling held old new notes answers given item was counted kept told =
+lines_added telling held old new notes answers given item was counted kept told =
     lines_more telling held given item
     ∙ ap (λ (x : Option Held). lines_held telling held given
     ++ lines_at telling (kept_if x item) (notes_if x item) (answers_of given) item) (sym was)
@@ -42,12 +38,3 @@ some_held (Some d) = refl
 pub still_some : (delivery : Option Delivery) (held : Option Held) (given : List Item) → held_if delivery ≡ held_after held given
     → is_some delivery ≡ is_some held
 still_some delivery held given e = some_held delivery ∙ ap is_some e ∙ some_after held given
-
--- lines for which no memory is asked are put whether any is asked or not
-pub puts_asking : {W : Type 0} (contents : W → Option (List ℕ)) (failures : W → ℕ) (asks : Bool) (text : List ℕ)
-    (r : Result (Unit {0}) ToolFault) (old new : Sink W) → PutsLines contents failures false text r old new
-    → PutsLines contents failures asks text r old new
-puts_asking contents failures asks text (Ok u) old new h = h
-puts_asking contents failures asks text (Err faults.Memory) old new h = absurd (cc h.0)
-puts_asking contents failures asks text (Err (faults.Writer written)) old new h = h
-puts_asking contents failures asks text (Err fault) old new h = h

@@ -15,7 +15,7 @@ use Rattle.cwr_advice.specs.Format.Rules.{advice_of}
 use Rattle.cwr_advice.specs.Format.Said.{before_all_days, nothing_said, said_by}
 use Rattle.cwr_advice.proofs.lemmas.EarlyDays.{none_later}
 use Rattle.cwr_advise.specs.Format.AdviceLines.{header_in, said_in}
-use Rattle.cwr_advise.proofs.lemmas.AdvicePut.{some_there}
+use Rattle.cwr_tools.proofs.lemmas.ReportSteps.{some_there}
 
 last_of : {A : Type 0} → (o : Option A) (xs : List A) (x : A) → last_or o (xs ++ x ∷ []) ≡ Some x
 last_of o [] x = refl

@@ -1,8 +1,7 @@
 -- Which advice is told, by how many pieces of each rule stand before it.
-use Rattle.std.specs.Prelude.{◌≡◌, ℕ, ◌+◌, ◌||◌, nat_lt, Bool, List, [], ◌∷◌, ◌++◌, flat_map, map, slice_index, slice_set, if◌then◌else◌, Option, Result}
-use Rattle.cwr_devices.specs.declared.sinks.Sink.{Sink}
-use Rattle.cwr_devices.specs.declared.sinks.SinkFault.{SinkFault}
-use Rattle.cwr_devices.specs.Steps.Sinks.{PutsText}
+use Rattle.std.specs.Prelude.{◌≡◌, ℕ, ◌+◌, ◌||◌, nat_lt, Bool, List, [], ◌∷◌, ◌++◌, flat_map, map, slice_index, slice_set, if◌then◌else◌, Option}
+use Rattle.cwr_devices.specs.declared.pens.Pen.{Pen}
+use Rattle.cwr_devices.specs.Steps.Pens.{Adds}
 use Rattle.cwr_advice.specs.declared.rules.Advice.{Advice}
 use Rattle.cwr_advice.specs.declared.rules.AdviceRule.{AdviceRule}
 use Rattle.cwr_advice.specs.Format.RuleOrder.{all_rules, place_of_rule}
@@ -45,10 +44,9 @@ lines_by lines all p = if is_told_by all p.0 p.1.rule then lines p.1 else []
 abbrev pub summary_by : Bool → List ℕ → List ℕ
 summary_by all counts = flat_map (λ rule. summary_line all rule (slice_index counts (place_of_rule rule))) all_rules
 
--- that is put
-abbrev pub PutsSummary : {W : Type 0} → (W → Option (List ℕ)) → (W → ℕ) → Bool → List ℕ → Result (Unit {0}) SinkFault → Sink W
-    → Sink W → Type 0
-PutsSummary contents failures all counts result old new = PutsText contents failures (summary_by all counts) result old new
+-- that is added
+abbrev pub AddsSummary : {W : Type 0} → (W → Option (List ℕ)) → (W → ℕ) → Bool → List ℕ → Pen W → Pen W → Type 0
+AddsSummary contents failures all counts old new = Adds contents failures (summary_by all counts) old new
 
 -- ---- what the counts of advice stand for
 

@@ -5,13 +5,12 @@ use Rattle.cwr_values.specs.declared.items.Item.TheVariants.{Transaction}
 use Rattle.cwr_findings.specs.Format.Findings.{findings}
 use Rattle.cwr_lines.specs.Format.Records.{RecordValue}
 use Rattle.cwr_tools.specs.declared.totals.Totals.{Totals}
-use Rattle.cwr_devices.specs.declared.sinks.Sink.{Sink}
-use Rattle.cwr_tools.specs.declared.verdicts.ToolFault.{ToolFault}
+use Rattle.cwr_devices.specs.declared.pens.Pen.{Pen}
 use Rattle.cwr_tools.specs.declared.verdicts.Verdict.{Verdict}
 use Rattle.cwr_tools.specs.declared.verdicts.Verdict.TheVariants.{Refused}
 use Rattle.cwr_tools.specs.Format.Reports.{transaction_lines}
 use Rattle.cwr_tools.specs.Format.Texts.{verdict_line}
-use Rattle.cwr_tools.specs.Steps.Reports.{PutsLines}
+use Rattle.cwr_tools.specs.Steps.Reports.{AddsLines}
 use Rattle.cwr_advice.specs.declared.said.Said.{Said}
 use Rattle.cwr_advice.specs.Format.Rules.{advice_of}
 use Rattle.cwr_advise.specs.declared.before.Before.{Before}
@@ -35,11 +34,11 @@ advised_after manner told said group sequence n t =
     transaction_lines manner.explained manner.apart group sequence n t
     ++ flat_map (noted_advice manner.apart group sequence n t) (told_by manner.all told (advice_of said t))
 
--- these are put, or memory for them is refused
-abbrev pub PutsAdvised : {W : Type 0} → (W → Option (List ℕ)) → (W → ℕ) → Manner → List ℕ → Said → ℕ → ℕ → ℕ → List RecordValue
-    → Result (Unit {0}) ToolFault → Sink W → Sink W → Type 0
-PutsAdvised contents failures manner told said group sequence n t result old new =
-    PutsLines contents failures (has_advice t) (advised_after manner told said group sequence n t) result old new
+-- these are added, or memory for them is refused
+abbrev pub AddsAdvised : {W E : Type 0} → (W → Option (List ℕ)) → (W → ℕ) → Manner → List ℕ → Said → ℕ → ℕ → ℕ → List RecordValue
+    → Result (Unit {0}) E → Pen W → Pen W → Type 0
+AddsAdvised contents failures manner told said group sequence n t result old new =
+    AddsLines contents failures (has_advice t) (advised_after manner told said group sequence n t) result old new
 
 -- the lines of one item more, after items with these numbers, and after so much advice of each rule
 abbrev pub advised_at : Manner → List ℕ → Said → Totals → Item → List ℕ

@@ -17,8 +17,6 @@ use Rattle.cwr_decode.specs.Steps.Runs.{HasReadAll, EndsWhole, IsReadingOn}
 use Rattle.cwr_decode.proofs.lemmas.ItemsMakeOneTransmission.{items_once}
 use Rattle.cwr_decode.proofs.lemmas.ItemsReadSoFar.{all_items, all_taken, run_reads, run_right, some_read}
 use Rattle.cwr_devices.specs.declared.sinks.Sink.{Sink}
-use Rattle.cwr_devices.specs.Format.Failures.{one_more_failure}
-use Rattle.cwr_devices.specs.Steps.Sinks.{HasWritten, Puts, writer_of}
 use Rattle.cwr_tools.specs.declared.verdicts.Verdict.{Verdict}
 use Rattle.cwr_tools.specs.declared.verdicts.Verdict.TheVariants.{Good}
 use Rattle.cwr_tools.specs.declared.verdicts.ToolFault.{ToolFault}
@@ -28,9 +26,10 @@ use Rattle.cwr_tools.specs.Format.Verdicts.{IsVerdictOf}
 use Rattle.cwr_tools.specs.Steps.Verdicts.{totals_with, StopsAfter, IsRightVerdict}
 use Rattle.cwr_tools.specs.Format.Reports.{CountsReaderFault, ItemLines}
 use Rattle.cwr_tools.specs.Steps.Counts.{HasRoomToCount, IsCount}
-use Rattle.cwr_tools.specs.Steps.Reports.{HasPut, PutsLines, PutsNext, PutsReport, StandsPut}
+use Rattle.cwr_tools.specs.Steps.Reports.{IsCut, IsPut, PutsLines, PutsNext, PutsReport, StandsPut}
 use Rattle.cwr_tools.specs.Steps.Counts.{HasRoomToCount}
 use Rattle.cwr_tools.proofs.lemmas.CountedTotals.{count_more, good_count, has_room}
+use Rattle.cwr_tools.proofs.lemmas.ReportSteps.{put_both}
 
 -- ---- how a reading stops
 
@@ -88,58 +87,36 @@ pub record IsReporting {W : Type 0} (of : ItemLines) (stands : List Item → Typ
     pub given : List Item
     pub reading : IsReadingOn limits d before now given
     pub counts : IsCount c given
-    pub put : HasPut contents failures (of.lines given) old sink
+    pub put : IsPut contents failures (of.lines given) old sink
     pub here : stands given
 
 -- what stands before the items was put
 pub first_put : {W : Type 0} (of : ItemLines) (stands : List Item → Type 0) (limits : Limits) (d : Standing)
     (before now : Option (List ℕ)) (contents : W → Option (List ℕ)) (failures : W → ℕ) (c : Totals) (u : Unit {0})
     (old sink : Sink W)
-    → IsReadingOn limits d before now [] → IsCount c [] → HasWritten contents (contents (writer_of old)) [] old → stands []
-    → PutsLines contents failures false (of.lines []) (Ok u) old sink
+    → IsReadingOn limits d before now [] → IsCount c [] → stands [] → PutsLines contents failures false (of.lines []) (Ok u) old sink
     → IsReporting of stands limits d before now contents failures c old sink
-first_put of stands limits d before now contents failures c u old sink reading counts empty here p = record {
-  given = [];
-  reading = reading;
-  counts = counts;
-  put = record { written = p.written (contents (writer_of old)) [] empty; unfailed = p.failed; quiet = p.counts };
-  here = here;
-}
+first_put of stands limits d before now contents failures c u old sink reading counts here p =
+    record { given = []; reading = reading; counts = counts; put = p; here = here }
 
 -- the writer failed in it
 pub first_fault : {W : Type 0} (of : ItemLines) (end : List Item → Verdict → List ℕ) (limits : Limits) (d : Standing)
     (before now : Option (List ℕ)) (contents : W → Option (List ℕ)) (failures : W → ℕ) (fault : ToolFault) (old sink : Sink W)
-    → IsReadingOn limits d before now [] → HasWritten contents (contents (writer_of old)) [] old
-    → PutsLines contents failures false (of.lines []) (Err fault) old sink
+    → IsReadingOn limits d before now [] → PutsLines contents failures false (of.lines []) (Err fault) old sink
     → PutsReport of end limits before now contents failures (Err fault) old sink
-first_fault of end limits d before now contents failures (tool_faults.Writer n) old sink reading empty p = (
-  [],
-  of.lines [],
-  inl ((d, reading), refl),
-  record { written = p.0.written (contents (writer_of old)) [] empty; counted = p.1; failed = p.0.counts },
-)
-first_fault of end limits d before now contents failures tool_faults.Memory old sink reading empty p =
-    absurd (true≢false (sym p.0))
-first_fault of end limits d before now contents failures tool_faults.Reader old sink reading empty p = absurd p
-first_fault of end limits d before now contents failures (tool_faults.Refused r) old sink reading empty p = absurd p
-first_fault of end limits d before now contents failures (tool_faults.Truncated r) old sink reading empty p = absurd p
-first_fault of end limits d before now contents failures tool_faults.Output old sink reading empty p = absurd p
-first_fault of end limits d before now contents failures (tool_faults.Limit l) old sink reading empty p = absurd p
+first_fault of end limits d before now contents failures (tool_faults.Writer n) old sink reading p =
+    ([], of.lines [], inl ((d, reading), refl), p)
+first_fault of end limits d before now contents failures tool_faults.Memory old sink reading p = absurd (true≢false (sym p.0))
+first_fault of end limits d before now contents failures tool_faults.Reader old sink reading p = absurd p
+first_fault of end limits d before now contents failures (tool_faults.Refused r) old sink reading p = absurd p
+first_fault of end limits d before now contents failures (tool_faults.Truncated r) old sink reading p = absurd p
+first_fault of end limits d before now contents failures tool_faults.Output old sink reading p = absurd p
+first_fault of end limits d before now contents failures (tool_faults.Limit l) old sink reading p = absurd p
 
 pub room_in : {W : Type 0} (of : ItemLines) (stands : List Item → Type 0) (limits : Limits) (d : Standing)
     (before now : Option (List ℕ)) (contents : W → Option (List ℕ)) (failures : W → ℕ) (c : Totals) (old sink : Sink W)
     → IsReporting of stands limits d before now contents failures c old sink → HasRoomToCount c
 room_in of stands limits d before now contents failures c old sink h = has_room limits d before now c h.given h.reading h.counts
-
--- one text more is put
-put_more : {W : Type 0} (contents : W → Option (List ℕ)) (failures : W → ℕ) (text more : List ℕ) (u : Unit {0})
-    (old mid new : Sink W) → HasPut contents failures text old mid → Puts {E = ToolFault} contents failures more (Ok u) mid new
-    → HasPut contents failures (text ++ more) old new
-put_more contents failures text more u old mid new h p = record {
-  written = p.written (contents (writer_of old)) text h.written;
-  unfailed = p.failed;
-  quiet = p.counts ∙ h.quiet;
-}
 
 -- an item more was read
 pub reads_item : {W : Type 0} (of : ItemLines) (stands : List Item → Type 0) (limits : Limits) (d new : Standing)
@@ -164,8 +141,8 @@ reports_item of stands more limits d new before left after contents failures c o
   reading = reading;
   counts = count_more c h.given item h.counts;
   put =
-      subst (λ (l : List ℕ). HasPut contents failures l old next) (sym p.1)
-      (put_more contents failures (of.lines h.given) p.0 u old sink next h.put p.2);
+      subst (λ (l : List ℕ). IsPut contents failures l old next) (sym p.1)
+      (put_both contents failures (of.lines h.given) p.0 (Ok tt) old sink next h.put p.2);
   here = here;
 }
 
@@ -182,20 +159,15 @@ pub item_fault : {W : Type 0} (of : ItemLines) (stands : List Item → Type 0) (
 item_fault of stands end limits d new before left after contents failures c old sink next item tool_faults.Memory h reading p = (
   h.given,
   inr (item, p.2.0, (new, reading)),
-  subst (λ (s : Sink _). HasPut contents failures (of.lines h.given) old s) (sym p.2.1) h.put,
+  subst (λ (s : Sink _). IsPut contents failures (of.lines h.given) old s) (sym p.2.1) h.put,
 )
 item_fault of stands end limits d new before left after contents failures c old sink next item (tool_faults.Writer n) h reading
     p = (
       h.given ++ item ∷ [],
       of.lines (h.given ++ item ∷ []),
       inl ((new, reading), refl),
-      record {
-        written =
-            subst (λ (l : List ℕ). HasWritten contents (contents (writer_of old)) l next) (sym p.1)
-            (p.2.0.written (contents (writer_of old)) (of.lines h.given) h.put.written);
-        counted = p.2.1;
-        failed = p.2.0.counts ∙ ap one_more_failure h.put.quiet;
-      },
+      subst (λ (l : List ℕ). IsCut contents failures l n old next) (sym p.1)
+          (put_both contents failures (of.lines h.given) p.0 (Err (record { written = n })) old sink next h.put p.2),
     )
 item_fault of stands end limits d new before left after contents failures c old sink next item tool_faults.Reader h reading p =
     absurd p.2
@@ -233,15 +205,15 @@ abbrev pub nothing : List Item → Verdict → List ℕ
 nothing given verdict = []
 
 put_nothing : {W : Type 0} (contents : W → Option (List ℕ)) (failures : W → ℕ) (text : List ℕ) (old new : Sink W)
-    → HasPut contents failures text old new → HasPut contents failures (text ++ []) old new
+    → IsPut contents failures text old new → IsPut contents failures (text ++ []) old new
 put_nothing contents failures text old new h =
-    subst (λ (l : List ℕ). HasPut contents failures l old new) (sym (append-nil text)) h
+    subst (λ (l : List ℕ). IsPut contents failures l old new) (sym (append-nil text)) h
 
 -- the reading stopped with that fault
 pub fault_reported : {W : Type 0} (of : ItemLines) (limits : Limits) (before after : Option (List ℕ))
     (contents : W → Option (List ℕ)) (failures : W → ℕ) (old sink : Sink W) (given : List Item) (fault : ReadFault)
     (result : Result Verdict ToolFault)
-    → StopsAfter limits fault before after given → HasPut contents failures (of.lines given) old sink → IsVerdictOf fault result
+    → StopsAfter limits fault before after given → IsPut contents failures (of.lines given) old sink → IsVerdictOf fault result
     → PutsReport of nothing limits before after contents failures result old sink
 fault_reported of limits before after contents failures old sink given faults.Reader result stop put e =
     subst (λ (r : Result Verdict ToolFault). PutsReport of nothing limits before after contents failures r old sink) (sym e)
@@ -259,7 +231,7 @@ fault_reported of limits before after contents failures old sink given faults.Me
 -- all was read
 pub good_reported : {W : Type 0} (of : ItemLines) (limits : Limits) (before after : Option (List ℕ))
     (contents : W → Option (List ℕ)) (failures : W → ℕ) (old sink : Sink W) (given : List Item) (c : Totals) (verdict : Verdict)
-    → HasReadAll limits before after given → IsCount c given → HasPut contents failures (of.lines given) old sink
+    → HasReadAll limits before after given → IsCount c given → IsPut contents failures (of.lines given) old sink
     → verdict ≡ Good c.groups c.transactions c.records
     → PutsReport of nothing limits before after contents failures (Ok verdict) old sink
 good_reported of limits before after contents failures old sink given c verdict h k put e =
@@ -279,7 +251,7 @@ good_reported of limits before after contents failures old sink given c verdict 
 pub fault_stands : {W : Type 0} (of : ItemLines) (stands : List Item → Type 0) (limits : Limits) (before after : Option (List ℕ))
     (contents : W → Option (List ℕ)) (failures : W → ℕ) (old sink : Sink W) (given : List Item) (fault : ReadFault)
     (result : Result Verdict ToolFault)
-    → StopsAfter limits fault before after given → stands given → HasPut contents failures (of.lines given) old sink
+    → StopsAfter limits fault before after given → stands given → IsPut contents failures (of.lines given) old sink
     → IsVerdictOf fault result → StandsPut of stands limits before after contents failures result old sink
 fault_stands of stands limits before after contents failures old sink given faults.Reader result stop here put e =
     subst (λ (r : Result Verdict ToolFault). StandsPut of stands limits before after contents failures r old sink) (sym e) tt

@@ -21,7 +21,7 @@ use Rattle.cwr_tools.specs.declared.totals.Totals.{Totals}
 use Rattle.cwr_tools.specs.Format.Reports.{ItemLines}
 use Rattle.cwr_tools.specs.Steps.Counts.{IsCount}
 use Rattle.cwr_tools.specs.Steps.Passing.{IsPassed, ReadsTold, totals_passing}
-use Rattle.cwr_tools.specs.Steps.Reports.{HasPut, PassesOver}
+use Rattle.cwr_tools.specs.Steps.Reports.{IsPut, PassesOver}
 use Rattle.cwr_tools.specs.Steps.Verdicts.{totals_with}
 use Rattle.cwr_tools.proofs.lemmas.CountedTotals.{count_more, has_room, total}
 use Rattle.cwr_tools.proofs.lemmas.ReportsOn.{IsReporting}
@@ -127,7 +127,7 @@ told_reporting is_so of stands limits d new before left after contents failures 
       given = h.given ++ map items.Transaction p.wholes;
       reading = read_passing is_so limits d t.reads.between before left t.reads.left_between h.given t.passed h.reading p;
       counts = told_counts is_so limits d new before left after c more h.given answer h.reading h.counts t;
-      put = subst (λ (l : List ℕ). HasPut contents failures l old sink) (sym rest.0) h.put;
+      put = subst (λ (l : List ℕ). IsPut contents failures l old sink) (sym rest.0) h.put;
       here = rest.1;
     }
 

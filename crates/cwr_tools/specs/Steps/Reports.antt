@@ -2,7 +2,6 @@
 use Rattle.std.specs.Prelude.{◌≡◌, ◌⊎◌, ℕ, ◌+◌, Bool, true, false, List, [], ◌∷◌, ◌++◌, if◌then◌else◌, Option, Some, None, Result}
 use Rattle.std.specs.Prelude.{Ok, Err}
 use Rattle.std.specs.Io.KnownBytes.{Appends}
-use Rattle.cwr_devices.specs.Format.Failures.{one_more_failure}
 use Rattle.cwr_shape.specs.declared.limits.Limits.{Limits}
 use Rattle.cwr_lines.specs.Format.Records.{RecordValue}
 use Rattle.cwr_values.specs.declared.items.Item.{Item}
@@ -13,7 +12,10 @@ use Rattle.cwr_decode.specs.declared.readings.ReadFault.TheVariants as read_faul
 use Rattle.cwr_decode.specs.Steps.Machines.{Standing}
 use Rattle.cwr_decode.specs.Steps.Runs.{IsReadingOn}
 use Rattle.cwr_devices.specs.declared.sinks.Sink.{Sink}
-use Rattle.cwr_devices.specs.Steps.Sinks.{HasWritten, Puts, has_failed, writer_of, written_of}
+use Rattle.cwr_devices.specs.declared.sinks.SinkFault.{SinkFault}
+use Rattle.cwr_devices.specs.declared.pens.Pen.{Pen}
+use Rattle.cwr_devices.specs.Steps.Pens.{Adds}
+use Rattle.cwr_devices.specs.Steps.Sinks.{PutsText}
 use Rattle.cwr_encode.specs.Format.Finishing.{HasFront}
 use Rattle.cwr_tools.specs.declared.verdicts.Verdict.{Verdict}
 use Rattle.cwr_tools.specs.declared.verdicts.ToolFault.{ToolFault}
@@ -81,13 +83,40 @@ abbrev pub findings_at : Bool → Bool → Totals → Item → List ℕ
 findings_at false apart counts item = finding_lines_in counts.groups counts.in_group item
 findings_at true apart counts item = explained_in apart counts.groups counts.in_group (counts.records + 1) item
 
--- The lines of an item are put, or the writer fails in them. Where memory for them is refused none of them is put.
+-- The lines of an item are added. Where memory for them is refused none of them is.
+abbrev pub AddsLines : {W E : Type 0} → (W → Option (List ℕ)) → (W → ℕ) → Bool → List ℕ → Result (Unit {0}) E → Pen W → Pen W
+    → Type 0
+AddsLines contents failures takes_memory text (Ok u) old new = Adds contents failures text old new
+AddsLines contents failures takes_memory text (Err fault) old new = (takes_memory ≡ true) × (new ≡ old)
+
+-- the lines of one item more are added, after those of the items before
+abbrev pub AddsNext : {W E : Type 0} → (W → Option (List ℕ)) → (W → ℕ) → ItemLines → List Item → Item → Result (Unit {0}) E → Pen W
+    → Pen W → Type 0
+AddsNext contents failures of given item result old new =
+    (text : List ℕ) × (of.lines (given ++ item ∷ []) ≡ of.lines given ++ text)
+    × AddsLines contents failures (of.take_memory item) text result old new
+
+-- the answer of a sink, as one of a run
+abbrev pub tool_result : Result (Unit {0}) SinkFault → Result (Unit {0}) ToolFault
+tool_result (Ok u) = Ok u
+tool_result (Err fault) = Err (Writer fault.written)
+
+-- a text is put, and the writer doesn't fail
+abbrev pub IsPut : {W : Type 0} → (W → Option (List ℕ)) → (W → ℕ) → List ℕ → Sink W → Sink W → Type 0
+IsPut contents failures text old new = PutsText contents failures text (Ok tt) old new
+
+-- the writer fails in a text, or did before, after so many bytes
+abbrev pub IsCut : {W : Type 0} → (W → Option (List ℕ)) → (W → ℕ) → List ℕ → ℕ → Sink W → Sink W → Type 0
+IsCut contents failures text count old new =
+    let fault : SinkFault = record { written = count } in
+    PutsText contents failures text (Err fault) old new
+
+-- A text is put, or the writer fails in it. Where memory for it is refused nothing is put.
 abbrev pub PutsLines : {W : Type 0} → (W → Option (List ℕ)) → (W → ℕ) → Bool → List ℕ → Result (Unit {0}) ToolFault → Sink W
     → Sink W → Type 0
-PutsLines contents failures takes_memory text (Ok u) old new = Puts {E = ToolFault} contents failures text (Ok u) old new
+PutsLines contents failures takes_memory text (Ok u) old new = IsPut contents failures text old new
 PutsLines contents failures takes_memory text (Err Memory) old new = (takes_memory ≡ true) × (new ≡ old)
-PutsLines contents failures takes_memory text (Err (Writer written)) old new =
-    Puts {E = ToolFault} contents failures text (Err (Writer written)) old new × (written ≡ written_of new)
+PutsLines contents failures takes_memory text (Err (Writer written)) old new = IsCut contents failures text written old new
 PutsLines contents failures takes_memory text (Err fault) old new = ⊥
 
 -- the lines of one item more are put, after those of the items before
@@ -118,34 +147,20 @@ StandsAtEnd stands limits before after (Err Reader) =
     (given : List Item) × StopsAfter limits read_faults.Reader before after given × stands given
 StandsAtEnd stands limits before after (Err fault) = Unit {0}
 
--- after what the writer had, the text is written
-pub record HasPut {W : Type 0} (contents : W → Option (List ℕ)) (failures : W → ℕ) (text : List ℕ) (old new : Sink W) : Type 0
-  where
-    pub written : HasWritten contents (contents (writer_of old)) text new
-    pub unfailed : has_failed new ≡ false
-    pub quiet : failures (writer_of new) ≡ failures (writer_of old)
-
--- the writer failed, and so many of the text's first bytes are written
-pub record HasPutFront {W : Type 0} (contents : W → Option (List ℕ)) (failures : W → ℕ) (text : List ℕ) (count : ℕ)
-    (old new : Sink W) : Type 0 where
-  pub written : HasWritten contents (contents (writer_of old)) text new
-  pub counted : count ≡ written_of new
-  pub failed : failures (writer_of new) ≡ one_more_failure (failures (writer_of old))
-
 -- what a run has put: with the lines of the items, what stands at the end for the verdict
 abbrev pub PutsReport : {W : Type 0} → ItemLines → (List Item → Verdict → List ℕ) → Limits → Option (List ℕ) → Option (List ℕ)
     → (W → Option (List ℕ)) → (W → ℕ) → Result Verdict ToolFault → Sink W → Sink W → Type 0
 PutsReport of end limits before after contents failures (Ok verdict) old new =
     (given : List Item) × IsRightVerdict limits before verdict after given
-    × HasPut contents failures (of.lines given ++ end given verdict) old new
+    × IsPut contents failures (of.lines given ++ end given verdict) old new
 PutsReport of end limits before after contents failures (Err Reader) old new =
     (given : List Item) × StopsAfter limits read_faults.Reader before after given
-    × HasPut contents failures (of.lines given) old new
+    × IsPut contents failures (of.lines given) old new
 PutsReport of end limits before after contents failures (Err Memory) old new =
-    (given : List Item) × LacksMemory of limits before after given × HasPut contents failures (of.lines given) old new
+    (given : List Item) × LacksMemory of limits before after given × IsPut contents failures (of.lines given) old new
 PutsReport of end limits before after contents failures (Err (Writer written)) old new =
     (given : List Item) × (text : List ℕ) × IsReported of limits before after given text
-    × HasPutFront contents failures text written old new
+    × IsCut contents failures text written old new
 PutsReport of end limits before after contents failures (Err fault) old new = ⊥
 
 -- the lines of the items before the verdict were put, and after these it is so
@@ -153,5 +168,5 @@ abbrev pub StandsPut : {W : Type 0} → ItemLines → (List Item → Type 0) →
     → (W → Option (List ℕ)) → (W → ℕ) → Result Verdict ToolFault → Sink W → Sink W → Type 0
 StandsPut of stands limits before after contents failures (Ok verdict) old new =
     (given : List Item) × IsRightVerdict limits before verdict after given × stands given
-    × HasPut contents failures (of.lines given) old new
+    × IsPut contents failures (of.lines given) old new
 StandsPut of stands limits before after contents failures (Err fault) old new = Unit {0}

@@ -36,13 +36,13 @@ returns-in_err-put_first-clause-puts g c = λ of s.
     (sym (same_fault c.from_residual.result c.in_err-put_first.field-0.0 c.from_residual.ensures.1))
     (first_fault of nothing c.args.limits c.begin_reading-reading.result.decoder (g.R.Source.remaining c.args.reader.now) _
     g.W.Target.contents g.W.Target.failures c.in_err-put_first.field-0.0 c.args.sink.now c.put_first.new.sink
-    reading c.requires.empty (c.in_err-put_first.ensures.puts of s)) in
+    reading (c.in_err-put_first.ensures of s)) in
     search rules
 
 pub returns-in_err-put_first-clause-stands : goal.returns-in_err-put_first-clause-stands
 returns-in_err-put_first-clause-stands g c = λ of s.
     put_tells g.W.Target.contents g.W.Target.failures false (of.lines []) c.in_err-put_first.field-0.0 c.args.sink.now
-    c.put_first.new.sink c.args.limits _ _ _ c.from_residual.result (c.in_err-put_first.ensures.puts of s)
+    c.put_first.new.sink c.args.limits _ _ _ c.from_residual.result (c.in_err-put_first.ensures of s)
     (same_fault c.from_residual.result c.in_err-put_first.field-0.0 c.from_residual.ensures.1)
 
 pub returns-in_err-put_first-clause-last : goal.returns-in_err-put_first-clause-last
@@ -59,11 +59,10 @@ items-init g c =
     (ap g.R.Source.remaining new.kept) in
     record {
       reporting =
-          λ of s. first_put of (g.L.Report.stands c.put_first.new.self of) c.args.limits c.begin_reading-reading.result.decoder
+          λ of s. first_put of (g.L.Report.stands c.args.lines.now of) c.args.limits c.begin_reading-reading.result.decoder
           (g.R.Source.remaining c.args.reader.now) (g.R.Source.remaining c.begin_reading-reading.result.reader.now)
           g.W.Target.contents g.W.Target.failures c.new-counts.result tt c.args.sink.now c.put_first.new.sink reading
-          (counts_none c.new-counts.result c.new-counts.ensures) c.requires.empty
-          (c.in_ok-put_first.ensures.stands of s) (c.in_ok-put_first.ensures.puts of s);
+          (counts_none c.new-counts.result c.new-counts.ensures) s (c.in_ok-put_first.ensures of s);
       failures = ap g.R.Source.failures new.kept;
       last =
           λ held. subst (λ (b : Option (List ℕ)). HoldsRead b (g.R.Source.remaining c.begin_reading-reading.result.reader.now)
@@ -72,12 +71,6 @@ items-init g c =
           (new.last held));
       same = refl;
     }
-
-pub put_item-requires-clause-unfailed : goal.put_item-requires-clause-unfailed
-put_item-requires-clause-unfailed g c =
-    (told_reporting _ c.requires.stands.0 _ _ _ _ _ _ _ _ _ _ _ _ _ _
-    (passes_over c.passes.result _ c.requires.stands.0 _ (λ t. c.passes.ensures t c.requires.stands.0))
-    (c.items.invariant.reporting c.requires.stands.0 c.requires.stands.1) c.in-Ok-Some.ensures.told).put.unfailed
 
 pub put_item-requires-clause-stands : goal.put_item-requires-clause-stands
 put_item-requires-clause-stands g c =
@@ -190,11 +183,11 @@ items-preserved g c =
           c.args.sink.now c.items.sink
           c.in-Ok-Some.field-0 c.in-Ok-Some.item _ _ c.in-Ok-Some.field-0-is told c.in-Ok-Some.ensures.told.reads.reads
           c.in-Ok-Some.ensures.told.reads.again) in
-          subst (λ (counts : Totals). IsReporting of (g.L.Report.stands c.put_item.new.self of) c.args.limits
+          subst (λ (counts : Totals). IsReporting of (g.L.Report.stands c.put_item.new.lines of) c.args.limits
           c.read_on.new.reading.decoder (g.R.Source.remaining c.args.reader.now)
           (g.R.Source.remaining c.read_on.new.reading.reader.now)
           g.W.Target.contents g.W.Target.failures counts c.args.sink.now c.put_item.new.sink) (sym c.count.ensures)
-          (reports_item of _ (g.L.Report.stands c.put_item.new.self of) c.args.limits c.in-Ok-Some.ensures.told.reads.between
+          (reports_item of _ (g.L.Report.stands c.put_item.new.lines of) c.args.limits c.in-Ok-Some.ensures.told.reads.between
           c.read_on.new.reading.decoder (g.R.Source.remaining c.args.reader.now) _ _ g.W.Target.contents g.W.Target.failures
           c.read_on.new.counts c.args.sink.now c.items.sink c.put_item.new.sink c.in-Ok-Some.item tt told reading
           (c.in_ok-put_item-in-Ok-Some.ensures.puts of told.given told.counts told.here)
