@@ -8,11 +8,9 @@ pub mod FileOrder
 pub mod MemberTexts
 -- What is in lists.
 pub mod Members
--- A text without bytes is put by doing nothing.
-pub mod NothingPut
 -- Things that are numbered, with one more.
 pub mod NumberedMore
--- What is put in turn, where memory can be refused too.
+-- What is added and put in turn, where memory can be refused too.
 pub mod PutInTurn
 -- A transaction has a row for each sender that answers it, or one, and the rows don't hang on the order of what was read.
 pub mod RowLaws
