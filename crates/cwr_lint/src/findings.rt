@@ -1,7 +1,7 @@
 //! The open transaction's records, as long as it has no fault, and its findings.
 
 ghost use Rattle.std.specs.Prelude.{◌≡◌, ◌⊎◌, ◌&&◌, ◌++◌, ◌∷◌, [], ◌+◌, ◌-◌, ◌≤◌, ◌^◌, min, nat_le, length, true, false, IfOk, OnOk, None, Some, if◌then◌else◌};
-ghost use Rattle.cwr_devices.specs.Steps.Sinks.{has_failed};
+ghost use Rattle.cwr_tools.specs.Steps.Reports.{AddsLines};
 ghost use Rattle.cwr_lines.specs.Steps.Held.{held_record};
 ghost use Rattle.cwr_values.specs.Format.Begun.{BeginsWithOneMore};
 ghost use Rattle.cwr_findings.specs.Format.Findings.{findings};
@@ -15,13 +15,13 @@ ghost use Rattle.cwr_lint_lines.specs.Steps.States.{is_whole};
 ghost use Rattle.cwr_lint_lines.specs.declared.takings.Taking.{Taking};
 ghost use Rattle.cwr_lint.specs.Steps.Walks.{AfterCarried, AfterJudged, AfterRecord, GoesOnWith, counts_ended, ended_by, ended_in, ends_by_taking, ends_transaction, findings_after, told_ended};
 
-use crate::puts::{Asked, report_number};
+use crate::puts::{Asked, report_number, told_so};
 use cwr_advice::Said;
-use cwr_advise::{AdviceCounts, Manner, put_advised};
-use cwr_devices::{Sink, Target};
+use cwr_advise::{AdviceCounts, Manner, advised};
+use cwr_devices::{Pen, Sink, Target};
 use cwr_lines::{CutLine, RecordRef};
 use cwr_lint_lines::{Judged, Known, LintState, OpenGroup, Taking};
-use cwr_tools::{ToolFault, put_transaction_findings};
+use cwr_tools::{ToolFault, transaction_findings};
 use cwr_values::{PushFault, Transaction};
 use std::alloc::{AllocError, Global};
 
@@ -160,9 +160,9 @@ fn said_if(numbered: bool, said: Option<Said>) -> Option<Said>
     if numbered { said } else { None }
 }
 
-/// Puts the lines of findings in a transaction, and counts them, and then those of the advice on it, where that is asked for and its lines
+/// Adds the lines of findings in a transaction, and counts them, and then those of the advice on it, where that is asked for and its lines
 /// have numbers that words can name: of the advice what is told after so many pieces of each rule. All advice is counted.
-fn put_told<W: Target>(
+fn told_lines<W: Target>(
     asked: &Asked<'_>,
     numbered: bool,
     group: u32,
@@ -171,16 +171,12 @@ fn put_told<W: Target>(
     transaction: &Transaction,
     told: &mut u64,
     advice: &mut AdviceCounts,
-    sink: &mut Sink<W>,
-) -> Result<(), ToolFault>
-    requires unfailed { has_failed sink.old ≡ false }
+    pen: &mut Pen<'_, W>,
+) -> Result<(), AllocError>
     requires few { numbered ≡ true → first + length transaction.now ≤ 100000000 }
-    ensures puts { PutsWith (λ _ text. text ≡ told_lines (asking_of asked.now) numbered
+    ensures adds { AddsLines W.contents W.failures true (told_lines (asking_of asked.now) numbered
         (told_by asked.now.all advice.old (advice_if (said_if numbered asked.now.said) transaction.now))
-        group sequence first transaction.now) W.contents W.failures result sink.old sink.new }
-    ensures leaves { Leaves (IsNoneOr (told_lines (asking_of asked.now) numbered
-        (told_by asked.now.all advice.old (advice_if (said_if numbered asked.now.said) transaction.now))
-        group sequence first transaction.now)) W.contents result sink.old sink.new }
+        group sequence first transaction.now) result pen.old pen.new }
     ensures counted { OnOk result
         (told.new ≡ min (told.old + length (findings transaction.now)) (2 ^ 64 - 1)) }
     ensures advised { OnOk result (advice.new ≡ counts_after advice.old
@@ -189,7 +185,7 @@ fn put_told<W: Target>(
     let apart = asked.name.is_some();
     let explained = is_worded(apart, numbered);
     match said_if(numbered, asked.said) {
-        Some(said) => put_advised(
+        Some(said) => advised(
             Manner {
                 explained,
                 apart,
@@ -203,9 +199,9 @@ fn put_told<W: Target>(
             transaction,
             told,
             advice,
-            sink,
+            pen,
         ),
-        None => put_transaction_findings(
+        None => transaction_findings(
             explained,
             apart,
             asked.alloc,
@@ -214,31 +210,25 @@ fn put_told<W: Target>(
             first,
             transaction,
             told,
-            sink,
+            pen,
         ),
     }
 }
 
-/// Puts what is told of a transaction, which is that of the open group, and counts its findings and the advice on it.
-fn put_findings<W: Target>(
+/// Adds what is told of a transaction, which is that of the open group, and counts its findings and the advice on it.
+fn finding_lines<W: Target>(
     asked: &Asked<'_>,
     state: &LintState,
     group: &OpenGroup,
     transaction: &Transaction,
     told: &mut u64,
     advice: &mut AdviceCounts,
-    sink: &mut Sink<W>,
-) -> Result<(), ToolFault>
-    requires { has_failed sink.old ≡ false }
-    ensures puts { PutsWith (λ _ text. text ≡ ended_lines (asking_of asked.now)
+    pen: &mut Pen<'_, W>,
+) -> Result<(), AllocError>
+    ensures adds { AddsLines W.contents W.failures true (ended_lines (asking_of asked.now)
         (told_ended (asking_of asked.now) advice.old
         (ended_in state.now (Some group.now) (Some transaction.now)))
-        (ended_in state.now (Some group.now) (Some transaction.now))) W.contents W.failures result
-        sink.old sink.new }
-    ensures leaves { Leaves (IsNoneOr (ended_lines (asking_of asked.now)
-        (told_ended (asking_of asked.now) advice.old
-        (ended_in state.now (Some group.now) (Some transaction.now))) (ended_in state.now
-        (Some group.now) (Some transaction.now)))) W.contents result sink.old sink.new }
+        (ended_in state.now (Some group.now) (Some transaction.now))) result pen.old pen.new }
     ensures counted { OnOk result (told.new ≡ findings_after told.old
         (ended_in state.now (Some group.now) (Some transaction.now))) }
     ensures advised { OnOk result (advice.new ≡ counts_ended (asking_of asked.now) advice.old
@@ -247,7 +237,7 @@ fn put_findings<W: Target>(
     let number = group.open_transaction().number;
     let count = transaction.len() as u64;
     let first = state.lines.saturating_sub(count).saturating_add(1);
-    put_told(
+    told_lines(
         asked,
         is_numbered(first, count),
         report_number(group.id),
@@ -256,48 +246,68 @@ fn put_findings<W: Target>(
         transaction,
         told,
         advice,
-        sink,
+        pen,
     )
 }
 
-/// Puts what is told of the open transaction, where its records and its group are known, and counts its findings and the advice on it.
-fn put_open<W: Target>(
+/// Adds what is told of the open transaction, where its records and its group are known, and counts its findings and the advice on it.
+fn open_lines<W: Target>(
     asked: &Asked<'_>,
     state: &LintState,
     begun: &Option<Transaction>,
     told: &mut u64,
     advice: &mut AdviceCounts,
-    sink: &mut Sink<W>,
-) -> Result<(), ToolFault>
-    requires { has_failed sink.old ≡ false }
-    ensures puts { PutsWith (λ _ text. text ≡ ended_lines (asking_of asked.now)
+    pen: &mut Pen<'_, W>,
+) -> Result<(), AllocError>
+    ensures adds { AddsLines W.contents W.failures true (ended_lines (asking_of asked.now)
         (told_ended (asking_of asked.now) advice.old (ended_in state.now state.now.group begun.now))
-        (ended_in state.now state.now.group begun.now)) W.contents W.failures result sink.old
-        sink.new }
-    ensures leaves { Leaves (IsNoneOr (ended_lines (asking_of asked.now)
-        (told_ended (asking_of asked.now) advice.old (ended_in state.now state.now.group begun.now))
-        (ended_in state.now state.now.group begun.now))) W.contents result sink.old sink.new }
+        (ended_in state.now state.now.group begun.now)) result pen.old pen.new }
     ensures counted { OnOk result (told.new ≡ findings_after told.old
         (ended_in state.now state.now.group begun.now)) }
     ensures advised { OnOk result (advice.new ≡ counts_ended (asking_of asked.now) advice.old
         (ended_in state.now state.now.group begun.now)) }
 {
     match (&state.group, begun) {
-        (Some(group), Some(transaction)) => put_findings(
+        (Some(group), Some(transaction)) => finding_lines(
             asked,
             state,
             group,
             transaction,
             told,
             advice,
-            sink,
+            pen,
         ),
         _ => Ok(()),
     }
 }
 
-/// Puts what is told of the open transaction, where a line ends it, and counts its findings and the advice on it. Nothing is put of one
+/// Adds what is told of the open transaction, where a line ends it, and counts its findings and the advice on it. Nothing is told of one
 /// that had a fault, or isn't whole.
+fn ended_lines<W: Target>(
+    asked: &Asked<'_>,
+    state: &LintState,
+    begun: &Option<Transaction>,
+    judged: &Judged,
+    told: &mut u64,
+    advice: &mut AdviceCounts,
+    pen: &mut Pen<'_, W>,
+) -> Result<(), AllocError>
+    ensures adds { AddsLines W.contents W.failures true (ended_lines (asking_of asked.now)
+        (told_ended (asking_of asked.now) advice.old (ended_by judged.now state.now begun.now))
+        (ended_by judged.now state.now begun.now)) result pen.old pen.new }
+    ensures counted { OnOk result
+        (told.new ≡ findings_after told.old (ended_by judged.now state.now begun.now)) }
+    ensures advised { OnOk result (advice.new ≡ counts_ended (asking_of asked.now) advice.old
+        (ended_by judged.now state.now begun.now)) }
+{
+    if ends_whole(state, judged) {
+        open_lines(asked, state, begun, told, advice, pen)
+    } else {
+        Ok(())
+    }
+}
+
+/// Puts it.
 pub(crate) fn put_ended<W: Target>(
     asked: &Asked<'_>,
     state: &LintState,
@@ -307,7 +317,6 @@ pub(crate) fn put_ended<W: Target>(
     advice: &mut AdviceCounts,
     sink: &mut Sink<W>,
 ) -> Result<(), ToolFault>
-    requires { has_failed sink.old ≡ false }
     ensures puts { PutsWith (λ _ text. text ≡ ended_lines (asking_of asked.now)
         (told_ended (asking_of asked.now) advice.old (ended_by judged.now state.now begun.now))
         (ended_by judged.now state.now begun.now)) W.contents W.failures result sink.old sink.new }
@@ -319,9 +328,7 @@ pub(crate) fn put_ended<W: Target>(
     ensures advised { OnOk result (advice.new ≡ counts_ended (asking_of asked.now) advice.old
         (ended_by judged.now state.now begun.now)) }
 {
-    if ends_whole(state, judged) {
-        put_open(asked, state, begun, told, advice, sink)
-    } else {
-        Ok(())
-    }
+    let mut pen = Pen::new(sink);
+    let lines = ended_lines(asked, state, begun, judged, told, advice, &mut pen);
+    told_so(pen.end(), lines)
 }

@@ -3,7 +3,7 @@
 ghost use Rattle.std.specs.Prelude.{◌≡◌, ◌==◌, ◌&&◌, ◌+◌, ◌-◌, ◌<◌, ◌≤◌, ℕ, List, true, false, IfOk, IsTrue, OnOk};
 ghost use Rattle.std.specs.Option.{is_some};
 ghost use Rattle.std.specs.Io.KnownBytes.{Appends, Keeps};
-ghost use Rattle.cwr_devices.specs.Steps.Sinks.{counted_up, has_failed, writer_of, written_of};
+ghost use Rattle.cwr_devices.specs.Steps.Sinks.{counted_up, writer_of, written_of};
 ghost use Rattle.cwr_causes.specs.Format.Trailing.{TakesMore};
 ghost use Rattle.cwr_tools.specs.Format.Reports.{AddsWords, CountsAfter, CountsReaderFault, CountsWriterFault, CountsWritten, JudgesAccepted};
 ghost use Rattle.cwr_tools.specs.Format.Verdicts.{IsAnswerTo, JudgesText};
@@ -159,7 +159,6 @@ impl LintRun {
         shown: &Shown<'_>,
         sink: &mut Sink<W>,
     ) -> Result<u64, ToolFault>
-        requires unfailed { has_failed sink.old ≡ false }
         requires judged { IsJudged line.now judged.now }
         requires first { 1 ≤ from }
         ensures puts { PutsWith (TellsSoMany (asking_of asked.now)
@@ -195,7 +194,6 @@ impl LintRun {
         shown: &Shown<'_>,
         sink: &mut Sink<W>,
     ) -> Result<u64, ToolFault>
-        requires unfailed { has_failed sink.old ≡ false }
         requires judged { IsJudged line.now judged.now }
         requires first { 1 ≤ from }
         ensures puts { PutsWith (TellsJudged (asking_of asked.now) self.old line.now judged.now
@@ -277,7 +275,6 @@ impl LintRun {
         is_blank: bool,
         sink: &mut Sink<W>,
     ) -> Result<(), ToolFault>
-        requires unfailed { has_failed sink.old ≡ false }
         requires first { 1 ≤ from }
         requires blank { is_blank ≡ is_spaces (held_body line.now) }
         ensures puts { PutsWith
@@ -308,7 +305,6 @@ impl LintRun {
         cut: &mut LineBuf,
         sink: &mut Sink<W>,
     ) -> Result<bool, ToolFault>
-        requires unfailed { has_failed sink.old ≡ false }
         requires line { IsOfLine raw.now }
         ensures puts { PutsWith (λ more. TakesRead (asking_of asked.now)
             (held_cut (held_raw raw.now)) self.old self.new more) W.contents W.failures result
@@ -334,7 +330,6 @@ impl LintRun {
         cut: &mut LineBuf,
         sink: &mut Sink<W>,
     ) -> Result<bool, ToolFault>
-        requires { has_failed sink.old ≡ false }
         ensures tells { TellsWith R.remaining R.failures reader.old reader.new W.contents W.failures
             (TakesNextIf (asking_of asked.now) before.now raw.new self.old self.new)
             result sink.old sink.new }
@@ -360,7 +355,6 @@ impl LintRun {
         cut: &mut LineBuf,
         sink: &mut Sink<W>,
     ) -> Result<(), ToolFault>
-        requires { has_failed sink.old ≡ false }
         ensures tells { TellsRead R.remaining R.failures reader.old reader.new W.contents W.failures
             (TakesAll (asking_of asked.now) first.ended self.old self.new)
             result sink.old sink.new }
@@ -390,7 +384,6 @@ impl LintRun {
         cut: &mut LineBuf,
         sink: &mut Sink<W>,
     ) -> Result<(), ToolFault>
-        requires unfailed { has_failed sink.old ≡ false }
         requires line { IsOfLine raw.now }
         ensures puts { PutsWith (λ _. TakesFirst (asking_of asked.now) refusal.now
             (held_cut (held_raw raw.now)) self.old
@@ -420,7 +413,6 @@ impl LintRun {
         raw: RawLine,
         sink: &mut Sink<W>,
     ) -> Result<(), ToolFault>
-        requires unfailed { has_failed sink.old ≡ false }
         requires line { IsOfLine raw }
         ensures tells { TellsRead R.remaining R.failures reader.old reader.new W.contents W.failures
             (TakesFrom (asking_of asked.now) refusal.now raw self.old self.new)
@@ -445,7 +437,6 @@ impl LintRun {
         raw: RawLine,
         sink: &mut Sink<W>,
     ) -> Result<(), ToolFault>
-        requires unfailed { has_failed sink.old ≡ false }
         requires line { IsOfLine raw }
         requires begins { BeginsAt refusal.now self.old }
         ensures tells { TellsRead R.remaining R.failures reader.old reader.new W.contents W.failures
@@ -479,7 +470,6 @@ impl LintRun {
         reader: &mut R,
         sink: &mut Sink<W>,
     ) -> Result<(), ToolFault>
-        requires unfailed { has_failed sink.old ≡ false }
         requires begins { BeginsAt refusal.now self.old }
         ensures tells { TellsRead R.remaining R.failures reader.old reader.new W.contents W.failures
             (TellsRun (asking_of asked.now) (walk_of self.old) refusal.now last.now.bytes)
@@ -510,7 +500,6 @@ impl LintRun {
         reader: &mut R,
         sink: &mut Sink<W>,
     ) -> Result<(), ToolFault>
-        requires unfailed { has_failed sink.old ≡ false }
         requires begins { BeginsAt refusal.now self.old }
         ensures tells { TellsRead R.remaining R.failures reader.old reader.new W.contents W.failures
             (TellsRun (asking_of asked.now) (walk_of self.old) refusal.now last.now.bytes)

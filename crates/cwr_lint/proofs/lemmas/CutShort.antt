@@ -8,18 +8,18 @@ use Rattle.cwr_lines.specs.Steps.Held.{HeldLine}
 use Rattle.cwr_decode.specs.declared.last_bytes.LastBytes.{LastBytes}
 use Rattle.cwr_devices.specs.declared.sinks.Sink.{Sink}
 use Rattle.cwr_devices.specs.declared.sinks.SinkFault.{SinkFault}
-use Rattle.cwr_devices.specs.Steps.Sinks.{HasWritten, has_failed, writer_of, written_of}
+use Rattle.cwr_devices.specs.Steps.Sinks.{HasWritten, PutsText, has_failed, writer_of, written_of}
 use Rattle.cwr_encode.proofs.lemmas.Ends.{all_written, appends_kept}
 use Rattle.cwr_judge.specs.declared.refusals.Refusal.{Refusal}
 use Rattle.cwr_tools.specs.declared.verdicts.Verdict.{Verdict}
 use Rattle.cwr_tools.specs.declared.verdicts.ToolFault.{ToolFault}
 use Rattle.cwr_tools.specs.declared.verdicts.ToolFault.TheVariants as faults
-use Rattle.cwr_tools.specs.Steps.Reports.{PutsLines}
 use Rattle.cwr_advice.specs.declared.rules.Advice.{Advice}
 use Rattle.cwr_lint_lines.specs.declared.judged_lines.Judged.{Judged}
 use Rattle.cwr_lint_lines.specs.Format.FaultsAtFields.{JudgedLine, LineCut, fields_end}
 use Rattle.cwr_lint_lines.specs.Steps.Cells.{held_cut}
 use Rattle.cwr_lint_lines.specs.Steps.JudgedLines.{IsFaultFrom, judged_as, judged_at, scope_by}
+use Rattle.cwr_tools.specs.Steps.Reports.{tool_result}
 use Rattle.cwr_lint.specs.declared.linting.LintRun.{LintRun}
 use Rattle.cwr_lint.specs.declared.raw_lines.RawLine.{RawLine}
 use Rattle.cwr_lint.specs.Format.FaultsOfLines.{Asking, EndedTransaction, IsFaultText, TellsMore, ended_lines}
@@ -28,7 +28,7 @@ use Rattle.cwr_lint.specs.Steps.CutShort.{PutsUpTo, TakesFromPart, TakesNextPart
 use Rattle.cwr_lint.specs.Steps.CutShort.{TellsUpTo, UnlessWriter, WalksPart}
 use Rattle.cwr_lint.specs.Steps.LinesRead.{GoesOn, ReadsLine, held_raw, spelled}
 use Rattle.cwr_lint.specs.Steps.Lints.{EndsRun, counted}
-use Rattle.cwr_lint.specs.Steps.Puts.{tool_result}
+use Rattle.cwr_lint.specs.Steps.Puts.{told_so}
 use Rattle.cwr_lint.specs.Steps.Runs.{TellsOfLine, TellsRun, TellsToEnd, walk_of}
 use Rattle.cwr_lint.specs.Steps.Walks.{Walk, WalksLine, ended_by, told_ended}
 use Rattle.cwr_lint.proofs.lemmas.RawLines.{goes_both, goes_line, goes_none, raw_cut}
@@ -60,16 +60,17 @@ adds_none contents sink start before h = subst (λ (l : List ℕ). HasWritten co
 
 -- nothing was put
 pub leaves_none : {W : Type 0} (P : List ℕ → Type 0) (contents : W → Option (List ℕ)) (fault : ToolFault) (sink : Sink W)
-    → has_failed sink ≡ false → P [] → LeavesAt P contents fault sink sink
-leaves_none P contents fault sink unfailed p = (
+    → P [] → LeavesAt P contents fault sink sink
+leaves_none P contents fault sink p = (
   [],
-  record { written = adds_none contents sink; unfailed = unless_writer fault (has_failed sink ≡ false) unfailed },
+  record { written = adds_none contents sink; unfailed = unless_writer fault (has_failed sink ≡ false) },
   p,
 )
 
 -- memory is refused after a text
 pub leaves_whole : {W : Type 0} (P : List ℕ → Type 0) (contents : W → Option (List ℕ)) (text : List ℕ) (old new : Sink W)
-    → Adds contents text old new → has_failed new ≡ false → P text → LeavesAt P contents faults.Memory old new
+    → Adds contents text old new → (has_failed old ≡ false → has_failed new ≡ false) → P text
+    → LeavesAt P contents faults.Memory old new
 leaves_whole P contents text old new adds unfailed p = (text, record { written = adds; unfailed = unfailed }, p)
 
 -- what else is so of such a text
@@ -83,10 +84,10 @@ leaves_as P Q contents (Ok x) old new f p = tt
 leaves_as P Q contents (Err fault) old new f p = leaves_other P Q contents fault old new f p
 
 -- the reader failed, and nothing was put
-pub unread : {W : Type 0} (P : List ℕ → Type 0) (contents : W → Option (List ℕ)) (sink : Sink W) → has_failed sink ≡ false
+pub unread : {W : Type 0} (P : List ℕ → Type 0) (contents : W → Option (List ℕ)) (sink : Sink W)
     → (text : List ℕ) × PutsUpTo contents text faults.Reader sink sink × (IsUnread faults.Reader text ⊎ P text)
-unread P contents sink unfailed =
-    ([], record { written = adds_none contents sink; unfailed = unfailed }, inl refl)
+unread P contents sink =
+    ([], record { written = adds_none contents sink; unfailed = λ unfailed. unfailed }, inl refl)
 
 pub leaves_read : {W A : Type 0} (P Q : List ℕ → Type 0) (contents : W → Option (List ℕ)) (result : Result A ToolFault)
     (old new : Sink W) → ((text : List ℕ) → P text → Q text) → Leaves P contents result old new
@@ -106,51 +107,49 @@ unread_as P Q contents (Err fault) old new f p = (p.0, p.1, by p.2)
 
 -- one text, and then such a one
 pub then_cut : {W : Type 0} (P Q : List ℕ → Type 0) (contents : W → Option (List ℕ)) (text : List ℕ) (fault : ToolFault)
-    (old mid new : Sink W) → Adds contents text old mid → ((more : List ℕ) → P more → Q (text ++ more))
-    → LeavesAt P contents fault mid new → LeavesAt Q contents fault old new
-then_cut P Q contents text fault old mid new adds f q = (
+    (old mid new : Sink W) → Adds contents text old mid → (has_failed old ≡ false → has_failed mid ≡ false)
+    → ((more : List ℕ) → P more → Q (text ++ more)) → LeavesAt P contents fault mid new → LeavesAt Q contents fault old new
+then_cut P Q contents text fault old mid new adds kept f q = (
   text ++ q.0,
   record {
     written =
         λ start before h. subst (λ (l : List ℕ). HasWritten contents start l new) (append_assoc before text q.0)
         (q.1.written start (before ++ text) (adds start before h));
-    unfailed = q.1.unfailed;
+    unfailed = λ unfailed. q.1.unfailed (kept unfailed);
   },
   f q.0 q.2,
 )
 
 pub then_leaves : {W A : Type 0} (P Q : List ℕ → Type 0) (contents : W → Option (List ℕ)) (text : List ℕ)
     (result : Result A ToolFault) (old mid new : Sink W) → Adds contents text old mid
-    → ((more : List ℕ) → P more → Q (text ++ more)) → Leaves P contents result mid new → Leaves Q contents result old new
-then_leaves P Q contents text (Ok x) old mid new adds f q = tt
-then_leaves P Q contents text (Err fault) old mid new adds f q = then_cut P Q contents text fault old mid new adds f q
+    → (has_failed old ≡ false → has_failed mid ≡ false) → ((more : List ℕ) → P more → Q (text ++ more))
+    → Leaves P contents result mid new → Leaves Q contents result old new
+then_leaves P Q contents text (Ok x) old mid new adds kept f q = tt
+then_leaves P Q contents text (Err fault) old mid new adds kept f q = then_cut P Q contents text fault old mid new adds kept f q
 
--- a line or words were put: only the writer can fail in them
-pub text_leaves : {W : Type 0} (contents : W → Option (List ℕ)) (text : List ℕ) (put : Result (Unit {0}) SinkFault)
-    (told : Result (Unit {0}) ToolFault) (old new : Sink W) → told ≡ tool_result put → Adds contents text old new
-    → Leaves (λ it. it ≡ text) contents told old new
-text_leaves contents text put told old new e adds =
-    subst (λ (r : Result (Unit {0}) ToolFault). Leaves (λ it. it ≡ text) contents r old new) (sym e) (by put)
+-- a text was put, and the writer failed in it, or memory was refused for more of it
+pub such_leaves : {W E : Type 0} (P : List ℕ → Type 0) (contents : W → Option (List ℕ)) (failures : W → ℕ) (text : List ℕ)
+    (put : Result (Unit {0}) SinkFault) (told : Result (Unit {0}) E) (result : Result (Unit {0}) ToolFault) (old new : Sink W)
+    → result ≡ told_so put told → P text → PutsText contents failures text put old new → Leaves P contents result old new
+such_leaves {E = E} P contents failures text put told result old new e is p =
+    subst (λ (r : Result (Unit {0}) ToolFault). Leaves P contents r old new) (sym e) (by put told p)
   where
-    by : (r : Result (Unit {0}) SinkFault) → Leaves (λ it. it ≡ text) contents (tool_result r) old new
-    by (Ok u) = tt
-    by (Err fault) = (text, record { written = adds; unfailed = tt }, refl)
+    by : (r : Result (Unit {0}) SinkFault) (t : Result (Unit {0}) E) → PutsText contents failures text r old new
+        → Leaves P contents (told_so r t) old new
+    by (Ok u) (Ok v) p = tt
+    by (Ok u) (Err fault) p = (text, record { written = p.written; unfailed = λ unfailed. p.failed }, is)
+    by (Err fault) t p = (text, record { written = p.written; unfailed = λ unfailed. tt }, is)
 
--- the lines of a transaction's findings
-pub findings_leave : {W : Type 0} (contents : W → Option (List ℕ)) (failures : W → ℕ) (takes_memory : Bool)
-    (text whole : List ℕ) (result : Result (Unit {0}) ToolFault) (old new : Sink W) → text ≡ whole → has_failed old ≡ false
-    → PutsLines contents failures takes_memory text result old new → Leaves (IsNoneOr whole) contents result old new
-findings_leave contents failures takes_memory text whole (Ok u) old new e unfailed p = tt
-findings_leave contents failures takes_memory text whole (Err faults.Memory) old new e unfailed p =
-    subst (λ (s : Sink _). LeavesAt (IsNoneOr whole) contents faults.Memory old s) (sym p.1)
-    (leaves_none (IsNoneOr whole) contents faults.Memory old unfailed (inl refl))
-findings_leave contents failures takes_memory text whole (Err (faults.Writer written)) old new e unfailed p =
-    (text, record { written = p.0.written; unfailed = tt }, inr e)
-findings_leave contents failures takes_memory text whole (Err faults.Reader) old new e unfailed p = absurd p
-findings_leave contents failures takes_memory text whole (Err (faults.Refused refusal)) old new e unfailed p = absurd p
-findings_leave contents failures takes_memory text whole (Err (faults.Truncated records)) old new e unfailed p = absurd p
-findings_leave contents failures takes_memory text whole (Err faults.Output) old new e unfailed p = absurd p
-findings_leave contents failures takes_memory text whole (Err (faults.Limit limit)) old new e unfailed p = absurd p
+-- the same where none was asked for
+pub told_leaves : {W : Type 0} (P : List ℕ → Type 0) (contents : W → Option (List ℕ)) (failures : W → ℕ) (text : List ℕ)
+    (put : Result (Unit {0}) SinkFault) (result : Result (Unit {0}) ToolFault) (old new : Sink W)
+    → result ≡ tool_result put → P text → PutsText contents failures text put old new → Leaves P contents result old new
+told_leaves P contents failures text put result old new e is p =
+    such_leaves {E = Unit {0}} P contents failures text put (Ok tt) result old new (e ∙ as_such put) is p
+  where
+    as_such : (r : Result (Unit {0}) SinkFault) → tool_result r ≡ told_so {E = Unit {0}} r (Ok tt)
+    as_such (Ok u) = refl
+    as_such (Err fault) = refl
 
 -- ---- one line
 
@@ -160,7 +159,7 @@ pub told_part : {W : Type 0} (contents : W → Option (List ℕ)) (failures : W 
     → ToldSoFar contents failures asked l from j count old mid → IsFaultFrom l from j (Some fault)
     → LeavesAt (IsFaultText asked fault) contents stop mid new → LeavesAt (TellsSome asked l from end) contents stop old new
 told_part contents failures asked l from j count end fault stop old mid new within p f q =
-    then_cut (IsFaultText asked fault) (TellsSome asked l from end) contents p.text stop old mid new p.puts.written
+    then_cut (IsFaultText asked fault) (TellsSome asked l from end) contents p.text stop old mid new p.puts.written p.puts.unfailed
     (λ line is. (
       suc j,
       within,
@@ -421,20 +420,20 @@ fault_ends P contents start new n (faults.Limit limit) text sink p unfailed kept
 pub ends_cut : {W : Type 0} (P Q : List ℕ → Type 0) (contents : W → Option (List ℕ)) (writer new : W) (found : Verdict) (n : ℕ)
     (text : List ℕ) (begun sink : Sink W) (told : Result (Unit {0}) ToolFault) (a b : ℕ) (result : Result Verdict ToolFault)
     → ((it : List ℕ) → P it → Q it) → IfOk told (λ u. P text) → LeavesOrUnread Q contents told begun sink
-    → HasWritten contents (contents writer) [] begun → HasWritten contents (contents writer) text sink
+    → has_failed begun ≡ false → HasWritten contents (contents writer) [] begun → HasWritten contents (contents writer) text sink
     → Keeps (contents (writer_of sink)) (contents new) → EndsRun found n told a b result
     → AppendsUpTo contents writer new result Q
-ends_cut P Q contents writer new found n text begun sink (Ok u) a b (Ok verdict) f p q empty h kept e = tt
-ends_cut P Q contents writer new found n text begun sink (Ok u) a b (Err (faults.Writer written)) f p q empty h kept e =
+ends_cut P Q contents writer new found n text begun sink (Ok u) a b (Ok verdict) f p q unfailed empty h kept e = tt
+ends_cut P Q contents writer new found n text begun sink (Ok u) a b (Err (faults.Writer written)) f p q unfailed empty h kept e =
     front_written Q contents (contents writer) new written text sink (f text p) kept h
-ends_cut P Q contents writer new found n text begun sink (Ok u) a b (Err faults.Reader) f p q empty h kept e = absurd e
-ends_cut P Q contents writer new found n text begun sink (Ok u) a b (Err faults.Memory) f p q empty h kept e = absurd e
-ends_cut P Q contents writer new found n text begun sink (Ok u) a b (Err (faults.Refused other)) f p q empty h kept e = absurd e
-ends_cut P Q contents writer new found n text begun sink (Ok u) a b (Err (faults.Truncated records)) f p q empty h kept e =
+ends_cut P Q contents writer new found n text begun sink (Ok u) a b (Err faults.Reader) f p q unfailed empty h kept e = absurd e
+ends_cut P Q contents writer new found n text begun sink (Ok u) a b (Err faults.Memory) f p q unfailed empty h kept e = absurd e
+ends_cut P Q contents writer new found n text begun sink (Ok u) a b (Err (faults.Refused other)) f p q unfailed empty h kept e = absurd e
+ends_cut P Q contents writer new found n text begun sink (Ok u) a b (Err (faults.Truncated records)) f p q unfailed empty h kept e =
     absurd e
-ends_cut P Q contents writer new found n text begun sink (Ok u) a b (Err faults.Output) f p q empty h kept e = absurd e
-ends_cut P Q contents writer new found n text begun sink (Ok u) a b (Err (faults.Limit limit)) f p q empty h kept e = absurd e
-ends_cut P Q contents writer new found n text begun sink (Err fault) a b result f p q empty h kept e =
+ends_cut P Q contents writer new found n text begun sink (Ok u) a b (Err faults.Output) f p q unfailed empty h kept e = absurd e
+ends_cut P Q contents writer new found n text begun sink (Ok u) a b (Err (faults.Limit limit)) f p q unfailed empty h kept e = absurd e
+ends_cut P Q contents writer new found n text begun sink (Err fault) a b result f p q unfailed empty h kept e =
     subst (λ (r : Result Verdict ToolFault). AppendsUpTo contents writer new r Q) (sym e.0)
-    (fault_ends Q contents (contents writer) new n fault q.0 sink q.2 q.1.unfailed kept
+    (fault_ends Q contents (contents writer) new n fault q.0 sink q.2 (q.1.unfailed unfailed) kept
     (q.1.written (contents writer) [] empty))

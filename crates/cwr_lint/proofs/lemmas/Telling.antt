@@ -10,7 +10,6 @@ use Rattle.cwr_lines.specs.Steps.Held.{HeldLine, held_kind}
 use Rattle.cwr_shape.specs.declared.tallies.Scope.{Scope}
 use Rattle.cwr_judge.specs.declared.refusals.Refusal.{Refusal}
 use Rattle.cwr_devices.specs.declared.sinks.Sink.{Sink}
-use Rattle.cwr_devices.specs.Steps.Sinks.{has_failed}
 use Rattle.cwr_tools.specs.declared.verdicts.ToolFault.{ToolFault}
 use Rattle.cwr_tools.specs.declared.verdicts.ToolFault.TheVariants as faults
 use Rattle.cwr_advice.specs.declared.rules.Advice.{Advice}
@@ -41,11 +40,11 @@ pub record ToldSoFar {W : Type 0} (contents : W → Option (List ℕ)) (failures
   pub few : count ≤ j
 
 pub told_none : {W : Type 0} (contents : W → Option (List ℕ)) (failures : W → ℕ) (asked : Asking) (l : JudgedLine) (from : ℕ)
-    (sink : Sink W) → 1 ≤ from → has_failed sink ≡ false → ToldSoFar contents failures asked l from 1 0 sink sink
-told_none contents failures asked l from sink some unfailed = record {
+    (sink : Sink W) → 1 ≤ from → ToldSoFar contents failures asked l from 1 0 sink sink
+told_none contents failures asked l from sink some = record {
   told = [];
   text = [];
-  puts = none_put contents failures tt sink unfailed;
+  puts = none_put contents failures tt sink;
   tells = (None, λ h. absurd (omega (arith, some, h)), λ h. refl, [], [], (refl, refl), (refl, refl));
   counted = refl;
   few = omega arith;
@@ -138,7 +137,8 @@ with_err {A = A} {B = B} P Q contents failures fault old new p =
 pub with_none : {W A B : Type 0} (P : A → List ℕ → Type 0) (Q : B → List ℕ → Type 0) (contents : W → Option (List ℕ))
     (failures : W → ℕ) (x : A) (old new : Sink W) → PutsWith P contents failures (Ok x) old new → PutsWith Q contents failures
     (Err faults.Memory) old new
-with_none P Q contents failures x old new p = (p.0, record { written = p.1.written; unfailed = tt; counts = p.1.counts }, tt)
+with_none P Q contents failures x old new p =
+    (p.0, record { written = p.1.written; unfailed = λ unfailed. tt; counts = p.1.counts; again = p.1.again }, tt)
 
 -- what is so of each text that goes with an answer
 with_all : {A : Type 0} (P Q : A → List ℕ → Type 0) (result : Result A ToolFault) (text more : List ℕ)

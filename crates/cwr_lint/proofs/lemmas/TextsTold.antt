@@ -37,23 +37,25 @@ both_counts x result a b c d e f p q =
 
 -- nothing is put, and nothing read
 pub nothing : {W A : Type 0} (left : Option (List ℕ)) (reader : ℕ) (contents : W → Option (List ℕ)) (failures : W → ℕ) (x : A)
-    (sink : Sink W) → has_failed sink ≡ false → ReadsAndPuts left left reader reader contents failures [] (Ok x) sink sink
-nothing left reader contents failures x sink unfailed = record {
+    (sink : Sink W) → ReadsAndPuts left left reader reader contents failures [] (Ok x) sink sink
+nothing left reader contents failures x sink = record {
   taken = no_more left;
   written = λ start before h. subst (λ (l : List ℕ). HasWritten contents start l sink) (sym (append-nil before)) h;
-  unfailed = unfailed;
-  counts = (refl, refl);
+  unfailed = λ unfailed. unfailed;
+  counts = λ unfailed. (refl, refl);
+  again = λ failed. refl;
 }
 
 -- bytes are read alone
 pub read_alone : {W A : Type 0} (left after : Option (List ℕ)) (reader read : ℕ) (contents : W → Option (List ℕ))
-    (failures : W → ℕ) (x : A) (sink : Sink W) → has_failed sink ≡ false → TakesMore left after → read ≡ reader → ReadsAndPuts
+    (failures : W → ℕ) (x : A) (sink : Sink W) → TakesMore left after → read ≡ reader → ReadsAndPuts
     left after reader read contents failures [] (Ok x) sink sink
-read_alone left after reader read contents failures x sink unfailed taken same = record {
+read_alone left after reader read contents failures x sink taken same = record {
   taken = taken;
   written = λ start before h. subst (λ (l : List ℕ). HasWritten contents start l sink) (sym (append-nil before)) h;
-  unfailed = unfailed;
-  counts = (same, refl);
+  unfailed = λ unfailed. unfailed;
+  counts = λ unfailed. (same, refl);
+  again = λ failed. refl;
 }
 
 -- the reader failed
@@ -63,8 +65,9 @@ pub read_failed : {W A : Type 0} (left after : Option (List ℕ)) (reader read :
 read_failed left after reader read contents failures sink taken more = record {
   taken = taken;
   written = λ start before h. subst (λ (l : List ℕ). HasWritten contents start l sink) (sym (append-nil before)) h;
-  unfailed = tt;
-  counts = (more, refl);
+  unfailed = λ unfailed. tt;
+  counts = λ unfailed. (more, refl);
+  again = λ failed. refl;
 }
 
 -- a text is put alone
@@ -72,7 +75,13 @@ pub put_alone : {W A : Type 0} (left : Option (List ℕ)) (reader : ℕ) (conten
     (text : List ℕ) (result : Result A ToolFault) (old new : Sink W) → PutsAfter contents failures text result old new
     → ReadsAndPuts left left reader reader contents failures text result old new
 put_alone left reader contents failures text result old new p =
-    record { taken = no_more left; written = p.written; unfailed = p.unfailed; counts = put_counts result reader _ _ p.counts }
+    record {
+      taken = no_more left;
+      written = p.written;
+      unfailed = p.unfailed;
+      counts = λ unfailed. put_counts result reader _ _ (p.counts unfailed);
+      again = p.again;
+    }
 
 -- bytes are read, and then a text is put
 pub then_put : {W A : Type 0} (left after : Option (List ℕ)) (reader read : ℕ) (contents : W → Option (List ℕ)) (failures : W → ℕ)
@@ -84,8 +93,9 @@ then_put left after reader read contents failures text result old new taken same
   written = p.written;
   unfailed = p.unfailed;
   counts =
-      subst (λ (n : ℕ). CountsBoth result reader n (failures (writer_of old)) (failures (writer_of new))) (sym same)
-      (put_counts result reader _ _ p.counts);
+      λ unfailed. subst (λ (n : ℕ). CountsBoth result reader n (failures (writer_of old)) (failures (writer_of new))) (sym same)
+      (put_counts result reader _ _ (p.counts unfailed));
+  again = p.again;
 }
 
 -- one after the other
@@ -100,8 +110,9 @@ one_then left mid_left after reader mid_read read contents failures text more x 
   written =
       λ start before h. subst (λ (l : List ℕ). HasWritten contents start l new) (append_assoc before text more)
       (q.written start (before ++ text) (p.written start before h));
-  unfailed = q.unfailed;
-  counts = both_counts x result reader mid_read read _ _ _ p.counts q.counts;
+  unfailed = λ unfailed. q.unfailed (p.unfailed unfailed);
+  counts = λ unfailed. both_counts x result reader mid_read read _ _ _ (p.counts unfailed) (q.counts (p.unfailed unfailed));
+  again = λ failed. q.again (ap has_failed (p.again failed) ∙ failed) ∙ p.again failed;
 }
 
 -- the same with another answer
@@ -109,7 +120,7 @@ pub other_ok : {W A B : Type 0} (left after : Option (List ℕ)) (reader read : 
     (failures : W → ℕ) (text : List ℕ) (x : A) (y : B) (old new : Sink W) → ReadsAndPuts left after reader read contents failures
     text (Ok x) old new → ReadsAndPuts left after reader read contents failures text (Ok y) old new
 other_ok left after reader read contents failures text x y old new p =
-    record { taken = p.taken; written = p.written; unfailed = p.unfailed; counts = p.counts }
+    record { taken = p.taken; written = p.written; unfailed = p.unfailed; counts = p.counts; again = p.again }
 
 err_counts : (A B : Type 0) (fault : ToolFault) (a b c d : ℕ) → CountsBoth {A = A} (Err fault) a b c d
     → CountsBoth {A = B} (Err fault) a b c d
@@ -126,7 +137,13 @@ pub other_err : {W A B : Type 0} (left after : Option (List ℕ)) (reader read :
     contents failures text (Err fault) old new → ReadsAndPuts {A = B} left after reader read contents failures text (Err fault)
     old new
 other_err {A = A} {B = B} left after reader read contents failures text fault old new p =
-    record { taken = p.taken; written = p.written; unfailed = tt; counts = err_counts A B fault _ _ _ _ p.counts }
+    record {
+      taken = p.taken;
+      written = p.written;
+      unfailed = λ unfailed. tt;
+      counts = λ unfailed. err_counts A B fault _ _ _ _ (p.counts unfailed);
+      again = p.again;
+    }
 
 -- ---- texts with an answer
 
@@ -177,14 +194,13 @@ reads_err {A = A} {B = B} P Q left after reader read contents failures fault old
 -- bytes are read first, and nothing is put
 pub read_first : {W A : Type 0} (P Q : A → List ℕ → Type 0) (left mid_left after : Option (List ℕ)) (reader mid_read read : ℕ)
     (contents : W → Option (List ℕ)) (failures : W → ℕ) (result : Result A ToolFault) (old new : Sink W)
-    → ((x : A) (text : List ℕ) → P x text → Q x text) → has_failed old ≡ false
-    → TakesMore left mid_left → mid_read ≡ reader
+    → ((x : A) (text : List ℕ) → P x text → Q x text) → TakesMore left mid_left → mid_read ≡ reader
     → ReadsAndPutsWith P mid_left after mid_read read contents failures result old new
     → ReadsAndPutsWith Q left after reader read contents failures result old new
-read_first P Q left mid_left after reader mid_read read contents failures result old new f unfailed taken same p = (
+read_first P Q left mid_left after reader mid_read read contents failures result old new f taken same p = (
   p.0,
   one_then left mid_left after reader mid_read read contents failures [] p.0 (tt {0}) result old old new
-      (read_alone left mid_left reader mid_read contents failures (tt {0}) old unfailed taken same) p.1,
+      (read_alone left mid_left reader mid_read contents failures (tt {0}) old taken same) p.1,
   with_all P Q result p.0 p.0 (λ x h. f x p.0 h) p.2,
 )
 

@@ -37,7 +37,7 @@ pub record PutsUpTo {W : Type 0} (contents : W → Option (List ℕ)) (text : Li
   where
     pub written : (start : Option (List ℕ)) (before : List ℕ) → HasWritten contents start before old
         → HasWritten contents start (before ++ text) new
-    pub unfailed : UnlessWriter fault (has_failed new ≡ false)
+    pub unfailed : has_failed old ≡ false → UnlessWriter fault (has_failed new ≡ false)
 
 -- before a fault such a text was put
 abbrev pub Leaves : {W A : Type 0} → (List ℕ → Type 0) → (W → Option (List ℕ)) → Result A ToolFault → Sink W → Sink W → Type 0

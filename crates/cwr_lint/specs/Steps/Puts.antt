@@ -1,9 +1,11 @@
 -- What the steps of a lint put to a sink and take from a reader.
-use Rattle.std.specs.Prelude.{◌≡◌, ℕ, false, List, ◌++◌, Option, Result, Ok, Err, IfOk, OnOk}
+use Rattle.std.specs.Prelude.{◌≡◌, ℕ, false, true, List, ◌++◌, Option, Result, Ok, Err, IfOk, OnOk}
 use Rattle.std.specs.Io.KnownBytes.{Appends}
 use Rattle.cwr_devices.specs.Format.Failures.{one_more_failure}
 use Rattle.cwr_devices.specs.declared.sinks.Sink.{Sink}
 use Rattle.cwr_devices.specs.declared.sinks.SinkFault.{SinkFault}
+use Rattle.cwr_devices.specs.declared.pens.Pen.{Pen}
+use Rattle.cwr_devices.specs.Steps.Pens.{Adds}
 use Rattle.cwr_devices.specs.Steps.Sinks.{HasWritten, has_failed, writer_of}
 use Rattle.cwr_causes.specs.Format.Trailing.{TakesMore}
 use Rattle.cwr_tools.specs.declared.verdicts.ToolFault.{ToolFault}
@@ -17,12 +19,14 @@ CountsPut (Err Memory) old new = new ≡ old
 CountsPut (Err fault) old new = ⊥
 
 -- Whatever text was put so far, that text followed by this one is now put: it is written whole, or after a fault its first bytes are.
+-- The fault is that of this call, unless the writer failed before; then the sink stays as it is.
 pub record PutsAfter {W A : Type 0} (contents : W → Option (List ℕ)) (failures : W → ℕ) (text : List ℕ)
     (result : Result A ToolFault) (old new : Sink W) : Type 0 where
   pub written : (start : Option (List ℕ)) (before : List ℕ) → HasWritten contents start before old
       → HasWritten contents start (before ++ text) new
-  pub unfailed : OnOk result (has_failed new ≡ false)
-  pub counts : CountsPut result (failures (writer_of old)) (failures (writer_of new))
+  pub unfailed : has_failed old ≡ false → OnOk result (has_failed new ≡ false)
+  pub counts : has_failed old ≡ false → CountsPut result (failures (writer_of old)) (failures (writer_of new))
+  pub again : has_failed old ≡ true → new ≡ old
 
 -- some text is put
 abbrev pub PutsSome : {W A : Type 0} → (W → Option (List ℕ)) → (W → ℕ) → Result A ToolFault → Sink W → Sink W → Type 0
@@ -40,10 +44,15 @@ abbrev pub PutsWith : {W A : Type 0} → (A → List ℕ → Type 0) → (W → 
 PutsWith P contents failures result old new =
     (text : List ℕ) × PutsAfter contents failures text result old new × IfOk result (λ x. P x text)
 
--- the answer of a sink, as one of a run
-abbrev pub tool_result : Result (Unit {0}) SinkFault → Result (Unit {0}) ToolFault
-tool_result (Ok u) = Ok u
-tool_result (Err fault) = Err (Writer fault.written)
+-- such a text is added
+abbrev pub AddsSuch : {W : Type 0} → (List ℕ → Type 0) → (W → Option (List ℕ)) → (W → ℕ) → Pen W → Pen W → Type 0
+AddsSuch P contents failures old new = (text : List ℕ) × Adds contents failures text old new × P text
+
+-- what is answered where a text was put, and memory for the rest of it was refused or not
+abbrev pub told_so : {E : Type 0} → Result (Unit {0}) SinkFault → Result (Unit {0}) E → Result (Unit {0}) ToolFault
+told_so (Ok u) (Ok v) = Ok v
+told_so (Ok u) (Err fault) = Err Memory
+told_so (Err fault) told = Err (Writer fault.written)
 
 -- the failures of a reader and of a writer: only that of the one whose fault is answered counts one more
 abbrev pub CountsBoth : {A : Type 0} → Result A ToolFault → ℕ → ℕ → ℕ → ℕ → Type 0
@@ -59,8 +68,9 @@ pub record ReadsAndPuts {W A : Type 0} (left after : Option (List ℕ)) (reader 
   pub taken : TakesMore left after
   pub written : (start : Option (List ℕ)) (before : List ℕ) → HasWritten contents start before old
       → HasWritten contents start (before ++ text) new
-  pub unfailed : OnOk result (has_failed new ≡ false)
-  pub counts : CountsBoth result reader read (failures (writer_of old)) (failures (writer_of new))
+  pub unfailed : has_failed old ≡ false → OnOk result (has_failed new ≡ false)
+  pub counts : has_failed old ≡ false → CountsBoth result reader read (failures (writer_of old)) (failures (writer_of new))
+  pub again : has_failed old ≡ true → new ≡ old
 
 -- such a text goes with what is answered
 abbrev pub ReadsAndPutsWith : {W A : Type 0} → (A → List ℕ → Type 0) → Option (List ℕ) → Option (List ℕ) → ℕ → ℕ

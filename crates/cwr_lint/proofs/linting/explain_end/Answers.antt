@@ -4,9 +4,6 @@ use Rattle.cwr_tools.specs.Format.Reports.{CountsWriterFault}
 use Rattle.cwr_lint.proofs.lemmas.TextsTold.{ends_answer, ends_counted, ends_early, ends_reader, ends_writer, put_counts}
 use Rattle.cwr_lint.proofs.linting.explain_end.Goals as goal
 
-pub put_end_words-told-requires : goal.put_end_words-told-requires
-put_end_words-told-requires g c = c.new-sink.ensures.unfailed
-
 pub returns-clause-added : goal.returns-clause-added
 returns-clause-added g c =
     let told = c.put_end_words-told.ensures in
@@ -24,16 +21,16 @@ returns-clause-counted g c =
 pub returns-clause-answered : goal.returns-clause-answered
 returns-clause-answered g c =
     ends_answer (Truncated c.args.records) _ c.put_end_words-told.result c.finish.result.1 0 0 _ _ _
-    (put_counts c.put_end_words-told.result 0 _ _ c.put_end_words-told.ensures.1.counts) c.finish.ensures.answer
+    (put_counts c.put_end_words-told.result 0 _ _ (c.put_end_words-told.ensures.1.counts c.new-sink.ensures.unfailed)) c.finish.ensures.answer
 
 pub returns-clause-reader_failures : goal.returns-clause-reader_failures
 returns-clause-reader_failures g c = λ failures.
     ends_reader (Truncated c.args.records) _ c.put_end_words-told.result c.finish.result.1 failures failures _ _ _
-    (put_counts c.put_end_words-told.result failures _ _ c.put_end_words-told.ensures.1.counts) c.finish.ensures.answer
+    (put_counts c.put_end_words-told.result failures _ _ (c.put_end_words-told.ensures.1.counts c.new-sink.ensures.unfailed)) c.finish.ensures.answer
 
 pub returns-clause-writer_failures : goal.returns-clause-writer_failures
 returns-clause-writer_failures g c =
     subst (λ (w : _). CountsWriterFault c.finish.result.1 (g.W.Target.failures w) (g.W.Target.failures c.finish.result.0))
     c.new-sink.ensures.writer
     (ends_writer (Truncated c.args.records) _ c.put_end_words-told.result c.finish.result.1 0 0 _ _ _
-    (put_counts c.put_end_words-told.result 0 _ _ c.put_end_words-told.ensures.1.counts) c.finish.ensures.answer)
+    (put_counts c.put_end_words-told.result 0 _ _ (c.put_end_words-told.ensures.1.counts c.new-sink.ensures.unfailed)) c.finish.ensures.answer)

@@ -11,9 +11,6 @@ use Rattle.cwr_lint.proofs.lemmas.CutShort.{ends_cut, run_whole}
 use Rattle.cwr_lint.proofs.lemmas.TextsTold.{ends_answer, ends_counted, ends_reader, ends_told, ends_words, ends_writer}
 use Rattle.cwr_lint.proofs.linting.tell_faults.Goals as goal
 
-pub run-told-requires-clause-unfailed : goal.run-told-requires-clause-unfailed
-run-told-requires-clause-unfailed g c = c.new-sink.ensures.unfailed
-
 pub returns-clause-told : goal.returns-clause-told
 returns-clause-told g c = let told = c.run-told.ensures.tells in
     ends_told (TellsRun (asking_of c.args.asked.now)
@@ -24,7 +21,7 @@ returns-clause-told g c = let told = c.run-told.ensures.tells in
     (subst (λ (s : LintState). IfOk c.run-told.result (λ (u : Unit {0}). TellsRun (asking_of c.args.asked.now) (begins_at s c.args.findings c.args.advice) c.args.refusal
     c.args.last.now.bytes (g.R.Source.remaining c.args.reader.now) (g.R.Source.remaining c.run-told.new.reader)
     told.0)) c.state_before-begins.ensures.is told.2)
-    told.1.unfailed c.finish.ensures.kept
+    (told.1.unfailed c.new-sink.ensures.unfailed) c.finish.ensures.kept
     (told.1.written (g.W.Target.contents c.args.writer) [] c.new-sink.ensures.empty) c.finish.ensures.answer
 
 pub returns-clause-words : goal.returns-clause-words
@@ -37,17 +34,17 @@ returns-clause-taken g c = c.run-told.ensures.tells.1.taken
 
 pub returns-clause-answered : goal.returns-clause-answered
 returns-clause-answered g c =
-    ends_answer (Refused c.args.refusal) _ c.run-told.result c.finish.result.1 _ _ _ _ _ c.run-told.ensures.tells.1.counts c.finish.ensures.answer
+    ends_answer (Refused c.args.refusal) _ c.run-told.result c.finish.result.1 _ _ _ _ _ (c.run-told.ensures.tells.1.counts c.new-sink.ensures.unfailed) c.finish.ensures.answer
 
 pub returns-clause-reader_failures : goal.returns-clause-reader_failures
 returns-clause-reader_failures g c =
-    ends_reader (Refused c.args.refusal) _ c.run-told.result c.finish.result.1 _ _ _ _ _ c.run-told.ensures.tells.1.counts c.finish.ensures.answer
+    ends_reader (Refused c.args.refusal) _ c.run-told.result c.finish.result.1 _ _ _ _ _ (c.run-told.ensures.tells.1.counts c.new-sink.ensures.unfailed) c.finish.ensures.answer
 
 pub returns-clause-writer_failures : goal.returns-clause-writer_failures
 returns-clause-writer_failures g c =
     subst (λ (w : _). CountsWriterFault c.finish.result.1 (g.W.Target.failures w) (g.W.Target.failures c.finish.result.0))
     c.new-sink.ensures.writer
-    (ends_writer (Refused c.args.refusal) _ c.run-told.result c.finish.result.1 _ _ _ _ _ c.run-told.ensures.tells.1.counts c.finish.ensures.answer)
+    (ends_writer (Refused c.args.refusal) _ c.run-told.result c.finish.result.1 _ _ _ _ _ (c.run-told.ensures.tells.1.counts c.new-sink.ensures.unfailed) c.finish.ensures.answer)
 
 pub returns-clause-counted : goal.returns-clause-counted
 returns-clause-counted g c = let told = c.run-told.ensures.tells in
@@ -68,6 +65,6 @@ returns-clause-leaves g c = let told = c.run-told.ensures.tells in
     c.args.last.now.bytes left after told.0)) c.state_before-begins.ensures.is told.2)
     (subst (λ (s : LintState). LeavesOrUnread (TellsLastUpTo (asking_of c.args.asked.now) (begins_at s c.args.findings c.args.advice) c.args.refusal c.args.last.now.bytes left)
     g.W.Target.contents c.run-told.result c.new-sink.result c.run-told.new.sink) c.state_before-begins.ensures.is
-    c.run-told.ensures.leaves) c.new-sink.ensures.empty
+    c.run-told.ensures.leaves) c.new-sink.ensures.unfailed c.new-sink.ensures.empty
     (told.1.written (g.W.Target.contents c.args.writer) [] c.new-sink.ensures.empty) c.finish.ensures.kept
     c.finish.ensures.answer

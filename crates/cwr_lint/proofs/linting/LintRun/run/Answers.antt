@@ -22,7 +22,7 @@ returns-in-Ok-clause-tells g c =
       held = t.held;
       read = reads_kept left mid t.between c.args.last.now.bytes t.raw c.peek.ensures.kept t.read;
       tells = t.tells;
-    }) c.requires.unfailed (takes_none left mid c.peek.ensures.kept) c.in-Ok.ensures.failures c.run_on.ensures.tells
+    }) (takes_none left mid c.peek.ensures.kept) c.in-Ok.ensures.failures c.run_on.ensures.tells
 
 pub returns-in-Err-clause-tells : goal.returns-in-Err-clause-tells
 returns-in-Err-clause-tells g c =
@@ -52,4 +52,4 @@ returns-in-Ok-clause-leaves g c =
 pub returns-in-Err-clause-leaves : goal.returns-in-Err-clause-leaves
 returns-in-Err-clause-leaves g c =
     unread (TellsLastUpTo (asking_of c.args.asked.now) (walk_of c.args.self.now) c.args.refusal.now c.args.last.now.bytes
-    (g.R.Source.remaining c.args.reader.now)) g.W.Target.contents c.args.sink.now c.requires.unfailed
+    (g.R.Source.remaining c.args.reader.now)) g.W.Target.contents c.args.sink.now

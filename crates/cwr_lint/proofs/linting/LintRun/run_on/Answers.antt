@@ -21,7 +21,7 @@ returns-in-Ok-clause-tells g c =
       held = c.in-Ok.ensures.held;
       read = c.in-Ok.ensures.read;
       tells = t;
-    }) c.requires.unfailed c.in-Ok.ensures.taken c.in-Ok.ensures.failures c.tell_to_end.ensures.tells
+    }) c.in-Ok.ensures.taken c.in-Ok.ensures.failures c.tell_to_end.ensures.tells
 
 pub returns-in-Err-clause-tells : goal.returns-in-Err-clause-tells
 returns-in-Err-clause-tells g c = (
@@ -49,4 +49,4 @@ returns-in-Ok-clause-leaves g c =
 pub returns-in-Err-clause-leaves : goal.returns-in-Err-clause-leaves
 returns-in-Err-clause-leaves g c =
     unread (TellsLastUpTo (asking_of c.args.asked.now) (walk_of c.args.self.now) c.args.refusal.now c.args.last.now.bytes
-    (g.R.Source.remaining c.args.reader.now)) g.W.Target.contents c.args.sink.now c.requires.unfailed
+    (g.R.Source.remaining c.args.reader.now)) g.W.Target.contents c.args.sink.now

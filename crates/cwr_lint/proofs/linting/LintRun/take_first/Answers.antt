@@ -31,7 +31,7 @@ returns-in-Ok-clause-leaves g c =
     then_leaves (WalksPart (asking_of c.args.asked.now) (walk_of c.args.self.now) (held_cut c.cut-in-Ok.result)
     c.saturating_add-from.result) (IsFirstPart (asking_of c.args.asked.now) (walk_of c.args.self.now) c.args.refusal.now
     (held_cut (held_raw c.args.raw.now))) g.W.Target.contents c.in-Ok.ensures.puts.0 c.take.result c.args.sink.now
-    c.put_fault.new.sink c.take.new.sink c.in-Ok.ensures.puts.1.written
+    c.put_fault.new.sink c.take.new.sink c.in-Ok.ensures.puts.1.written c.in-Ok.ensures.puts.1.unfailed
     (λ beside part. first_part (asking_of c.args.asked.now) c.args.refusal.now (held_cut (held_raw c.args.raw.now))
     c.saturating_add-from.result (walk_of c.args.self.now) c.in-Ok.ensures.puts.0 beside c.saturating_add-from.ensures
     c.in-Ok.ensures.puts.2

@@ -47,4 +47,4 @@ returns-in-Ok-true-clause-leaves g c =
 pub returns-in-Err-clause-leaves : goal.returns-in-Err-clause-leaves
 returns-in-Err-clause-leaves g c =
     leaves_none (TakesNextPart (asking_of c.args.asked.now) (g.R.Source.remaining c.args.reader.now) c.args.before.now
-    c.args.self.now) g.W.Target.contents Reader c.args.sink.now c.requires (inl refl)
+    c.args.self.now) g.W.Target.contents Reader c.args.sink.now (inl refl)

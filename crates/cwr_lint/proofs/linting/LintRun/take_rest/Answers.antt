@@ -11,13 +11,10 @@ pub loop-init : goal.loop-init
 loop-init g c = (
   [],
   nothing (g.R.Source.remaining c.args.reader.now) (g.R.Source.failures c.args.reader.now) g.W.Target.contents
-      g.W.Target.failures tt c.args.sink.now c.requires,
+      g.W.Target.failures tt c.args.sink.now,
   run_none (asking_of c.args.asked.now)
       (g.R.Source.remaining c.args.reader.now) c.args.first c.args.self.now,
 )
-
-pub take_next-requires : goal.take_next-requires
-take_next-requires g c = c.loop.invariant.1.unfailed
 
 pub returns-in-Err-clause-tells : goal.returns-in-Err-clause-tells
 returns-in-Err-clause-tells g c = (
@@ -83,7 +80,7 @@ returns-in-Err-clause-leaves g c =
     (TakesNextPart (asking_of c.args.asked.now) (g.R.Source.remaining c.loop.reader) c.loop.before c.loop.self)
     (TakesSome (asking_of c.args.asked.now) (g.R.Source.remaining c.args.reader.now) c.args.first.ended c.args.self.now)
     g.W.Target.contents c.loop.invariant.0 c.in-Err.fault c.args.sink.now c.loop.sink c.take_next.new.sink
-    c.loop.invariant.1.written
+    c.loop.invariant.1.written c.loop.invariant.1.unfailed
     (λ more part. run_part (asking_of c.args.asked.now) (g.R.Source.remaining c.args.reader.now)
     (g.R.Source.remaining c.loop.reader) c.args.first.ended c.loop.before c.args.self.now c.loop.self c.loop.counter
     c.loop.invariant.0 more c.loop.invariant.2 part) c.in-Err.ensures.leaves

@@ -13,7 +13,7 @@ pub loop-field-init : goal.loop-field-init
 loop-field-init g c =
     told_none g.W.Target.contents g.W.Target.failures (asking_of c.args.asked.now)
     (judged_at c.args.self.now.state.lines (scope_by c.args.self.now.state.group) c.args.line.now c.args.judged.now) c.args.from
-    c.args.sink.now c.requires.first c.requires.unfailed
+    c.args.sink.now c.requires.first
 
 pub loop-field-preserved-in_default : goal.loop-field-preserved-in_default
 loop-field-preserved-in_default g c =
@@ -26,9 +26,6 @@ loop-field-preserved-in_default g c =
     (subst (λ (o : Option Refusal). IsFaultFrom
     (judged_at c.args.self.now.state.lines (scope_by c.args.self.now.state.group) c.args.line.now c.args.judged.now)
     c.args.from c.loop-field.field o) c.in_default.is c.fault_at.ensures))
-
-pub put_fault-requires : goal.put_fault-requires
-put_fault-requires g c = c.loop-field.invariant.puts.unfailed
 
 pub returns-in-Err-clause-puts : goal.returns-in-Err-clause-puts
 returns-in-Err-clause-puts g c =

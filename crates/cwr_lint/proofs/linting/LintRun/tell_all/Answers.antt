@@ -10,9 +10,6 @@ use Rattle.cwr_lint.proofs.lemmas.CutShort.{faults_part, findings_part, leaves_o
 use Rattle.cwr_lint.proofs.lemmas.Telling.{findings_then, with_after, with_err}
 use Rattle.cwr_lint.proofs.linting.LintRun.tell_all.Goals as goal
 
-pub tell-requires-clause-unfailed : goal.tell-requires-clause-unfailed
-tell-requires-clause-unfailed g c = c.in-Ok.ensures.puts.1.unfailed
-
 pub returns-in-Ok-clause-puts : goal.returns-in-Ok-clause-puts
 returns-in-Ok-clause-puts g c =
     with_after (λ (u : _) (it : List ℕ). it ≡ ended_lines (asking_of c.args.asked.now)
@@ -55,7 +52,7 @@ returns-in-Ok-clause-leaves g c =
     (ended_by c.args.judged.now c.args.self.now.state c.args.self.now.begun)
     (told_ended (asking_of c.args.asked.now) c.args.self.now.advice
     (ended_by c.args.judged.now c.args.self.now.state c.args.self.now.begun)) c.args.from) g.W.Target.contents c.in-Ok.ensures.puts.0
-    c.tell.result c.args.sink.now c.put_ended.new.sink c.tell.new.sink c.in-Ok.ensures.puts.1.written
+    c.tell.result c.args.sink.now c.put_ended.new.sink c.tell.new.sink c.in-Ok.ensures.puts.1.written c.in-Ok.ensures.puts.1.unfailed
     (λ lines some. faults_part (asking_of c.args.asked.now)
     (judged_at c.args.self.now.state.lines (scope_by c.args.self.now.state.group) c.args.line.now c.args.judged.now)
     (ended_by c.args.judged.now c.args.self.now.state c.args.self.now.begun)

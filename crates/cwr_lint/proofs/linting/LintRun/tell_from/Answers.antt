@@ -9,9 +9,6 @@ use Rattle.cwr_lint.proofs.lemmas.Running.{from_taken}
 use Rattle.cwr_lint.proofs.lemmas.TextsTold.{reads_after, reads_err, reads_put}
 use Rattle.cwr_lint.proofs.linting.LintRun.tell_from.Goals as goal
 
-pub take_rest-requires : goal.take_rest-requires
-take_rest-requires g c = c.in-Ok.ensures.puts.1.unfailed
-
 pub returns-in-Ok-clause-tells : goal.returns-in-Ok-clause-tells
 returns-in-Ok-clause-tells g c =
     reads_after (λ u. TakesFirst (asking_of c.args.asked.now) c.args.refusal.now (held_cut (held_raw c.args.raw)) c.args.self.now
@@ -49,7 +46,7 @@ returns-in-Ok-clause-leaves g c =
     then_leaves (TakesSome (asking_of c.args.asked.now) (g.R.Source.remaining c.args.reader.now) c.args.raw.ended
     c.take_first.new.self) (TakesFromPart (asking_of c.args.asked.now) c.args.refusal.now c.args.raw c.args.self.now
     (g.R.Source.remaining c.args.reader.now)) g.W.Target.contents c.in-Ok.ensures.puts.0 c.take_rest.result c.args.sink.now
-    c.take_first.new.sink c.take_rest.new.sink c.in-Ok.ensures.puts.1.written
+    c.take_first.new.sink c.take_rest.new.sink c.in-Ok.ensures.puts.1.written c.in-Ok.ensures.puts.1.unfailed
     (λ later some. inr (c.take_first.new.self, c.in-Ok.ensures.puts.0, c.in-Ok.ensures.puts.2, later, some, refl))
     c.take_rest.ensures.leaves
 

@@ -7,9 +7,6 @@ use Rattle.cwr_lint.proofs.lemmas.Running.{told_to_end}
 use Rattle.cwr_lint.proofs.lemmas.TextsTold.{reads_after, reads_err, reads_put}
 use Rattle.cwr_lint.proofs.linting.LintRun.tell_to_end.Goals as goal
 
-pub put_end-requires : goal.put_end-requires
-put_end-requires g c = c.in-Ok.ensures.tells.1.unfailed
-
 pub returns-in-Ok-clause-tells : goal.returns-in-Ok-clause-tells
 returns-in-Ok-clause-tells g c =
     reads_after (λ u. TakesFrom (asking_of c.args.asked.now) c.args.refusal.now c.args.raw
@@ -45,7 +42,7 @@ returns-in-Ok-clause-leaves g c =
     c.tell_from.new.self.state.lines in
     then_leaves (IsFrontOf end) (TellsUpTo (asking_of c.args.asked.now) (walk_of c.args.self.now) c.args.refusal.now c.args.raw
     (g.R.Source.remaining c.args.reader.now)) g.W.Target.contents text c.put_end.result c.args.sink.now c.tell_from.new.sink
-    c.put_end.new.sink c.in-Ok.ensures.tells.1.written
+    c.put_end.new.sink c.in-Ok.ensures.tells.1.written c.in-Ok.ensures.tells.1.unfailed
     (λ more front. sums_part (asking_of c.args.asked.now) (walk_of c.args.self.now) c.args.refusal.now
     (g.R.Source.remaining c.args.reader.now) (g.R.Source.remaining c.tell_from.new.reader) c.args.raw text end more
     (told_to_end (asking_of c.args.asked.now) c.args.refusal.now (g.R.Source.remaining c.args.reader.now)
