@@ -1,10 +1,17 @@
 //! The words that the program takes: its subcommands, their options and their names of files.
 
+ghost use Rattle.std.specs.Prelude.{◌≡◌, IfOk, Some, false, pos, true};
+ghost use Rattle.clap.specs.Words.{app_of, rule_of};
+ghost use Rattle.clap.specs.declared.builder.Command.TheViews.{out-Command as fields_of};
+ghost use Rattle.cwr_grammar.specs.Format.CommandLine.{ends, flag, grammar, letter, limits, needed, option, option_or, options, places, shows, subcommands};
+ghost use Rattle.cwr_grammar.specs.Steps.Tables.{app_of_subcommand, bare, between, common_rules, rule_of_form, rule_of_word, with_rules, with_shapes, with_subcommands, with_words};
+
+use clap::builder::ValueParser;
 use clap::{Arg, ArgAction, Command, value_parser};
 use std::alloc::{AllocError, Global};
 
 /// The name of the subcommand that checks.
-const CHECK: &str = "check";
+pub const CHECK: &str = "check";
 
 /// The name of the subcommand that shows.
 pub const SHOW: &str = "show";
@@ -688,55 +695,181 @@ const SUBCOMMANDS: &[Subcommand] = &[
     },
 ];
 
-/// A word, as `clap` has it.
-fn argument<'a>(alloc: Global, word: Word) -> Result<Arg<'a>, AllocError> {
-    let arg = Arg::new(alloc, word.id).help(word.help);
-    let arg = match word.form {
-        Form::Flag | Form::FlagBeside(_) => arg.long(word.id).action(ArgAction::SetTrue),
+/// What a command is made for.
+#[derive(Clone, Copy, Debug, PartialEq, Eq)]
+enum Purpose {
+    /// Words are read: their names, their places and their numbers.
+    Reading,
+    /// Help is shown, or why words were refused. It also has which names an option may have, what may stand beside what, and commas.
+    Telling,
+}
+
+/// Numbers from the least to the most.
+fn between<'a>(least: i64, most: i64) -> ValueParser<'a>
+    ensures { result ≡ between least most }
+{
+    value_parser!(u32).range(least..=most)
+}
+
+/// `--ID`.
+fn flag<'a>(alloc: Global, id: &'static str) -> Arg<'a>
+    ensures rule { rule_of result ≡ flag id.entry.now }
+    ensures local { result.global ≡ false }
+{
+    Arg::new(alloc, id).long(id).action(ArgAction::SetTrue)
+}
+
+/// `--ID NAME`, where NAME is this.
+fn option<'a>(alloc: Global, id: &'static str, name: &'static str) -> Arg<'a>
+    ensures rule { rule_of result ≡ option id.entry.now }
+    ensures local { result.global ≡ false }
+{
+    Arg::new(alloc, id).long(id).value_name(name)
+}
+
+/// `--ID NAME`, where NAME is this, any number of times.
+fn options<'a>(alloc: Global, id: &'static str, name: &'static str) -> Arg<'a>
+    ensures rule { rule_of result ≡ options id.entry.now }
+    ensures local { result.global ≡ false }
+{
+    option(alloc, id, name).action(ArgAction::Append)
+}
+
+/// `--ID NAME`, where NAME is this, which is that text where it isn't given.
+fn option_or<'a>(
+    alloc: Global,
+    id: &'static str,
+    name: &'static str,
+    without: &'static str,
+) -> Arg<'a>
+    ensures rule { rule_of result ≡ option_or id.entry.now without.entry.now }
+    ensures local { result.global ≡ false }
+{
+    option(alloc, id, name).default_value(without)
+}
+
+/// `--ID NUMBER`, a number from the least to the most, which is that one where it isn't given.
+fn limit<'a>(
+    alloc: Global,
+    id: &'static str,
+    least: i64,
+    most: i64,
+    without: &'static str,
+) -> Arg<'a>
+    ensures rule { rule_of result
+        ≡ record (option_or id.entry.now without.entry.now) { parser = Some (between least most) } }
+    ensures local { result.global ≡ false }
+{
+    option_or(alloc, id, "NUMBER", without).value_parser(between(least, most))
+}
+
+/// `-LETTER NAME`, where NAME is this.
+fn letter<'a>(alloc: Global, id: &'static str, short: char, name: &'static str) -> Arg<'a>
+    ensures rule { rule_of result ≡ letter id.entry.now short }
+    ensures local { result.global ≡ false }
+{
+    Arg::new(alloc, id).short(short).value_name(name)
+}
+
+/// `-LETTER ID`, a number from 1 to the most, which may not be left out.
+fn count<'a>(alloc: Global, id: &'static str, short: char, most: i64) -> Arg<'a>
+    ensures rule { rule_of result ≡ record (letter id.entry.now short) {
+      required = true;
+      parser = Some (between (pos 1) most);
+    } }
+    ensures local { result.global ≡ false }
+{
+    letter(alloc, id, short, id)
+        .required(true)
+        .value_parser(between(1, most))
+}
+
+/// A text by its place, which may not be left out.
+fn needed<'a>(alloc: Global, id: &'static str) -> Arg<'a>
+    ensures rule { rule_of result ≡ needed id.entry.now }
+    ensures local { result.global ≡ false }
+{
+    Arg::new(alloc, id).required(true)
+}
+
+/// The texts from a place on.
+fn places<'a>(alloc: Global, id: &'static str) -> Arg<'a>
+    ensures rule { rule_of result ≡ places id.entry.now }
+    ensures local { result.global ≡ false }
+{
+    Arg::new(alloc, id).num_args(1..)
+}
+
+/// A word of that form, as it is read.
+fn formed<'a>(alloc: Global, id: &'static str, form: Form) -> Arg<'a>
+    ensures rule { rule_of result ≡ rule_of_form id.entry.now form }
+    ensures local { result.global ≡ false }
+{
+    match form {
+        Form::Flag | Form::FlagBeside(_) => flag(alloc, id),
         Form::Limit {
             least,
             most,
             default,
-        } => arg
-            .long(word.id)
-            .value_name("NUMBER")
-            .value_parser(value_parser!(u32).range(least..=most))
-            .default_value(default),
-        Form::Level => arg
-            .long(word.id)
-            .value_name("LEVEL")
-            .value_parser(&LEVELS[..]),
-        Form::StatusesWithout(_) => arg
-            .long(word.id)
-            .value_name("STATUS")
-            .value_delimiter(',')
-            .value_parser(&STATUSES[..])
-            .action(ArgAction::Append),
-        Form::Names(name) => arg.long(word.id).value_name(name).action(ArgAction::Append),
-        Form::NameBeside { name, .. } => arg.long(word.id).value_name(name),
-        Form::Letter(letter) => arg.short(letter).value_name(word.id),
-        Form::Short { letter, name } => arg.short(letter).value_name(name),
-        Form::InPlace { letter, other } => arg.short(letter).value_name(other),
-        Form::Named(name) => arg.long(word.id).value_name(name),
-        Form::Count { letter, most } => arg
-            .short(letter)
-            .value_name(word.id)
-            .required(true)
-            .value_parser(value_parser!(u32).range(1..=most)),
-        Form::OneOf(words) => arg.required(true).value_parser(words),
-        Form::Coloring => arg
-            .long(word.id)
-            .value_name("WHEN")
-            .value_parser(&COLORINGS[..])
-            .default_value(COLORINGS[0]),
-        Form::File => arg,
-        Form::Files => arg.num_args(1..),
-        Form::Needed => arg.required(true),
-    };
-    match (word.form.beside(), word.form.in_place_of()) {
+        } => limit(alloc, id, least, most, default),
+        Form::Level => option(alloc, id, "LEVEL"),
+        Form::StatusesWithout(_) => options(alloc, id, "STATUS"),
+        Form::Names(name) => options(alloc, id, name),
+        Form::NameBeside { name, .. } | Form::Named(name) => option(alloc, id, name),
+        Form::Letter(short) => letter(alloc, id, short, id),
+        Form::Short {
+            letter: short,
+            name,
+        } => letter(alloc, id, short, name),
+        Form::InPlace {
+            letter: short,
+            other,
+        } => letter(alloc, id, short, other),
+        Form::Count {
+            letter: short,
+            most,
+        } => count(alloc, id, short, most),
+        Form::OneOf(_) | Form::Needed => needed(alloc, id),
+        Form::Coloring => option_or(alloc, id, "WHEN", COLORINGS[0]),
+        Form::File => Arg::new(alloc, id),
+        Form::Files => places(alloc, id),
+    }
+}
+
+/// A word with the names that it may be, as help tells them.
+fn named<'a>(arg: Arg<'a>, form: Form) -> Arg<'a>
+    ensures { result.global ≡ arg.entry.global }
+{
+    match form {
+        Form::Level => arg.value_parser(&LEVELS[..]),
+        Form::StatusesWithout(_) => arg.value_delimiter(',').value_parser(&STATUSES[..]),
+        Form::OneOf(words) => arg.value_parser(words),
+        Form::Coloring => arg.value_parser(&COLORINGS[..]),
+        _ => arg,
+    }
+}
+
+/// A word with all its rules, as help tells them.
+fn ruled<'a>(arg: Arg<'a>, form: Form) -> Result<Arg<'a>, AllocError>
+    ensures { IfOk result (λ it. it.global ≡ arg.entry.global) }
+{
+    let arg = named(arg, form);
+    match (form.beside(), form.in_place_of()) {
         (Some(other), _) => arg.requires_arg(other),
         (None, Some(other)) => arg.conflicts_with(other),
         (None, None) => Ok(arg),
+    }
+}
+
+/// A word, as `clap` has it.
+fn argument<'a>(alloc: Global, word: Word, purpose: Purpose) -> Result<Arg<'a>, AllocError>
+    ensures rule { purpose ≡ Purpose.Reading → IfOk result (λ arg. rule_of arg ≡ rule_of_word word) }
+    ensures local { IfOk result (λ arg. arg.global ≡ false) }
+{
+    let arg = formed(alloc, word.id, word.form).help(word.help);
+    match purpose {
+        Purpose::Reading => Ok(arg),
+        Purpose::Telling => ruled(arg, word.form),
     }
 }
 
@@ -745,26 +878,96 @@ fn with<'a>(
     alloc: Global,
     mut command: Command<'a>,
     words: &[Word],
-) -> Result<Command<'a>, AllocError> {
+    purpose: Purpose,
+) -> Result<Command<'a>, AllocError>
+    requires { (fields_of command).has_globals ≡ false }
+    ensures app { purpose ≡ Purpose.Reading
+        → IfOk result (λ made. app_of made ≡ with_words (app_of command.entry) words.now) }
+    ensures local { IfOk result (λ made. (fields_of made).has_globals ≡ false) }
+{
     for word in words {
-        command = command.arg(argument(alloc, *word)?)?;
+        let next = argument(alloc, *word, purpose)?;
+        command = command.arg(next)?;
     }
     Ok(command)
 }
 
+/// Adds the limits.
+fn with_limits<'a>(
+    alloc: Global,
+    command: Command<'a>,
+    purpose: Purpose,
+) -> Result<Command<'a>, AllocError>
+    requires { (fields_of command).has_globals ≡ false }
+    ensures app { purpose ≡ Purpose.Reading
+        → IfOk result (λ made. app_of made ≡ with_rules (app_of command.entry) limits) }
+    ensures local { IfOk result (λ made. (fields_of made).has_globals ≡ false) }
+{
+    with(alloc, command, &LIMITS, purpose)
+}
+
+/// Adds the flag that wants nothing after a transmission.
+fn with_ends<'a>(
+    alloc: Global,
+    command: Command<'a>,
+    purpose: Purpose,
+) -> Result<Command<'a>, AllocError>
+    requires { (fields_of command).has_globals ≡ false }
+    ensures app { purpose ≡ Purpose.Reading
+        → IfOk result (λ made. app_of made ≡ with_rules (app_of command.entry) ends) }
+    ensures local { IfOk result (λ made. (fields_of made).has_globals ≡ false) }
+{
+    with(alloc, command, &ENDS, purpose)
+}
+
+/// Adds the words on how a run is shown.
+fn with_shows<'a>(
+    alloc: Global,
+    command: Command<'a>,
+    purpose: Purpose,
+) -> Result<Command<'a>, AllocError>
+    requires { (fields_of command).has_globals ≡ false }
+    ensures app { purpose ≡ Purpose.Reading
+        → IfOk result (λ made. app_of made ≡ with_rules (app_of command.entry) shows) }
+    ensures local { IfOk result (λ made. (fields_of made).has_globals ≡ false) }
+{
+    with(alloc, command, &SHOWS, purpose)
+}
+
+/// Adds the words that stand before a subcommand's own.
+fn with_common<'a>(
+    alloc: Global,
+    command: Command<'a>,
+    common: Common,
+    purpose: Purpose,
+) -> Result<Command<'a>, AllocError>
+    requires { (fields_of command).has_globals ≡ false }
+    ensures app { purpose ≡ Purpose.Reading
+        → IfOk result (λ made. app_of made ≡ with_rules (app_of command.entry) (common_rules common)) }
+    ensures local { IfOk result (λ made. (fields_of made).has_globals ≡ false) }
+{
+    match common {
+        Common::Nothing => Ok(command),
+        Common::Limits => {
+            let command = with_limits(alloc, command, purpose)?;
+            with_shows(alloc, command, purpose)
+        }
+        Common::Reading => {
+            let command = with_limits(alloc, command, purpose)?;
+            let command = with_ends(alloc, command, purpose)?;
+            with_shows(alloc, command, purpose)
+        }
+    }
+}
+
 /// A subcommand, as `clap` has it.
-fn made_of<'a>(alloc: Global, it: Subcommand) -> Result<Command<'a>, AllocError> {
-    let mut command = Command::new(alloc, it.name).about(it.about);
-    if it.common != Common::Nothing {
-        command = with(alloc, command, &LIMITS)?;
-    }
-    if it.common == Common::Reading {
-        command = with(alloc, command, &ENDS)?;
-    }
-    if it.common != Common::Nothing {
-        command = with(alloc, command, &SHOWS)?;
-    }
-    with(alloc, command, it.own)
+fn made_of<'a>(alloc: Global, it: Subcommand, purpose: Purpose) -> Result<Command<'a>, AllocError>
+    ensures app { purpose ≡ Purpose.Reading → IfOk result (λ made. app_of made ≡ app_of_subcommand it) }
+    ensures local { IfOk result (λ made. (fields_of made).has_globals ≡ false) }
+{
+    let command = Command::new(alloc, it.name).about(it.about);
+    let command = with_common(alloc, command, it.common, purpose)?;
+    with(alloc, command, it.own, purpose)
 }
 
 /// The version of the program.
@@ -836,15 +1039,62 @@ Examples: cwr check works.cwr
           cwr split --new -n 1000 works.cwr -o part-
           cwr join --new -o whole.cwr part-00000001 part-00000002";
 
-/// The program's words.
-pub fn command<'a>(alloc: Global) -> Result<Command<'a>, AllocError> {
-    let mut command = Command::new(alloc, "cwr")
+/// The program, without its subcommands.
+fn program<'a>(alloc: Global) -> Command<'a>
+    ensures app { app_of result ≡ bare }
+    ensures local { (fields_of result).has_globals ≡ false }
+{
+    Command::new(alloc, "cwr")
         .version(VERSION)
         .about("Reads CWR 2.1 transmissions; without words it is `cwr check`")
-        .after_help(OUTCOMES);
-    for it in SUBCOMMANDS.iter() {
-        let next = made_of(alloc, *it)?;
+        .after_help(OUTCOMES)
+}
+
+/// Adds subcommands, in their order.
+fn with_subcommands<'a>(
+    alloc: Global,
+    mut command: Command<'a>,
+    subcommands: &[Subcommand],
+    purpose: Purpose,
+) -> Result<Command<'a>, AllocError>
+    ensures { purpose ≡ Purpose.Reading
+        → IfOk result (λ made. app_of made ≡ with_subcommands (app_of command.entry) subcommands.now) }
+{
+    for it in subcommands {
+        let next = made_of(alloc, *it, purpose)?;
         command = command.subcommand(next)?;
     }
     Ok(command)
+}
+
+/// Adds the program's subcommands.
+fn with_tables<'a>(
+    alloc: Global,
+    command: Command<'a>,
+    purpose: Purpose,
+) -> Result<Command<'a>, AllocError>
+    ensures { purpose ≡ Purpose.Reading
+        → IfOk result (λ made. app_of made ≡ with_shapes (app_of command.entry) subcommands) }
+{
+    with_subcommands(alloc, command, SUBCOMMANDS, purpose)
+}
+
+/// The program's words.
+fn made_for<'a>(alloc: Global, purpose: Purpose) -> Result<Command<'a>, AllocError>
+    ensures { purpose ≡ Purpose.Reading → IfOk result (λ made. app_of made ≡ grammar) }
+{
+    with_tables(alloc, program(alloc), purpose)
+}
+
+/// The program's words, as they are read: their names, their places and their numbers.
+pub fn command<'a>(alloc: Global) -> Result<Command<'a>, AllocError>
+    // It is that grammar.
+    ensures { IfOk result (λ made. app_of made ≡ grammar) }
+{
+    made_for(alloc, Purpose::Reading)
+}
+
+/// The program's words with all their rules, for help, and for what is told of words that are refused.
+pub fn command_with_help<'a>(alloc: Global) -> Result<Command<'a>, AllocError> {
+    made_for(alloc, Purpose::Telling)
 }

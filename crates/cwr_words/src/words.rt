@@ -704,7 +704,7 @@ fn refusal_of(matches: &ArgMatches<'_>) -> &'static str {
 
 /// What the words ask for, the program's name first, or what to tell the user in its place.
 pub fn task_of<'a, S: AsStr>(alloc: Global, words: &'a [S]) -> Result<Task<'a>, Error> {
-    let mut command = grammar::command(alloc)?;
+    let mut command = grammar::command_with_help(alloc)?;
     let matches = command.try_get_matches_from_mut(words)?;
     match task_in(alloc, &matches)? {
         Some(task) => Ok(task),

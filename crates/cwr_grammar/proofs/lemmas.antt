@@ -1,0 +1,2 @@
+-- A parse reads the grammar as its rules say.
+pub mod Read

@@ -1,0 +1,2 @@
+-- What is promised, in the words of the command line.
+pub mod CommandLine
