@@ -1,2 +1,4 @@
+-- What a parse finds, in rows.
+pub mod Parses
 -- Statuses by their codes.
 pub mod Statuses

@@ -1,12 +1,15 @@
 //! The words of the command line.
 
-ghost use Rattle.std.specs.Prelude.{◌≡◌, map, None, Some, IfOk, IfSome, IsOkAnd, IsSomeAnd, codes, option_map, false, true, if◌then◌else◌};
+ghost use Rattle.std.specs.Prelude.{◌≡◌, ◌==◌, ◌++◌, map, None, Some, IfErr, IfOk, IfSome, IsSome, [], codes, length, option_map, false, true, if◌then◌else◌};
+ghost use Rattle.std.specs.List.{slice_split};
 ghost use Rattle.std.specs.Str.{bytes_eq};
-ghost use Rattle.clap.specs.Words.{first_value, found_of, has_subcommand};
+ghost use Rattle.clap.specs.Words.{fault_of, first_value, found_of, kind_of, rows_of, subcommand_of, subcommand_rows_of, takes};
 ghost use Rattle.cwr_fields.specs.Format.MessageCodes.{status_code};
 ghost use Rattle.cwr_shape.specs.Format.Ranges.{limit_values};
-ghost use Rattle.cwr_words.specs.Format.Words.{IsRenumberingOf, IsShowOf, IsSplitOf, IsTableOf};
-ghost use Rattle.cwr_words.specs.Format.Words.{AreLimitsOf, AreNamesOf, AreStatusesOf, AreValuesOf, IsAcksOf, IsAdviceOf, IsAskedBy, IsCreatedBy, IsExportOf, IsImportOf, IsLintOf, IsJoinOf, IsJoinOfNames, IsJudgingOf, IsPlainCheck, IsWorkOf, colouring_given, colouring_named, level_given, level_named, named_out, rows_named, states_given, written_in};
+ghost use Rattle.cwr_grammar.specs.Format.CommandLine.{grammar};
+ghost use Rattle.cwr_words.specs.Format.Words.{Asks, IsLevelOf, IsPlainCheck, IsProgressOf, IsRenumberingOf, IsShowOf, IsSplitOf, IsTableOf, IsTaskOf};
+ghost use Rattle.cwr_words.specs.Format.Words.{AreBeside, AreLimitsOf, AreNamesOf, AreStatusesOf, AreValuesOf, IsAcksOf, IsAdviceOf, IsCreatedBy, IsExportOf, IsImportOf, IsLintOf, IsJoinOf, IsJoinOfNames, IsJudgingOf, IsWorkOf, colouring_given, colouring_named, level_given, level_named, named_out, rows_named, states_given, written_in, written_once};
+ghost use Rattle.cwr_words.specs.Steps.Matches.{given_by};
 
 use clap::error::ErrorKind;
 use clap::{ArgMatches, Error};
@@ -250,7 +253,7 @@ fn largest() -> Limits
 /// The limits that the words of a subcommand give. `None` where one is missing or out of its range. The manual takes none.
 fn limits_of(name: &str, matches: &ArgMatches<'_>) -> Option<Limits>
     ensures { bytes_eq name.now (codes "manual") ≡ false
-        → IfSome result (AreLimitsOf (found_of matches.now)) }
+        → IfSome result (AreLimitsOf (given_by (found_of matches.now))) }
 {
     if name == grammar::MANUAL {
         return Some(largest());
@@ -268,7 +271,7 @@ fn values_of<'a>(
     id: &str,
 ) -> Result<Vec<&'a str>, AllocError>
     ensures { IfOk result
-        (λ values. AreValuesOf (found_of given.now) id.now (map (λ value. value.now) values.items)) }
+        (λ values. AreValuesOf (given_by (found_of given.now)) id.now (map (λ value. value.now) values.items)) }
 {
     match given.get_strs(id) {
         Some(values) => values.to_vec(alloc),
@@ -279,7 +282,7 @@ fn values_of<'a>(
 /// The names that stand for the files.
 fn names_in<'a>(alloc: Global, given: &ArgMatches<'a>) -> Result<Vec<&'a str>, AllocError>
     ensures { IfOk result
-        (λ names. AreNamesOf (found_of given.now) (map (λ name. name.now) names.items)) }
+        (λ names. AreNamesOf (given_by (found_of given.now)) (map (λ name. name.now) names.items)) }
 {
     values_of(alloc, given, grammar::FILE)
 }
@@ -298,18 +301,33 @@ fn level_of(letter: &str) -> Option<Level>
     }
 }
 
-/// The level of findings that ends a run as a refusal does, if one is given.
-fn fail_on_in(given: &ArgMatches<'_>) -> Option<Level>
-    ensures { result ≡ level_given (first_value (found_of given.now) (codes "fail-on")) }
+/// The level of findings that ends a run as a refusal does, if one is given. `None` where the word is none's letter.
+fn fail_on_in(given: &ArgMatches<'_>) -> Option<Option<Level>>
+    ensures { result ≡ level_given ((given_by (found_of given.now)).first (codes "fail-on")) }
 {
-    given.get_str(grammar::FAIL_ON).and_then(level_of)
+    match given.get_str(grammar::FAIL_ON) {
+        Some(letter) => level_of(letter).map(Some),
+        None => Some(None),
+    }
 }
 
 /// What is written: what the option `-o` names, or else the word of that id.
 fn written_in<'a>(given: &ArgMatches<'a>, id: &str) -> Option<&'a str>
-    ensures { option_map (λ name. name.now) result ≡ written_in (found_of given.now) id.now }
+    ensures { option_map (λ name. name.now) result ≡ written_in (given_by (found_of given.now)) id.now }
 {
     given.get_str(grammar::INTO).or(given.get_str(id))
+}
+
+/// What is written, by the option `-o` or by the word of that id. `None` where both are given.
+fn written_once<'a>(given: &ArgMatches<'a>, id: &str) -> Option<Option<&'a str>>
+    ensures { option_map (λ name. option_map (λ text. text.now) name) result
+        ≡ written_once (given_by (found_of given.now)) id.now }
+{
+    match (given.get_str(grammar::INTO), given.get_str(id)) {
+        (Some(_), Some(_)) => None,
+        (Some(name), None) => Some(Some(name)),
+        (None, word) => Some(word),
+    }
 }
 
 /// What stands for standard output in the place of a file.
@@ -326,52 +344,63 @@ fn named_out<'a>(word: Option<&'a str>) -> Option<&'a str>
     }
 }
 
-/// Which transmissions are judged, and how.
-fn judging_in<'a>(alloc: Global, given: &ArgMatches<'a>) -> Result<Judging<'a>, AllocError>
-    ensures { IfOk result (IsJudgingOf (found_of given.now)) }
+/// Which transmissions are judged, and how. `None` where a word is no level's letter.
+fn judging_in<'a>(alloc: Global, given: &ArgMatches<'a>) -> Result<Option<Judging<'a>>, AllocError>
+    ensures { IfOk result (λ found. IfSome found (IsJudgingOf (given_by (found_of given.now)))) }
 {
-    Ok(Judging {
+    let Some(fail_on) = fail_on_in(given) else {
+        return Ok(None);
+    };
+    Ok(Some(Judging {
         files: names_in(alloc, given)?,
         quiet: given.get_flag(grammar::QUIET),
-        fail_on: fail_on_in(given),
+        fail_on,
+    }))
+}
+
+/// The work of showing. `None` where a word is no level's letter.
+fn show_in<'a>(given: &ArgMatches<'a>) -> Option<ShowWords<'a>>
+    ensures { IfSome result (IsShowOf (given_by (found_of given.now))) }
+{
+    Some(ShowWords {
+        file: given.get_str(grammar::FILE),
+        fail_on: fail_on_in(given)?,
     })
 }
 
-/// The work of showing.
-fn show_in<'a>(given: &ArgMatches<'a>) -> ShowWords<'a>
-    ensures { IsShowOf (found_of given.now) result }
+/// The work of a lint. `None` where all advice is wanted, and none is.
+fn lint_in<'a>(alloc: Global, given: &ArgMatches<'a>) -> Result<Option<LintWords<'a>>, AllocError>
+    ensures { IfOk result (λ found. IfSome found (IsLintOf (given_by (found_of given.now)))) }
 {
-    ShowWords {
-        file: given.get_str(grammar::FILE),
-        fail_on: fail_on_in(given),
+    let advised = given.get_flag(grammar::ADVICE);
+    let all = given.get_flag(grammar::ALL);
+    if all && !advised {
+        return Ok(None);
     }
-}
-
-/// The work of a lint.
-fn lint_in<'a>(alloc: Global, given: &ArgMatches<'a>) -> Result<LintWords<'a>, AllocError>
-    ensures { IfOk result (IsLintOf (found_of given.now)) }
-{
-    Ok(LintWords {
+    Ok(Some(LintWords {
         files: names_in(alloc, given)?,
         quiet: given.get_flag(grammar::QUIET),
         explained: given.get_flag(grammar::EXPLAINED),
-        advised: given.get_flag(grammar::ADVICE),
-        all: given.get_flag(grammar::ALL),
-    })
+        advised,
+        all,
+    }))
 }
 
-/// The work of advice. `None` where the number of works is missing or out of its range.
+/// The work of advice. `None` where the number of works is missing or out of its range, or a word is no level's letter.
 fn advice_in<'a>(
     alloc: Global,
     given: &ArgMatches<'a>,
 ) -> Result<Option<AdviseWords<'a>>, AllocError>
-    ensures { IfOk result (λ found. IfSome found (IsAdviceOf (found_of given.now))) }
+    ensures { IfOk result (λ found. IfSome found (IsAdviceOf (given_by (found_of given.now)))) }
 {
     let Some(repeated) = given.get_one::<u32>(grammar::REPEATED) else {
         return Ok(None);
     };
+    let Some(judging) = judging_in(alloc, given)? else {
+        return Ok(None);
+    };
     Ok(Some(AdviseWords {
-        judging: judging_in(alloc, given)?,
+        judging,
         all: given.get_flag(grammar::ALL),
         repeated,
     }))
@@ -379,7 +408,7 @@ fn advice_in<'a>(
 
 /// The work of an export.
 fn export_in<'a>(given: &ArgMatches<'a>) -> JsonWords<'a>
-    ensures { IsExportOf (found_of given.now) result }
+    ensures { IsExportOf (given_by (found_of given.now)) result }
 {
     JsonWords {
         file: given.get_str(grammar::FILE),
@@ -401,7 +430,7 @@ fn rows_of(word: &str) -> Option<Rows>
 
 /// The work of a table. `None` where what it has rows of is missing.
 fn table_in<'a>(given: &ArgMatches<'a>) -> Option<CsvWords<'a>>
-    ensures { IfSome result (IsTableOf (found_of given.now)) }
+    ensures { IfSome result (IsTableOf (given_by (found_of given.now))) }
 {
     Some(CsvWords {
         rows: rows_of(given.get_str(grammar::KIND)?)?,
@@ -413,7 +442,7 @@ fn table_in<'a>(given: &ArgMatches<'a>) -> Option<CsvWords<'a>>
 
 /// The states that end a run as a refusal does. `None` where a name is no state's.
 fn states_in(given: &ArgMatches<'_>) -> Option<States>
-    ensures { result ≡ states_given (first_value (found_of given.now) (codes "fail-on")) }
+    ensures { result ≡ states_given ((given_by (found_of given.now)).first (codes "fail-on")) }
 {
     match given.get_str(grammar::FAIL_ON) {
         Some(names) => States::read(names),
@@ -428,15 +457,23 @@ fn status_of(code: &str) -> Option<TransactionStatus>
     TransactionStatus::read(code.as_bytes())
 }
 
-/// The statuses that are asked for. `None` where a word is none's code.
-fn statuses_in<'a>(
-    alloc: Global,
-    given: &ArgMatches<'a>,
-) -> Result<Option<Vec<TransactionStatus>>, AllocError>
-    ensures { IfOk result (λ found. IfSome found (λ statuses. AreStatusesOf (found_of given.now) statuses.items)) }
+/// The codes that the text has, with commas between them.
+fn codes_in<'a>(alloc: Global, text: &'a str) -> Result<Vec<&'a str>, AllocError>
+    ensures { IfOk result (λ found. map (λ code. code.now) found.items ≡ slice_split (λ b. b == 44) text.entry.now) }
 {
-    let codes = values_of(alloc, given, grammar::STATUS)?;
-    let mut statuses = Vec::new(alloc);
+    text.split(',').collect(alloc)
+}
+
+/// Adds the statuses whose codes the text has. `None` where one is none's.
+fn with_statuses(
+    alloc: Global,
+    mut statuses: Vec<TransactionStatus>,
+    text: &str,
+) -> Result<Option<Vec<TransactionStatus>>, AllocError>
+    ensures { IfOk result (λ found. IfSome found (λ all. map status_code all.items
+        ≡ map status_code statuses.items ++ slice_split (λ b. b == 44) text.now)) }
+{
+    let codes = codes_in(alloc, text)?;
     for code in codes.as_slice() {
         let Some(status) = status_of(code) else {
             return Ok(None);
@@ -446,9 +483,36 @@ fn statuses_in<'a>(
     Ok(Some(statuses))
 }
 
-/// The work of telling what acknowledgements say. `None` where the name of a state is none, or the code of a status.
+/// The statuses that are asked for. `None` where a word is none's code.
+fn statuses_in<'a>(
+    alloc: Global,
+    given: &ArgMatches<'a>,
+) -> Result<Option<Vec<TransactionStatus>>, AllocError>
+    ensures { IfOk result (λ found. IfSome found (λ statuses. AreStatusesOf (given_by (found_of given.now)) statuses.items)) }
+{
+    let texts = values_of(alloc, given, grammar::STATUS)?;
+    let mut statuses = Vec::new(alloc);
+    for text in texts.as_slice() {
+        let Some(more) = with_statuses(alloc, statuses, text)? else {
+            return Ok(None);
+        };
+        statuses = more;
+    }
+    Ok(Some(statuses))
+}
+
+/// Whether what needs transmissions that were sent has some, and whether the table of states has rows of all statuses.
+fn are_beside(words: &AcksWords<'_>, given: &ArgMatches<'_>) -> bool
+    ensures { result ≡ true → AreBeside (given_by (found_of given.now)) words.now }
+{
+    let wants_sent = words.by_place || words.state || given.contains_id(grammar::FAIL_ON);
+    !(wants_sent && words.sent.is_empty()) && !(words.state && !words.statuses.is_empty())
+}
+
+/// The work of telling what acknowledgements say. `None` where the name of a state is none, or the code of a status, or a word stands
+/// without one that it needs.
 fn acks_in<'a>(alloc: Global, given: &ArgMatches<'a>) -> Result<Option<AcksWords<'a>>, AllocError>
-    ensures { IfOk result (λ found. IfSome found (IsAcksOf (found_of given.now))) }
+    ensures { IfOk result (λ found. IfSome found (IsAcksOf (given_by (found_of given.now)))) }
 {
     let Some(fail_on) = states_in(given) else {
         return Ok(None);
@@ -456,7 +520,7 @@ fn acks_in<'a>(alloc: Global, given: &ArgMatches<'a>) -> Result<Option<AcksWords
     let Some(statuses) = statuses_in(alloc, given)? else {
         return Ok(None);
     };
-    Ok(Some(AcksWords {
+    let words = AcksWords {
         files: names_in(alloc, given)?,
         sent: values_of(alloc, given, grammar::SENT)?,
         as_json: given.get_flag(grammar::AS_JSON),
@@ -465,12 +529,17 @@ fn acks_in<'a>(alloc: Global, given: &ArgMatches<'a>) -> Result<Option<AcksWords
         fail_on,
         statuses,
         utf8: given.get_flag(grammar::UTF8),
-    }))
+    };
+    if are_beside(&words, given) {
+        Ok(Some(words))
+    } else {
+        Ok(None)
+    }
 }
 
 /// The work of an import. `None` where the bound on lines is missing or out of its range.
 fn import_in<'a>(given: &ArgMatches<'a>) -> Option<WriteWords<'a>>
-    ensures { IfSome result (IsImportOf (found_of given.now)) }
+    ensures { IfSome result (IsImportOf (given_by (found_of given.now))) }
 {
     Some(WriteWords {
         file: given.get_str(grammar::FILE),
@@ -482,7 +551,7 @@ fn import_in<'a>(given: &ArgMatches<'a>) -> Option<WriteWords<'a>>
 
 /// When the parts of a split were created, where a word says so. `None` where that is no moment.
 fn created_in(given: &ArgMatches<'_>) -> Option<Option<Moment>>
-    ensures { IfSome result (IsCreatedBy (first_value (found_of given.now) (codes "created"))) }
+    ensures { IfSome result (IsCreatedBy ((given_by (found_of given.now)).first (codes "created"))) }
 {
     match given.get_str(grammar::CREATED) {
         Some(text) => Some(Some(Moment::read(text)?)),
@@ -492,16 +561,16 @@ fn created_in(given: &ArgMatches<'_>) -> Option<Option<Moment>>
 
 /// The work of a split. `None` where a word is missing or out of its range.
 fn split_in<'a>(given: &ArgMatches<'a>) -> Option<SplitWords<'a>>
-    ensures { IfSome result (IsSplitOf (found_of given.now)) }
+    ensures { IfSome result (IsSplitOf (given_by (found_of given.now))) }
 {
     let number = given.get_one::<u32>(grammar::NUMBER)?;
     Some(SplitWords {
         transactions: NonZeroU32::new(number)?,
         file: given.get_str(grammar::FILE)?,
-        prefix: written_in(given, grammar::PREFIX)?,
+        prefix: written_once(given, grammar::PREFIX)??,
         created: created_in(given)?,
         only_new: given.get_flag(grammar::NEW),
-        fail_on: fail_on_in(given),
+        fail_on: fail_on_in(given)?,
     })
 }
 
@@ -512,7 +581,7 @@ fn joined_in<'a>(
     given: &ArgMatches<'a>,
 ) -> Result<Option<(&'a str, Vec<&'a str>)>, AllocError>
     ensures { IfOk result (λ found. IfSome found
-        (λ names. IsJoinOfNames (found_of given.now) names.0.now (map (λ name. name.now) names.1.items))) }
+        (λ names. IsJoinOfNames (given_by (found_of given.now)) names.0.now (map (λ name. name.now) names.1.items))) }
 {
     if written_in(given, grammar::OUT) == Some(DASH) {
         return Ok(None);
@@ -530,7 +599,7 @@ fn joined_in<'a>(
 
 /// The work of a join. `None` where a word is missing or out of its range.
 fn join_in<'a>(alloc: Global, given: &ArgMatches<'a>) -> Result<Option<JoinWords<'a>>, AllocError>
-    ensures { IfOk result (λ found. IfSome found (IsJoinOf (found_of given.now))) }
+    ensures { IfOk result (λ found. IfSome found (IsJoinOf (given_by (found_of given.now)))) }
 {
     let Some(repeated) = given.get_one::<u32>(grammar::REPEATED) else {
         return Ok(None);
@@ -538,42 +607,48 @@ fn join_in<'a>(alloc: Global, given: &ArgMatches<'a>) -> Result<Option<JoinWords
     let Some((out, files)) = joined_in(alloc, given)? else {
         return Ok(None);
     };
+    let Some(fail_on) = fail_on_in(given) else {
+        return Ok(None);
+    };
     Ok(Some(JoinWords {
         out,
         files,
         only_new: given.get_flag(grammar::NEW),
-        fail_on: fail_on_in(given),
+        fail_on,
         same_sender: given.get_flag(grammar::SAME_SENDER),
         repeated,
     }))
 }
 
-/// The work of a renumbering.
-fn renumber_in<'a>(given: &ArgMatches<'a>) -> RenumberWords<'a>
-    ensures { IsRenumberingOf (found_of given.now) result }
+/// The work of a renumbering. `None` where what is written is named twice, or a word is no level's letter.
+fn renumber_in<'a>(given: &ArgMatches<'a>) -> Option<RenumberWords<'a>>
+    ensures { IfSome result (IsRenumberingOf (given_by (found_of given.now))) }
 {
-    RenumberWords {
+    Some(RenumberWords {
         file: given.get_str(grammar::FILE),
-        out: named_out(written_in(given, grammar::OUT)),
+        out: named_out(written_once(given, grammar::OUT)?),
         only_new: given.get_flag(grammar::NEW),
-        fail_on: fail_on_in(given),
+        fail_on: fail_on_in(given)?,
         anyway: given.get_flag(grammar::ANYWAY),
-    }
+    })
 }
 
-/// The work that a subcommand asks for. `None` where a word is missing or out of its range.
+/// The work that a subcommand asks for. `None` where a word is missing or out of its range, or there is no such subcommand.
 fn work_in<'a>(
     alloc: Global,
     name: &str,
     given: &ArgMatches<'a>,
 ) -> Result<Option<Work<'a>>, AllocError>
     ensures { IfOk result
-        (λ found. IfSome found (λ work. IsWorkOf name.now (found_of given.now) work)) }
+        (λ found. IfSome found (λ work. IsWorkOf name.now (given_by (found_of given.now)) work)) }
 {
     if name == grammar::SPLIT {
         Ok(split_in(given).map(Work::Split))
     } else if name == grammar::LINT {
-        Ok(Some(Work::Lint(lint_in(alloc, given)?)))
+        match lint_in(alloc, given)? {
+            Some(words) => Ok(Some(Work::Lint(words))),
+            None => Ok(None),
+        }
     } else if name == grammar::ADVISE {
         Ok(advice_in(alloc, given)?.map(Work::Advise))
     } else if name == grammar::JSON {
@@ -584,26 +659,33 @@ fn work_in<'a>(
             None => Ok(None),
         }
     } else if name == grammar::ACKS {
-        Ok(acks_in(alloc, given)?.map(Work::Acks))
+        match acks_in(alloc, given)? {
+            Some(words) => Ok(Some(Work::Acks(words))),
+            None => Ok(None),
+        }
     } else if name == grammar::WRITE {
         Ok(import_in(given).map(Work::Write))
     } else if name == grammar::JOIN {
         Ok(join_in(alloc, given)?.map(Work::Join))
     } else if name == grammar::RENUMBER {
-        Ok(Some(Work::Renumber(renumber_in(given))))
+        Ok(renumber_in(given).map(Work::Renumber))
     } else if name == grammar::MANUAL {
         Ok(Some(Work::Manual))
     } else if name == grammar::SHOW {
-        Ok(Some(Work::Show(show_in(given))))
+        Ok(show_in(given).map(Work::Show))
     } else if name == grammar::EXPLAIN {
-        Ok(Some(Work::Explain(judging_in(alloc, given)?)))
+        Ok(judging_in(alloc, given)?.map(Work::Explain))
+    } else if name == grammar::CHECK {
+        Ok(judging_in(alloc, given)?.map(Work::Check))
     } else {
-        Ok(Some(Work::Check(judging_in(alloc, given)?)))
+        Ok(None)
     }
 }
 
 /// Whether it is shown how far a long run is, where a word says so.
-fn progress_in(given: &ArgMatches<'_>) -> Option<bool> {
+fn progress_in(given: &ArgMatches<'_>) -> Option<bool>
+    ensures { IsProgressOf (given_by (found_of given.now)) result }
+{
     match (
         given.get_flag(grammar::NO_PROGRESS),
         given.get_flag(grammar::PROGRESS),
@@ -614,57 +696,78 @@ fn progress_in(given: &ArgMatches<'_>) -> Option<bool> {
     }
 }
 
-/// When words have colours, by that word.
-fn colouring_of(word: &str) -> Colouring
+/// When words have colours, by that word. `None` where it is none of these.
+fn colouring_of(word: &str) -> Option<Colouring>
     ensures { result ≡ colouring_named word.now }
 {
     match word {
-        "always" => Colouring::Always,
-        "never" => Colouring::Never,
-        _ => Colouring::Auto,
+        "auto" => Some(Colouring::Auto),
+        "always" => Some(Colouring::Always),
+        "never" => Some(Colouring::Never),
+        _ => None,
     }
 }
 
-/// When words have colours.
-fn colouring_in(given: &ArgMatches<'_>) -> Colouring
-    ensures { result ≡ colouring_given (first_value (found_of given.now) (codes "color")) }
+/// When words have colours. `None` where the word doesn't say so.
+fn colouring_in(given: &ArgMatches<'_>) -> Option<Colouring>
+    ensures { result ≡ colouring_given ((given_by (found_of given.now)).first (codes "color")) }
 {
     match given.get_str(grammar::COLOR) {
         Some(word) => colouring_of(word),
-        None => Colouring::Auto,
+        None => Some(Colouring::Auto),
+    }
+}
+
+/// What the words of a subcommand ask for. `None` where a word is missing or out of its range.
+fn task_of_subcommand<'a>(
+    alloc: Global,
+    name: &str,
+    given: &ArgMatches<'a>,
+) -> Result<Option<Task<'a>>, AllocError>
+    ensures { IfOk result (λ found. IfSome found (IsTaskOf name.now (given_by (found_of given.now)))) }
+{
+    let Some(work) = work_in(alloc, name, given)? else {
+        return Ok(None);
+    };
+    let Some(limits) = limits_of(name, given) else {
+        return Ok(None);
+    };
+    let Some(colouring) = colouring_in(given) else {
+        return Ok(None);
+    };
+    Ok(Some(Task {
+        work,
+        limits,
+        whole: given.get_flag(grammar::WHOLE),
+        progress: progress_in(given),
+        colouring,
+    }))
+}
+
+/// A check of standard input within the largest limits.
+fn plain_check<'a>(alloc: Global) -> Task<'a>
+    ensures { IsPlainCheck result }
+{
+    Task {
+        work: Work::Check(Judging {
+            files: Vec::new(alloc),
+            quiet: false,
+            fail_on: None,
+        }),
+        limits: largest(),
+        whole: false,
+        progress: None,
+        colouring: Colouring::Auto,
     }
 }
 
 /// What is asked for. `None` where a word is missing or out of its range.
 fn task_in<'a>(alloc: Global, matches: &ArgMatches<'a>) -> Result<Option<Task<'a>>, AllocError>
-    // Without a subcommand it is a check of standard input within the largest limits.
-    ensures without { has_subcommand matches.now ≡ false
-        → IsOkAnd result (λ found. IsSomeAnd found IsPlainCheck) }
-    ensures asked { IfOk result (λ found. IfSome found
-        (λ task. has_subcommand matches.now ≡ true → IsAskedBy matches.now task)) }
+    ensures { IfOk result (λ found. IfSome found (Asks (subcommand_rows_of matches.now))) }
 {
-    let Some((name, given)) = matches.subcommand() else {
-        return Ok(Some(Task {
-            work: Work::Check(Judging {
-                files: Vec::new(alloc),
-                quiet: false,
-                fail_on: None,
-            }),
-            limits: largest(),
-            whole: false,
-            progress: None,
-            colouring: Colouring::Auto,
-        }));
-    };
-    match (work_in(alloc, name, given)?, limits_of(name, given)) {
-        (Some(work), Some(limits)) => Ok(Some(Task {
-            work,
-            limits,
-            whole: given.get_flag(grammar::WHOLE),
-            progress: progress_in(given),
-            colouring: colouring_in(given),
-        })),
-        _ => Ok(None),
+    match matches.subcommand() {
+        Some((name, given)) => task_of_subcommand(alloc, name, given),
+        None => Ok(Some(plain_check(alloc))),
     }
 }
 
@@ -702,12 +805,55 @@ fn refusal_of(matches: &ArgMatches<'_>) -> &'static str {
     }
 }
 
-/// What the words ask for, the program's name first, or what to tell the user in its place.
-pub fn task_of<'a, S: AsStr>(alloc: Global, words: &'a [S]) -> Result<Task<'a>, Error> {
+/// What is told of words that are refused.
+fn told<'a, S: AsStr>(alloc: Global, words: &'a [S]) -> Result<Error, Error> {
     let mut command = grammar::command_with_help(alloc)?;
-    let matches = command.try_get_matches_from_mut(words)?;
-    match task_in(alloc, &matches)? {
+    match command.try_get_matches_from_mut(words) {
+        Ok(matches) => Ok(command.error(ErrorKind::ValueValidation, refusal_of(&matches))?),
+        Err(error) => Ok(error),
+    }
+}
+
+/// What a parse of the words finds.
+fn matches_of<'a, S: AsStr>(alloc: Global, words: &'a [S]) -> Result<ArgMatches<'a>, Error>
+    ensures rows { IfOk result
+        (λ m. subcommand_rows_of m ≡ subcommand_of grammar (map S.text words.entry.now)) }
+    ensures fits { IfOk result (λ _. fault_of grammar (map S.text words.entry.now) ≡ []) }
+    ensures refused { IfErr result (λ e. takes grammar (map S.text words.entry.now) ≡ true
+        → kind_of e ≡ ErrorKind.OutOfMemory) }
+{
+    let command = grammar::command(alloc)?;
+    command.try_get_matches_from(words)
+}
+
+/// What the words ask for. `None` where they are refused.
+fn asked<'a, S: AsStr>(alloc: Global, words: &'a [S]) -> Result<Option<Task<'a>>, Error>
+    ensures asked { IfOk result (λ found. IfSome found
+        (λ task. Asks (subcommand_of grammar (map S.text words.entry.now)) task)) }
+    ensures fits { IfOk result (λ found. IfSome found
+        (λ _. fault_of grammar (map S.text words.entry.now) ≡ [])) }
+{
+    match matches_of(alloc, words) {
+        Ok(matches) => Ok(task_in(alloc, &matches)?),
+        Err(error) => {
+            if error.kind() == ErrorKind::OutOfMemory {
+                Err(error)
+            } else {
+                Ok(None)
+            }
+        }
+    }
+}
+
+/// What the words ask for, the program's name first, or what to tell the user in its place.
+pub fn task_of<'a, S: AsStr>(alloc: Global, words: &'a [S]) -> Result<Task<'a>, Error>
+    // The task is that of the words, as the grammar reads them.
+    ensures asked { IfOk result (λ task. Asks (subcommand_of grammar (map S.text words.entry.now)) task) }
+    // The grammar has no fault to find in them.
+    ensures fits { IfOk result (λ _. fault_of grammar (map S.text words.entry.now) ≡ []) }
+{
+    match asked(alloc, words)? {
         Some(task) => Ok(task),
-        None => Err(command.error(ErrorKind::ValueValidation, refusal_of(&matches))?),
+        None => Err(told(alloc, words)?),
     }
 }

@@ -53,8 +53,8 @@ subcommand name rules = record (new_shape name) { rules = rules }
 -- the limits
 abbrev pub limits : List Rule
 limits =
-    number_or (codes "records") 5 99_999_999 (codes "99999999") ∷ number_or (codes "groups") 1 99_999 (codes "99999")
-    ∷ number_or (codes "transaction") 1 999_999 (codes "999999") ∷ []
+    number_or (codes "records") 5 99999999 (codes "99999999") ∷ number_or (codes "groups") 1 99999 (codes "99999")
+    ∷ number_or (codes "transaction") 1 999999 (codes "999999") ∷ []
 
 -- how a run is shown
 abbrev pub shows : List Rule
@@ -98,7 +98,7 @@ lint = subcommand (codes "lint")
 
 abbrev pub advise : Shape
 advise = subcommand (codes "advise")
-    (reads ++ fail_on ∷ flag (codes "quiet") ∷ flag (codes "all") ∷ number_or (codes "repeated") 0 99_999_999 (codes "0") ∷ files ∷ [])
+    (reads ++ fail_on ∷ flag (codes "quiet") ∷ flag (codes "all") ∷ number_or (codes "repeated") 0 99999999 (codes "0") ∷ files ∷ [])
 
 abbrev pub json : Shape
 json = subcommand (codes "json") (reads ++ file ∷ written (codes "OUT") ∷ flag (codes "numbers") ∷ flag (codes "utf8") ∷ [])
@@ -113,16 +113,16 @@ acks = subcommand (codes "acks")
 
 abbrev pub write : Shape
 write = subcommand (codes "write")
-    (limits ++ shows ++ number_or (codes "line") 1 1_000_000_000 (codes "64000000") ∷ flag (codes "utf8") ∷ written (codes "OUT") ∷ file ∷ [])
+    (limits ++ shows ++ number_or (codes "line") 1 1000000000 (codes "64000000") ∷ flag (codes "utf8") ∷ written (codes "OUT") ∷ file ∷ [])
 
 abbrev pub split : Shape
 split = subcommand (codes "split")
-    (reads ++ fail_on ∷ flag (codes "new") ∷ option (codes "created") ∷ needed_number (codes "N") 110 1 99_999_999 ∷ needed (codes "FILE")
+    (reads ++ fail_on ∷ flag (codes "new") ∷ option (codes "created") ∷ needed_number (codes "N") 110 1 99999999 ∷ needed (codes "FILE")
     ∷ place (codes "PREFIX") ∷ written (codes "o") ∷ [])
 
 abbrev pub join : Shape
 join = subcommand (codes "join")
-    (reads ++ fail_on ∷ flag (codes "new") ∷ flag (codes "same-sender") ∷ number_or (codes "repeated") 0 99_999_999 (codes "0")
+    (reads ++ fail_on ∷ flag (codes "new") ∷ flag (codes "same-sender") ∷ number_or (codes "repeated") 0 99999999 (codes "0")
     ∷ written (codes "o") ∷ needed (codes "OUT") ∷ files ∷ [])
 
 abbrev pub renumber : Shape

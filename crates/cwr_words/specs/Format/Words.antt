@@ -1,12 +1,10 @@
 -- What the words of a subcommand ask for.
-use Rattle.std.specs.Prelude.{◌≡◌, ◌⊎◌, ℕ, Bool, true, false, List, [], ◌∷◌, map, Option, Some, None, IsSomeAnd, option_map, codes, if◌then◌else◌}
+use Rattle.std.specs.Prelude.{◌≡◌, ◌⊎◌, ◌<◌, ◌++◌, ℕ, Bool, true, false, List, [], ◌∷◌, map, Option, Some, None, IsSome, IsSomeAnd, fold, length, option_map, codes, if◌then◌else◌}
 use Rattle.std.specs.Option.{option_and_then, option_or}
 use Rattle.std.specs.Str.{bytes_eq}
 use Rattle.std.specs.Int.NonZero.{non_zero_u32_get}
 use Rattle.std.specs.Str.Parse.{digits_value, without_leading_plus}
-use Rattle.clap.specs.declared.parser.matches.ArgMatches.{ArgMatches}
-use Rattle.clap.specs.declared.parser.matches.Found.{Found}
-use Rattle.clap.specs.Words.{one_text, first_value, matched_of, raw_values, rows_of, subcommand_name_of, subcommand_rows_of}
+use Rattle.clap.specs.Words.{Row, all_of, first_of, one_of}
 use Rattle.cwr_fields.specs.declared.message_codes.TransactionStatus.{TransactionStatus}
 use Rattle.cwr_fields.specs.Format.Kinds.{kind_of}
 use Rattle.cwr_fields.specs.Format.MessageCodes.{status_code}
@@ -17,7 +15,7 @@ use Rattle.cwr_shape.specs.Format.Ranges.{limit_values}
 use Rattle.cwr_moments.specs.declared.moments.Moment.{Moment}
 use Rattle.cwr_moments.specs.Format.Moments.{moment_text}
 use Rattle.cwr_states.specs.declared.state_sets.States.{States}
-use Rattle.cwr_states.specs.Format.StateSets.{no_states, states_in}
+use Rattle.cwr_states.specs.Format.StateSets.{names_in, no_states, states_in}
 use Rattle.cwr_words.specs.declared.words.Colouring.{Colouring}
 use Rattle.cwr_words.specs.declared.words.Colouring.TheVariants as colourings
 use Rattle.cwr_words.specs.declared.words.Judging.{Judging}
@@ -38,22 +36,35 @@ use Rattle.cwr_words.specs.declared.words.Work.{Work}
 use Rattle.cwr_words.specs.declared.words.Work.TheVariants.{Check, Show, Explain, Lint, Advise, Json, Csv, Acks, Write, Split}
 use Rattle.cwr_words.specs.declared.words.Work.TheVariants.{Join, Renumber, Manual}
 
+-- What a command line gives: under each id the first of its texts, that text as flags and numbers are read, and all of them.
+pub record Given : Type 0 where
+  pub first : List ℕ → Option (List ℕ)
+  pub read : List ℕ → Option (List ℕ)
+  pub all : List ℕ → Option (List (List ℕ))
+
 -- the flag of that id is given
-abbrev pub IsFlagOf : Found → List ℕ → Bool → Type 0
-IsFlagOf found id given =
-    (one_text found id ≡ Some (codes "true") → given ≡ true) × (one_text found id ≡ Some (codes "false") → given ≡ false)
+abbrev pub IsFlagOf : Given → List ℕ → Bool → Type 0
+IsFlagOf given id value =
+    (given.read id ≡ None → value ≡ false) × (given.read id ≡ Some (codes "true") → value ≡ true)
+    × (given.read id ≡ Some (codes "false") → value ≡ false)
+
+-- whether it is shown how far a long run is, where a flag says so
+abbrev pub IsProgressOf : Given → Option Bool → Type 0
+IsProgressOf given progress =
+    (yes : Bool) × (no : Bool) × IsFlagOf given (codes "progress") yes × IsFlagOf given (codes "no-progress") no
+    × (progress ≡ (if no then Some false else if yes then Some true else None))
 
 -- the values of the word of an id, in their order
 abbrev pub values_of : Option (List (List ℕ)) → List (List ℕ)
 values_of None = []
 values_of (Some values) = values
 
-abbrev pub AreValuesOf : Found → List ℕ → List (List ℕ) → Type 0
-AreValuesOf found id values = values ≡ values_of (option_map raw_values (matched_of found id))
+abbrev pub AreValuesOf : Given → List ℕ → List (List ℕ) → Type 0
+AreValuesOf given id values = values ≡ values_of (given.all id)
 
 -- the names that FILE has
-abbrev pub AreNamesOf : Found → List (List ℕ) → Type 0
-AreNamesOf found names = AreValuesOf found (codes "FILE") names
+abbrev pub AreNamesOf : Given → List (List ℕ) → Type 0
+AreNamesOf given names = AreValuesOf given (codes "FILE") names
 
 -- the level of that letter
 abbrev pub level_named : List ℕ → Option Level
@@ -65,25 +76,39 @@ level_named letter =
     else if bytes_eq letter (codes "E") then Some levels.E
     else None
 
--- the level that the option's letter is, or none without the option
-abbrev pub level_given : Option (List ℕ) → Option Level
-level_given None = None
-level_given (Some letter) = level_named letter
+-- The level that the option's letter is, or none without the option. There is no answer where it is no level's letter.
+abbrev pub level_given : Option (List ℕ) → Option (Option Level)
+level_given None = Some None
+level_given (Some letter) = option_map (λ level. Some level) (level_named letter)
+
+-- the level of findings that ends a run as a refusal does
+abbrev pub IsLevelOf : Given → Option Level → Type 0
+IsLevelOf given level = level_given (given.first (codes "fail-on")) ≡ Some level
 
 -- when words have colours, and that for the option's word: without one where standard output is a terminal
-abbrev pub colouring_named : List ℕ → Colouring
+abbrev pub colouring_named : List ℕ → Option Colouring
 colouring_named word =
-    if bytes_eq word (codes "always") then colourings.Always
-    else if bytes_eq word (codes "never") then colourings.Never
-    else colourings.Auto
+    if bytes_eq word (codes "auto") then Some colourings.Auto
+    else if bytes_eq word (codes "always") then Some colourings.Always
+    else if bytes_eq word (codes "never") then Some colourings.Never
+    else None
 
-abbrev pub colouring_given : Option (List ℕ) → Colouring
-colouring_given None = colourings.Auto
+abbrev pub colouring_given : Option (List ℕ) → Option Colouring
+colouring_given None = Some colourings.Auto
 colouring_given (Some word) = colouring_named word
 
 -- what is written: what the option -o names, or else the word of that id
-abbrev pub written_in : Found → List ℕ → Option (List ℕ)
-written_in found id = option_or (first_value found (codes "o")) (first_value found id)
+abbrev pub written_in : Given → List ℕ → Option (List ℕ)
+written_in given id = option_or (given.first (codes "o")) (given.first id)
+
+-- the same where only one of the two may be given: there is no answer where both are
+abbrev pub only_one : Option (List ℕ) → Option (List ℕ) → Option (Option (List ℕ))
+only_one (Some name) (Some word) = None
+only_one (Some name) None = Some (Some name)
+only_one None word = Some word
+
+abbrev pub written_once : Given → List ℕ → Option (Option (List ℕ))
+written_once given id = only_one (given.first (codes "o")) (given.first id)
 
 -- the file that is written, where the word names one: `-` is standard output
 abbrev pub named_out : Option (List ℕ) → Option (List ℕ)
@@ -91,10 +116,10 @@ named_out None = None
 named_out (Some name) = if bytes_eq name (codes "-") then None else Some name
 
 -- the transmissions of the files FILE, with what the options of a judgement say
-pub record IsJudgingOf (found : Found) (judging : Judging) : Type 0 where
-  pub files : AreNamesOf found (map (λ name. name.now) judging.files.items)
-  pub quiet : IsFlagOf found (codes "quiet") judging.quiet
-  pub fail_on : judging.fail_on ≡ level_given (first_value found (codes "fail-on"))
+pub record IsJudgingOf (given : Given) (judging : Judging) : Type 0 where
+  pub files : AreNamesOf given (map (λ name. name.now) judging.files.items)
+  pub quiet : IsFlagOf given (codes "quiet") judging.quiet
+  pub fail_on : IsLevelOf given judging.fail_on
 
 -- the moment that the option's text is, or none without the option
 abbrev pub IsCreatedBy : Option (List ℕ) → Option Moment → Type 0
@@ -102,138 +127,148 @@ IsCreatedBy None created = created ≡ None
 IsCreatedBy (Some text) created = IsSomeAnd created (λ moment. moment_text moment ≡ text)
 
 -- the records of the file FILE
-abbrev pub IsShowOf : Found → ShowWords → Type 0
-IsShowOf found words =
-    (option_map (λ f. f.now) words.file ≡ first_value found (codes "FILE"))
-    × (words.fail_on ≡ level_given (first_value found (codes "fail-on")))
+abbrev pub IsShowOf : Given → ShowWords → Type 0
+IsShowOf given words =
+    (option_map (λ f. f.now) words.file ≡ given.first (codes "FILE"))
+    × IsLevelOf given words.fail_on
 
 -- a split into parts of so many transactions as N says, of the file FILE to files whose names begin with PREFIX
-abbrev pub IsSplitOf : Found → SplitWords → Type 0
-IsSplitOf found words =
-    ((text : List ℕ) → one_text found (codes "N") ≡ Some text
+abbrev pub IsSplitOf : Given → SplitWords → Type 0
+IsSplitOf given words =
+    ((text : List ℕ) → given.read (codes "N") ≡ Some text
     → non_zero_u32_get words.transactions ≡ digits_value 10 (without_leading_plus text))
-    × (first_value found (codes "FILE") ≡ Some words.file.now) × (written_in found (codes "PREFIX") ≡ Some words.prefix.now)
-    × IsCreatedBy (first_value found (codes "created")) words.created × IsFlagOf found (codes "new") words.only_new
-    × (words.fail_on ≡ level_given (first_value found (codes "fail-on")))
+    × (given.first (codes "FILE") ≡ Some words.file.now) × (written_once given (codes "PREFIX") ≡ Some (Some words.prefix.now))
+    × IsCreatedBy (given.first (codes "created")) words.created × IsFlagOf given (codes "new") words.only_new
+    × IsLevelOf given words.fail_on
 
--- every fault of the files FILE, explained where that flag is given, with advice where that one is, and with all advice where that one is
-abbrev pub IsLintOf : Found → LintWords → Type 0
-IsLintOf found words =
-    AreNamesOf found (map (λ name. name.now) words.files.items) × IsFlagOf found (codes "quiet") words.quiet
-    × IsFlagOf found (codes "explain") words.explained × IsFlagOf found (codes "advice") words.advised × IsFlagOf found (codes "all") words.all
+-- every fault of the files FILE, explained where that flag is given, with advice where that one is, and with all advice where that one is, which
+-- the one for advice stands beside
+abbrev pub IsLintOf : Given → LintWords → Type 0
+IsLintOf given words =
+    AreNamesOf given (map (λ name. name.now) words.files.items) × IsFlagOf given (codes "quiet") words.quiet
+    × IsFlagOf given (codes "explain") words.explained × IsFlagOf given (codes "advice") words.advised × IsFlagOf given (codes "all") words.all
+    × (words.all ≡ true → words.advised ≡ true)
 
 -- advice on the transmissions of the files FILE, with what the options of a judgement say, all of it where that flag is given, where the
 -- numbers of so many works are kept as that option says
-abbrev pub IsAdviceOf : Found → AdviseWords → Type 0
-IsAdviceOf found words =
-    IsJudgingOf found words.judging × IsFlagOf found (codes "all") words.all × ((text : List ℕ) → one_text found (codes "repeated") ≡ Some text
+abbrev pub IsAdviceOf : Given → AdviseWords → Type 0
+IsAdviceOf given words =
+    IsJudgingOf given words.judging × IsFlagOf given (codes "all") words.all × ((text : List ℕ) → given.read (codes "repeated") ≡ Some text
     → words.repeated ≡ digits_value 10 (without_leading_plus text))
 
 -- the data of the file FILE to the file OUT, with numbers where that flag is given, and in UTF-8 where that one is
-abbrev pub IsExportOf : Found → JsonWords → Type 0
-IsExportOf found words =
-    (option_map (λ f. f.now) words.file ≡ first_value found (codes "FILE"))
-    × (option_map (λ f. f.now) words.out ≡ named_out (first_value found (codes "OUT"))) × IsFlagOf found (codes "numbers") words.numbers
-    × IsFlagOf found (codes "utf8") words.utf8
+abbrev pub IsExportOf : Given → JsonWords → Type 0
+IsExportOf given words =
+    (option_map (λ f. f.now) words.file ≡ given.first (codes "FILE"))
+    × (option_map (λ f. f.now) words.out ≡ named_out (given.first (codes "OUT"))) × IsFlagOf given (codes "numbers") words.numbers
+    × IsFlagOf given (codes "utf8") words.utf8
 
 -- what a table has rows of, by the word that names it
 abbrev pub rows_named : List ℕ → Option Rows
 rows_named word = if bytes_eq word (codes "works") then Some Works else option_map Records (kind_of word)
 
 -- the table that KIND names, of the file FILE to the file OUT, in UTF-8 where that flag is given
-abbrev pub IsTableOf : Found → CsvWords → Type 0
-IsTableOf found words =
-    (option_and_then rows_named (first_value found (codes "KIND")) ≡ Some words.rows)
-    × (option_map (λ f. f.now) words.file ≡ first_value found (codes "FILE"))
-    × (option_map (λ f. f.now) words.out ≡ named_out (first_value found (codes "OUT"))) × IsFlagOf found (codes "utf8") words.utf8
+abbrev pub IsTableOf : Given → CsvWords → Type 0
+IsTableOf given words =
+    (option_and_then rows_named (given.first (codes "KIND")) ≡ Some words.rows)
+    × (option_map (λ f. f.now) words.file ≡ given.first (codes "FILE"))
+    × (option_map (λ f. f.now) words.out ≡ named_out (given.first (codes "OUT"))) × IsFlagOf given (codes "utf8") words.utf8
 
 -- the states whose names the option's text has, with commas between them, or no states without the option
 abbrev pub states_given : Option (List ℕ) → Option States
 states_given None = Some no_states
 states_given (Some text) = states_in text
 
+-- the codes that texts have, with commas between them, in their order
+abbrev pub codes_in : List (List ℕ) → List (List ℕ)
+codes_in texts = fold (λ seen text. seen ++ names_in text) [] texts
+
 -- the statuses whose codes the option has, in their order, or none without the option
-abbrev pub AreStatusesOf : Found → List TransactionStatus → Type 0
-AreStatusesOf found statuses = AreValuesOf found (codes "status") (map status_code statuses)
+abbrev pub AreStatusesOf : Given → List TransactionStatus → Type 0
+AreStatusesOf given statuses = map status_code statuses ≡ codes_in (values_of (given.all (codes "status")))
+
+-- The transmissions that were sent are named where a flag or an option needs them: by place, the table of states, and the states that end a run.
+-- That table has rows of all statuses.
+pub record AreBeside (given : Given) (words : AcksWords) : Type 0 where
+  pub by_place : words.by_place ≡ true → 0 < length words.sent.items
+  pub state : words.state ≡ true → 0 < length words.sent.items
+  pub fail_on : IsSome (given.first (codes "fail-on")) → 0 < length words.sent.items
+  pub statuses : words.state ≡ true → length words.statuses.items ≡ 0
 
 -- what the acknowledgements of the files FILE say, those of the statuses that are named, matched with the transmissions of the files that SENT names, in their
 -- order: as JSON, by place alone, as a table of states and in UTF-8 where those flags are given; a row of that table ends the run as a refusal does where it has
 -- one of the states that are named
-abbrev pub IsAcksOf : Found → AcksWords → Type 0
-IsAcksOf found words =
-    AreNamesOf found (map (λ name. name.now) words.files.items) × AreValuesOf found (codes "sent") (map (λ name. name.now) words.sent.items)
-    × IsFlagOf found (codes "json") words.as_json × IsFlagOf found (codes "by-place") words.by_place × IsFlagOf found (codes "state") words.state
-    × (states_given (first_value found (codes "fail-on")) ≡ Some words.fail_on) × AreStatusesOf found words.statuses.items
-    × IsFlagOf found (codes "utf8") words.utf8
+abbrev pub IsAcksOf : Given → AcksWords → Type 0
+IsAcksOf given words =
+    AreNamesOf given (map (λ name. name.now) words.files.items) × AreValuesOf given (codes "sent") (map (λ name. name.now) words.sent.items)
+    × IsFlagOf given (codes "json") words.as_json × IsFlagOf given (codes "by-place") words.by_place × IsFlagOf given (codes "state") words.state
+    × (states_given (given.first (codes "fail-on")) ≡ Some words.fail_on) × AreStatusesOf given words.statuses.items
+    × IsFlagOf given (codes "utf8") words.utf8 × AreBeside given words
 
 -- a transmission from the lines of the file FILE to the file OUT, where lines may have so many bytes as that option says, in UTF-8 where that flag
 -- is given
-abbrev pub IsImportOf : Found → WriteWords → Type 0
-IsImportOf found words =
-    (option_map (λ f. f.now) words.file ≡ first_value found (codes "FILE"))
-    × (option_map (λ f. f.now) words.out ≡ named_out (first_value found (codes "OUT")))
-    × ((text : List ℕ) → one_text found (codes "line") ≡ Some text → words.line ≡ digits_value 10 (without_leading_plus text))
-    × IsFlagOf found (codes "utf8") words.utf8
+abbrev pub IsImportOf : Given → WriteWords → Type 0
+IsImportOf given words =
+    (option_map (λ f. f.now) words.file ≡ given.first (codes "FILE"))
+    × (option_map (λ f. f.now) words.out ≡ named_out (given.first (codes "OUT")))
+    × ((text : List ℕ) → given.read (codes "line") ≡ Some text → words.line ≡ digits_value 10 (without_leading_plus text))
+    × IsFlagOf given (codes "utf8") words.utf8
 
 -- what a join writes and reads: OUT and the files FILE, or with the option -o what that names, and all the others
-abbrev pub IsJoinOfNames : Found → List ℕ → List (List ℕ) → Type 0
-IsJoinOfNames found out names =
-    ((first_value found (codes "o") ≡ None) × (first_value found (codes "OUT") ≡ Some out) × AreNamesOf found names)
-    ⊎ ((first_value found (codes "o") ≡ Some out) × (first : List ℕ) × (others : List (List ℕ))
-    × (names ≡ first ∷ others) × (first_value found (codes "OUT") ≡ Some first) × AreNamesOf found others)
+abbrev pub IsJoinOfNames : Given → List ℕ → List (List ℕ) → Type 0
+IsJoinOfNames given out names =
+    ((given.first (codes "o") ≡ None) × (given.first (codes "OUT") ≡ Some out) × AreNamesOf given names)
+    ⊎ ((given.first (codes "o") ≡ Some out) × (first : List ℕ) × (others : List (List ℕ))
+    × (names ≡ first ∷ others) × (given.first (codes "OUT") ≡ Some first) × AreNamesOf given others)
 
 -- a join of files, in their order, to a file; the numbers of so many works are kept as that option says
-abbrev pub IsJoinOf : Found → JoinWords → Type 0
-IsJoinOf found words =
-    IsJoinOfNames found words.out.now (map (λ name. name.now) words.files.items) × IsFlagOf found (codes "new") words.only_new
-    × (words.fail_on ≡ level_given (first_value found (codes "fail-on"))) × IsFlagOf found (codes "same-sender") words.same_sender
-    × ((text : List ℕ) → one_text found (codes "repeated") ≡ Some text → words.repeated ≡ digits_value 10 (without_leading_plus text))
+abbrev pub IsJoinOf : Given → JoinWords → Type 0
+IsJoinOf given words =
+    IsJoinOfNames given words.out.now (map (λ name. name.now) words.files.items) × IsFlagOf given (codes "new") words.only_new
+    × IsLevelOf given words.fail_on × IsFlagOf given (codes "same-sender") words.same_sender
+    × ((text : List ℕ) → given.read (codes "repeated") ≡ Some text → words.repeated ≡ digits_value 10 (without_leading_plus text))
 
 -- the file FILE with its numbers put right, to the file OUT, whatever they show or not
-abbrev pub IsRenumberingOf : Found → RenumberWords → Type 0
-IsRenumberingOf found words =
-    (option_map (λ f. f.now) words.file ≡ first_value found (codes "FILE"))
-    × (option_map (λ f. f.now) words.out ≡ named_out (written_in found (codes "OUT"))) × IsFlagOf found (codes "new") words.only_new
-    × (words.fail_on ≡ level_given (first_value found (codes "fail-on"))) × IsFlagOf found (codes "anyway") words.anyway
+abbrev pub IsRenumberingOf : Given → RenumberWords → Type 0
+IsRenumberingOf given words =
+    (option_map (λ f. f.now) words.file ≡ given.first (codes "FILE"))
+    × (Some (option_map (λ f. f.now) words.out) ≡ option_map named_out (written_once given (codes "OUT"))) × IsFlagOf given (codes "new") words.only_new
+    × IsLevelOf given words.fail_on × IsFlagOf given (codes "anyway") words.anyway
 
 -- Work of the subcommand of that name: transmissions are checked, explained, linted or advised on; one is shown, or written as JSON or as a table, that of the
 -- first file that FILE names, if it names one; what the acknowledgements of some say is told; one is written from lines of JSON, one is split, some are joined,
 -- the numbers of one are put right, or the manual is printed.
-abbrev pub IsWorkOf : List ℕ → Found → Work → Type 0
-IsWorkOf name found (Check judging) =
-    (bytes_eq name (codes "show") ≡ false) × (bytes_eq name (codes "explain") ≡ false) × IsJudgingOf found judging
-IsWorkOf name found (Show words) = (bytes_eq name (codes "show") ≡ true) × IsShowOf found words
-IsWorkOf name found (Explain judging) = (bytes_eq name (codes "explain") ≡ true) × IsJudgingOf found judging
-IsWorkOf name found (Lint words) = (bytes_eq name (codes "lint") ≡ true) × IsLintOf found words
-IsWorkOf name found (Advise words) = (bytes_eq name (codes "advise") ≡ true) × IsAdviceOf found words
-IsWorkOf name found (Json words) = (bytes_eq name (codes "json") ≡ true) × IsExportOf found words
-IsWorkOf name found (Csv words) = (bytes_eq name (codes "csv") ≡ true) × IsTableOf found words
-IsWorkOf name found (Acks words) = (bytes_eq name (codes "acks") ≡ true) × IsAcksOf found words
-IsWorkOf name found (Write words) = (bytes_eq name (codes "write") ≡ true) × IsImportOf found words
-IsWorkOf name found (Split words) = (bytes_eq name (codes "split") ≡ true) × IsSplitOf found words
-IsWorkOf name found (Join words) = (bytes_eq name (codes "join") ≡ true) × IsJoinOf found words
-IsWorkOf name found (Renumber words) = (bytes_eq name (codes "renumber") ≡ true) × IsRenumberingOf found words
-IsWorkOf name found Manual = bytes_eq name (codes "manual") ≡ true
+abbrev pub IsWorkOf : List ℕ → Given → Work → Type 0
+IsWorkOf name given (Check judging) = (bytes_eq name (codes "check") ≡ true) × IsJudgingOf given judging
+IsWorkOf name given (Show words) = (bytes_eq name (codes "show") ≡ true) × IsShowOf given words
+IsWorkOf name given (Explain judging) = (bytes_eq name (codes "explain") ≡ true) × IsJudgingOf given judging
+IsWorkOf name given (Lint words) = (bytes_eq name (codes "lint") ≡ true) × IsLintOf given words
+IsWorkOf name given (Advise words) = (bytes_eq name (codes "advise") ≡ true) × IsAdviceOf given words
+IsWorkOf name given (Json words) = (bytes_eq name (codes "json") ≡ true) × IsExportOf given words
+IsWorkOf name given (Csv words) = (bytes_eq name (codes "csv") ≡ true) × IsTableOf given words
+IsWorkOf name given (Acks words) = (bytes_eq name (codes "acks") ≡ true) × IsAcksOf given words
+IsWorkOf name given (Write words) = (bytes_eq name (codes "write") ≡ true) × IsImportOf given words
+IsWorkOf name given (Split words) = (bytes_eq name (codes "split") ≡ true) × IsSplitOf given words
+IsWorkOf name given (Join words) = (bytes_eq name (codes "join") ≡ true) × IsJoinOf given words
+IsWorkOf name given (Renumber words) = (bytes_eq name (codes "renumber") ≡ true) × IsRenumberingOf given words
+IsWorkOf name given Manual = bytes_eq name (codes "manual") ≡ true
 
 -- the limits are the numbers that the options of a subcommand say
-pub record AreLimitsOf (found : Found) (limits : Limits) : Type 0 where
-  pub records : (text : List ℕ) → one_text found (codes "records") ≡ Some text
+pub record AreLimitsOf (given : Given) (limits : Limits) : Type 0 where
+  pub records : (text : List ℕ) → given.read (codes "records") ≡ Some text
       → limits.records ≡ digits_value 10 (without_leading_plus text)
-  pub groups : (text : List ℕ) → one_text found (codes "groups") ≡ Some text
+  pub groups : (text : List ℕ) → given.read (codes "groups") ≡ Some text
       → limits.groups ≡ digits_value 10 (without_leading_plus text)
-  pub transaction : (text : List ℕ) → one_text found (codes "transaction") ≡ Some text
+  pub transaction : (text : List ℕ) → given.read (codes "transaction") ≡ Some text
       → limits.transaction ≡ digits_value 10 (without_leading_plus text)
 
--- the task is the work of the subcommand that the words name, within the limits that its words give; the manual takes none
-pub record IsAskedBy (matches : ArgMatches) (task : Task) : Type 0 where
-  pub name : List ℕ
-  pub found : Found
-  pub named : subcommand_name_of matches ≡ Some name
-  pub rows : option_map (λ p. p.1) (subcommand_rows_of matches) ≡ Some (rows_of found)
-  pub work : IsWorkOf name found task.work
-  pub limits : bytes_eq name (codes "manual") ≡ false → AreLimitsOf found task.limits
-  pub whole : IsFlagOf found (codes "whole") task.whole
-  pub colouring : task.colouring ≡ colouring_given (first_value found (codes "color"))
+-- the task is the work of the subcommand of that name, within the limits that its words give; the manual takes none
+pub record IsTaskOf (name : List ℕ) (given : Given) (task : Task) : Type 0 where
+  pub work : IsWorkOf name given task.work
+  pub limits : bytes_eq name (codes "manual") ≡ false → AreLimitsOf given task.limits
+  pub whole : IsFlagOf given (codes "whole") task.whole
+  pub progress : IsProgressOf given task.progress
+  pub colouring : colouring_given (given.first (codes "color")) ≡ Some task.colouring
 
 -- without words: the one on standard input is checked, within the largest limits, and nothing else is wanted of it
 abbrev pub IsPlainWork : Work → Type 0
@@ -244,4 +279,15 @@ pub record IsPlainCheck (task : Task) : Type 0 where
   pub work : IsPlainWork task.work
   pub limits : task.limits ≡ limit_values 99999999 99999 999999
   pub part : task.whole ≡ false
+  pub progress : task.progress ≡ None
   pub colouring : task.colouring ≡ colourings.Auto
+
+-- what rows give, each of which has what was found for an id
+abbrev pub given_in : List Row → Given
+given_in rows = record { first = λ id. first_of id rows; read = λ id. one_of id rows; all = λ id. all_of id rows }
+
+-- What a command line asks for, of which a parse tells the subcommand and the rows of its words: the task of that subcommand. Without one it
+-- is a check of standard input.
+abbrev pub Asks : Option (List ℕ × List Row) → Task → Type 0
+Asks None task = IsPlainCheck task
+Asks (Some parsed) task = IsTaskOf parsed.0 (given_in parsed.1) task

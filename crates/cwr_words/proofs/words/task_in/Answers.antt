@@ -1,20 +1,14 @@
-use Rattle.std.proofs.Common.{sym, subst}
-use Rattle.std.specs.Prelude.{Option, IfSome}
-use Rattle.clap.specs.Words.{found_of}
-use Rattle.cwr_words.specs.declared.words.Work.{Work}
-use Rattle.cwr_words.specs.Format.Words.{IsWorkOf}
+use Rattle.std.proofs.Common.{sym, subst, List, ℕ, Option, IfOk}
+use Rattle.std.specs.Prelude.{IfSome}
+use Rattle.clap.specs.Words.{Row, found_of, rows_of}
+use Rattle.cwr_words.specs.Format.Words.{Asks, Given, IsTaskOf}
+use Rattle.cwr_words.proofs.lemmas.Parses.{by_rows, none_met, subcommand_met}
 use Rattle.cwr_words.proofs.words.task_in.Goals as goal
 
-pub returns-in-Some-Some-clause-asked : goal.returns-in-Some-Some-clause-asked
-returns-in-Some-Some-clause-asked c = λ _. record {
-  name = c.in-Some.name.now;
-  found = found_of c.in-Some.given.now;
-  named = sym c.in-Some.ensures.name;
-  rows = sym c.in-Some.ensures.rows;
-  work =
-      subst (λ (o : Option Work). IfSome o (λ work. IsWorkOf c.in-Some.name.now (found_of c.in-Some.given.now) work))
-      c.in-Some-Some.is-0 c.in_ok-work.ensures;
-  whole = (c.get_flag.ensures.value, c.get_flag.ensures.other);
-  colouring = c.colouring_in.ensures;
-  limits = c.in-Some-Some.ensures;
-}
+pub returns-in-Some : goal.returns-in-Some
+returns-in-Some c =
+    let found = found_of c.in-Some.given.now in
+    let met = subcommand_met c.args.matches.now c.in-Some.name.now (rows_of found) c.in-Some.ensures.name c.in-Some.ensures.rows in
+    subst (λ (o : Option (List ℕ × List Row)). IfOk c.task_of_subcommand.result (λ task. IfSome task (Asks o))) (sym met)
+    (subst (λ (given : Given). IfOk c.task_of_subcommand.result (λ task. IfSome task (IsTaskOf c.in-Some.name.now given))) (by_rows found)
+    c.task_of_subcommand.ensures)
