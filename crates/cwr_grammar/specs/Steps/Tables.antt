@@ -1,5 +1,5 @@
 -- What the tables of the code say, in the words of the command line.
-use Rattle.std.specs.Prelude.{◌∷◌, ◌++◌, [], ℤ, List, Some, true, fold, pos, codes}
+use Rattle.std.specs.Prelude.{◌++◌, [], ℤ, List, Some, true, fold, pos, codes}
 use Rattle.std.specs.Int.{int_max, int_min}
 use Rattle.clap.specs.Simple.{on_top}
 use Rattle.clap.specs.Values.{signed_between}
