@@ -1,2 +1,6 @@
--- A run over standard input ends as its bytes do.
-pub mod EndsOnInputs
+-- A run over what is named ends as one over each does, and writes what is asked for of one.
+pub mod Several
+-- A run ends as it may where there is no memory to begin it.
+pub mod Unbegun
+-- A run of a work ends as what it reads does.
+pub mod WorkEnds

@@ -1,12 +1,14 @@
 //! The program between its words and its devices.
 
-ghost use Rattle.std.specs.Prelude.{◌≡◌, ◌≢◌, ◌≤◌, [], map, option_map, true, false, None, IfOk};
+ghost use Rattle.std.specs.Prelude.{◌≡◌, ◌≢◌, ◌≤◌, map, option_map, true, false, None, OnOk};
+ghost use Rattle.std.specs.Option.{is_some};
 ghost use Rattle.std.specs.IoError.{error_kind};
 ghost use Rattle.std.specs.declared.io.ErrorKind.TheVariants.{OutOfMemory as lacks_memory};
 ghost use Rattle.clap.specs.Values.{kind_of};
-ghost use Rattle.cwr.specs.Format.Endings.{IsOfInput, StatusOnInput, advice_of, fault_status, wanted_in};
-ghost use Rattle.cwr_reports.specs.Format.Endings.{EndsOnInput, advice_asked, advice_in};
-ghost use Rattle.cwr_files.specs.Format.Inputs.{are_standard, is_standard};
+ghost use Rattle.cwr.specs.Format.Endings.{AreStandardTwice, EndsAsAnswers, EndsAsData, EndsAsManual, EndsOnFiles, EndsOnWork, IsStatusOfWork, RunsWords, fault_status, status_code};
+ghost use Rattle.cwr.specs.Steps.Tells.{TellsAsked, TellsData, TellsFiles, TellsJudged, TellsRead, TellsWork};
+ghost use Rattle.cwr_files.specs.Format.Faults.{IfErr};
+ghost use Rattle.cwr_reports.specs.Format.Endings.{EndsOnRead, advice_asked, advice_in};
 ghost use Rattle.cwr.specs.Format.Tables.{encoding_of, form_of, table_of};
 ghost use Rattle.cwr_reports.specs.Steps.Looks.{tells_findings};
 
@@ -16,10 +18,11 @@ use crate::terminal::{Cleared, Shown, Terminals};
 use clap::error::ErrorKind;
 use cwr_acks::{Cells, Form};
 use cwr_answers::{Answering, match_answers};
-use cwr_endings::{Status, Wanted, refuse_out};
+use cwr_devices::{Sink, Target};
+use cwr_endings::{Status, Stop, Wanted, hand_on, refuse_out};
 use cwr_files::{
-    DASH, Fault, Name, Pace, Progress, ShellWord, is_standard, open_input, print, shown_name,
-    tell_fault,
+    DASH, Fault, Name, Pace, Progress, ShellWord, Store, gathered, is_standard, open_input,
+    shown_name, tell_fault, told_of,
 };
 use cwr_json::Encoding;
 use cwr_reports::{Asked, Telling, export, report_input, report_several, telling_of};
@@ -38,22 +41,33 @@ use std::cell::Cell;
 use std::convert::AsStr;
 use std::io;
 use std::io::{Read, Write};
-use std::rt::Files;
 use std::time::Clock;
 
 /// Runs what the words ask for, the program's name first. The answer is the exit status. `terminal` is standard error once more, on
 /// which it is shown how far a long run is: where that is a terminal, or the words ask for it.
 pub fn run<
-    R: Files + Clock + AllocGlobal,
+    F: Store,
+    R: Clock + AllocGlobal,
     S: AsStr,
     I: Read + Drop,
     O: Write + Drop,
     E: Write + Drop,
     T: Write + Drop,
->(rt: &R, words: &[S], input: I, output: O, mut error: E, terminal: T, terminals: Terminals) -> u8
-    ensures { result ≤ 3 }
+>(
+    store: &mut F,
+    rt: &R,
+    words: &[S],
+    input: I,
+    output: O,
+    mut error: E,
+    terminal: T,
+    terminals: Terminals,
+) -> u8
+    ensures few { result ≤ 3 }
+    // It is that of the task that the words ask for, by what lies under the names that they give, and on standard input; or they ask for none.
+    ensures runs { RunsWords (map S.text words.now) (F.held store.old) (I.remaining input) result }
 {
-    let status = match task_of(rt.alloc(), words) {
+    match task_of(rt.alloc(), words) {
         Ok(task) => {
             let is_shown = Cell::new(false);
             let terminal = Shown::new(terminal, &is_shown);
@@ -62,16 +76,34 @@ pub fn run<
             let output = Styled::new(output, style);
             let wanted = task.progress.unwrap_or(terminals.error);
             let mut progress = Progress::new(rt, terminal, wanted, terminals.input);
-            carry_out(rt, &task, input, &mut progress, output, &mut error)
+            let status = carry_out(
+                store,
+                rt.alloc(),
+                &task,
+                input,
+                &mut progress,
+                output,
+                &mut error,
+            );
+            code_of(status)
         }
-        Err(answer) => answer_words(
-            error,
-            &answer,
-            file_in_place(rt, words, &answer),
-            help_style(&terminals),
-        ),
-    };
-    status as u8
+        Err(answer) => {
+            let file = file_in_place(store, words, &answer);
+            code_of(answer_words(error, &answer, file, help_style(&terminals)))
+        }
+    }
+}
+
+/// The number of a status.
+fn code_of(status: Status) -> u8
+    ensures { result ≡ status_code status }
+{
+    match status {
+        Status::Good => 0,
+        Status::Refused => 1,
+        Status::CommandLine => 2,
+        Status::Fault => 3,
+    }
 }
 
 /// The exit status where the system couldn't hand out the words.
@@ -89,8 +121,8 @@ pub fn refuse_words<E: Write + Drop>(fault: &io::Error, mut error: E) -> u8
 }
 
 /// The first word, where `clap` took it for a subcommand that isn't there, and it is the name of a file.
-fn file_in_place<'a, R: Files, S: AsStr>(
-    rt: &R,
+fn file_in_place<'a, F: Store, S: AsStr>(
+    store: &mut F,
     words: &'a [S],
     answer: &clap::Error,
 ) -> Option<&'a str> {
@@ -101,10 +133,7 @@ fn file_in_place<'a, R: Files, S: AsStr>(
         return None;
     }
     let word = words.get(1)?.as_str();
-    match rt.metadata(word) {
-        Ok(found) if found.is_file() => Some(word),
-        _ => None,
-    }
+    store.size(word).map(|_| word)
 }
 
 /// Writes what `clap` answers in place of a task, help included, and how to check the file that a word names.
@@ -148,7 +177,10 @@ fn report<E: Write>(error: &mut E, fault: &Fault<'_>) -> Status
 }
 
 /// Refuses names of which two are standard input, which is there once.
-fn refuse_twice(names: &[&str]) -> Result<(), Fault<'static>> {
+fn refuse_twice<'a>(names: &[&str]) -> Result<(), Fault<'a>>
+    ensures { IfErr result (λ fault. (fault ≡ Fault.IsTwice Name.StandardInput)
+        × AreStandardTwice (map (λ name. name.now) names.now)) }
+{
     let standard = names
         .iter()
         .filter(|name| is_standard(Some(**name)))
@@ -174,8 +206,11 @@ fn wanted_by(task: &Task<'_>, fail_on: Option<Level>) -> Wanted
 fn asked_by(alloc: Global, task: &Task<'_>, fail_on: Option<Level>) -> Asked
     ensures limits { result.limits ≡ task.now.limits }
     ensures wanted { result.wanted ≡ record { whole = task.now.whole; fail_on = fail_on } }
+    ensures lines { result.quiet ≡ false }
     ensures faults { result.faults ≡ false }
     ensures advised { result.advised ≡ false }
+    ensures all { result.all ≡ false }
+    ensures repeated { result.repeated ≡ 0 }
 {
     Asked {
         alloc,
@@ -189,42 +224,66 @@ fn asked_by(alloc: Global, task: &Task<'_>, fail_on: Option<Level>) -> Asked
     }
 }
 
-/// Writes the transmission that an input's lines are, to the file of that name, which is another one, or to the output. The input is the
-/// file of its name, or standard input.
-fn import_lines<'a, R: Files + AllocGlobal, I: Read + Drop, P: Pace, O: Write + Drop, E: Write>(
-    rt: &R,
+/// Whether the transmission may be written to where the words say.
+fn refuse_written<'a, S: Store>(store: &mut S, words: &WriteWords<'a>) -> Result<(), Fault<'a>>
+    ensures { S.held store.new ≡ S.held store.old }
+{
+    match words.out {
+        Some(name) => refuse_out(store, name, false, &[words.file.unwrap_or(DASH)]),
+        None => Ok(()),
+    }
+}
+
+/// Writes the transmission that an input's lines are, to the file of that name, which is another one, or to the output, which comes back.
+/// The input is the file of its name, or standard input.
+fn import_lines<'a, S: Store, I: Read + Drop, P: Pace, W: Target + Drop, E: Write>(
+    store: &mut S,
+    alloc: Global,
     task: &Task<'a>,
     words: &WriteWords<'a>,
     standard: I,
     pace: &mut P,
-    output: O,
+    output: W,
     error: &mut E,
-) -> Result<Status, Fault<'a>> {
+) -> (W, Result<Status, Stop<'a>>)
+    ensures { EndsOnWork task.now.limits task.now.whole (Work.Write words.now) (S.held store.old)
+        (I.remaining standard) result.1 }
+{
     let import = Import {
         limits: task.limits,
         encoding: encoding_of(words.utf8),
         most: words.line as usize,
     };
-    if let Some(name) = words.out {
-        refuse_out(rt, name, false, &[words.file.unwrap_or(DASH)])?;
+    if let Err(fault) = refuse_written(store, words) {
+        return (output, Err(Stop::Fault(fault)));
     }
-    let input = open_input(rt, words.file, &mut Some(standard), pace)?;
+    let input = match open_input(store, words.file, &mut Some(standard), pace) {
+        Ok(input) => input,
+        Err(fault) => return (output, Err(Stop::Fault(fault))),
+    };
     match words.out {
-        Some(name) => import_file(rt, &import, input, name, error),
-        None => import_input(rt.alloc(), &import, input, output, error),
+        Some(name) => {
+            let ended = import_file(store, alloc, &import, input, name, error);
+            (output, ended)
+        }
+        None => import_input(store, alloc, &import, input, output, error),
     }
 }
 
 /// Cuts the transmission of the file to be cut, or that on standard input.
-fn split_input<'a, R: Files + AllocGlobal, I: Read + Drop, P: Pace, O: Write + Drop, E: Write>(
-    rt: &R,
+fn split_input<'a, S: Store, I: Read + Drop, P: Pace, W: Target + Drop, E: Write>(
+    store: &mut S,
+    alloc: Global,
     task: &Task<'a>,
     words: &SplitWords<'a>,
     standard: I,
     pace: &mut P,
-    output: O,
+    lines: W,
     error: &mut E,
-) -> Result<Status, Fault<'a>> {
+) -> (W, Result<Status, Stop<'a>>)
+    ensures { EndsOnWork task.now.limits task.now.whole (Work.Split words.now) (S.held store.old)
+        (I.remaining standard) result.1 }
+{
     let cut = Cut {
         limits: task.limits,
         wanted: wanted_by(task, words.fail_on),
@@ -234,20 +293,24 @@ fn split_input<'a, R: Files + AllocGlobal, I: Read + Drop, P: Pace, O: Write + D
         created: words.created,
         only_new: words.only_new,
     };
-    let input = open_input(rt, Some(words.file), &mut Some(standard), pace)?;
-    split_file(rt, &cut, input, output, error)
+    let input = match open_input(store, Some(words.file), &mut Some(standard), pace) {
+        Ok(input) => input,
+        Err(fault) => return (lines, Err(Stop::Fault(fault))),
+    };
+    split_file(store, alloc, &cut, input, lines, error)
 }
 
 /// Joins the transmissions of files to one, of which one may be that on standard input.
-fn join_inputs<'a, R: Files + AllocGlobal, I: Read + Drop, P: Pace, O: Write + Drop, E: Write>(
-    rt: &R,
+fn join_inputs<'a, S: Store, I: Read + Drop, P: Pace, W: Target + Drop, E: Write>(
+    store: &mut S,
+    alloc: Global,
     task: &Task<'a>,
     words: &JoinWords<'a>,
     standard: I,
     pace: &mut P,
-    output: O,
+    lines: W,
     error: &mut E,
-) -> Result<Status, Fault<'a>> {
+) -> (W, Result<Status, Stop<'a>>) {
     let union = Union {
         limits: task.limits,
         wanted: wanted_by(task, words.fail_on),
@@ -257,20 +320,23 @@ fn join_inputs<'a, R: Files + AllocGlobal, I: Read + Drop, P: Pace, O: Write + D
         repeated: words.repeated,
     };
     let files = words.files.as_slice();
-    refuse_twice(files)?;
-    join_files(rt, &union, files, standard, pace, output, error)
+    if let Err(fault) = refuse_twice(files) {
+        return (lines, Err(Stop::Fault(fault)));
+    }
+    join_files(store, alloc, &union, files, standard, pace, lines, error)
 }
 
 /// Puts the numbers of a transmission right.
-fn renumber<'a, R: Files + AllocGlobal, I: Read + Drop, P: Pace, O: Write + Drop, E: Write>(
-    rt: &R,
+fn renumber<'a, S: Store, I: Read + Drop, P: Pace, W: Target + Drop, E: Write>(
+    store: &mut S,
+    alloc: Global,
     task: &Task<'a>,
     words: &RenumberWords<'a>,
     standard: I,
     pace: &mut P,
-    output: O,
+    output: W,
     error: &mut E,
-) -> Result<Status, Fault<'a>> {
+) -> (W, Result<Status, Stop<'a>>) {
     let repair = Repair {
         limits: task.limits,
         wanted: wanted_by(task, words.fail_on),
@@ -279,47 +345,59 @@ fn renumber<'a, R: Files + AllocGlobal, I: Read + Drop, P: Pace, O: Write + Drop
         only_new: words.only_new,
         anyway: words.anyway,
     };
-    repair_numbers(rt, &repair, standard, pace, output, error)
+    repair_numbers(store, alloc, &repair, standard, pace, output, error)
 }
 
 /// Reports on the transmission of the file of that name, or on that on standard input.
-fn report_file<'a, R: Files, I: Read + Drop, P: Pace, O: Write + Drop, E: Write>(
-    rt: &R,
+fn report_file<'a, S: Store, I: Read + Drop, P: Pace, W: Target + Drop, E: Write>(
+    store: &mut S,
     asked: &Asked,
     telling: Telling<'_>,
     name: Option<&'a str>,
     standard: I,
     pace: &mut P,
-    output: O,
+    lines: W,
     error: &mut E,
-) -> Result<Status, Fault<'a>>
+) -> (W, Result<Status, Stop<'a>>)
     requires { tells_findings telling ≡ false → asked.now.wanted.fail_on ≡ None }
-    ensures { is_standard (option_map (λ n. n.now) name.entry) ≡ true
-        → EndsOnInput (advice_in telling.entry) asked.now.limits asked.now.wanted (I.remaining standard) result }
+    ensures ends { EndsOnRead (advice_in telling.entry) asked.now.limits asked.now.wanted (S.held store.old)
+        (I.remaining standard) (option_map (λ n. n.now) name.entry) result.1 }
+    ensures told { asked.now.quiet ≡ false → TellsRead telling.entry asked.now.limits (S.held store.old)
+        (I.remaining standard) (option_map (λ n. n.now) name.entry) W.contents lines result.0 result.1 }
+    ensures handed_on { OnOk result.1 (W.handed_on result.0 ≡ true) }
+    ensures kept { S.held store.new ≡ S.held store.old }
 {
-    let input = open_input(rt, name, &mut Some(standard), pace)?;
-    report_input(asked, telling, input, output, error)
+    match open_input(store, name, &mut Some(standard), pace) {
+        Ok(input) => report_input(store, asked, telling, input, lines, error),
+        Err(fault) => (lines, Err(Stop::Fault(fault))),
+    }
 }
 
 /// Writes data or a table of the transmission of the file of that name, or of that on standard input: to the file OUT, or to the output.
-fn write_data<'a, R: Files + AllocGlobal, I: Read + Drop, P: Pace, O: Write + Drop, E: Write>(
-    rt: &R,
+fn write_data<'a, S: Store, I: Read + Drop, P: Pace, W: Target + Drop, E: Write>(
+    store: &mut S,
     asked: &Asked,
     telling: Telling<'_>,
     name: Option<&'a str>,
     out: Option<&'a str>,
     standard: I,
     pace: &mut P,
-    output: O,
+    lines: W,
     error: &mut E,
-) -> Result<Status, Fault<'a>>
-    requires { tells_findings telling ≡ false → asked.now.wanted.fail_on ≡ None }
-    ensures { is_standard (option_map (λ n. n.now) name.entry) ≡ true → out.entry ≡ None
-        → EndsOnInput (advice_in telling.entry) asked.now.limits asked.now.wanted (I.remaining standard) result }
+) -> (W, Result<Status, Stop<'a>>)
+    requires wanted { tells_findings telling ≡ false → asked.now.wanted.fail_on ≡ None }
+    requires lines { asked.now.quiet ≡ false }
+    ensures ends { EndsAsData (advice_in telling.entry) asked.now.limits asked.now.wanted (S.held store.old)
+        (I.remaining standard) (option_map (λ n. n.now) name.entry) (is_some out.entry) result.1 }
+    ensures told { TellsData (is_some out.entry) telling.entry asked.now.limits (S.held store.old)
+        (I.remaining standard) (option_map (λ n. n.now) name.entry) W.contents lines result.0 result.1 }
 {
     match out {
-        Some(out) => export(rt, asked, telling, name, out, standard, pace, error),
-        None => report_file(rt, asked, telling, name, standard, pace, output, error),
+        Some(out) => {
+            let ended = export(store, asked, telling, name, out, standard, pace, error);
+            (lines, ended)
+        }
+        None => report_file(store, asked, telling, name, standard, pace, lines, error),
     }
 }
 
@@ -345,57 +423,100 @@ fn form_of(as_json: bool, utf8: bool) -> Form
     }
 }
 
+/// Judges the transmission of the one file, or the one on standard input.
+fn judge_alone<'a, S: Store, I: Read + Drop, P: Pace, W: Target + Drop, E: Write>(
+    store: &mut S,
+    asked: &Asked,
+    explained: bool,
+    name: Option<&'a str>,
+    standard: I,
+    pace: &mut P,
+    lines: W,
+    error: &mut E,
+) -> (W, Result<Status, Stop<'a>>)
+    requires { asked.now.faults ≡ true → asked.now.wanted.fail_on ≡ None }
+    ensures ends { EndsOnRead (advice_asked asked.now) asked.now.limits asked.now.wanted (S.held store.old)
+        (I.remaining standard) (option_map (λ n. n.now) name.entry) result.1 }
+    ensures told { asked.now.quiet ≡ false → TellsJudged asked.now explained (S.held store.old)
+        (I.remaining standard) (option_map (λ n. n.now) name.entry) W.contents lines result.0 result.1 }
+    ensures kept { S.held store.new ≡ S.held store.old }
+{
+    let Ok(shown) = shown_name(asked.alloc, name.unwrap_or(DASH)) else {
+        return (lines, Err(Stop::Fault(Fault::Memory)));
+    };
+    let telling = telling_of(asked, explained, shown.as_str());
+    report_file(store, asked, telling, name, standard, pace, lines, error)
+}
+
 /// Judges the transmissions of files, or the one on standard input.
-fn judge<'a, R: Files + AllocGlobal, I: Read + Drop, P: Pace, O: Write + Drop, E: Write>(
-    rt: &R,
+fn judge<'a, S: Store, I: Read + Drop, P: Pace, W: Target + Drop, E: Write>(
+    store: &mut S,
     asked: &Asked,
     explained: bool,
     names: &[&'a str],
     standard: I,
     pace: &mut P,
-    output: O,
+    lines: W,
     error: &mut E,
-) -> Result<Status, Fault<'a>>
+) -> (W, Result<Status, Stop<'a>>)
     requires { asked.now.faults ≡ true → asked.now.wanted.fail_on ≡ None }
-    ensures { are_standard (map (λ name. name.now) names.now) ≡ true
-        → EndsOnInput (advice_asked asked.now) asked.now.limits asked.now.wanted (I.remaining standard) result }
+    ensures ends { EndsOnFiles (advice_asked asked.now) asked.now.limits asked.now.wanted (S.held store.old)
+        (I.remaining standard) (map (λ name. name.now) names.now) result.1 }
+    ensures told { TellsFiles asked.now explained asked.now.quiet (S.held store.old) (I.remaining standard)
+        (map (λ name. name.now) names.now) W.contents lines result.0 result.1 }
+    ensures kept { S.held store.new ≡ S.held store.old }
 {
-    if names.len() > 1 {
-        refuse_twice(names)?;
-        return report_several(rt, asked, explained, names, standard, pace, output, error);
+    match names {
+        [] => judge_alone(store, asked, explained, None, standard, pace, lines, error),
+        [name] => judge_alone(
+            store,
+            asked,
+            explained,
+            Some(*name),
+            standard,
+            pace,
+            lines,
+            error,
+        ),
+        _ => match refuse_twice(names) {
+            Ok(()) => report_several(store, asked, explained, names, standard, pace, lines, error),
+            Err(fault) => (lines, Err(Stop::Fault(fault))),
+        },
     }
-    let name = names.first().copied();
-    let Ok(shown) = shown_name(asked.alloc, name.unwrap_or(DASH)) else {
-        return Err(Fault::Memory);
-    };
-    let telling = telling_of(asked, explained, shown.as_str());
-    report_file(rt, asked, telling, name, standard, pace, output, error)
 }
 
 /// Tells what the acknowledgements of files say, or those on standard input, or what became of what was sent.
-fn tell_answers<'a, R: Files + AllocGlobal, I: Read + Drop, P: Pace, O: Write + Drop, E: Write>(
-    rt: &R,
+fn tell_answers<'a, S: Store, I: Read + Drop, P: Pace, W: Target + Drop, E: Write>(
+    store: &mut S,
     asked: &Asked,
     answering: &Answering<'_, 'a>,
     standard: I,
     pace: &mut P,
-    output: O,
+    lines: W,
     error: &mut E,
-) -> Result<Status, Fault<'a>>
+) -> (W, Result<Status, Stop<'a>>)
     requires { asked.now.wanted.fail_on ≡ None }
-    ensures { are_standard (map (λ name. name.now) answering.now.files.now) ≡ true
-        → answering.now.sent.now ≡ []
-        → EndsOnInput None asked.now.limits asked.now.wanted (I.remaining standard) result }
+    ensures { EndsAsAnswers asked.now.limits asked.now.wanted (S.held store.old) (I.remaining standard)
+        (map (λ name. name.now) answering.now.files.now) (map (λ name. name.now) answering.now.sent.now) result.1 }
 {
-    if answering.sent.is_empty() && answering.files.len() < 2 {
-        let telling = Telling::Answers {
-            form: answering.form,
-            statuses: answering.statuses,
-        };
-        let file = answering.files.first().copied();
-        return report_file(rt, asked, telling, file, standard, pace, output, error);
+    let told = Telling::Answers {
+        form: answering.form,
+        statuses: answering.statuses,
+    };
+    match (answering.files, answering.sent) {
+        ([], []) => report_file(store, asked, told, None, standard, pace, lines, error),
+        ([file], []) => report_file(
+            store,
+            asked,
+            told,
+            Some(*file),
+            standard,
+            pace,
+            lines,
+            error,
+        ),
+        _ => match_answers(store, answering, standard, pace, lines, error),
     }
-    match_answers(rt, answering, standard, pace, output, error)
 }
 
 /// The table that has rows of these.
@@ -409,78 +530,94 @@ fn table_of(rows: Rows) -> Table
 }
 
 /// Prints the manual.
-fn print_manual<'a, O: Write + Drop>(output: O) -> Result<Status, Fault<'a>>
-    ensures { IfOk result (λ status. status ≡ Status.Good) }
+fn print_manual<'a, W: Target>(lines: W) -> (W, Result<Status, Stop<'a>>)
+    ensures { EndsAsManual result.1 }
 {
-    match print(output, MANUAL.as_bytes()) {
-        Ok(()) => Ok(Status::Good),
-        Err(told) => Err(Fault::Write(told)),
+    let mut sink = Sink::new(lines);
+    let put = sink.put(MANUAL.as_bytes());
+    match hand_on(put, sink) {
+        (lines, Ok(())) => (lines, Ok(Status::Good)),
+        (lines, Err(stop)) => (lines, Err(stop)),
     }
 }
 
 /// Shows the records of a transmission.
-fn show_records<'a, R: Files + AllocGlobal, I: Read + Drop, P: Pace, O: Write + Drop, E: Write>(
-    rt: &R,
+fn show_records<'a, S: Store, I: Read + Drop, P: Pace, W: Target + Drop, E: Write>(
+    store: &mut S,
+    alloc: Global,
     task: &Task<'a>,
     words: &ShowWords<'a>,
     standard: I,
     pace: &mut P,
-    output: O,
+    lines: W,
     error: &mut E,
-) -> Result<Status, Fault<'a>>
-    ensures { IsOfInput (Work.Show words.now) → EndsOnInput (advice_of (Work.Show words.now)) task.now.limits
-        (wanted_in task.now.whole (Work.Show words.now)) (I.remaining standard) result }
+) -> (W, Result<Status, Stop<'a>>)
+    ensures ends { EndsOnWork task.now.limits task.now.whole (Work.Show words.now) (S.held store.old)
+        (I.remaining standard) result.1 }
+    ensures told { TellsWork task.now.limits (Work.Show words.now) (S.held store.old) (I.remaining standard)
+        W.contents lines result.0 result.1 }
+    ensures kept { S.held store.new ≡ S.held store.old }
 {
-    let asked = asked_by(rt.alloc(), task, words.fail_on);
+    let asked = asked_by(alloc, task, words.fail_on);
     let told = Telling::Records;
-    report_file(rt, &asked, told, words.file, standard, pace, output, error)
+    report_file(
+        store, &asked, told, words.file, standard, pace, lines, error,
+    )
 }
 
 /// Tells every fault of transmissions.
-fn tell_faults<'a, R: Files + AllocGlobal, I: Read + Drop, P: Pace, O: Write + Drop, E: Write>(
-    rt: &R,
+fn tell_faults<'a, S: Store, I: Read + Drop, P: Pace, W: Target + Drop, E: Write>(
+    store: &mut S,
+    alloc: Global,
     task: &Task<'a>,
     words: &LintWords<'a>,
     standard: I,
     pace: &mut P,
-    output: O,
+    lines: W,
     error: &mut E,
-) -> Result<Status, Fault<'a>>
-    ensures { IsOfInput (Work.Lint words.now) → EndsOnInput (advice_of (Work.Lint words.now)) task.now.limits
-        (wanted_in task.now.whole (Work.Lint words.now)) (I.remaining standard) result }
+) -> (W, Result<Status, Stop<'a>>)
+    ensures ends { EndsOnWork task.now.limits task.now.whole (Work.Lint words.now) (S.held store.old)
+        (I.remaining standard) result.1 }
+    ensures told { TellsWork task.now.limits (Work.Lint words.now) (S.held store.old) (I.remaining standard)
+        W.contents lines result.0 result.1 }
+    ensures kept { S.held store.new ≡ S.held store.old }
 {
     let asked = Asked {
         quiet: words.quiet,
         faults: true,
         advised: words.advised,
         all: words.all,
-        ..asked_by(rt.alloc(), task, None)
+        ..asked_by(alloc, task, None)
     };
     let names = words.files.as_slice();
     judge(
-        rt,
+        store,
         &asked,
         words.explained,
         names,
         standard,
         pace,
-        output,
+        lines,
         error,
     )
 }
 
 /// Judges transmissions, and advises on them.
-fn advise<'a, R: Files + AllocGlobal, I: Read + Drop, P: Pace, O: Write + Drop, E: Write>(
-    rt: &R,
+fn advise<'a, S: Store, I: Read + Drop, P: Pace, W: Target + Drop, E: Write>(
+    store: &mut S,
+    alloc: Global,
     task: &Task<'a>,
     words: &AdviseWords<'a>,
     standard: I,
     pace: &mut P,
-    output: O,
+    lines: W,
     error: &mut E,
-) -> Result<Status, Fault<'a>>
-    ensures { IsOfInput (Work.Advise words.now) → EndsOnInput (advice_of (Work.Advise words.now)) task.now.limits
-        (wanted_in task.now.whole (Work.Advise words.now)) (I.remaining standard) result }
+) -> (W, Result<Status, Stop<'a>>)
+    ensures ends { EndsOnWork task.now.limits task.now.whole (Work.Advise words.now) (S.held store.old)
+        (I.remaining standard) result.1 }
+    ensures told { TellsWork task.now.limits (Work.Advise words.now) (S.held store.old) (I.remaining standard)
+        W.contents lines result.0 result.1 }
+    ensures kept { S.held store.new ≡ S.held store.old }
 {
     let judging = &words.judging;
     let asked = Asked {
@@ -488,76 +625,83 @@ fn advise<'a, R: Files + AllocGlobal, I: Read + Drop, P: Pace, O: Write + Drop, 
         advised: true,
         all: words.all,
         repeated: words.repeated,
-        ..asked_by(rt.alloc(), task, judging.fail_on)
+        ..asked_by(alloc, task, judging.fail_on)
     };
     let names = judging.files.as_slice();
-    judge(rt, &asked, false, names, standard, pace, output, error)
+    judge(store, &asked, false, names, standard, pace, lines, error)
 }
 
 /// Writes the data of a transmission.
-fn write_json<'a, R: Files + AllocGlobal, I: Read + Drop, P: Pace, O: Write + Drop, E: Write>(
-    rt: &R,
+fn write_json<'a, S: Store, I: Read + Drop, P: Pace, W: Target + Drop, E: Write>(
+    store: &mut S,
+    alloc: Global,
     task: &Task<'a>,
     words: &JsonWords<'a>,
     standard: I,
     pace: &mut P,
-    output: O,
+    lines: W,
     error: &mut E,
-) -> Result<Status, Fault<'a>>
-    ensures { IsOfInput (Work.Json words.now) → EndsOnInput (advice_of (Work.Json words.now)) task.now.limits
-        (wanted_in task.now.whole (Work.Json words.now)) (I.remaining standard) result }
+) -> (W, Result<Status, Stop<'a>>)
+    ensures ends { EndsOnWork task.now.limits task.now.whole (Work.Json words.now) (S.held store.old)
+        (I.remaining standard) result.1 }
+    ensures told { TellsWork task.now.limits (Work.Json words.now) (S.held store.old) (I.remaining standard)
+        W.contents lines result.0 result.1 }
 {
-    let asked = asked_by(rt.alloc(), task, None);
+    let asked = asked_by(alloc, task, None);
     let telling = Telling::Data {
         encoding: encoding_of(words.utf8),
         numbers: words.numbers,
     };
     let (file, out) = (words.file, words.out);
     write_data(
-        rt, &asked, telling, file, out, standard, pace, output, error,
+        store, &asked, telling, file, out, standard, pace, lines, error,
     )
 }
 
 /// Writes a table of a transmission.
-fn write_table<'a, R: Files + AllocGlobal, I: Read + Drop, P: Pace, O: Write + Drop, E: Write>(
-    rt: &R,
+fn write_table<'a, S: Store, I: Read + Drop, P: Pace, W: Target + Drop, E: Write>(
+    store: &mut S,
+    alloc: Global,
     task: &Task<'a>,
     words: &CsvWords<'a>,
     standard: I,
     pace: &mut P,
-    output: O,
+    lines: W,
     error: &mut E,
-) -> Result<Status, Fault<'a>>
-    ensures { IsOfInput (Work.Csv words.now) → EndsOnInput (advice_of (Work.Csv words.now)) task.now.limits
-        (wanted_in task.now.whole (Work.Csv words.now)) (I.remaining standard) result }
+) -> (W, Result<Status, Stop<'a>>)
+    ensures ends { EndsOnWork task.now.limits task.now.whole (Work.Csv words.now) (S.held store.old)
+        (I.remaining standard) result.1 }
+    ensures told { TellsWork task.now.limits (Work.Csv words.now) (S.held store.old) (I.remaining standard)
+        W.contents lines result.0 result.1 }
 {
-    let asked = asked_by(rt.alloc(), task, None);
+    let asked = asked_by(alloc, task, None);
     let telling = Telling::Rows {
         encoding: encoding_of(words.utf8),
         table: table_of(words.rows),
     };
     let (file, out) = (words.file, words.out);
     write_data(
-        rt, &asked, telling, file, out, standard, pace, output, error,
+        store, &asked, telling, file, out, standard, pace, lines, error,
     )
 }
 
 /// Tells what acknowledgements say, or what became of what was sent.
-fn tell_acks<'a, R: Files + AllocGlobal, I: Read + Drop, P: Pace, O: Write + Drop, E: Write>(
-    rt: &R,
+fn tell_acks<'a, S: Store, I: Read + Drop, P: Pace, W: Target + Drop, E: Write>(
+    store: &mut S,
+    alloc: Global,
     task: &Task<'a>,
     words: &AcksWords<'a>,
     standard: I,
     pace: &mut P,
-    output: O,
+    lines: W,
     error: &mut E,
-) -> Result<Status, Fault<'a>>
-    ensures { IsOfInput (Work.Acks words.now) → EndsOnInput (advice_of (Work.Acks words.now)) task.now.limits
-        (wanted_in task.now.whole (Work.Acks words.now)) (I.remaining standard) result }
+) -> (W, Result<Status, Stop<'a>>)
+    ensures { EndsOnWork task.now.limits task.now.whole (Work.Acks words.now) (S.held store.old)
+        (I.remaining standard) result.1 }
 {
-    let asked = asked_by(rt.alloc(), task, None);
+    let asked = asked_by(alloc, task, None);
     let answering = Answering {
-        alloc: rt.alloc(),
+        alloc,
         limits: task.limits,
         whole: task.whole,
         form: form_of(words.as_json, words.utf8),
@@ -569,74 +713,101 @@ fn tell_acks<'a, R: Files + AllocGlobal, I: Read + Drop, P: Pace, O: Write + Dro
         state: words.state,
         fail_on: words.fail_on,
     };
-    tell_answers(rt, &asked, &answering, standard, pace, output, error)
+    tell_answers(store, &asked, &answering, standard, pace, lines, error)
 }
 
 /// Judges transmissions, and explains what is found where that is asked for.
-fn judge_by<'a, R: Files + AllocGlobal, I: Read + Drop, P: Pace, O: Write + Drop, E: Write>(
-    rt: &R,
+fn judge_by<'a, S: Store, I: Read + Drop, P: Pace, W: Target + Drop, E: Write>(
+    store: &mut S,
+    alloc: Global,
     task: &Task<'a>,
     explained: bool,
     judging: &Judging<'a>,
     standard: I,
     pace: &mut P,
-    output: O,
+    lines: W,
     error: &mut E,
-) -> Result<Status, Fault<'a>>
-    ensures { are_standard (map (λ name. name.now) judging.now.files.items) ≡ true → EndsOnInput None task.now.limits
-        (record { whole = task.now.whole; fail_on = judging.now.fail_on }) (I.remaining standard) result }
+) -> (W, Result<Status, Stop<'a>>)
+    ensures ends { EndsOnFiles None task.now.limits (record { whole = task.now.whole; fail_on = judging.now.fail_on })
+        (S.held store.old) (I.remaining standard) (map (λ name. name.now) judging.now.files.items) result.1 }
+    ensures told { TellsAsked task.now.limits explained judging.now.quiet false false false 0 (S.held store.old)
+        (I.remaining standard) (map (λ name. name.now) judging.now.files.items) W.contents lines result.0 result.1 }
+    ensures kept { S.held store.new ≡ S.held store.old }
 {
     let asked = Asked {
         quiet: judging.quiet,
-        ..asked_by(rt.alloc(), task, judging.fail_on)
+        ..asked_by(alloc, task, judging.fail_on)
     };
     let names = judging.files.as_slice();
-    judge(rt, &asked, explained, names, standard, pace, output, error)
+    judge(
+        store, &asked, explained, names, standard, pace, lines, error,
+    )
 }
 
 /// Does what is asked for, and tells of a fault. The answer is the status.
-fn carry_out<'a, R: Files + AllocGlobal, I: Read + Drop, P: Pace, O: Write + Drop, E: Write>(
-    rt: &R,
+fn carry_out<'a, S: Store, I: Read + Drop, P: Pace, O: Write + Drop, E: Write>(
+    store: &mut S,
+    alloc: Global,
     task: &Task<'a>,
     standard: I,
     pace: &mut P,
     output: O,
     error: &mut E,
 ) -> Status
-    ensures { IsOfInput task.now.work → StatusOnInput (advice_of task.now.work) task.now.limits
-        (wanted_in task.now.whole task.now.work) (I.remaining standard) result }
+    // It is the status of what came of the work, by what lies under the names that the words give, and on standard input.
+    ensures { IsStatusOfWork task.now (S.held store.old) (I.remaining standard) result }
 {
-    match perform(rt, task, standard, pace, output, error) {
+    let Ok(lines) = gathered(alloc, output, Name::StandardOutput) else {
+        return report(error, &Fault::Memory);
+    };
+    let (lines, ended) = perform(store, alloc, task, standard, pace, lines, error);
+    match ended {
         Ok(status) => status,
-        Err(fault) => report(error, &fault),
+        Err(Stop::Output) => report(error, &Fault::Write(told_of(lines))),
+        Err(Stop::Fault(fault)) => {
+            // What is left is written before that is told.
+            drop(lines);
+            report(error, &fault)
+        }
     }
 }
 
-/// Does what is asked for.
-fn perform<'a, R: Files + AllocGlobal, I: Read + Drop, P: Pace, O: Write + Drop, E: Write>(
-    rt: &R,
+/// Does what is asked for. What is written to standard output goes to `lines`, which come back.
+fn perform<'a, S: Store, I: Read + Drop, P: Pace, W: Target + Drop, E: Write>(
+    store: &mut S,
+    alloc: Global,
     task: &Task<'a>,
     standard: I,
     pace: &mut P,
-    output: O,
+    lines: W,
     error: &mut E,
-) -> Result<Status, Fault<'a>>
-    ensures { IsOfInput task.now.work → EndsOnInput (advice_of task.now.work) task.now.limits
-        (wanted_in task.now.whole task.now.work) (I.remaining standard) result }
+) -> (W, Result<Status, Stop<'a>>)
+    ensures ends { EndsOnWork task.now.limits task.now.whole task.now.work (S.held store.old) (I.remaining standard)
+        result.1 }
+    ensures told { TellsWork task.now.limits task.now.work (S.held store.old) (I.remaining standard)
+        W.contents lines result.0 result.1 }
 {
     match &task.work {
-        Work::Check(words) => judge_by(rt, task, false, words, standard, pace, output, error),
-        Work::Show(words) => show_records(rt, task, words, standard, pace, output, error),
-        Work::Explain(words) => judge_by(rt, task, true, words, standard, pace, output, error),
-        Work::Lint(words) => tell_faults(rt, task, words, standard, pace, output, error),
-        Work::Advise(words) => advise(rt, task, words, standard, pace, output, error),
-        Work::Json(words) => write_json(rt, task, words, standard, pace, output, error),
-        Work::Csv(words) => write_table(rt, task, words, standard, pace, output, error),
-        Work::Acks(words) => tell_acks(rt, task, words, standard, pace, output, error),
-        Work::Write(words) => import_lines(rt, task, words, standard, pace, output, error),
-        Work::Split(words) => split_input(rt, task, words, standard, pace, output, error),
-        Work::Join(words) => join_inputs(rt, task, words, standard, pace, output, error),
-        Work::Renumber(words) => renumber(rt, task, words, standard, pace, output, error),
-        Work::Manual => print_manual(output),
+        Work::Check(words) => {
+            judge_by(
+                store, alloc, task, false, words, standard, pace, lines, error,
+            )
+        }
+        Work::Show(words) => show_records(store, alloc, task, words, standard, pace, lines, error),
+        Work::Explain(words) => {
+            judge_by(
+                store, alloc, task, true, words, standard, pace, lines, error,
+            )
+        }
+        Work::Lint(words) => tell_faults(store, alloc, task, words, standard, pace, lines, error),
+        Work::Advise(words) => advise(store, alloc, task, words, standard, pace, lines, error),
+        Work::Json(words) => write_json(store, alloc, task, words, standard, pace, lines, error),
+        Work::Csv(words) => write_table(store, alloc, task, words, standard, pace, lines, error),
+        Work::Acks(words) => tell_acks(store, alloc, task, words, standard, pace, lines, error),
+        Work::Write(words) => import_lines(store, alloc, task, words, standard, pace, lines, error),
+        Work::Split(words) => split_input(store, alloc, task, words, standard, pace, lines, error),
+        Work::Join(words) => join_inputs(store, alloc, task, words, standard, pace, lines, error),
+        Work::Renumber(words) => renumber(store, alloc, task, words, standard, pace, lines, error),
+        Work::Manual => print_manual(lines),
     }
 }

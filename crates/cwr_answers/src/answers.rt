@@ -7,13 +7,13 @@ use cwr_acks::{Answers, Form, Manner, acks, put_rest};
 use cwr_delivery::Delivery;
 use cwr_devices::{Counted, ReadAhead, Sink, Target};
 use cwr_endings::{
-    Judgement, Status, Sums, Wanted, judgement_of, look_after, tell_characters, tell_following,
-    tell_unanswering, tell_verdict,
+    Judgement, Status, Stop, Sums, Wanted, hand_on, judgement_of, look_after, tell_characters,
+    tell_following, tell_unanswering, tell_verdict,
 };
 use cwr_fields::TransactionStatus;
 use cwr_files::{
-    Fault, FileLines, Input, Name, Pace, Passing, Told, gathered, input_name, is_standard,
-    open_input, shown_name, tell_fault, told_of,
+    Fault, FileLines, Input, Name, Pace, Passing, Store, Told, end_input, input_name, is_standard,
+    open_input, shown_name, tell_fault,
 };
 use cwr_json::Encoding;
 use cwr_sent::{Sent, read_sent};
@@ -24,7 +24,6 @@ use cwr_tools::{ToolFault, Verdict, put_verdict_line, verdict_of};
 use std::alloc::Global;
 use std::io;
 use std::io::{Read, Write};
-use std::rt::Files;
 
 /// Acknowledgements, and how they are told.
 #[derive(Clone, Copy, Debug)]
@@ -78,8 +77,8 @@ fn tell_named<E: Write>(error: &mut E, name: Name<'_>, verdict: &Verdict) {
 }
 
 /// What was sent, from the file of that name, or how the run ends.
-fn sent_of<'a, R: Files + AllocGlobal, I: Read + Drop, P: Pace, E: Write>(
-    rt: &R,
+fn sent_of<'a, S: Store, I: Read + Drop, P: Pace, E: Write>(
+    store: &mut S,
     answering: &Answering<'_, 'a>,
     name: &'a str,
     standard: &mut Option<I>,
@@ -88,10 +87,10 @@ fn sent_of<'a, R: Files + AllocGlobal, I: Read + Drop, P: Pace, E: Write>(
 ) -> Result<Result<Sent, Status>, Fault<'a>>
     ensures { IfOk result (λ read. IfOk read IsFresh) }
 {
-    let input = open_input(rt, Some(name), standard, &mut *pace)?;
+    let input = open_input(store, Some(name), standard, &mut *pace)?;
     let mut reader = ReadAhead::new(input);
     let read = read_sent(answering.alloc, answering.limits, &mut reader);
-    let told: Told<'a> = reader.into_inner().told();
+    let told: Told<'a> = end_input(store, reader);
     match read {
         Ok(sent) => {
             tell_misread(error, answering, &told);
@@ -109,8 +108,8 @@ fn sent_of<'a, R: Files + AllocGlobal, I: Read + Drop, P: Pace, E: Write>(
 }
 
 /// All that was sent, or how the run ends; none where no file is named.
-fn delivery_of<'a, R: Files + AllocGlobal, I: Read + Drop, P: Pace, E: Write>(
-    rt: &R,
+fn delivery_of<'a, S: Store, I: Read + Drop, P: Pace, E: Write>(
+    store: &mut S,
     answering: &Answering<'_, 'a>,
     standard: &mut Option<I>,
     pace: &mut P,
@@ -123,7 +122,7 @@ fn delivery_of<'a, R: Files + AllocGlobal, I: Read + Drop, P: Pace, E: Write>(
         |_| Fault::Memory,
     )?;
     for name in answering.sent {
-        match sent_of(rt, answering, name, standard, &mut *pace, error)? {
+        match sent_of(store, answering, name, standard, &mut *pace, error)? {
             Ok(sent) => delivery.add(sent).map_err(|_| Fault::Memory)?,
             Err(status) => return Ok(Err(status)),
         }
@@ -193,30 +192,23 @@ struct Reading<W: Target> {
     answers: Answers,
 }
 
-/// Why no transmission more is read.
-#[derive(Drop)]
-enum Stop<'a> {
-    /// The lines could not be written.
-    Lines,
-    Fault(Fault<'a>),
-}
-
 /// Why the run ends where an input failed so.
 fn stop_of<'a>(fault: ToolFault, told: Told<'a>) -> Stop<'a> {
     match fault {
         ToolFault::Reader => Stop::Fault(Fault::Read(told)),
-        ToolFault::Writer { .. } => Stop::Lines,
+        ToolFault::Writer { .. } => Stop::Output,
         _ => Stop::Fault(Fault::Memory),
     }
 }
 
 /// Reads a transmission of acknowledgements after others, and writes its lines, with that before each. The last answer is how many there
 /// are in it.
-fn read_input<'a, F: Read + Drop, I: Read + Drop, P: Pace + Drop, W: Target + Drop>(
+fn read_input<'a, S: Store, I: Read + Drop, P: Pace + Drop, W: Target + Drop>(
+    store: &mut S,
     answering: &Answering<'_, 'a>,
     manner: Manner<'_>,
     before_each: Option<&str>,
-    input: Input<'a, F, I, P>,
+    input: Input<'a, S::Reader, I, P>,
     reading: Reading<W>,
 ) -> (Reading<W>, Result<Judgement, ToolFault>, Told<'a>, u64) {
     let Reading {
@@ -245,12 +237,12 @@ fn read_input<'a, F: Read + Drop, I: Read + Drop, P: Pace + Drop, W: Target + Dr
         delivery,
         answers: answers.add(&more),
     };
-    (reading, judged, reader.into_inner().told(), more.all)
+    (reading, judged, end_input(store, reader), more.all)
 }
 
 /// Reads the transmission of the one file, or of standard input.
-fn read_alone<'a, R: Files, I: Read + Drop, P: Pace, W: Target + Drop, E: Write>(
-    rt: &R,
+fn read_alone<'a, S: Store, I: Read + Drop, P: Pace, W: Target + Drop, E: Write>(
+    store: &mut S,
     answering: &Answering<'_, 'a>,
     subjects: &Subjects,
     standard: &mut Option<I>,
@@ -259,12 +251,12 @@ fn read_alone<'a, R: Files, I: Read + Drop, P: Pace, W: Target + Drop, E: Write>
     error: &mut E,
 ) -> (Reading<W>, Result<Status, Stop<'a>>) {
     let name = answering.files.first().copied();
-    let input = match open_input(rt, name, standard, &mut *pace) {
+    let input = match open_input(store, name, standard, &mut *pace) {
         Ok(input) => input,
         Err(fault) => return (reading, Err(Stop::Fault(fault))),
     };
     let manner = subjects.manner(answering.form, None);
-    let (reading, judged, told, count) = read_input(answering, manner, None, input, reading);
+    let (reading, judged, told, count) = read_input(store, answering, manner, None, input, reading);
     match judged {
         Ok(judgement) => {
             tell_verdict(&mut *error, told.name, &judgement);
@@ -283,8 +275,8 @@ fn read_alone<'a, R: Files, I: Read + Drop, P: Pace, W: Target + Drop, E: Write>
 }
 
 /// Reads the transmissions of several files one after another. A file that fails is told of on standard error, and the next one follows.
-fn read_several<'a, R: Files, I: Read + Drop, P: Pace, W: Target + Drop, E: Write>(
-    rt: &R,
+fn read_several<'a, S: Store, I: Read + Drop, P: Pace, W: Target + Drop, E: Write>(
+    store: &mut S,
     answering: &Answering<'_, 'a>,
     subjects: &Subjects,
     standard: &mut Option<I>,
@@ -295,7 +287,7 @@ fn read_several<'a, R: Files, I: Read + Drop, P: Pace, W: Target + Drop, E: Writ
     let mut reading = reading;
     let mut sums = Sums::new();
     for name in answering.files {
-        let input = match open_input(rt, Some(*name), standard, &mut *pace) {
+        let input = match open_input(store, Some(*name), standard, &mut *pace) {
             Ok(input) => input,
             Err(fault) => {
                 tell_fault(error, &fault);
@@ -315,6 +307,7 @@ fn read_several<'a, R: Files, I: Read + Drop, P: Pace, W: Target + Drop, E: Writ
             Form::Json(_) => None,
         };
         let (after, judged, told, count) = read_input(
+            store,
             answering,
             manner,
             before_each,
@@ -341,11 +334,11 @@ fn read_several<'a, R: Files, I: Read + Drop, P: Pace, W: Target + Drop, E: Writ
 }
 
 /// Writes what stands after the last of several transmissions.
-fn end_lines<W: Target + Drop>(
+fn end_lines<'a, W: Target + Drop>(
     form: Form,
     subjects: &Subjects,
     reading: Reading<W>,
-) -> (Reading<W>, bool) {
+) -> (Reading<W>, Result<(), Stop<'a>>) {
     let Reading {
         lines,
         delivery,
@@ -354,19 +347,18 @@ fn end_lines<W: Target + Drop>(
     let manner = subjects.manner(form, None);
     let mut sink = Sink::new(lines);
     let put = put_rest(&manner, &delivery, &Answers::new().add(&answers), &mut sink);
-    let mut lines = sink.into_inner();
-    let written = put.is_ok() && lines.flush().is_ok();
+    let (lines, handed) = hand_on(put, sink);
     let reading = Reading {
         lines,
         delivery,
         answers,
     };
-    (reading, written)
+    (reading, handed)
 }
 
 /// Reads the transmissions of all files, and writes their lines. On standard error stands what verdict each has.
-fn read_all<'a, R: Files, I: Read + Drop, P: Pace, W: Target + Drop, E: Write>(
-    rt: &R,
+fn read_all<'a, S: Store, I: Read + Drop, P: Pace, W: Target + Drop, E: Write>(
+    store: &mut S,
     answering: &Answering<'_, 'a>,
     subjects: &Subjects,
     standard: &mut Option<I>,
@@ -375,16 +367,16 @@ fn read_all<'a, R: Files, I: Read + Drop, P: Pace, W: Target + Drop, E: Write>(
     error: &mut E,
 ) -> (Reading<W>, Result<Status, Stop<'a>>) {
     if answering.files.len() < 2 {
-        return read_alone(rt, answering, subjects, standard, pace, reading, error);
+        return read_alone(store, answering, subjects, standard, pace, reading, error);
     }
-    let (reading, read) = read_several(rt, answering, subjects, standard, pace, reading, error);
+    let (reading, read) = read_several(store, answering, subjects, standard, pace, reading, error);
     let sums = match read {
         Ok(sums) => sums,
         Err(stop) => return (reading, Err(stop)),
     };
-    let (reading, written) = end_lines(answering.form, subjects, reading);
-    if !written {
-        return (reading, Err(Stop::Lines));
+    let (reading, handed) = end_lines(answering.form, subjects, reading);
+    if let Err(stop) = handed {
+        return (reading, Err(stop));
     }
     match sums.line(answering.alloc, answering.files.len()) {
         Ok(line) => {
@@ -411,34 +403,43 @@ fn status_by(
     }
     let counts = count_rows(answering.alloc, delivery).map_err(|_| Fault::Memory)?;
     if counts.has_any(&answering.fail_on) {
-        Ok(status.max(Status::Refused))
+        Ok(status.or_worse(Status::Refused))
     } else {
         Ok(status)
     }
 }
 
-/// Writes the lines on what the acknowledgements say.
-fn tell_lines<'a, R: Files, I: Read + Drop, P: Pace, O: Write + Drop, E: Write>(
-    rt: &R,
+/// Writes the lines on what the acknowledgements say. The writer comes back.
+fn tell_lines<'a, S: Store, I: Read + Drop, P: Pace, W: Target + Drop, E: Write>(
+    store: &mut S,
     answering: &Answering<'_, 'a>,
     delivery: Option<Delivery>,
     standard: &mut Option<I>,
     pace: &mut P,
-    output: O,
+    lines: W,
     error: &mut E,
-) -> Result<Status, Fault<'a>> {
-    let subjects = subjects_of(answering)?;
-    let lines = gathered(answering.alloc, output, Name::StandardOutput).map_err(|_| Fault::Memory)?;
+) -> (W, Result<Status, Stop<'a>>) {
+    let subjects = match subjects_of(answering) {
+        Ok(subjects) => subjects,
+        Err(fault) => return (lines, Err(Stop::Fault(fault))),
+    };
     let reading = Reading {
         lines,
         delivery,
         answers: Answers::new(),
     };
-    let (reading, read) = read_all(rt, answering, &subjects, standard, pace, reading, error);
+    let (reading, read) = read_all(store, answering, &subjects, standard, pace, reading, error);
+    let Reading {
+        lines,
+        delivery,
+        ..
+    } = reading;
     match read {
-        Ok(status) => status_by(answering, &reading.delivery, status),
-        Err(Stop::Lines) => Err(Fault::Write(told_of(reading.lines))),
-        Err(Stop::Fault(fault)) => Err(fault),
+        Ok(status) => match status_by(answering, &delivery, status) {
+            Ok(status) => (lines, Ok(status)),
+            Err(fault) => (lines, Err(Stop::Fault(fault))),
+        },
+        Err(stop) => (lines, Err(stop)),
     }
 }
 
@@ -458,30 +459,49 @@ fn names_of_rows(
     Ok(names)
 }
 
-/// Writes the table of what became of each transaction that was sent, and on standard error how many have which state.
-fn put_table<'a, O: Write + Drop, E: Write>(
+/// Puts the table of what became of each transaction that was sent, and has it handed on. The writer comes back.
+fn put_table<'a, W: Target>(
     answering: &Answering<'_, 'a>,
+    form: cwr_state_rows::Form,
+    names: &[Vec<u8>],
     delivery: &Delivery,
-    output: O,
-    error: &mut E,
-) -> Result<bool, Fault<'a>> {
-    let form = match answering.form {
+    lines: W,
+) -> (W, Result<(), Stop<'a>>) {
+    let mut sink = Sink::new(lines);
+    match put_rows(answering.alloc, form, names, delivery, &mut sink) {
+        Ok(()) => hand_on(Ok(()), sink),
+        Err(RowFault::Memory) => (sink.into_inner(), Err(Stop::Fault(Fault::Memory))),
+        Err(RowFault::Writer(_)) => (sink.into_inner(), Err(Stop::Output)),
+    }
+}
+
+/// The form in which the table is written.
+fn form_of_rows(answering: &Answering<'_, '_>) -> cwr_state_rows::Form {
+    match answering.form {
         Form::Words(_) => cwr_state_rows::Form::Csv(answering.encoding),
         Form::Json(_) => cwr_state_rows::Form::Json(answering.encoding),
-    };
-    let names = names_of_rows(answering.alloc, form, answering.sent)?;
-    let counts = count_rows(answering.alloc, delivery).map_err(|_| Fault::Memory)?;
-    let lines = gathered(answering.alloc, output, Name::StandardOutput).map_err(|_| Fault::Memory)?;
-    let mut sink = Sink::new(lines);
-    let put = put_rows(answering.alloc, form, names.as_slice(), delivery, &mut sink);
-    let mut lines = sink.into_inner();
-    match put {
-        Ok(()) => {}
-        Err(RowFault::Memory) => return Err(Fault::Memory),
-        Err(RowFault::Writer(_)) => return Err(Fault::Write(told_of(lines))),
     }
-    if lines.flush().is_err() {
-        return Err(Fault::Write(told_of(lines)));
+}
+
+/// Writes the table of what became of each transaction that was sent, and on standard error how many have which state. The writer comes
+/// back, and whether a row has one of the states that end the run as a refusal does.
+fn write_table<'a, W: Target, E: Write>(
+    answering: &Answering<'_, 'a>,
+    delivery: &Delivery,
+    lines: W,
+    error: &mut E,
+) -> (W, Result<bool, Stop<'a>>) {
+    let form = form_of_rows(answering);
+    let names = match names_of_rows(answering.alloc, form, answering.sent) {
+        Ok(names) => names,
+        Err(fault) => return (lines, Err(Stop::Fault(fault))),
+    };
+    let Ok(counts) = count_rows(answering.alloc, delivery) else {
+        return (lines, Err(Stop::Fault(Fault::Memory)));
+    };
+    let (lines, put) = put_table(answering, form, names.as_slice(), delivery, lines);
+    if let Err(stop) = put {
+        return (lines, Err(stop));
     }
     // What standard error doesn't take is lost.
     let _ = put_state_line(
@@ -489,19 +509,19 @@ fn put_table<'a, O: Write + Drop, E: Write>(
         &delivery.tally(),
         &mut Sink::new(Counted::new(error)),
     );
-    Ok(counts.has_any(&answering.fail_on))
+    (lines, Ok(counts.has_any(&answering.fail_on)))
 }
 
-/// Writes the table of what became of each transaction that was sent, once all acknowledgements are read.
-fn tell_table<'a, R: Files, I: Read + Drop, P: Pace, O: Write + Drop, E: Write>(
-    rt: &R,
+/// Writes the table of what became of each transaction that was sent, once all acknowledgements are read. The writer comes back.
+fn tell_table<'a, S: Store, I: Read + Drop, P: Pace, W: Target, E: Write>(
+    store: &mut S,
     answering: &Answering<'_, 'a>,
     delivery: Option<Delivery>,
     standard: &mut Option<I>,
     pace: &mut P,
-    output: O,
+    lines: W,
     error: &mut E,
-) -> Result<Status, Fault<'a>> {
+) -> (W, Result<Status, Stop<'a>>) {
     let reading = Reading {
         lines: Counted::new(io::sink()),
         delivery,
@@ -511,20 +531,20 @@ fn tell_table<'a, R: Files, I: Read + Drop, P: Pace, O: Write + Drop, E: Write>(
         statuses: Vec::new(answering.alloc),
         names: Vec::new(answering.alloc),
     };
-    let (reading, read) = read_all(rt, answering, &nothing, standard, pace, reading, error);
+    let (reading, read) = read_all(store, answering, &nothing, standard, pace, reading, error);
     let status = match read {
         Ok(status) => status,
         // What nobody reads is always taken.
-        Err(Stop::Lines) => return Err(Fault::Memory),
-        Err(Stop::Fault(fault)) => return Err(fault),
+        Err(Stop::Output) => return (lines, Err(Stop::Fault(Fault::Memory))),
+        Err(Stop::Fault(fault)) => return (lines, Err(Stop::Fault(fault))),
     };
     let Some(delivery) = reading.delivery else {
-        return Ok(status);
+        return (lines, Ok(status));
     };
-    if put_table(answering, &delivery, output, error)? {
-        Ok(status.max(Status::Refused))
-    } else {
-        Ok(status)
+    match write_table(answering, &delivery, lines, error) {
+        (lines, Ok(true)) => (lines, Ok(status.or_worse(Status::Refused))),
+        (lines, Ok(false)) => (lines, Ok(status)),
+        (lines, Err(stop)) => (lines, Err(stop)),
     }
 }
 
@@ -545,33 +565,44 @@ fn standard_inputs(answering: &Answering<'_, '_>) -> usize {
 }
 
 /// Tells what acknowledgements say, matched with what was sent where that is named, or what became of each transaction. Only one of the
-/// inputs can be on standard input.
-pub fn match_answers<
-    'a,
-    R: Files + AllocGlobal,
-    I: Read + Drop,
-    P: Pace,
-    O: Write + Drop,
-    E: Write,
->(
-    rt: &R,
+/// inputs can be on standard input. The writer comes back.
+pub fn match_answers<'a, S: Store, I: Read + Drop, P: Pace, W: Target + Drop, E: Write>(
+    store: &mut S,
     answering: &Answering<'_, 'a>,
     standard: I,
     pace: &mut P,
-    output: O,
+    lines: W,
     error: &mut E,
-) -> Result<Status, Fault<'a>> {
+) -> (W, Result<Status, Stop<'a>>) {
     if standard_inputs(answering) > 1 {
-        return Err(Fault::IsTwice(Name::StandardInput));
+        let fault = Fault::IsTwice(Name::StandardInput);
+        return (lines, Err(Stop::Fault(fault)));
     }
     let mut standard = Some(standard);
-    let delivery = match delivery_of(rt, answering, &mut standard, &mut *pace, error)? {
-        Ok(delivery) => delivery,
-        Err(status) => return Ok(status),
+    let delivery = match delivery_of(store, answering, &mut standard, &mut *pace, error) {
+        Ok(Ok(delivery)) => delivery,
+        Ok(Err(status)) => return (lines, Ok(status)),
+        Err(fault) => return (lines, Err(Stop::Fault(fault))),
     };
     if answering.state {
-        tell_table(rt, answering, delivery, &mut standard, pace, output, error)
+        tell_table(
+            store,
+            answering,
+            delivery,
+            &mut standard,
+            pace,
+            lines,
+            error,
+        )
     } else {
-        tell_lines(rt, answering, delivery, &mut standard, pace, output, error)
+        tell_lines(
+            store,
+            answering,
+            delivery,
+            &mut standard,
+            pace,
+            lines,
+            error,
+        )
     }
 }

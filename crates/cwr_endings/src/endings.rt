@@ -1,13 +1,14 @@
 //! How a run ends, by its verdict and by what is wanted beside it.
 
-ghost use Rattle.std.specs.Prelude.{◌≡◌, ℕ, List, Some, None, true, false, OnOk};
+ghost use Rattle.std.specs.Prelude.{◌≡◌, ◌+◌, ℕ, List, Some, None, true, false, OnErr, OnOk};
 ghost use Rattle.cwr_files.specs.Format.Faults.{IfErr, IsUnkept};
 ghost use Rattle.cwr_files.specs.Format.Files.{Texts, counted_on};
 ghost use Rattle.cwr_files.specs.Steps.NewFiles.{EndsDropped, EndsKept, HasBegun};
 ghost use Rattle.cwr_files.specs.Format.Written.{is_whole, times_failed, writer_in};
-ghost use Rattle.cwr_endings.specs.Format.Endings.{EndsAfterFault};
+ghost use Rattle.cwr_endings.specs.Format.Endings.{EndsAfterFault, worse_status};
 ghost use Rattle.cwr_endings.specs.Steps.Looks.{follows, good_status, status_in, whole_status};
 
+use crate::stops::Stop;
 use cwr_causes::Trailing;
 use cwr_files::{Fault, Name, NewFile, Store, Told, Written};
 use cwr_shape::Level;
@@ -15,7 +16,7 @@ use cwr_tools::{ToolFault, Verdict};
 use std::io::Write;
 
 /// How a run ended, as its exit status, from the best to the worst.
-#[derive(Clone, Copy, Debug, PartialEq, Eq, PartialOrd, Ord)]
+#[derive(Clone, Copy, Debug, PartialEq, Eq)]
 pub enum Status {
     /// The input is good.
     Good = 0,
@@ -25,6 +26,20 @@ pub enum Status {
     CommandLine = 2,
     /// A file, a device or memory failed.
     Fault = 3,
+}
+
+impl Status {
+    /// The worse one of both.
+    pub fn or_worse(self, other: Status) -> Status
+        ensures { result ≡ worse_status self other }
+    {
+        match (self, other) {
+            (Status::Fault, _) | (_, Status::Fault) => Status::Fault,
+            (Status::CommandLine, _) | (_, Status::CommandLine) => Status::CommandLine,
+            (Status::Refused, _) | (_, Status::Refused) => Status::Refused,
+            (Status::Good, Status::Good) => Status::Good,
+        }
+    }
 }
 
 /// What is wanted of a transmission beside that it is good.
@@ -96,16 +111,16 @@ pub fn status_of(wanted: Wanted, verdict: &Verdict, look: Look, found: bool) -> 
 pub fn ended_by<'a>(
     fault: Option<ToolFault>,
     input: Told<'a>,
-    output: Told<'a>,
-    made: Fault<'a>,
-) -> Result<Status, Fault<'a>>
+    output: Stop<'a>,
+    made: Stop<'a>,
+) -> Result<Status, Stop<'a>>
     ensures { EndsAfterFault input.entry output.entry made.entry fault result }
 {
     match fault {
         None => Ok(Status::Good),
-        Some(ToolFault::Reader) => Err(Fault::Read(input)),
-        Some(ToolFault::Writer { .. }) => Err(Fault::Write(output)),
-        Some(ToolFault::Memory) => Err(Fault::Memory),
+        Some(ToolFault::Reader) => Err(Stop::Fault(Fault::Read(input))),
+        Some(ToolFault::Writer { .. }) => Err(output),
+        Some(ToolFault::Memory) => Err(Stop::Fault(Fault::Memory)),
         Some(ToolFault::Output) => Err(made),
         Some(ToolFault::Refused(_) | ToolFault::Truncated { .. } | ToolFault::Limit(_)) => {
             Ok(Status::Refused)
@@ -126,6 +141,10 @@ pub fn settle<'a, S: Store, E: Write>(
         → HasBegun made (S.making store.old) texts (S.held store.old)
         → S.Writer.contents (writer_in written) ≡ Some text
         → EndsKept made text (S.failures store.old) (S.failures store.new) result texts (S.held store.new) }
+    // Where it can't have its name nothing is left of it, unless a second call failed.
+    ensures unkept { is_wanted ≡ true → (texts : Texts)
+        → HasBegun made (S.making store.old) texts (S.held store.old)
+        → OnErr result (EndsDropped made (S.failures store.old + 1) (S.failures store.new) texts (S.held store.new)) }
     ensures whole { is_wanted ≡ true → OnOk result (is_whole written ≡ true) }
     ensures dropped { is_wanted ≡ false → (texts : Texts)
         → HasBegun made (S.making store.old) texts (S.held store.old)

@@ -5,6 +5,7 @@ mod endings;
 mod finding_notes;
 mod judgements;
 mod looks;
+mod stops;
 mod sums;
 mod written;
 
@@ -18,5 +19,6 @@ pub use judgements::{
     Judgement, judgement_of, look_after, tell_characters, tell_unanswering, tell_verdict,
 };
 pub use looks::{look_beyond, tell_following};
+pub use stops::Stop;
 pub use sums::Sums;
 pub use written::{hand_on, refuse_out};

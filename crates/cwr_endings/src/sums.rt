@@ -1,5 +1,8 @@
 //! The sums of several files that are read one after another.
 
+ghost use Rattle.std.specs.Prelude.{◌≡◌};
+ghost use Rattle.cwr_endings.specs.Format.Endings.{worse_status};
+
 use crate::endings::Status;
 use crate::judgements::Judgement;
 use cwr_files::Fault;
@@ -19,7 +22,9 @@ pub struct Sums {
 
 impl Sums {
     /// No file was judged.
-    pub fn new() -> Sums {
+    pub fn new() -> Sums
+        ensures { result.status ≡ Status.Good }
+    {
         Sums {
             good: 0,
             refused: 0,
@@ -30,18 +35,22 @@ impl Sums {
     }
 
     /// Counts a file that was judged.
-    pub fn count(&mut self, judgement: &Judgement) {
-        let count = match judgement.verdict {
-            Verdict::Good { .. } => &mut self.good,
-            Verdict::Refused(_) => &mut self.refused,
-            Verdict::Truncated { .. } => &mut self.truncated,
-        };
-        *count = count.saturating_add(1);
-        self.status = self.status.max(judgement.status);
+    pub fn count(&mut self, judgement: &Judgement)
+        ensures { self.new.status ≡ worse_status self.old.status judgement.now.status }
+    {
+        let status = self.status.or_worse(judgement.status);
+        match judgement.verdict {
+            Verdict::Good { .. } => self.good = self.good.saturating_add(1),
+            Verdict::Refused(_) => self.refused = self.refused.saturating_add(1),
+            Verdict::Truncated { .. } => self.truncated = self.truncated.saturating_add(1),
+        }
+        self.status = status;
     }
 
     /// Counts a file that failed.
-    pub fn count_failed(&mut self) {
+    pub fn count_failed(&mut self)
+        ensures { self.new.status ≡ Status.Fault }
+    {
         self.failed = self.failed.saturating_add(1);
         self.status = Status::Fault;
     }

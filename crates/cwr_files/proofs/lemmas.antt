@@ -4,3 +4,9 @@ pub mod Taken
 pub mod Parts
 -- What lies under names once the part in hand of a split has its name or is dropped.
 pub mod PartsInHand
+-- A writer that gathers has nothing so far.
+pub mod Gathers
+-- What is read under a word.
+pub mod Reads
+-- What is left of a run that writes a file.
+pub mod Outs

@@ -2,6 +2,7 @@
 
 ghost use Rattle.std.specs.Prelude.{◌≡◌, ◌≤◌, ◌<◌, ◌&&◌, [], length, None, IfOk};
 ghost use Rattle.cwr_devices.specs.Format.Failures.{one_more_failure};
+ghost use Rattle.cwr_files.specs.Format.Written.{lines_in};
 
 use cwr_devices::{DeviceFault, Target};
 use memchr::memchr;
@@ -106,7 +107,9 @@ impl<'a, W> FileLines<'a, W> {
     }
 
     /// The writer that they are passed on to.
-    pub fn into_inner(self) -> W {
+    pub fn into_inner(self) -> W
+        ensures { result ≡ lines_in self.entry }
+    {
         self.lines
     }
 }

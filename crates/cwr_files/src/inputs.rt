@@ -1,18 +1,19 @@
 //! Inputs: files, and standard input.
 
-ghost use Rattle.std.specs.Prelude.{◌≡◌, ℕ, List, Option, Some, IfSome, IsOkAnd, true, option_map};
-ghost use Rattle.cwr_files.specs.Format.Faults.{IfErr, IsUnopened};
-ghost use Rattle.cwr_files.specs.Format.Inputs.{is_standard};
-ghost use Rattle.cwr_files.specs.Steps.Inputs.{HasLeft, remaining_of};
+ghost use Rattle.std.specs.Prelude.{◌≡◌, ℕ, List, Option, Some, IfOk, OnOk, option_map};
+ghost use Rattle.cwr_devices.specs.Steps.Sources.{failures_of};
+ghost use Rattle.cwr_files.specs.Format.Faults.{IfErr};
+ghost use Rattle.cwr_files.specs.Format.Files.{counted_on};
+ghost use Rattle.cwr_files.specs.Format.Inputs.{IsUnopenedBy, is_standard};
+ghost use Rattle.cwr_files.specs.Steps.Inputs.{IsLeftOf, IsThereFor, remaining_of, standard_after, standard_left};
 
 use crate::faults::{Fault, Name, Reason, Told};
 use crate::fronts::Front;
 use crate::progress::Pace;
-use crate::same_files::size_of;
-use std::fs::File;
+use crate::stores::Store;
+use cwr_devices::ReadAhead;
 use std::io;
 use std::io::Read;
-use std::rt::Files;
 
 /// What standard input is called in the place of a file.
 pub const DASH: &str = "-";
@@ -91,21 +92,28 @@ pub fn is_standard(name: Option<&str>) -> bool
 }
 
 /// The input of that name: a file, or standard input, which is there once.
-pub fn open_input<'a, R: Files, I: Read, P: Pace + Drop>(
-    rt: &R,
+pub fn open_input<'a, S: Store, I: Read, P: Pace + Drop>(
+    store: &mut S,
     name: Option<&'a str>,
     standard: &mut Option<I>,
     mut pace: P,
-) -> Result<Input<'a, R::File, I, P>, Fault<'a>>
-    ensures standard { is_standard (option_map (λ n. n.now) name.entry) ≡ true
-        → IfSome standard.old
-        (λ input. IsOkAnd result (HasLeft R.File.remaining I.remaining (I.remaining input))) }
-    ensures unopened { IfErr result IsUnopened }
+) -> Result<Input<'a, S::Reader, I, P>, Fault<'a>>
+    ensures left { IfOk result (λ input. IsLeftOf (S.held store.old) (standard_left I.remaining standard.old)
+        (option_map (λ n. n.now) name.entry) (remaining_of S.Reader.remaining I.remaining input)) }
+    ensures unopened { IfErr result
+        (IsUnopenedBy standard.old (S.failures store.old) (S.failures store.new)) }
+    ensures opened { OnOk result (S.failures store.new ≡ S.failures store.old) }
+    // Standard input is opened only where it is there.
+    ensures there { OnOk result (IsThereFor (is_standard (option_map (λ n. n.now) name.entry)) standard.old) }
+    ensures standard { standard.new
+        ≡ standard_after (is_standard (option_map (λ n. n.now) name.entry)) standard.old }
+    ensures kept { S.held store.new ≡ S.held store.old }
+    ensures making { S.making store.new ≡ S.making store.old }
 {
     match name {
-        Some(word) if word != DASH => match File::open(rt, word) {
+        Some(word) if word != DASH => match store.open(word) {
             Ok(file) => {
-                pace.begin(size_of(rt, word));
+                pace.begin(store.size(word));
                 Ok(Input {
                     device: Device::File(file),
                     name: Name::File(word),
@@ -115,7 +123,7 @@ pub fn open_input<'a, R: Files, I: Read, P: Pace + Drop>(
                     pace,
                 })
             }
-            Err(fault) => Err(Fault::Open(Name::File(word), Some(Reason::of(&fault)))),
+            Err(reason) => Err(Fault::Open(Name::File(word), Some(reason))),
         },
         _ => match standard.take() {
             Some(input) => {
@@ -133,4 +141,16 @@ pub fn open_input<'a, R: Files, I: Read, P: Pace + Drop>(
             None => Err(Fault::Open(Name::StandardInput, None)),
         },
     }
+}
+
+/// Takes back an input that is read no further, whose failures the store counts. What is known of it is the answer.
+pub fn end_input<'a, S: Store, F: Drop, I: Drop, P: Pace + Drop>(
+    store: &mut S,
+    reader: ReadAhead<Input<'a, F, I, P>>,
+) -> Told<'a>
+    ensures kept { S.held store.new ≡ S.held store.old }
+    ensures making { S.making store.new ≡ S.making store.old }
+    ensures failures { S.failures store.new ≡ counted_on (failures_of reader.entry) (S.failures store.old) }
+{
+    store.end(reader).told()
 }

@@ -19,13 +19,13 @@ mod system_store;
 
 pub use faults::{Fault, Name, Reason, Told, tell_fault};
 pub use file_lines::{FileLines, Passing};
-pub use inputs::{DASH, Input, is_standard, open_input};
+pub use inputs::{DASH, Input, end_input, is_standard, open_input};
 pub use memory_stores::MemoryStore;
 pub use new_files::{NewFile, create_output, is_there};
-pub use numbered_files::NumberedFiles;
+pub use numbered_files::{MadeFiles, NumberedFiles};
 pub use outputs::{Gathered, Output, Written, gathered, print, take_back, told_of};
 pub use progress::{Pace, Paced, Progress, Unwatched};
-pub use same_files::{Identity, identity_of, identity_of_input, part_number, part_that_is};
+pub use same_files::{part_number, path_of_input};
 pub use shown_names::{ShellWord, Shown, input_name, shown_name};
 pub use stamps::Stamped;
 pub use stores::{Found, Store, Unmade};

@@ -6,8 +6,10 @@ ghost use Rattle.cwr_files.specs.Steps.MemoryStores.{entered, entries_say, held_
 
 use crate::faults::Reason;
 use crate::stores::{Found, Store, Unmade, count_failure};
+use cwr_devices::ReadAhead;
 use std::alloc::{AllocError, Global};
 use std::io;
+use std::io::Cursor;
 
 /// What became of a name.
 #[derive(Drop)]
@@ -116,6 +118,8 @@ impl MemoryStore {
 }
 
 impl Store for MemoryStore {
+    type Reader = Cursor<Vec<u8>>;
+
     type Writer = Vec<u8>;
 
     ghost held = { held_in };
@@ -123,6 +127,39 @@ impl Store for MemoryStore {
     ghost making = { making_in };
 
     ghost failures = { λ store. store.failures };
+
+    fn open(&mut self, name: &str) -> Result<Cursor<Vec<u8>>, Reason> {
+        let Some(text) = find(self.entries.as_slice(), name) else {
+            let reason = Reason::kind(io::ErrorKind::NotFound);
+            return Err(count_failure(&mut self.failures, reason));
+        };
+        match text.to_vec(self.alloc) {
+            Ok(copy) => Ok(Cursor::new(copy)),
+            Err(_) => Err(count_memory(&mut self.failures)),
+        }
+    }
+
+    fn end<R>(&mut self, reader: ReadAhead<R>) -> R {
+        self.failures = self.failures.saturating_add(reader.failures());
+        reader.into_inner()
+    }
+
+    fn size(&mut self, name: &str) -> Option<u64> {
+        find(self.entries.as_slice(), name).map(|text| text.len() as u64)
+    }
+
+    fn are_one(&mut self, name: &str, other: &str) -> bool {
+        find(self.entries.as_slice(), name).is_some() && name == other
+    }
+
+    fn part_that_is(
+        &mut self,
+        _alloc: Global,
+        _name: &str,
+        _prefix: &str,
+    ) -> Result<Option<u32>, AllocError> {
+        Ok(None)
+    }
 
     fn look(&mut self, name: &str) -> Result<Found, Reason> {
         match find(self.entries.as_slice(), name) {

@@ -39,6 +39,7 @@ fn create_part<S: Store>(
         (λ made. IsPartOf name.now (string_bytes made.0) (S.making store.new) texts new × (S.Writer.contents made.1 ≡ Some []))
         (λ _. Same texts new)) }
     ensures making { S.making store.old ≡ None → OnErr result (S.making store.new ≡ None) }
+    ensures unfailed { OnOk result (S.failures store.new ≡ S.failures store.old) }
 {
     for tries in 0..MOST_PARTS {
         let Ok(part) = part_name(alloc, name, tries) else {
@@ -68,6 +69,8 @@ fn finish<S: Store>(store: &mut S, writer: S::Writer, part: &str, name: &str) ->
     ensures finished { (text : List ℕ) → S.making store.old ≡ Some part.now
         → S.Writer.contents writer ≡ Some text → Turns (S.held store.old) (S.held store.new)
         (IsFinished part.now name.now text (S.failures store.old) (S.failures store.new) result) }
+    ensures unfinished { S.making store.old ≡ Some part.now → OnErr result (Turns (S.held store.old) (S.held store.new)
+        (IsDropped part.now (S.failures store.old + 1) (S.failures store.new))) }
     ensures making { S.making store.new ≡ None }
     ensures counted { OnErr result (HasCounted (S.failures store.old) (S.failures store.new)) }
 {
@@ -112,6 +115,7 @@ impl NewFile {
             (λ _. Same texts new)) }
         ensures named { IfOk result (λ made. final_name made.0 ≡ string_bytes name) }
         ensures making { S.making store.old ≡ None → OnErr result (S.making store.new ≡ None) }
+        ensures unfailed { OnOk result (S.failures store.new ≡ S.failures store.old) }
     {
         match store.look(name.as_str()) {
             Ok(Found::Other) => match store.create(name.as_str()) {
@@ -135,6 +139,9 @@ impl NewFile {
         ensures kept { (texts : Texts) (text : List ℕ) → HasBegun self (S.making store.old) texts (S.held store.old)
             → S.Writer.contents writer ≡ Some text
             → EndsKept self text (S.failures store.old) (S.failures store.new) result texts (S.held store.new) }
+        // Where it fails nothing is left of it, unless a second call failed.
+        ensures unkept { (texts : Texts) → HasBegun self (S.making store.old) texts (S.held store.old)
+            → OnErr result (EndsDropped self (S.failures store.old + 1) (S.failures store.new) texts (S.held store.new)) }
         ensures making { S.making store.new ≡ None }
         ensures counted { OnErr result (HasCounted (S.failures store.old) (S.failures store.new)) }
     {
@@ -150,6 +157,9 @@ impl NewFile {
         ensures kept { (texts : Texts) (text : List ℕ) → HasBegun self (S.making store.old) texts (S.held store.old)
             → S.Writer.contents (writer_in written) ≡ Some text
             → EndsKept self text (S.failures store.old) (S.failures store.new) result texts (S.held store.new) }
+        // Where it fails nothing is left of it, unless a second call failed.
+        ensures unkept { (texts : Texts) → HasBegun self (S.making store.old) texts (S.held store.old)
+            → OnErr result (EndsDropped self (S.failures store.old + 1) (S.failures store.new) texts (S.held store.new)) }
         ensures whole { OnOk result (is_whole written ≡ true) }
         ensures making { S.making store.new ≡ None }
         ensures counted { OnErr result (HasCounted (S.failures store.old) (S.failures store.new)) }
@@ -183,6 +193,9 @@ impl NewFile {
         ensures kept { (texts : Texts) (text : List ℕ) → HasBegun self (S.making store.old) texts (S.held store.old)
             → S.Writer.contents (writer_in written) ≡ Some text
             → EndsKept self text (S.failures store.old) (S.failures store.new) result texts (S.held store.new) }
+        // Where it fails nothing is left of it, unless a second call failed.
+        ensures unkept { (texts : Texts) → HasBegun self (S.making store.old) texts (S.held store.old)
+            → OnErr result (EndsDropped self (S.failures store.old + 1) (S.failures store.new) texts (S.held store.new)) }
         ensures whole { OnOk result (is_whole written ≡ true) }
         ensures making { S.making store.new ≡ None }
         ensures counted { OnErr result (HasCounted (S.failures store.old) (S.failures store.new)) }
@@ -207,6 +220,9 @@ impl NewFile {
         ensures kept { (texts : Texts) (text : List ℕ) → HasBegun self (S.making store.old) texts (S.held store.old)
             → S.Writer.contents (writer_in written) ≡ Some text
             → EndsKept self text (S.failures store.old) (S.failures store.new) result texts (S.held store.new) }
+        // Where it fails nothing is left of it, unless a second call failed.
+        ensures unkept { (texts : Texts) → HasBegun self (S.making store.old) texts (S.held store.old)
+            → OnErr result (EndsDropped self (S.failures store.old + 1) (S.failures store.new) texts (S.held store.new)) }
         ensures whole { OnOk result (is_whole written ≡ true) }
         ensures making { S.making store.new ≡ None }
         ensures counted { OnErr result (HasCounted (S.failures store.old) (S.failures store.new)) }
@@ -274,6 +290,7 @@ pub fn create_output<'a, S: Store>(
         (λ _. Same texts new)) }
     ensures named { IfOk result (λ made. final_name made.0 ≡ out.now) }
     ensures making { S.making store.old ≡ None → OnErr result (S.making store.new ≡ None) }
+    ensures unfailed { OnOk result (S.failures store.new ≡ S.failures store.old) }
     ensures unmade { IfErr result (IsUnmade (Name.File out.entry)) }
 {
     if out.is_empty() {

@@ -13,14 +13,13 @@ ghost use Rattle.cwr_files.specs.Steps.Gathering.{written_to};
 use crate::faults::{Fault, Name, Reason};
 use crate::new_files::{NewFile, is_there};
 use crate::outputs::{Gathered, Written, gathered, take_back, told_of};
-use crate::same_files::{Identity, identity_of};
+use crate::same_files::path_of_input;
 use crate::stamps::Stamped;
 use crate::stores::Store;
 use cwr_devices::{OutputFault, Outputs};
 use cwr_moments::Moment;
 use std::alloc::{AllocError, Global};
 use std::io;
-use std::rt::Files;
 
 /// The name of the part of that number: what the names begin with, and eight digits.
 fn numbered_name(alloc: Global, prefix: &str, number: u32) -> Result<String, AllocError>
@@ -31,13 +30,12 @@ fn numbered_name(alloc: Global, prefix: &str, number: u32) -> Result<String, All
 
 /// The files of a split, whose names are a prefix and eight digits, from `00000001` on.
 #[derive(Drop)]
-pub struct NumberedFiles<'r, 'a, R: Files, S: Store + Drop> {
-    rt: &'r R,
-    store: S,
+pub struct NumberedFiles<'s, 'a, S: Store> {
+    store: &'s mut S,
     alloc: Global,
     prefix: &'a str,
-    /// The input, which no part may be.
-    input: Option<Identity>,
+    /// The word that names the input, which no part may be.
+    input: &'a str,
     /// No part may replace a file.
     only_new: bool,
     /// When the first part is created, and each other one a second later; without it when the transmission was.
@@ -55,20 +53,40 @@ pub struct NumberedFiles<'r, 'a, R: Files, S: Store + Drop> {
     given_up: u64,
 }
 
-impl<'r, 'a, R: Files, S: Store + Drop> NumberedFiles<'r, 'a, R, S> {
+/// What is told of the files of a split once no more are made.
+#[derive(Clone, Copy, Debug)]
+pub struct MadeFiles<'a> {
+    /// Of the file that couldn't be made, finished or written, where there is one.
+    pub fault: Fault<'a>,
+    /// How many files were replaced, and what the first of them is called.
+    replaced: u32,
+    first_replaced: Name<'a>,
+}
+
+impl MadeFiles<'_> {
+    /// Tells on standard error which files were replaced, if some were. What standard error doesn't take is lost.
+    pub fn tell_replaced<E: io::Write>(&self, error: &mut E) {
+        let first = self.first_replaced;
+        let _ = match self.replaced {
+            0 => Ok(()),
+            1 => writeln!(error, "cwr: {first} was replaced"),
+            count => writeln!(error, "cwr: {count} files were replaced, the first {first}"),
+        };
+    }
+}
+
+impl<'s, 'a, S: Store> NumberedFiles<'s, 'a, S> {
     /// The files whose names begin with the prefix, none of which may be the input, or may be there where only new ones may be made. The
     /// first one is created at that moment, and each other one a second later. None was asked for.
     pub fn new(
-        rt: &'r R,
-        store: S,
+        store: &'s mut S,
         alloc: Global,
         prefix: &'a str,
-        input: Option<Identity>,
+        input: &'a str,
         only_new: bool,
         created: Option<Moment>,
-    ) -> NumberedFiles<'r, 'a, R, S> {
+    ) -> NumberedFiles<'s, 'a, S> {
         NumberedFiles {
-            rt,
             store,
             alloc,
             prefix,
@@ -85,19 +103,13 @@ impl<'r, 'a, R: Files, S: Store + Drop> NumberedFiles<'r, 'a, R, S> {
         }
     }
 
-    /// What is told of the file that couldn't be made, finished or written.
-    pub fn fault(&self) -> Fault<'a> {
-        self.fault.unwrap_or(Fault::Output(self.name(), None))
-    }
-
-    /// Tells on standard error which files were replaced, if some were. What standard error doesn't take is lost.
-    pub fn tell_replaced<E: io::Write>(&self, error: &mut E) {
-        let first = Name::Part(self.prefix, self.first_replaced);
-        let _ = match self.replaced {
-            0 => Ok(()),
-            1 => writeln!(error, "cwr: {first} was replaced"),
-            count => writeln!(error, "cwr: {count} files were replaced, the first {first}"),
-        };
+    /// What is told of them once no more are made.
+    pub fn end(self) -> MadeFiles<'a> {
+        MadeFiles {
+            fault: self.fault.unwrap_or(Fault::Output(self.name(), None)),
+            replaced: self.replaced,
+            first_replaced: Name::Part(self.prefix, self.first_replaced),
+        }
     }
 
     /// What the part in hand is called.
@@ -135,17 +147,18 @@ impl<'r, 'a, R: Files, S: Store + Drop> NumberedFiles<'r, 'a, R, S> {
             → Turns (S.held (store_in self.old)) (S.held (store_in self.new))
             (IsBegunAs (made_in self.new) (part_name (prefix_of self.old) (asked_of self.old)) (S.making (store_in self.new))) }
     {
-        if self.input.is_some() && identity_of(self.rt, name.as_str()) == self.input {
+        let input = path_of_input(self.input);
+        if self.store.are_one(name.as_str(), input) {
             return Err(Fault::IsInput(self.name()));
         }
-        if self.only_new && is_there(&mut self.store, name.as_str()) {
+        if self.only_new && is_there(&mut *self.store, name.as_str()) {
             return Err(Fault::IsThere(self.name()));
         }
         let moment = match self.moment() {
             Ok(moment) => moment,
             Err(fault) => return Err(fault),
         };
-        match NewFile::create(&mut self.store, self.alloc, name) {
+        match NewFile::create(&mut *self.store, self.alloc, name) {
             Ok((made, file)) => {
                 self.open_file = Some(made);
                 match gathered(self.alloc, Stamped::new(file, moment), self.name()) {
@@ -201,7 +214,7 @@ impl<'r, 'a, R: Files, S: Store + Drop> NumberedFiles<'r, 'a, R, S> {
     {
         let name = self.name();
         match self.open_file.take() {
-            Some(made) => match made.keep_named(&mut self.store, written, name) {
+            Some(made) => match made.keep_named(&mut *self.store, written, name) {
                 Ok(replaced) => {
                     self.count_replaced(replaced);
                     Ok(())
@@ -240,7 +253,7 @@ impl<'r, 'a, R: Files, S: Store + Drop> NumberedFiles<'r, 'a, R, S> {
         ensures lent { lent_of self.new ≡ 0 }
     {
         if let Some(made) = self.open_file.take() {
-            made.discard(&mut self.store, times);
+            made.discard(&mut *self.store, times);
         }
     }
 
@@ -260,7 +273,7 @@ impl<'r, 'a, R: Files, S: Store + Drop> NumberedFiles<'r, 'a, R, S> {
     }
 }
 
-impl<'a, R: Files, S: Store + Drop> Outputs for NumberedFiles<'_, 'a, R, S> {
+impl<'a, S: Store> Outputs for NumberedFiles<'_, 'a, S> {
     type W = Gathered<'a, Stamped<S::Writer>>;
 
     // What a file holds isn't known.

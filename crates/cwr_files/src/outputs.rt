@@ -4,7 +4,7 @@ ghost use Rattle.std.specs.Prelude.{◌≡◌, true, false, IfOk, MatchOption};
 ghost use Rattle.std.specs.Io.KnownBytes.{Keeps};
 ghost use Rattle.cwr_devices.specs.Steps.Counted.{failures_of};
 ghost use Rattle.cwr_files.specs.Format.Written.{is_whole, times_failed, writer_in};
-ghost use Rattle.cwr_files.specs.Steps.Gathering.{written_to};
+ghost use Rattle.cwr_files.specs.Steps.Gathering.{output_in, written_to};
 
 use crate::faults::{Name, Reason, Told};
 use crate::fronts::CHARACTER_SET;
@@ -29,7 +29,9 @@ pub struct Output<'a, O> {
 
 impl<'a, O> Output<'a, O> {
     /// A writer that was given nothing so far.
-    pub fn new(output: O, name: Name<'a>) -> Output<'a, O> {
+    pub fn new(output: O, name: Name<'a>) -> Output<'a, O>
+        ensures { output_in result ≡ output }
+    {
         Output {
             output,
             name,
@@ -88,7 +90,8 @@ pub fn gathered<'a, O: Write + Drop>(
     output: O,
     name: Name<'a>,
 ) -> Result<Gathered<'a, O>, AllocError>
-    ensures { IfOk result (λ writer. failures_of writer ≡ 0) }
+    ensures failures { IfOk result (λ writer. failures_of writer ≡ 0) }
+    ensures contents { IfOk result (λ writer. written_to O.contents writer ≡ O.contents output) }
 {
     match BufWriter::with_capacity(alloc, GATHERED, Output::new(output, name)) {
         Ok(writer) => Ok(Counted::new(writer)),

@@ -1,5 +1,9 @@
 //! What the system says of files: which names are those of one, and how large it is.
 
+ghost use Rattle.std.specs.Prelude.{◌≡◌};
+ghost use Rattle.cwr_files.specs.Format.Inputs.{path_of_input};
+
+use crate::inputs::DASH;
 use std::alloc::{AllocError, Global};
 use std::io::Read;
 use std::os::unix::fs::MetadataExt;
@@ -7,7 +11,7 @@ use std::rt::Files;
 
 /// A file's device and its number there, by which it is known under each of its names.
 #[derive(Clone, Copy, Debug, PartialEq, Eq)]
-pub struct Identity {
+pub(crate) struct Identity {
     device: u64,
     number: u64,
 }
@@ -19,7 +23,7 @@ const FOLDER_BLOCK: usize = 4096;
 const STANDARD_INPUT: &str = "/dev/stdin";
 
 /// What the file of that name is known by, where it is there and holds what is written to it.
-pub fn identity_of<R: Files>(rt: &R, name: &str) -> Option<Identity> {
+pub(crate) fn identity_of<R: Files>(rt: &R, name: &str) -> Option<Identity> {
     match rt.metadata(name) {
         Ok(found) if found.is_file() && found.ino() > 0 => Some(Identity {
             device: found.dev(),
@@ -29,17 +33,15 @@ pub fn identity_of<R: Files>(rt: &R, name: &str) -> Option<Identity> {
     }
 }
 
-/// What the input of that name is known by, `-` being standard input.
-pub fn identity_of_input<R: Files>(rt: &R, name: &str) -> Option<Identity> {
-    if name == "-" {
-        identity_of(rt, STANDARD_INPUT)
-    } else {
-        identity_of(rt, name)
-    }
+/// The name under which the system has the input that a word names.
+pub fn path_of_input(word: &str) -> &str
+    ensures { result.now ≡ path_of_input word.now }
+{
+    if word == DASH { STANDARD_INPUT } else { word }
 }
 
 /// How many bytes the file of that name has, where it holds what is written to it.
-pub fn size_of<R: Files>(rt: &R, name: &str) -> Option<u64> {
+pub(crate) fn size_of<R: Files>(rt: &R, name: &str) -> Option<u64> {
     match rt.metadata(name) {
         Ok(found) if found.is_file() => Some(found.len()),
         _ => None,
@@ -80,7 +82,7 @@ fn number_of_file<R: Files>(
 
 /// The number of a part of the prefix that is there already and is the file, under whatever name: a link, or another one. In a folder that
 /// can't be read none is found.
-pub fn part_that_is<R: Files>(
+pub(crate) fn part_that_is<R: Files>(
     rt: &R,
     alloc: Global,
     file: Identity,

@@ -1,10 +1,13 @@
 //! Files under names, as a run sees them.
 
 ghost use Rattle.std.specs.Prelude.{◌≡◌, ℕ, List, Option, None};
-ghost use Rattle.cwr_files.specs.Format.Files.{Counts, CountsMaking, Finds, IsClosed, IsGivenUp, IsMade, IsMaking, IsOpened, IsRemoved, IsRenamed, Texts, Turns, counted_on};
+ghost use Rattle.cwr_devices.specs.Steps.Sources.{failures_of, inner_of};
+ghost use Rattle.cwr_files.specs.Format.Files.{AreOne, Counts, CountsMaking, Finds, IsClosed, IsGivenUp, IsMade, IsMaking, IsOpened, IsRemoved, IsRenamed, Opens, Texts, Turns, counted_on};
 
 use crate::faults::Reason;
-use std::io::Write;
+use cwr_devices::ReadAhead;
+use std::alloc::{AllocError, Global};
+use std::io::{Read, Write};
 
 /// What has a name.
 #[derive(Clone, Copy, Debug, PartialEq, Eq)]
@@ -26,8 +29,12 @@ pub enum Unmade {
     Failed(Reason),
 }
 
-/// Files under names. Each method is one call of the system. One file is written at a time.
+/// Files under names. Each method is one call of the system, but for those that ask which names are those of one file. One file is written
+/// at a time.
 pub trait Store {
+    /// What a file is read from.
+    type Reader: Read + Drop;
+
     /// What a file is written to.
     type Writer: Write + Drop;
 
@@ -37,8 +44,47 @@ pub trait Store {
     // The name that is being written, where texts are known.
     ghost making: { Self → Option (List ℕ) };
 
-    // How many calls failed, and how often the writers did that were given up.
+    // How many calls failed, and how often the readers did that came back and the writers that were given up.
     ghost failures: { Self → ℕ };
+
+    /// Opens the file of that name, to be read from its first byte.
+    fn open(&mut self, name: &str) -> Result<Self::Reader, Reason>
+        ensures opened { Opens Self.Reader.remaining (held self.old) name.now result }
+        ensures kept { held self.new ≡ held self.old }
+        ensures making { making self.new ≡ making self.old }
+        ensures failures { Counts result (failures self.old) (failures self.new) };
+
+    /// Takes back an input that is read no further. How often it failed is counted.
+    fn end<R>(&mut self, reader: ReadAhead<R>) -> R
+        ensures reader { result ≡ inner_of reader }
+        ensures kept { held self.new ≡ held self.old }
+        ensures making { making self.new ≡ making self.old }
+        ensures failures { failures self.new ≡ counted_on (failures_of reader) (failures self.old) };
+
+    /// How many bytes the file of that name has, where it holds what is written to it.
+    fn size(&mut self, name: &str) -> Option<u64>
+        ensures kept { held self.new ≡ held self.old }
+        ensures making { making self.new ≡ making self.old }
+        ensures failures { failures self.new ≡ failures self.old };
+
+    /// Whether both are names of one file that is there and holds what is written to it.
+    fn are_one(&mut self, name: &str, other: &str) -> bool
+        ensures one { AreOne (held self.old) name.now other.now result }
+        ensures kept { held self.new ≡ held self.old }
+        ensures making { making self.new ≡ making self.old }
+        ensures failures { failures self.new ≡ failures self.old };
+
+    /// The number of a part of the prefix, in eight digits after it, that is there already and is the file of that name, under whatever
+    /// name. In a folder that can't be read none is found.
+    fn part_that_is(
+        &mut self,
+        alloc: Global,
+        name: &str,
+        prefix: &str,
+    ) -> Result<Option<u32>, AllocError>
+        ensures kept { held self.new ≡ held self.old }
+        ensures making { making self.new ≡ making self.old }
+        ensures failures { failures self.new ≡ failures self.old };
 
     /// Says what has the name.
     fn look(&mut self, name: &str) -> Result<Found, Reason>

@@ -1,2 +1,4 @@
 -- A run over a text ends as that text does.
 pub mod EndsOnTexts
+-- The worst status of several files, with that of one more.
+pub mod WorstOf

@@ -1,3 +1,5 @@
 -- What the code keeps, and what its calls do to that.
 pub mod Looks
 pub mod Tellings
+-- How several files are judged, one after another.
+pub mod Several

@@ -1,19 +1,17 @@
 //! Data and tables of a transmission that are written to a file.
 
-ghost use Rattle.std.specs.Prelude.{◌≡◌, true, false, None, option_map};
-ghost use Rattle.cwr_files.specs.Format.Inputs.{is_standard};
+ghost use Rattle.std.specs.Prelude.{◌≡◌, false, None, option_map};
 ghost use Rattle.cwr_files.specs.Steps.Inputs.{remaining_of};
-ghost use Rattle.cwr_reports.specs.Format.Endings.{EndsAsExport, advice_in};
+ghost use Rattle.cwr_reports.specs.Format.Endings.{EndsAsExport, EndsAsExportOf, advice_in};
 ghost use Rattle.cwr_reports.specs.Steps.Looks.{tells_findings};
 
 use crate::tellings::{Asked, Telling, judge_input, tell_aside};
-use cwr_endings::{Judgement, Status, refuse_out, settle};
+use cwr_endings::{Judgement, Status, Stop, refuse_out, settle};
 use cwr_files::{
-    DASH, Fault, Input, Name, Pace, SystemStore, create_output, gathered, open_input, take_back,
+    DASH, Fault, Input, Name, Pace, Store, create_output, gathered, open_input, take_back,
 };
 use cwr_tools::{ToolFault, Verdict};
 use std::io::{Read, Write};
-use std::rt::Files;
 
 /// Tells on standard error where what was written of a transmission ends, if that isn't whole. What standard error doesn't take is lost.
 pub(crate) fn tell_cut<E: Write>(
@@ -39,25 +37,27 @@ pub(crate) fn tell_cut<E: Write>(
 }
 
 /// Writes what is told of an input to a file, which gets its name where the transmission is what is wanted.
-fn report_to_file<'a, R: Files + AllocGlobal, I: Read + Drop, P: Pace + Drop, E: Write>(
-    rt: &R,
+fn report_to_file<'a, S: Store, I: Read + Drop, P: Pace + Drop, E: Write>(
+    store: &mut S,
     asked: &Asked,
     telling: Telling<'_>,
-    input: Input<'a, R::File, I, P>,
+    input: Input<'a, S::Reader, I, P>,
     out: &'a str,
     error: &mut E,
-) -> Result<Status, Fault<'a>>
+) -> Result<Status, Stop<'a>>
     requires { tells_findings telling ≡ false → asked.now.wanted.fail_on ≡ None }
     ensures { EndsAsExport (advice_in telling.entry) asked.now.limits asked.now.wanted
-        (remaining_of R.File.remaining I.remaining input.entry) result }
+        (remaining_of S.Reader.remaining I.remaining input.entry) result }
 {
-    let mut store = SystemStore::new(rt);
-    let (made, file) = create_output(&mut store, asked.alloc, out)?;
-    let Ok(lines) = gathered(asked.alloc, file, Name::File(out)) else {
-        made.discard(&mut store, 0);
-        return Err(Fault::Memory);
+    let (made, file) = match create_output(store, asked.alloc, out) {
+        Ok(made) => made,
+        Err(fault) => return Err(Stop::Fault(fault)),
     };
-    let (lines, judged, told, count) = judge_input(asked, telling, input, lines);
+    let Ok(lines) = gathered(asked.alloc, file, Name::File(out)) else {
+        made.discard(store, 0);
+        return Err(Stop::Fault(Fault::Memory));
+    };
+    let (lines, judged, told, count) = judge_input(store, asked, telling, input, lines);
     let (of_file, written) = take_back(lines);
     let is_wanted = matches!(
         judged,
@@ -66,21 +66,23 @@ fn report_to_file<'a, R: Files + AllocGlobal, I: Read + Drop, P: Pace + Drop, E:
             ..
         },)
     );
-    settle(&mut store, made, written, out, is_wanted, &mut *error)?;
+    if let Err(fault) = settle(store, made, written, out, is_wanted, &mut *error) {
+        return Err(Stop::Fault(fault));
+    }
     match judged {
         Ok(judgement) => {
             tell_aside(error, telling, &told, &judgement, &count, false);
             Ok(judgement.status)
         }
-        Err(ToolFault::Reader) => Err(Fault::Read(told)),
-        Err(ToolFault::Writer { .. }) => Err(Fault::Write(of_file)),
-        Err(_) => Err(Fault::Memory),
+        Err(ToolFault::Reader) => Err(Stop::Fault(Fault::Read(told))),
+        Err(ToolFault::Writer { .. }) => Err(Stop::Fault(Fault::Write(of_file))),
+        Err(_) => Err(Stop::Fault(Fault::Memory)),
     }
 }
 
 /// Writes what is told of the transmission of the file of that name, or of that on standard input, to a file that is none of these.
-pub fn export<'a, R: Files + AllocGlobal, I: Read + Drop, P: Pace + Drop, E: Write>(
-    rt: &R,
+pub fn export<'a, S: Store, I: Read + Drop, P: Pace + Drop, E: Write>(
+    store: &mut S,
     asked: &Asked,
     telling: Telling<'_>,
     name: Option<&'a str>,
@@ -88,13 +90,18 @@ pub fn export<'a, R: Files + AllocGlobal, I: Read + Drop, P: Pace + Drop, E: Wri
     standard: I,
     pace: P,
     error: &mut E,
-) -> Result<Status, Fault<'a>>
+) -> Result<Status, Stop<'a>>
     requires { tells_findings telling ≡ false → asked.now.wanted.fail_on ≡ None }
-    // On standard input the status is that on its bytes, as without OUT.
-    ensures { is_standard (option_map (λ n. n.now) name.entry) ≡ true
-        → EndsAsExport (advice_in telling.entry) asked.now.limits asked.now.wanted (I.remaining standard) result }
+    // The status is that on the bytes of the input, as without OUT.
+    ensures { EndsAsExportOf (advice_in telling.entry) asked.now.limits asked.now.wanted (S.held store.old)
+        (I.remaining standard) (option_map (λ n. n.now) name.entry) result }
 {
-    refuse_out(rt, out, false, &[name.unwrap_or(DASH)])?;
-    let input = open_input(rt, name, &mut Some(standard), pace)?;
-    report_to_file(rt, asked, telling, input, out, error)
+    if let Err(fault) = refuse_out(store, out, false, &[name.unwrap_or(DASH)]) {
+        return Err(Stop::Fault(fault));
+    }
+    let input = match open_input(store, name, &mut Some(standard), pace) {
+        Ok(input) => input,
+        Err(fault) => return Err(Stop::Fault(fault)),
+    };
+    report_to_file(store, asked, telling, input, out, error)
 }

@@ -7,23 +7,24 @@ ghost use Rattle.cwr_tools.specs.Format.Reports.{CountsReaderFault, CountsWriter
 ghost use Rattle.cwr_tools.specs.Steps.Reports.{Reports};
 ghost use Rattle.cwr_tools.specs.Format.Verdicts.{JudgesText};
 ghost use Rattle.cwr_tools.specs.Format.Watching.{StandsAccepted, is_reached};
-ghost use Rattle.cwr_reports.specs.Format.Endings.{EndsOnInput, advice_asked, advice_in};
+ghost use Rattle.cwr_reports.specs.Format.Endings.{EndsOnInput, advice_asked, advice_in, telling_by};
+ghost use Rattle.cwr_files.specs.Format.Faults.{IfErr};
 ghost use Rattle.cwr_files.specs.Steps.Inputs.{remaining_of};
-ghost use Rattle.cwr_reports.specs.Steps.Tellings.{CountsFindings, CountsInput, CountsReading, CountsWriting, ReportsUpTo, TellsText, telling_alone};
-ghost use Rattle.cwr_reports.specs.Steps.Looks.{JudgesOn, LooksAfter, SeesFound, look_of, tells_findings};
+ghost use Rattle.cwr_reports.specs.Steps.Tellings.{CountsFindings, CountsInput, CountsReading, CountsStop, CountsWriting, IsStopOf, ReportsUpTo, TellsLines, TellsOf, TellsText, telling_alone};
+ghost use Rattle.cwr_reports.specs.Steps.Looks.{JudgesOn, JudgesRead, LooksAfter, SeesFound, look_of, tells_findings};
 
 use crate::exports::tell_cut;
 use cwr_acks::{Form, Manner, acks};
 use cwr_advise::AdviceLines;
 use cwr_causes::Trailing;
-use cwr_devices::{ReadAhead, Sink, SinkFault, Source, Target};
+use cwr_devices::{ReadAhead, Sink, Source, Target};
 use cwr_endings::{
-    Judgement, Look, Status, Wanted, judgement_of, look_after, tell_characters, tell_findings,
-    tell_following, tell_profile, tell_unanswering, tell_verdict, worst_level,
+    Judgement, Look, Status, Stop, Wanted, hand_on, judgement_of, look_after, tell_characters,
+    tell_findings, tell_following, tell_profile, tell_unanswering, tell_verdict, worst_level,
 };
 use cwr_explain::explain;
 use cwr_fields::TransactionStatus;
-use cwr_files::{Fault, FileLines, Gathered, Input, Name, Pace, Passing, Told, gathered, told_of};
+use cwr_files::{Fault, FileLines, Input, Pace, Passing, Store, Told, end_input};
 use cwr_json::Encoding;
 use cwr_lint::lint;
 use cwr_shape::{Level, Limits, Reason};
@@ -83,6 +84,7 @@ pub enum Telling<'a> {
 
 /// What is told of an input that is judged and is called so in lines, where it is explained too.
 pub fn telling_of<'a>(asked: &Asked, explained: bool, name: &'a str) -> Telling<'a>
+    ensures telling { result ≡ telling_by asked.now explained name.entry }
     ensures findings { tells_findings result ≡ not asked.now.faults }
     ensures advice { advice_in result ≡ advice_asked asked.now }
 {
@@ -383,27 +385,30 @@ fn judge_source<R: Source, W: Target + Drop>(
 
 /// Judges an input, and writes what is told of it. The writer comes back, what is known of the input where it fails, and
 /// how many findings were told.
-pub(crate) fn judge_input<'a, F: Read + Drop, I: Read + Drop, P: Pace + Drop, W: Target + Drop>(
+pub(crate) fn judge_input<'a, S: Store, I: Read + Drop, P: Pace + Drop, W: Target + Drop>(
+    store: &mut S,
     asked: &Asked,
     telling: Telling<'_>,
-    input: Input<'a, F, I, P>,
+    input: Input<'a, S::Reader, I, P>,
     writer: W,
 ) -> (W, Result<Judgement, ToolFault>, Told<'a>, Count)
     requires { tells_findings telling ≡ false → asked.now.wanted.fail_on ≡ None }
     ensures judges { JudgesOn (advice_in telling.entry) asked.now.limits asked.now.wanted
-        (remaining_of F.remaining I.remaining input.entry) result.1 }
+        (remaining_of S.Reader.remaining I.remaining input.entry) result.1 }
     ensures counted { OnOk result.1 (CountsFindings telling.entry asked.now.limits
-        (remaining_of F.remaining I.remaining input.entry) result.3.findings) }
+        (remaining_of S.Reader.remaining I.remaining input.entry) result.3.findings) }
     ensures told { IfOk result.1 (λ judgement. TellsText telling.entry asked.now.limits
-        (remaining_of F.remaining I.remaining input.entry) W.contents writer result.0
+        (remaining_of S.Reader.remaining I.remaining input.entry) W.contents writer result.0
         (Ok judgement.verdict)) }
     ensures handed_on { OnOk result.1 (W.handed_on result.0 ≡ true) }
+    ensures reader_failures { CountsInput result.1 (S.failures store.old) (S.failures store.new) }
     ensures writer_failures { CountsWriting result.1 (W.failures writer) (W.failures result.0) }
+    ensures kept { S.held store.new ≡ S.held store.old }
+    ensures making { S.making store.new ≡ S.making store.old }
 {
     let mut reader = ReadAhead::new(input);
     let (writer, judged, count) = judge_source(asked, telling, &mut reader, writer);
-    let told = reader.into_inner().told();
-    (writer, judged, told, count)
+    (writer, judged, end_input(store, reader), count)
 }
 
 /// The level at which an input is rejected by this profile, if it is. A limit is the caller's own.
@@ -475,78 +480,149 @@ pub(crate) fn tell_aside<E: Write>(
     }
 }
 
-/// Puts the verdict on what is good and has less than was wanted, which quiet lines leave out.
-pub(crate) fn put_unwanted<W: Target + Drop>(
-    quiet: bool,
-    judgement: &Judgement,
-    lines: W,
-) -> (W, Result<(), SinkFault>) {
+/// Puts the verdict on what is good and has less than was wanted, which quiet lines leave out, and has it handed on.
+fn put_unwanted<'a, W: Target>(judgement: &Judgement, lines: W) -> (W, Result<(), Stop<'a>>)
+    ensures handed_on { OnOk result.1 (W.handed_on result.0 ≡ true) }
+    ensures stopped { IfErr result.1 (λ stop. stop ≡ Stop.Output) }
+{
     let is_good = matches!(judgement.verdict, Verdict::Good { .. });
-    if !quiet || !is_good || judgement.status == Status::Good {
-        return (lines, Ok(()));
-    }
     let mut sink = Sink::new(lines);
-    let put = put_verdict_line(&judgement.verdict, &mut sink);
-    (sink.into_inner(), put)
+    let put = if is_good && judgement.status != Status::Good {
+        put_verdict_line(&judgement.verdict, &mut sink)
+    } else {
+        Ok(())
+    };
+    hand_on(put, sink)
 }
 
-/// The lines on an input, to standard output.
-fn lines_on<'a, F: Read + Drop, I: Read + Drop, P: Pace + Drop, O: Write + Drop>(
+/// Why a run stopped, where an input or its lines failed so.
+fn stop_of<'a>(fault: ToolFault, told: Told<'a>) -> Stop<'a>
+    ensures { IsStopOf told.entry fault result }
+{
+    match fault {
+        ToolFault::Reader => Stop::Fault(Fault::Read(told)),
+        ToolFault::Writer { .. } => Stop::Output,
+        _ => Stop::Fault(Fault::Memory),
+    }
+}
+
+/// The lines on an input that aren't quiet.
+fn all_lines_on<'a, S: Store, I: Read + Drop, P: Pace + Drop, W: Target + Drop>(
+    store: &mut S,
     asked: &Asked,
     telling: Telling<'_>,
-    input: Input<'a, F, I, P>,
-    lines: Gathered<'a, O>,
-) -> (
-    Gathered<'a, O>,
-    Result<Judgement, ToolFault>,
-    Told<'a>,
-    Count,
-)
+    input: Input<'a, S::Reader, I, P>,
+    lines: W,
+) -> (W, Result<(Judgement, Told<'a>, Count), Stop<'a>>)
     requires { tells_findings telling ≡ false → asked.now.wanted.fail_on ≡ None }
-    ensures { JudgesOn (advice_in telling.entry) asked.now.limits asked.now.wanted
-        (remaining_of F.remaining I.remaining input.entry) result.1 }
+    ensures judges { JudgesRead (advice_in telling.entry) asked.now.limits asked.now.wanted
+        (remaining_of S.Reader.remaining I.remaining input.entry) result.1 }
+    ensures told { TellsLines telling.entry asked.now.limits
+        (remaining_of S.Reader.remaining I.remaining input.entry) W.contents lines result.0 result.1 }
+    ensures handed_on { OnOk result.1 (W.handed_on result.0 ≡ true) }
+    ensures failures { CountsStop result.1 (S.failures store.old) (S.failures store.new)
+        (W.failures lines) (W.failures result.0) }
+    ensures kept { S.held store.new ≡ S.held store.old }
+    ensures making { S.making store.new ≡ S.making store.old }
+{
+    let (lines, judged, told, count) = judge_input(store, asked, telling, input, lines);
+    match judged {
+        Ok(judgement) => (lines, Ok((judgement, told, count))),
+        Err(fault) => (lines, Err(stop_of(fault, told))),
+    }
+}
+
+/// The lines on an input, each with the name before it if there is one: all of them, or quiet ones.
+pub(crate) fn marked_lines_on<'a, S: Store, I: Read + Drop, P: Pace + Drop, W: Target + Drop>(
+    store: &mut S,
+    asked: &Asked,
+    telling: Telling<'_>,
+    name: Option<&str>,
+    input: Input<'a, S::Reader, I, P>,
+    lines: W,
+) -> (W, Result<(Judgement, Told<'a>, Count), Stop<'a>>)
+    requires { tells_findings telling ≡ false → asked.now.wanted.fail_on ≡ None }
+    ensures judges { JudgesRead (advice_in telling.entry) asked.now.limits asked.now.wanted
+        (remaining_of S.Reader.remaining I.remaining input.entry) result.1 }
+    ensures handed_on { OnOk result.1 (W.handed_on result.0 ≡ true) }
+    ensures kept { S.held store.new ≡ S.held store.old }
+    ensures making { S.making store.new ≡ S.making store.old }
+{
+    let marked = FileLines::new(lines, name, asked.passing());
+    let (marked, judged, told, count) = judge_input(store, asked, telling, input, marked);
+    let lines = marked.into_inner();
+    let judgement = match judged {
+        Ok(judgement) => judgement,
+        Err(fault) => return (lines, Err(stop_of(fault, told))),
+    };
+    if !asked.quiet {
+        return (lines, Ok((judgement, told, count)));
+    }
+    let all = FileLines::new(lines, name, Passing::All);
+    let (all, put) = put_unwanted(&judgement, all);
+    match put {
+        Ok(()) => (all.into_inner(), Ok((judgement, told, count))),
+        Err(stop) => (all.into_inner(), Err(stop)),
+    }
+}
+
+/// The lines on an input, all of them or quiet ones.
+fn lines_on<'a, S: Store, I: Read + Drop, P: Pace + Drop, W: Target + Drop>(
+    store: &mut S,
+    asked: &Asked,
+    telling: Telling<'_>,
+    input: Input<'a, S::Reader, I, P>,
+    lines: W,
+) -> (W, Result<(Judgement, Told<'a>, Count), Stop<'a>>)
+    requires { tells_findings telling ≡ false → asked.now.wanted.fail_on ≡ None }
+    ensures judges { JudgesRead (advice_in telling.entry) asked.now.limits asked.now.wanted
+        (remaining_of S.Reader.remaining I.remaining input.entry) result.1 }
+    ensures told { asked.now.quiet ≡ false → TellsLines telling.entry asked.now.limits
+        (remaining_of S.Reader.remaining I.remaining input.entry) W.contents lines result.0 result.1 }
+    ensures handed_on { OnOk result.1 (W.handed_on result.0 ≡ true) }
+    ensures failures { asked.now.quiet ≡ false → CountsStop result.1 (S.failures store.old)
+        (S.failures store.new) (W.failures lines) (W.failures result.0) }
+    ensures kept { S.held store.new ≡ S.held store.old }
+    ensures making { S.making store.new ≡ S.making store.old }
 {
     if asked.quiet {
-        let lines = FileLines::new(lines, None, asked.passing());
-        let (lines, judged, told, count) = judge_input(asked, telling, input, lines);
-        (lines.into_inner(), judged, told, count)
+        marked_lines_on(store, asked, telling, None, input, lines)
     } else {
-        judge_input(asked, telling, input, lines)
+        all_lines_on(store, asked, telling, input, lines)
     }
 }
 
-/// Reports on an input: writes what is told of it to standard output, and what isn't among those lines to standard error.
-pub fn report_input<'a, F: Read + Drop, I: Read + Drop, P: Pace + Drop, O: Write + Drop, E: Write>(
+/// Reports on an input: writes what is told of it, and what isn't among those lines to standard error. The writer comes back.
+pub fn report_input<'a, S: Store, I: Read + Drop, P: Pace + Drop, W: Target + Drop, E: Write>(
+    store: &mut S,
     asked: &Asked,
     telling: Telling<'_>,
-    input: Input<'a, F, I, P>,
-    output: O,
+    input: Input<'a, S::Reader, I, P>,
+    lines: W,
     error: &mut E,
-) -> Result<Status, Fault<'a>>
+) -> (W, Result<Status, Stop<'a>>)
     requires { tells_findings telling ≡ false → asked.now.wanted.fail_on ≡ None }
-    ensures { EndsOnInput (advice_in telling.entry) asked.now.limits asked.now.wanted
-        (remaining_of F.remaining I.remaining input.entry) result }
+    ensures ends { EndsOnInput (advice_in telling.entry) asked.now.limits asked.now.wanted
+        (remaining_of S.Reader.remaining I.remaining input.entry) result.1 }
+    // Where lines aren't quiet, those that are asked for were written.
+    ensures told { asked.now.quiet ≡ false → TellsOf telling.entry asked.now.limits S.Reader.remaining I.remaining
+        input.entry W.contents lines result.0 result.1 }
+    ensures handed_on { OnOk result.1 (W.handed_on result.0 ≡ true) }
+    // A fault of a device is answered only where that device counted one more failure.
+    ensures failures { asked.now.quiet ≡ false → CountsStop result.1 (S.failures store.old)
+        (S.failures store.new) (W.failures lines) (W.failures result.0) }
+    ensures kept { S.held store.new ≡ S.held store.old }
+    ensures making { S.making store.new ≡ S.making store.old }
 {
-    let lines = match gathered(asked.alloc, output, Name::StandardOutput) {
-        Ok(lines) => lines,
-        Err(_) => return Err(Fault::Memory),
+    let (lines, read) = lines_on(store, asked, telling, input, lines);
+    let (judgement, told, count) = match read {
+        Ok(read) => read,
+        Err(stop) => return (lines, Err(stop)),
     };
-    let (lines, judged, told, count) = lines_on(asked, telling, input, lines);
-    match judged {
-        Ok(judgement) => {
-            let (mut lines, put) = put_unwanted(asked.quiet, &judgement, lines);
-            if put.is_err() || lines.flush().is_err() {
-                return Err(Fault::Write(told_of(lines)));
-            }
-            tell_aside(&mut *error, telling, &told, &judgement, &count, asked.quiet);
-            if let Telling::Explained(_) = telling {
-                tell_profile(&mut *error, rejected_level(&judgement.verdict, &count));
-            }
-            tell_cut(error, telling, told.name, &judgement.verdict);
-            Ok(judgement.status)
-        }
-        Err(ToolFault::Reader) => Err(Fault::Read(told)),
-        Err(ToolFault::Writer { .. }) => Err(Fault::Write(told_of(lines))),
-        Err(_) => Err(Fault::Memory),
+    tell_aside(&mut *error, telling, &told, &judgement, &count, asked.quiet);
+    if let Telling::Explained(_) = telling {
+        tell_profile(&mut *error, rejected_level(&judgement.verdict, &count));
     }
+    tell_cut(error, telling, told.name, &judgement.verdict);
+    (lines, Ok(judgement.status))
 }

@@ -1,10 +1,12 @@
-//! Tests of tables, of numbers that are put right, and of whole lints and explanations, on worked lines.
+//! Tests of tables, of numbers that are put right, of runs over files, and of whole lints and explanations, on worked lines.
 #![tactic(auto)]
 
 #[cfg(test)]
 mod devices;
 #[cfg(test)]
 mod explained;
+#[cfg(test)]
+mod files;
 #[cfg(test)]
 mod lints;
 #[cfg(test)]

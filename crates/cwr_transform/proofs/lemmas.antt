@@ -4,3 +4,5 @@ pub mod SplitsEnd
 pub mod ImportsEnd
 -- A join ends as what it is made of answers.
 pub mod JoinsEnd
+-- What is left of an import to a file.
+pub mod ImportFiles

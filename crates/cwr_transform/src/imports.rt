@@ -1,35 +1,37 @@
 //! Transmissions that are written from lines of JSON.
 
+ghost use Rattle.std.specs.Prelude.{◌≡◌, None, IfOk};
+ghost use Rattle.cwr_write.specs.Format.Imports.{CountsReaderFault, CountsWriterFault, WritesWhole};
+ghost use Rattle.cwr_files.specs.Format.Files.{Turns};
 ghost use Rattle.cwr_files.specs.Steps.Inputs.{remaining_of};
-ghost use Rattle.cwr_transform.specs.Format.Imports.{EndsAsFileImport, EndsAsImport, ImportEndsAs, JudgesImport};
+ghost use Rattle.cwr_endings.specs.Format.Endings.{WritesOut};
+ghost use Rattle.cwr_transform.specs.Format.Imports.{EndsAsFileImport, EndsAsImport, ImportEndsAs, IsImportOf, JudgesImport};
 
-use cwr_devices::{Counted, ReadAhead, Sink};
-use cwr_endings::{Status, settle};
+use cwr_devices::{Counted, ReadAhead, Sink, Target};
+use cwr_endings::{Status, Stop, settle};
 use cwr_files::{
-    Fault, Gathered, Input, Name, Pace, SystemStore, Told, create_output, gathered, take_back,
-    told_of,
+    Fault, Input, Name, Pace, Store, Told, create_output, end_input, gathered, take_back,
 };
 use cwr_json::Encoding;
 use cwr_shape::Limits;
 use cwr_write::{WriteFault, Written, put_hint, put_write_outcome, write};
 use std::alloc::Global;
 use std::io::{Read, Write};
-use std::rt::Files;
 
 /// What the end of an import means for the program.
 fn import_ending<'a>(
     outcome: Result<Written, WriteFault>,
     input: Told<'a>,
-    output: Told<'a>,
-) -> Result<Status, Fault<'a>>
+    output: Stop<'a>,
+) -> Result<Status, Stop<'a>>
     ensures { ImportEndsAs input.entry output.entry outcome result }
 {
     match outcome {
         Ok(_) => Ok(Status::Good),
         Err(WriteFault::Refused(_) | WriteFault::Early { .. }) => Ok(Status::Refused),
-        Err(WriteFault::Reader) => Err(Fault::Read(input)),
-        Err(WriteFault::Writer { .. }) => Err(Fault::Write(output)),
-        Err(WriteFault::Memory) => Err(Fault::Memory),
+        Err(WriteFault::Reader) => Err(Stop::Fault(Fault::Read(input))),
+        Err(WriteFault::Writer { .. }) => Err(output),
+        Err(WriteFault::Memory) => Err(Stop::Fault(Fault::Memory)),
     }
 }
 
@@ -58,13 +60,20 @@ pub struct Import {
 
 /// Writes the transmission that the input's lines are to the writer, which comes back. Beside how that ended comes what is known of the
 /// input.
-fn import_from<'a, F: Read + Drop, I: Read + Drop, P: Pace + Drop, O: Write + Drop>(
+fn import_from<'a, S: Store, I: Read + Drop, P: Pace + Drop, W: Target>(
+    store: &mut S,
     alloc: Global,
     import: &Import,
-    input: Input<'a, F, I, P>,
-    writer: Gathered<'a, O>,
-) -> (Result<Written, WriteFault>, Told<'a>, Gathered<'a, O>)
-    ensures { JudgesImport import.now (remaining_of F.remaining I.remaining input.entry) result.0 }
+    input: Input<'a, S::Reader, I, P>,
+    writer: W,
+) -> (W, Result<Written, WriteFault>, Told<'a>)
+    ensures judges { JudgesImport import.now (remaining_of S.Reader.remaining I.remaining input.entry) result.1 }
+    ensures written { IfOk result.1 (λ w. WritesWhole import.now.encoding import.now.limits
+        (remaining_of S.Reader.remaining I.remaining input.entry) W.contents writer result.0 w.bytes) }
+    ensures failures { CountsWriterFault result.1 (W.failures writer) (W.failures result.0) }
+    ensures reads { CountsReaderFault result.1 (S.failures store.old) (S.failures store.new) }
+    ensures kept { S.held store.new ≡ S.held store.old }
+    ensures making { S.making store.new ≡ S.making store.old }
 {
     let mut reader = ReadAhead::new(input);
     let (writer, outcome) = write(
@@ -75,60 +84,55 @@ fn import_from<'a, F: Read + Drop, I: Read + Drop, P: Pace + Drop, O: Write + Dr
         &mut reader,
         writer,
     );
-    (outcome, reader.into_inner().told(), writer)
+    (writer, outcome, end_input(store, reader))
 }
 
-/// Writes the transmission that the input's lines are to the output.
-pub fn import_input<'a, F: Read + Drop, I: Read + Drop, P: Pace + Drop, O: Write + Drop, E: Write>(
+/// Writes the transmission that the input's lines are to the output, which comes back.
+pub fn import_input<'a, S: Store, I: Read + Drop, P: Pace + Drop, W: Target, E: Write>(
+    store: &mut S,
     alloc: Global,
     import: &Import,
-    input: Input<'a, F, I, P>,
-    output: O,
+    input: Input<'a, S::Reader, I, P>,
+    output: W,
     error: &mut E,
-) -> Result<Status, Fault<'a>>
-    ensures { EndsAsImport import.now (remaining_of F.remaining I.remaining input.entry) result }
+) -> (W, Result<Status, Stop<'a>>)
+    ensures { EndsAsImport import.now (remaining_of S.Reader.remaining I.remaining input.entry) result.1 }
 {
-    let Ok(writer) = gathered(alloc, output, Name::StandardOutput) else {
-        return Err(Fault::Memory);
-    };
-    let (outcome, read, writer) = import_from(alloc, import, input, writer);
-    let written = told_of(writer);
+    let (mut output, outcome, read) = import_from(store, alloc, import, input, output);
+    // What is left is written before that is told, where it can be.
+    let _ = output.flush();
     tell_import(import, &outcome, error);
-    import_ending(outcome, read, written)
+    (output, import_ending(outcome, read, Stop::Output))
 }
 
 /// Writes the transmission that the input's lines are to a file, which gets its name where that is whole.
-pub fn import_file<
-    'a,
-    R: Files + AllocGlobal,
-    F: Read + Drop,
-    I: Read + Drop,
-    P: Pace + Drop,
-    E: Write,
->(
-    rt: &R,
+pub fn import_file<'a, S: Store, I: Read + Drop, P: Pace + Drop, E: Write>(
+    store: &mut S,
+    alloc: Global,
     import: &Import,
-    input: Input<'a, F, I, P>,
+    input: Input<'a, S::Reader, I, P>,
     out: &'a str,
     error: &mut E,
-) -> Result<Status, Fault<'a>>
-    ensures { EndsAsFileImport import.now (remaining_of F.remaining I.remaining input.entry) result }
+) -> Result<Status, Stop<'a>>
+    ensures ends { EndsAsFileImport import.now (remaining_of S.Reader.remaining I.remaining input.entry) result }
+    // Where it ends well the file holds the transmission that the lines are, and nothing else changed; else nothing did.
+    ensures files { S.making store.old ≡ None → Turns (S.held store.old) (S.held store.new)
+        (WritesOut out.now (S.failures store.old) (S.failures store.new)
+        (IsImportOf import.now (remaining_of S.Reader.remaining I.remaining input.entry)) result) }
 {
-    let alloc = rt.alloc();
-    let mut store = SystemStore::new(rt);
-    let (made, file) = match create_output(&mut store, alloc, out) {
+    let (made, file) = match create_output(store, alloc, out) {
         Ok(made) => made,
-        Err(fault) => return Err(fault),
+        Err(fault) => return Err(Stop::Fault(fault)),
     };
     let Ok(writer) = gathered(alloc, file, Name::File(out)) else {
-        made.discard(&mut store, 0);
-        return Err(Fault::Memory);
+        made.discard(store, 0);
+        return Err(Stop::Fault(Fault::Memory));
     };
-    let (outcome, read, writer) = import_from(alloc, import, input, writer);
+    let (writer, outcome, read) = import_from(store, alloc, import, input, writer);
     let (told, written) = take_back(writer);
-    if let Err(fault) = settle(&mut store, made, written, out, outcome.is_ok(), error) {
-        return Err(fault);
+    if let Err(fault) = settle(store, made, written, out, outcome.is_ok(), error) {
+        return Err(Stop::Fault(fault));
     }
     tell_import(import, &outcome, error);
-    import_ending(outcome, read, told)
+    import_ending(outcome, read, Stop::Fault(Fault::Write(told)))
 }

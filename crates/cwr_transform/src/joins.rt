@@ -1,27 +1,25 @@
 //! Transmissions that are joined to one.
 
 ghost use Rattle.std.specs.Prelude.{◌≡◌, ◌<◌, ◌&&◌, not, length, IfOk, IfSome};
-ghost use Rattle.cwr_endings.specs.Format.Endings.{IsUnwritten};
 ghost use Rattle.cwr_files.specs.Format.Faults.{IfErr};
-ghost use Rattle.cwr_transform.specs.Format.Joins.{EndsAfterJoin, EndsAsJoin, EndsJoined, IsRefusedSender, IsUnjoined, IsUnread, is_wanted};
+ghost use Rattle.cwr_transform.specs.Format.Joins.{EndsAfterJoin, EndsAsJoin, EndsJoined, IsJoinFault, IsRefusedSender, IsUnjoined, IsUnread, NamesInputs, is_wanted};
 
 use crate::join_notes::{other_sender, tell_repeated, tell_senders, word_of};
 use crate::join_views::JoinView;
-use cwr_devices::{ReadAhead, Sink, Source};
+use cwr_devices::{ReadAhead, Sink, Source, Target};
 use cwr_endings::{
-    Look, Status, Wanted, ended_by, follows, hand_on, look_beyond, refuse_out, settle,
+    Look, Status, Stop, Wanted, ended_by, follows, hand_on, look_beyond, refuse_out, settle,
     tell_findings, tell_following, tell_unjoined,
 };
 use cwr_files::{
-    Fault, Gathered, Input, Name, Pace, Paced, Store, SystemStore, Told, Unwatched, Written,
-    create_output, gathered, is_standard, open_input, take_back,
+    Fault, Input, Name, Pace, Paced, Store, Told, Unwatched, Written, create_output, end_input,
+    gathered, is_standard, open_input, take_back,
 };
 use cwr_parts::{join_viewed, put_join_outcome};
 use cwr_shape::Limits;
 use cwr_tools::{JoinFault, JoinReport};
 use std::alloc::Global;
 use std::io::{Read, Write};
-use std::rt::Files;
 
 /// How transmissions are joined.
 #[derive(Clone, Copy, Debug)]
@@ -43,19 +41,19 @@ pub struct Union<'a> {
 type Reader<'a, F, I> = ReadAhead<Input<'a, F, I, Unwatched>>;
 
 /// The inputs of these names, in their order.
-fn open_inputs<'a, R: Files, I: Read + Drop>(
-    rt: &R,
+fn open_inputs<'a, S: Store, I: Read + Drop>(
+    store: &mut S,
     alloc: Global,
     names: &[&'a str],
     standard: I,
-) -> Result<Vec<Reader<'a, R::File, I>>, Fault<'a>>
+) -> Result<Vec<Reader<'a, S::Reader, I>>, Fault<'a>>
     ensures opened { IfOk result (λ readers. length readers.items ≡ length names.now) }
     ensures unopened { IfErr result IsUnread }
 {
     let mut standard = Some(standard);
     let mut readers = Vec::new(alloc);
     for name in names {
-        match open_input(rt, Some(*name), &mut standard, Unwatched) {
+        match open_input(store, Some(*name), &mut standard, Unwatched) {
             Ok(input) => {
                 if readers.push(ReadAhead::new(input)).is_err() {
                     return Err(Fault::Memory);
@@ -67,17 +65,22 @@ fn open_inputs<'a, R: Files, I: Read + Drop>(
     Ok(readers)
 }
 
-/// What is known of the input of that number, from 1.
-fn told_at<F: Drop, I: Drop>(
-    mut readers: Vec<Reader<'_, F, I>>,
+/// Takes the inputs back. What is known of the one of that number, from 1, is the answer.
+fn end_inputs<'a, S: Store, F: Drop, I: Drop>(
+    store: &mut S,
+    readers: Vec<Reader<'a, F, I>>,
     number: usize,
-) -> Option<Told<'_>> {
-    let index = number.checked_sub(1)?;
-    if index < readers.len() {
-        Some(readers.swap_remove(index).into_inner().told())
-    } else {
-        None
+) -> Option<Told<'a>> {
+    let mut found = None;
+    let mut at: usize = 0;
+    for reader in readers {
+        let told = end_input(store, reader);
+        at = at.saturating_add(1);
+        if at == number {
+            found = Some(told);
+        }
     }
+    found
 }
 
 /// What a word that names an input is called in messages.
@@ -137,6 +140,15 @@ impl Joined<'_> {
             None => false,
         };
         is_whole && !self.found
+    }
+
+    /// The number of the input that failed, from 1, or none of theirs.
+    fn failed_input(&self) -> usize {
+        match (self.outcome, self.after) {
+            (Err(stopped), _) => stopped.input,
+            (Ok(_), Some(Err(number))) => number,
+            (Ok(_), _) => 0,
+        }
     }
 }
 
@@ -255,45 +267,32 @@ fn join_to_file<'a, S: Store, R: Source, P: Pace, E: Write>(
     }
 }
 
-/// Writes the line that says how a join ended.
-fn put_line<'a, O: Write + Drop>(
-    outcome: &Result<JoinReport, JoinFault>,
-    lines: Gathered<'a, O>,
-) -> Result<(), Fault<'a>>
-    ensures { IfErr result IsUnwritten }
-{
-    let mut sink = Sink::new(lines);
-    let put = put_join_outcome(outcome, &mut sink);
-    hand_on(put, sink)
-}
-
-/// How a run ends whose inputs these are.
-fn ending<'a, F: Drop, I: Drop>(
-    joined: Joined<'a>,
+/// How a run ends that joined inputs of which, where one failed, this is known.
+fn ending<'a>(
+    joined: &Joined<'a>,
     union: &Union<'a>,
-    readers: Vec<Reader<'a, F, I>>,
-) -> Result<Status, Fault<'a>>
-    ensures { EndsJoined union.now joined.entry.outcome joined.entry.found joined.entry.after result }
+    failed: Option<Told<'a>>,
+) -> Result<Status, Stop<'a>>
+    ensures { EndsJoined union.now joined.now.outcome joined.now.found joined.now.after result }
 {
-    let written = joined.written;
+    let read = failed.unwrap_or(joined.written);
     match joined.outcome {
         Ok(_) if joined.found => Ok(Status::Refused),
-        Ok(_) => after_join(joined.after, union.wanted.whole, readers, written),
+        Ok(_) => after_join(joined.after, union.wanted.whole, read),
         Err(stopped) => {
-            let read = told_at(readers, stopped.input).unwrap_or(written);
-            let made = Fault::Output(Name::File(union.out), None);
+            let written = Stop::Fault(Fault::Write(joined.written));
+            let made = Stop::Fault(Fault::Output(Name::File(union.out), None));
             ended_by(Some(stopped.fault), read, written, made)
         }
     }
 }
 
 /// How a run ends whose inputs are joined, by what stands after their transmissions.
-fn after_join<'a, F: Drop, I: Drop>(
+fn after_join<'a>(
     after: Option<Result<bool, usize>>,
     whole: bool,
-    readers: Vec<Reader<'a, F, I>>,
-    written: Told<'a>,
-) -> Result<Status, Fault<'a>>
+    read: Told<'a>,
+) -> Result<Status, Stop<'a>>
     ensures { EndsAfterJoin whole after result }
 {
     match after {
@@ -304,9 +303,9 @@ fn after_join<'a, F: Drop, I: Drop>(
                 Ok(Status::Good)
             }
         }
-        Some(Err(number)) => {
+        Some(Err(_)) => {
             if whole {
-                Err(Fault::Read(told_at(readers, number).unwrap_or(written)))
+                Err(Stop::Fault(Fault::Read(read)))
             } else {
                 Ok(Status::Good)
             }
@@ -315,36 +314,32 @@ fn after_join<'a, F: Drop, I: Drop>(
     }
 }
 
-/// Joins the transmissions of files to one, and writes the line that says how that ended: none where something stands after the
-/// transmission of an input and nothing may.
-pub fn join_files<'a, R: Files + AllocGlobal, I: Read + Drop, P: Pace, O: Write + Drop, E: Write>(
-    rt: &R,
+/// Joins the transmissions of files to one. Beside what came of that comes what is known of the input that failed, if one did; no answer
+/// is that no input was named.
+fn join_named<'a, S: Store, I: Read + Drop, P: Pace, E: Write>(
+    store: &mut S,
+    alloc: Global,
     union: &Union<'a>,
     names: &[&'a str],
     standard: I,
     pace: &mut P,
-    output: O,
     error: &mut E,
-) -> Result<Status, Fault<'a>>
-    ensures { EndsAsJoin union.now (length names.now) result }
+) -> Result<Option<(Joined<'a>, Option<Told<'a>>)>, Fault<'a>>
+    ensures some { IfOk result (λ answer. NamesInputs answer (length names.now)) }
+    ensures fault { IfErr result (IsJoinFault union.now) }
 {
-    let alloc = rt.alloc();
-    let Ok(lines) = gathered(alloc, output, Name::StandardOutput) else {
-        return Err(Fault::Memory);
-    };
-    let mut readers = match open_inputs(rt, alloc, names, standard) {
+    let mut readers = match open_inputs(store, alloc, names, standard) {
         Ok(readers) => readers,
         Err(fault) => return Err(fault),
     };
     if readers.is_empty() {
-        return Ok(Status::CommandLine);
+        return Ok(None);
     }
-    if let Err(fault) = refuse_out(rt, union.out, union.only_new, names) {
+    if let Err(fault) = refuse_out(store, union.out, union.only_new, names) {
         return Err(fault);
     }
-    let mut store = SystemStore::new(rt);
     let joined = match join_to_file(
-        &mut store,
+        store,
         alloc,
         union,
         names,
@@ -355,23 +350,50 @@ pub fn join_files<'a, R: Files + AllocGlobal, I: Read + Drop, P: Pace, O: Write 
         Ok(joined) => joined,
         Err(fault) => return Err(fault),
     };
-    if let Err(fault) = put_joined(&joined, union.wanted.whole, lines) {
-        return Err(fault);
+    let failed = end_inputs(store, readers, joined.failed_input());
+    Ok(Some((joined, failed)))
+}
+
+/// Joins the transmissions of files to one, and writes the line that says how that ended: none where something stands after the
+/// transmission of an input and nothing may. The writer comes back.
+pub fn join_files<'a, S: Store, I: Read + Drop, P: Pace, W: Target, E: Write>(
+    store: &mut S,
+    alloc: Global,
+    union: &Union<'a>,
+    names: &[&'a str],
+    standard: I,
+    pace: &mut P,
+    lines: W,
+    error: &mut E,
+) -> (W, Result<Status, Stop<'a>>)
+    ensures { EndsAsJoin union.now (length names.now) result.1 }
+{
+    match join_named(store, alloc, union, names, standard, pace, error) {
+        Ok(Some((joined, failed))) => {
+            let (lines, put) = put_joined(&joined, union.wanted.whole, lines);
+            match put {
+                Ok(()) => (lines, ending(&joined, union, failed)),
+                Err(stop) => (lines, Err(stop)),
+            }
+        }
+        Ok(None) => (lines, Ok(Status::CommandLine)),
+        Err(fault) => (lines, Err(Stop::Fault(fault))),
     }
-    ending(joined, union, readers)
 }
 
 /// Writes the line that says how a join ended: none where it isn't what is wanted.
-fn put_joined<'a, O: Write + Drop>(
+fn put_joined<'a, W: Target>(
     joined: &Joined<'_>,
     whole: bool,
-    lines: Gathered<'a, O>,
-) -> Result<(), Fault<'a>>
-    ensures { IfErr result IsUnwritten }
+    lines: W,
+) -> (W, Result<(), Stop<'a>>)
+    ensures { IfErr result.1 (λ stop. stop ≡ Stop.Output) }
 {
     if joined.outcome.is_err() || joined.is_wanted(whole) {
-        put_line(&joined.outcome, lines)
+        let mut sink = Sink::new(lines);
+        let put = put_join_outcome(&joined.outcome, &mut sink);
+        hand_on(put, sink)
     } else {
-        Ok(())
+        (lines, Ok(()))
     }
 }

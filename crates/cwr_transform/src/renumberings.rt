@@ -1,13 +1,13 @@
 //! A transmission whose numbers are put right.
 
-use cwr_devices::{Counted, ReadAhead, Sink};
+use cwr_devices::{Counted, ReadAhead, Sink, Target};
 use cwr_endings::{
-    Look, Status, Wanted, ended_by, follows, hand_on, look_beyond, refuse_out, settle, status_by,
-    tell_findings, tell_following, tell_unwritten,
+    Look, Status, Stop, Wanted, ended_by, follows, hand_on, look_beyond, refuse_out, settle,
+    status_by, tell_findings, tell_following, tell_unwritten,
 };
 use cwr_files::{
-    DASH, Fault, Gathered, Input, Name, Pace, SystemStore, Told, create_output, gathered,
-    open_input, take_back, told_of,
+    DASH, Fault, Input, Name, Pace, Store, Told, create_output, end_input, gathered, open_input,
+    take_back,
 };
 use cwr_renumber::{Count, Jump, Jumps, Step, put_renumber_outcome, renumber_viewed};
 use cwr_shape::Limits;
@@ -15,7 +15,6 @@ use cwr_tools::{FindingCount, FindingView, JoinReport, ToolFault};
 use std::alloc::Global;
 use std::io;
 use std::io::{Read, Write};
-use std::rt::Files;
 
 /// How numbers are put right.
 #[derive(Clone, Copy, Debug)]
@@ -164,13 +163,14 @@ fn tell_mixed<E: Write>(error: &mut E, name: Name<'_>) {
 }
 
 /// Writes the transmission of an input with its numbers put right, and looks what follows it there. The writer comes back.
-fn run<'a, F: Read + Drop, I: Read + Drop, P: Pace + Drop, O: Write + Drop, E: Write>(
+fn run<'a, S: Store, I: Read + Drop, P: Pace + Drop, W: Target + Drop, E: Write>(
+    store: &mut S,
     alloc: Global,
     repair: &Repair<'_>,
-    input: Input<'a, F, I, P>,
-    writer: Gathered<'a, O>,
+    input: Input<'a, S::Reader, I, P>,
+    writer: W,
     error: &mut E,
-) -> (Repaired<'a>, Gathered<'a, O>) {
+) -> (Repaired<'a>, W) {
     let mut reader = ReadAhead::new(input);
     let mut view = FindingView::new(alloc);
     let (writer, outcome, jumps) = renumber_viewed(
@@ -188,7 +188,7 @@ fn run<'a, F: Read + Drop, I: Read + Drop, P: Pace + Drop, O: Write + Drop, E: W
         Ok(_) => look_beyond(&mut reader),
         Err(_) => Look::Unasked,
     };
-    let read = reader.into_inner().told();
+    let read = end_input(store, reader);
     tell_jumps(error, read.name, &jumps);
     let mixed = outcome.is_ok() && jumps.are_mixed && !repair.anyway;
     if mixed {
@@ -218,94 +218,117 @@ fn tell_count<E: Write>(error: &mut E, name: Name<'_>, repaired: &Repaired<'_>, 
     }
 }
 
-/// How a run ends, where `written` is known of the output, and `made` is what its fault is.
+/// How a run ends, where that is why it stopped if its output failed, or couldn't be made.
 fn ending<'a>(
     repaired: Repaired<'a>,
     whole: bool,
-    written: Told<'a>,
-    made: Fault<'a>,
-) -> Result<Status, Fault<'a>> {
+    written: Stop<'a>,
+    made: Stop<'a>,
+) -> Result<Status, Stop<'a>> {
     let is_wanted = repaired.is_wanted(whole);
     match (repaired.outcome, repaired.look) {
-        (Ok(_), Look::Failed) if !is_wanted => Err(Fault::Read(repaired.read)),
+        (Ok(_), Look::Failed) if !is_wanted => Err(Stop::Fault(Fault::Read(repaired.read))),
         (Ok(_), _) if !is_wanted => Ok(Status::Refused),
         (outcome, _) => ended_by(outcome.err(), repaired.read, written, made),
     }
 }
 
-/// Writes the transmission to a file, which gets its name where that is whole, and the line that says how that ended to the output.
-fn repair_to_file<
-    'a,
-    R: Files + AllocGlobal,
-    I: Read + Drop,
-    P: Pace + Drop,
-    O: Write + Drop,
-    E: Write,
->(
-    rt: &R,
+/// What came of a run to a file.
+#[derive(Drop)]
+struct RepairedFile<'a> {
+    repaired: Repaired<'a>,
+    /// What is known of the file.
+    written: Told<'a>,
+    /// Whether it has its name.
+    is_kept: bool,
+}
+
+/// Writes the transmission of an input with its numbers put right to a file.
+fn write_repaired<'a, S: Store, I: Read + Drop, P: Pace + Drop, E: Write>(
+    store: &mut S,
+    alloc: Global,
     repair: &Repair<'a>,
-    input: Input<'a, R::File, I, P>,
+    input: Input<'a, S::Reader, I, P>,
     out: &'a str,
-    output: O,
     error: &mut E,
-) -> Result<Status, Fault<'a>> {
-    let alloc = rt.alloc();
+) -> Result<RepairedFile<'a>, Fault<'a>> {
+    refuse_out(store, out, repair.only_new, &[repair.file.unwrap_or(DASH)])?;
     let name = Name::File(out);
-    let lines = gathered(alloc, output, Name::StandardOutput).map_err(|_| Fault::Memory)?;
-    refuse_out(rt, out, repair.only_new, &[repair.file.unwrap_or(DASH)])?;
-    let mut store = SystemStore::new(rt);
-    let (made, file) = create_output(&mut store, alloc, out)?;
+    let (made, file) = create_output(store, alloc, out)?;
     let Ok(writer) = gathered(alloc, file, name) else {
-        made.discard(&mut store, 0);
+        made.discard(store, 0);
         return Err(Fault::Memory);
     };
-    let (repaired, writer) = run(alloc, repair, input, writer, &mut *error);
+    let (repaired, writer) = run(store, alloc, repair, input, writer, &mut *error);
     let (told, written) = take_back(writer);
     let is_kept = repaired.is_wanted(repair.wanted.whole);
-    settle(&mut store, made, written, out, is_kept, &mut *error)?;
+    settle(store, made, written, out, is_kept, &mut *error)?;
     tell_count(error, name, &repaired, is_kept);
+    Ok(RepairedFile {
+        repaired,
+        written: told,
+        is_kept,
+    })
+}
+
+/// Writes the transmission of an input with its numbers put right to a file, and the line that says how that ended to the output, which
+/// comes back.
+fn repair_to_file<'a, S: Store, I: Read + Drop, P: Pace + Drop, W: Target, E: Write>(
+    store: &mut S,
+    alloc: Global,
+    repair: &Repair<'a>,
+    input: Input<'a, S::Reader, I, P>,
+    out: &'a str,
+    lines: W,
+    error: &mut E,
+) -> (W, Result<Status, Stop<'a>>) {
+    let RepairedFile {
+        repaired,
+        written,
+        is_kept,
+    } = match write_repaired(store, alloc, repair, input, out, error) {
+        Ok(repaired) => repaired,
+        Err(fault) => return (lines, Err(Stop::Fault(fault))),
+    };
     let whole = repair.wanted.whole;
+    let written = Stop::Fault(Fault::Write(written));
+    let made = Stop::Fault(Fault::Output(Name::File(out), None));
     if !is_kept && repaired.outcome.is_ok() {
-        return ending(repaired, whole, told, Fault::Output(name, None));
+        return (lines, ending(repaired, whole, written, made));
     }
     let mut sink = Sink::new(lines);
     let put = put_renumber_outcome(&repaired.outcome, &mut sink);
-    hand_on(put, sink)?;
-    ending(repaired, whole, told, Fault::Output(name, None))
+    let (lines, handed) = hand_on(put, sink);
+    match handed {
+        Ok(()) => (lines, ending(repaired, whole, written, made)),
+        Err(stop) => (lines, Err(stop)),
+    }
 }
 
 /// Writes the transmission of a file, or of standard input, with its numbers put right: to a file, or to the output. There the line
-/// that says how that ended goes to standard error.
-pub fn repair_numbers<
-    'a,
-    R: Files + AllocGlobal,
-    I: Read + Drop,
-    P: Pace + Drop,
-    O: Write + Drop,
-    E: Write,
->(
-    rt: &R,
+/// that says how that ended goes to standard error. The output comes back.
+pub fn repair_numbers<'a, S: Store, I: Read + Drop, P: Pace + Drop, W: Target + Drop, E: Write>(
+    store: &mut S,
+    alloc: Global,
     repair: &Repair<'a>,
     standard: I,
     pace: P,
-    output: O,
+    output: W,
     error: &mut E,
-) -> Result<Status, Fault<'a>> {
-    let alloc = rt.alloc();
-    let input = open_input(rt, repair.file, &mut Some(standard), pace)?;
+) -> (W, Result<Status, Stop<'a>>) {
+    let input = match open_input(store, repair.file, &mut Some(standard), pace) {
+        Ok(input) => input,
+        Err(fault) => return (output, Err(Stop::Fault(fault))),
+    };
     if let Some(out) = repair.out {
-        return repair_to_file(rt, repair, input, out, output, error);
+        return repair_to_file(store, alloc, repair, input, out, output, error);
     }
-    let writer = gathered(alloc, output, Name::StandardOutput).map_err(|_| Fault::Memory)?;
-    let (repaired, writer) = run(alloc, repair, input, writer, &mut *error);
-    let written = told_of(writer);
+    let (repaired, mut output) = run(store, alloc, repair, input, output, &mut *error);
+    // What is left is written before that is told, where it can be.
+    let _ = output.flush();
     // What standard error doesn't take is lost.
     let _ = put_renumber_outcome(&repaired.outcome, &mut Sink::new(Counted::new(&mut *error)));
     tell_count(error, Name::StandardOutput, &repaired, true);
-    ending(
-        repaired,
-        repair.wanted.whole,
-        written,
-        Fault::Write(written),
-    )
+    let ended = ending(repaired, repair.wanted.whole, Stop::Output, Stop::Output);
+    (output, ended)
 }

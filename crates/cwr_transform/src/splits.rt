@@ -1,8 +1,6 @@
 //! Transmissions that are cut into files.
 
 ghost use Rattle.cwr_transform.specs.Format.Splits.{EndsAsSplit};
-ghost use Rattle.cwr_endings.specs.Format.Endings.{IsUnwritten};
-ghost use Rattle.cwr_files.specs.Format.Faults.{IfErr};
 ghost use Rattle.cwr_files.specs.Steps.Inputs.{remaining_of};
 ghost use Rattle.cwr_endings.specs.Steps.Looks.{good_status};
 ghost use Rattle.cwr_tools.specs.Format.Watching.{CountsAccepted};
@@ -11,12 +9,11 @@ ghost use Rattle.cwr_transform.specs.Steps.Splits.{JudgesCut, SplitEndsAs};
 
 use cwr_devices::{Outputs, ReadAhead, Sink, SinkFault, Source, Target};
 use cwr_endings::{
-    Look, Status, Wanted, ended_by, good_status, hand_on, look_beyond, status_by, tell_findings,
-    tell_following,
+    Look, Status, Stop, Wanted, ended_by, good_status, hand_on, look_beyond, status_by,
+    tell_findings, tell_following,
 };
 use cwr_files::{
-    Fault, Gathered, Identity, Input, Name, NumberedFiles, Pace, SystemStore, Told, gathered,
-    identity_of_input, part_number, part_that_is,
+    Fault, Input, Name, NumberedFiles, Pace, Store, Told, end_input, part_number, path_of_input,
 };
 use cwr_moments::Moment;
 use cwr_parts::{put_split_outcome, split_viewed};
@@ -25,7 +22,6 @@ use cwr_tools::{FindingCount, FindingView, SplitReport, ToolFault};
 use std::alloc::{AllocError, Global};
 use std::io::{Read, Write};
 use std::num::NonZeroU32;
-use std::rt::Files;
 
 /// How a transmission is cut into files.
 #[derive(Clone, Copy, Debug)]
@@ -46,16 +42,14 @@ pub struct Cut<'a> {
 }
 
 /// The number of the part that would be the input: by its name, or by what is in the prefix's folder.
-fn part_of_input<R: Files>(
-    rt: &R,
+fn part_of_input<S: Store>(
+    store: &mut S,
     alloc: Global,
     cut: &Cut<'_>,
-    own: Option<Identity>,
 ) -> Result<Option<u32>, AllocError> {
-    match (part_number(cut.file, cut.prefix), own) {
-        (Some(number), _) => Ok(Some(number)),
-        (None, Some(file)) => part_that_is(rt, alloc, file, cut.prefix),
-        (None, None) => Ok(None),
+    match part_number(cut.file, cut.prefix) {
+        Some(number) => Ok(Some(number)),
+        None => store.part_that_is(alloc, path_of_input(cut.file), cut.prefix),
     }
 }
 
@@ -83,54 +77,53 @@ fn cut_source<R: Source, O: Outputs>(
     }
 }
 
-/// Cuts the transmission of an input into files of so many transactions, and writes the line that says how that ended.
-pub fn split_file<
-    'a,
-    R: Files + AllocGlobal,
-    I: Read + Drop,
-    P: Pace + Drop,
-    O: Write + Drop,
-    E: Write,
->(
-    rt: &R,
+/// Cuts the transmission of an input into files of so many transactions, and writes the line that says how that ended. The writer comes
+/// back.
+pub fn split_file<'a, S: Store, I: Read + Drop, P: Pace + Drop, W: Target + Drop, E: Write>(
+    store: &mut S,
+    alloc: Global,
     cut: &Cut<'a>,
-    input: Input<'a, R::File, I, P>,
-    output: O,
+    input: Input<'a, S::Reader, I, P>,
+    lines: W,
     error: &mut E,
-) -> Result<Status, Fault<'a>>
+) -> (W, Result<Status, Stop<'a>>)
     ensures { EndsAsSplit cut.now.limits cut.now.wanted
-        (remaining_of R.File.remaining I.remaining input.entry) result }
+        (remaining_of S.Reader.remaining I.remaining input.entry) result.1 }
 {
-    let alloc = rt.alloc();
-    let own = identity_of_input(rt, cut.file);
-    match part_of_input(rt, alloc, cut, own) {
+    match part_of_input(store, alloc, cut) {
         Ok(None) => {}
-        Ok(Some(number)) => return Err(Fault::IsInput(Name::Part(cut.prefix, number))),
-        Err(_) => return Err(Fault::Memory),
+        Ok(Some(number)) => {
+            let fault = Fault::IsInput(Name::Part(cut.prefix, number));
+            return (lines, Err(Stop::Fault(fault)));
+        }
+        Err(_) => return (lines, Err(Stop::Fault(Fault::Memory))),
     }
-    let lines = gathered(alloc, output, Name::StandardOutput).map_err(|_| Fault::Memory)?;
     let mut reader = ReadAhead::new(input);
     let mut files = NumberedFiles::new(
-        rt,
-        SystemStore::new(rt),
+        store,
         alloc,
         cut.prefix,
-        own,
+        cut.file,
         cut.only_new,
         cut.created,
     );
     let (outcome, look, count) = cut_source(alloc, cut, &mut reader, &mut files);
-    let told = reader.into_inner().told();
+    let made = files.end();
+    let told = end_input(store, reader);
     let mut sink = Sink::new(lines);
     let put = put_split_outcome(&outcome, &mut sink);
-    hand_on(put, sink)?;
+    let (lines, handed) = hand_on(put, sink);
+    if let Err(stop) = handed {
+        return (lines, Err(stop));
+    }
     tell_following(&mut *error, told.name, &look);
-    files.tell_replaced(&mut *error);
+    made.tell_replaced(&mut *error);
     let found = count.reaches(cut.wanted.fail_on);
     if outcome.is_ok() {
         tell_findings(error, told.name, &count, status_by(found));
     }
-    split_ending(outcome, cut.wanted, look, found, told, files.fault())
+    let ended = split_ending(outcome, cut.wanted, look, found, told, made.fault);
+    (lines, ended)
 }
 
 /// How a split ends the run: by what came of it, by what follows the transmission where nothing may, and by whether a finding is unwanted.
@@ -141,16 +134,16 @@ fn split_ending<'a>(
     found: bool,
     told: Told<'a>,
     made: Fault<'a>,
-) -> Result<Status, Fault<'a>>
+) -> Result<Status, Stop<'a>>
     ensures { SplitEndsAs told.entry made.entry outcome (good_status wanted look found) result }
 {
     match outcome {
         Ok(_) => match good_status(wanted, look, found) {
             Some(status) => Ok(status),
-            None => Err(Fault::Read(told)),
+            None => Err(Stop::Fault(Fault::Read(told))),
         },
         // A part's writer tells what it is.
-        Err(ToolFault::Writer { .. }) => Err(made),
-        Err(fault) => ended_by(Some(fault), told, told, made),
+        Err(ToolFault::Writer { .. }) => Err(Stop::Fault(made)),
+        Err(fault) => ended_by(Some(fault), told, Stop::Fault(made), Stop::Fault(made)),
     }
 }

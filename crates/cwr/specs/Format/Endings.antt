@@ -1,52 +1,117 @@
--- Which runs are on standard input, and the status of a run over that.
-use Rattle.std.specs.Prelude.{◌≡◌, Bool, true, List, [], ℕ, map, Option, None, Some, IfSome, option_map}
+-- How a run of each work ends, by what lies under the names that the words give, and its status.
+use Rattle.std.specs.Prelude.{◌≡◌, ◌⊎◌, ◌<◌, Bool, true, false, List, [], ◌∷◌, ℕ, map, count_by, length, ◌^◌, ◌-◌, Option, None, Some, option_map}
+use Rattle.std.specs.Prelude.{Result, Ok, Err}
+use Rattle.std.specs.Option.{is_some}
 use Rattle.cwr_shape.specs.declared.limits.Limits.{Limits}
+use Rattle.cwr_words.specs.declared.words.Task.{Task}
 use Rattle.cwr_words.specs.declared.words.Work.{Work}
 use Rattle.cwr_words.specs.declared.words.Work.TheVariants.{Check, Show, Explain, Lint, Advise, Json, Csv, Acks, Write, Split}
 use Rattle.cwr_words.specs.declared.words.Work.TheVariants.{Join, Renumber, Manual}
+use Rattle.cwr_words.specs.declared.words.WriteWords.{WriteWords}
+use Rattle.cwr_words.specs.Format.Words.{Asks}
+use Rattle.cwr_grammar.specs.Format.CommandLine.{grammar}
+use Rattle.clap.specs.Words.{subcommand_of}
 use Rattle.cwr_files.specs.declared.faults.Fault.{Fault}
 use Rattle.cwr_files.specs.declared.faults.Fault.TheVariants as faults
-use Rattle.cwr_files.specs.Format.Inputs.{are_standard, is_standard}
+use Rattle.cwr_files.specs.Format.Files.{Texts}
+use Rattle.cwr_files.specs.Format.Inputs.{IfRead, is_standard}
 use Rattle.cwr_endings.specs.declared.endings.Status.{Status}
 use Rattle.cwr_endings.specs.declared.endings.Status.TheVariants as statuses
 use Rattle.cwr_endings.specs.declared.endings.Wanted.{Wanted}
-use Rattle.cwr_endings.specs.Format.Endings.{IsStatusBy}
-use Rattle.cwr_reports.specs.Format.Endings.{Counts}
+use Rattle.cwr_endings.specs.declared.stops.Stop.{Stop}
+use Rattle.cwr_endings.specs.declared.stops.Stop.TheVariants as stops
+use Rattle.cwr_endings.specs.Format.Endings.{IsStatusOn}
+use Rattle.cwr_reports.specs.Format.Endings.{EndsAsExportOf, EndsOnEach, EndsOnRead}
+use Rattle.cwr_transform.specs.declared.imports.Import.{Import}
+use Rattle.cwr_transform.specs.Format.Imports.{IsImportStatus}
+use Rattle.cwr.specs.Format.Tables.{encoding_of}
 
--- the status that a run has on an input whose bytes are known: that of a fault where the input, standard output or memory failed
-abbrev pub StatusOnInput : Option (Bool × ℕ) → Limits → Wanted → Option (List ℕ) → Status → Type 0
-StatusOnInput advice limits wanted input statuses.Fault = Unit {0}
-StatusOnInput advice limits wanted input status = IfSome input (λ text. IsStatusBy (Counts advice) limits wanted text status)
+-- two of the words name standard input, which is there once
+abbrev pub AreStandardTwice : List (List ℕ) → Type 0
+AreStandardTwice names = 1 < count_by (λ name. is_standard (Some name)) names
 
--- the work is done on what is on standard input, and written to standard output
-abbrev pub IsOfInput : Work → Type 0
-IsOfInput (Check judging) = are_standard (map (λ name. name.now) judging.files.items) ≡ true
-IsOfInput (Explain judging) = are_standard (map (λ name. name.now) judging.files.items) ≡ true
-IsOfInput (Show words) = is_standard (option_map (λ name. name.now) words.file) ≡ true
-IsOfInput (Json words) = (is_standard (option_map (λ name. name.now) words.file) ≡ true) × (words.out ≡ None)
-IsOfInput (Csv words) = (is_standard (option_map (λ name. name.now) words.file) ≡ true) × (words.out ≡ None)
-IsOfInput (Acks words) = (are_standard (map (λ name. name.now) words.files.items) ≡ true) × (words.sent.items ≡ [])
-IsOfInput (Lint words) = are_standard (map (λ name. name.now) words.files.items) ≡ true
-IsOfInput (Advise words) = are_standard (map (λ name. name.now) words.judging.files.items) ≡ true
-IsOfInput (Write words) = ⊥
-IsOfInput (Split words) = ⊥
-IsOfInput (Join words) = ⊥
-IsOfInput (Renumber words) = ⊥
-IsOfInput Manual = ⊥
+-- a run over several inputs, of which one at most is standard input, has the worst of their statuses
+abbrev pub EndsOnSeveral : Option (Bool × ℕ) → Limits → Wanted → Option Texts → Option (List ℕ) → List (List ℕ) → Result Status Stop
+    → Type 0
+EndsOnSeveral advice limits wanted held standard names (Err (stops.Fault (faults.IsTwice of))) = AreStandardTwice names
+EndsOnSeveral advice limits wanted held standard names ending = EndsOnEach advice limits wanted held standard names ending
 
--- whether all advice is told, and of how many works the numbers are kept, where advice is asked for: it counts for the status as findings do
-abbrev pub advice_of : Work → Option (Bool × ℕ)
-advice_of (Advise words) = Some (words.all, words.repeated)
-advice_of work = None
+-- a run over what is named, or over standard input where nothing is
+abbrev pub EndsOnFiles : Option (Bool × ℕ) → Limits → Wanted → Option Texts → Option (List ℕ) → List (List ℕ) → Result Status Stop
+    → Type 0
+EndsOnFiles advice limits wanted held standard [] ending = EndsOnRead advice limits wanted held standard None ending
+EndsOnFiles advice limits wanted held standard (name ∷ []) ending = EndsOnRead advice limits wanted held standard (Some name) ending
+EndsOnFiles advice limits wanted held standard (name ∷ other ∷ names) ending =
+    EndsOnSeveral advice limits wanted held standard (name ∷ other ∷ names) ending
 
--- what is wanted of the transmission: the options of a judgement say which findings end it
-abbrev pub wanted_in : Bool → Work → Wanted
-wanted_in whole (Check judging) = record { whole = whole; fail_on = judging.fail_on }
-wanted_in whole (Explain judging) = record { whole = whole; fail_on = judging.fail_on }
-wanted_in whole (Show words) = record { whole = whole; fail_on = words.fail_on }
-wanted_in whole (Lint words) = record { whole = whole; fail_on = None }
-wanted_in whole (Advise words) = record { whole = whole; fail_on = words.judging.fail_on }
-wanted_in whole work = record { whole = whole; fail_on = None }
+-- data and tables of an input are written to standard output, or to a file
+abbrev pub EndsAsData : Option (Bool × ℕ) → Limits → Wanted → Option Texts → Option (List ℕ) → Option (List ℕ) → Bool
+    → Result Status Stop → Type 0
+EndsAsData advice limits wanted held standard name false ending = EndsOnRead advice limits wanted held standard name ending
+EndsAsData advice limits wanted held standard name true ending = EndsAsExportOf advice limits wanted held standard name ending
+
+-- What the acknowledgements of one input say is told, and its status is that of its text. Of several inputs, and where they are matched
+-- with what was sent, nothing is said here.
+abbrev pub EndsAsAnswers : Limits → Wanted → Option Texts → Option (List ℕ) → List (List ℕ) → List (List ℕ) → Result Status Stop
+    → Type 0
+EndsAsAnswers limits wanted held standard [] [] ending = EndsOnRead None limits wanted held standard None ending
+EndsAsAnswers limits wanted held standard (name ∷ []) [] ending = EndsOnRead None limits wanted held standard (Some name) ending
+EndsAsAnswers limits wanted held standard names sent ending = Unit {0}
+
+-- the manual is printed, or not taken, or there was no memory
+abbrev pub EndsAsManual : Result Status Stop → Type 0
+EndsAsManual (Ok status) = status ≡ statuses.Good
+EndsAsManual (Err stops.Output) = Unit {0}
+EndsAsManual (Err (stops.Fault faults.Memory)) = Unit {0}
+EndsAsManual (Err (stops.Fault fault)) = ⊥
+
+-- the import that the words ask for
+abbrev pub import_of : Limits → WriteWords → Import
+import_of limits words = record { limits = limits; encoding = encoding_of words.utf8; most = words.line }
+
+-- an import has the status of its lines; else a file, a device or memory failed, or OUT is the input
+abbrev pub EndsAsWriting : Limits → WriteWords → Option Texts → Option (List ℕ) → Result Status Stop → Type 0
+EndsAsWriting limits words held standard (Ok status) =
+    IfRead held standard (option_map (λ name. name.now) words.file)
+    (λ text. length text < 2 ^ 64 - 1 → IsImportStatus (import_of limits words) text status)
+EndsAsWriting limits words held standard (Err stop) = Unit {0}
+
+-- a split has the status of its text; else a file, a device or memory failed, or a part may not be written
+abbrev pub EndsAsCut : Limits → Wanted → Option Texts → Option (List ℕ) → List ℕ → Result Status Stop → Type 0
+EndsAsCut limits wanted held standard name (Ok status) = IfRead held standard (Some name) (λ text. IsStatusOn limits wanted text status)
+EndsAsCut limits wanted held standard name (Err stop) = Unit {0}
+
+-- How a run of the work ends, within these limits, and where nothing may follow a transmission or something may. Of joins and of numbers
+-- that are put right nothing is said here.
+abbrev pub EndsOnWork : Limits → Bool → Work → Option Texts → Option (List ℕ) → Result Status Stop → Type 0
+EndsOnWork limits whole (Check judging) held standard ending =
+    EndsOnFiles None limits (record { whole = whole; fail_on = judging.fail_on }) held standard (map (λ name. name.now) judging.files.items)
+    ending
+EndsOnWork limits whole (Explain judging) held standard ending =
+    EndsOnFiles None limits (record { whole = whole; fail_on = judging.fail_on }) held standard (map (λ name. name.now) judging.files.items)
+    ending
+EndsOnWork limits whole (Show words) held standard ending =
+    EndsOnRead None limits (record { whole = whole; fail_on = words.fail_on }) held standard (option_map (λ name. name.now) words.file) ending
+EndsOnWork limits whole (Lint words) held standard ending =
+    EndsOnFiles None limits (record { whole = whole; fail_on = None }) held standard (map (λ name. name.now) words.files.items) ending
+EndsOnWork limits whole (Advise words) held standard ending =
+    EndsOnFiles (Some (words.all, words.repeated)) limits (record { whole = whole; fail_on = words.judging.fail_on }) held standard
+    (map (λ name. name.now) words.judging.files.items) ending
+EndsOnWork limits whole (Json words) held standard ending =
+    EndsAsData None limits (record { whole = whole; fail_on = None }) held standard (option_map (λ name. name.now) words.file)
+    (is_some words.out) ending
+EndsOnWork limits whole (Csv words) held standard ending =
+    EndsAsData None limits (record { whole = whole; fail_on = None }) held standard (option_map (λ name. name.now) words.file)
+    (is_some words.out) ending
+EndsOnWork limits whole (Acks words) held standard ending =
+    EndsAsAnswers limits (record { whole = whole; fail_on = None }) held standard (map (λ name. name.now) words.files.items)
+    (map (λ name. name.now) words.sent.items) ending
+EndsOnWork limits whole (Write words) held standard ending = EndsAsWriting limits words held standard ending
+EndsOnWork limits whole (Split words) held standard ending =
+    EndsAsCut limits (record { whole = whole; fail_on = words.fail_on }) held standard words.file.now ending
+EndsOnWork limits whole (Join words) held standard ending = Unit {0}
+EndsOnWork limits whole (Renumber words) held standard ending = Unit {0}
+EndsOnWork limits whole Manual held standard ending = EndsAsManual ending
 
 -- the status of a fault: what was to be written may not be, or what was to be read can't be, or a file, a device or memory failed
 abbrev pub fault_status : Fault → Status
@@ -56,3 +121,29 @@ fault_status (faults.IsTwice name) = statuses.CommandLine
 fault_status (faults.IsOther name) = statuses.CommandLine
 fault_status (faults.IsLate name) = statuses.CommandLine
 fault_status fault = statuses.Fault
+
+-- the status of an end
+abbrev pub ending_status : Result Status Stop → Status
+ending_status (Ok status) = status
+ending_status (Err stops.Output) = statuses.Fault
+ending_status (Err (stops.Fault fault)) = fault_status fault
+
+-- The status is that of an end which a run of the task may have.
+abbrev pub IsStatusOfWork : Task → Option Texts → Option (List ℕ) → Status → Type 0
+IsStatusOfWork task held standard status =
+    (ending : Result Status Stop) × EndsOnWork task.limits task.whole task.work held standard ending × (status ≡ ending_status ending)
+
+-- the number of a status
+abbrev pub status_code : Status → ℕ
+status_code statuses.Good = 0
+status_code statuses.Refused = 1
+status_code statuses.CommandLine = 2
+status_code statuses.Fault = 3
+
+-- A run of a command line ends with the number of a status that the task has which it asks for. Else it asks for none, which is 2, or there
+-- is no memory to tell, which is 3.
+abbrev pub RunsWords : List (List ℕ) → Option Texts → Option (List ℕ) → ℕ → Type 0
+RunsWords words held standard code =
+    ((task : Task) × (status : Status) × Asks (subcommand_of grammar words) task × IsStatusOfWork task held standard status
+    × (code ≡ status_code status))
+    ⊎ ((code ≡ 2) ⊎ (code ≡ 3))

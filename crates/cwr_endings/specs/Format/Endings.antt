@@ -1,5 +1,7 @@
 -- What the end of a run over texts means for the program.
-use Rattle.std.specs.Prelude.{◌≡◌, ◌≢◌, ◌⊎◌, ℕ, Bool, true, List, [], drop, false, Option, None, Some, IfSome, Result, Ok, Err}
+use Rattle.std.specs.Prelude.{◌≡◌, ◌≢◌, ◌⊎◌, ◌&&◌, ℕ, ◌+◌, Bool, true, List, [], All, drop, false, Option, None, Some, IfSome, Result, Ok, Err}
+use Rattle.std.specs.Option.{is_some}
+use Rattle.std.specs.Str.{bytes_eq}
 use Rattle.cwr_shape.specs.declared.limits.Limits.{Limits}
 use Rattle.cwr_shape.specs.declared.reasons.Level.{Level}
 use Rattle.cwr_values.specs.declared.items.Item.{Item}
@@ -13,22 +15,27 @@ use Rattle.cwr_tools.specs.Format.Watching.{any_from}
 use Rattle.cwr_endings.specs.declared.endings.Status.{Status}
 use Rattle.cwr_endings.specs.declared.endings.Status.TheVariants as statuses
 use Rattle.cwr_endings.specs.declared.endings.Wanted.{Wanted}
+use Rattle.cwr_endings.specs.declared.stops.Stop.{Stop}
+use Rattle.cwr_endings.specs.declared.stops.Stop.TheVariants as stops
 use Rattle.cwr_files.specs.declared.faults.Told.{Told}
 use Rattle.cwr_files.specs.declared.faults.Fault.{Fault}
 use Rattle.cwr_files.specs.declared.faults.Fault.TheVariants as faults
 use Rattle.cwr_files.specs.declared.faults.Name.{Name}
+use Rattle.cwr_files.specs.Format.Files.{Texts}
+use Rattle.cwr_files.specs.Format.Inputs.{path_of_input}
+use Rattle.cwr_files.specs.Format.NewFiles.{HoldsNew, LeavesAll}
 
 -- A run without a fault ends well. An input that is refused or ends too early, and a limit that the result passes, end it
 -- otherwise, and the fault of a device or of memory is reported, with what is known of that device.
-abbrev pub EndsAfterFault : Told → Told → Fault → Option ToolFault → Result Status Fault → Type 0
-EndsAfterFault input output made None ending = ending ≡ Ok statuses.Good
-EndsAfterFault input output made (Some tool_faults.Reader) ending = ending ≡ Err (faults.Read input)
-EndsAfterFault input output made (Some (tool_faults.Writer written)) ending = ending ≡ Err (faults.Write output)
-EndsAfterFault input output made (Some tool_faults.Memory) ending = ending ≡ Err faults.Memory
-EndsAfterFault input output made (Some (tool_faults.Refused refusal)) ending = ending ≡ Ok statuses.Refused
-EndsAfterFault input output made (Some (tool_faults.Truncated records)) ending = ending ≡ Ok statuses.Refused
-EndsAfterFault input output made (Some tool_faults.Output) ending = ending ≡ Err made
-EndsAfterFault input output made (Some (tool_faults.Limit limit)) ending = ending ≡ Ok statuses.Refused
+abbrev pub EndsAfterFault : Told → Stop → Stop → Option ToolFault → Result Status Stop → Type 0
+EndsAfterFault input writing made None ending = ending ≡ Ok statuses.Good
+EndsAfterFault input writing made (Some tool_faults.Reader) ending = ending ≡ Err (stops.Fault (faults.Read input))
+EndsAfterFault input writing made (Some (tool_faults.Writer written)) ending = ending ≡ Err writing
+EndsAfterFault input writing made (Some tool_faults.Memory) ending = ending ≡ Err (stops.Fault faults.Memory)
+EndsAfterFault input writing made (Some (tool_faults.Refused refusal)) ending = ending ≡ Ok statuses.Refused
+EndsAfterFault input writing made (Some (tool_faults.Truncated records)) ending = ending ≡ Ok statuses.Refused
+EndsAfterFault input writing made (Some tool_faults.Output) ending = ending ≡ Err made
+EndsAfterFault input writing made (Some (tool_faults.Limit limit)) ending = ending ≡ Ok statuses.Refused
 
 -- a finding in these items has the level or a worse one, or none has
 abbrev pub FindsFrom : Option Level → List Item → Bool → Type 0
@@ -63,13 +70,36 @@ IsStatusOn limits wanted text status = IsStatusBy FindsFrom limits wanted text s
 
 -- ---- what a run writes
 
--- what is written to standard output wasn't taken
-abbrev pub IsUnwritten : Fault → Type 0
-IsUnwritten (faults.Write told) = Unit {0}
-IsUnwritten fault = ⊥
-
 -- what was to be written is an input, or is there where only a new file may be made
 abbrev pub IsRefusedOut : Name → Bool → Fault → Type 0
 IsRefusedOut name only_new (faults.IsInput of) = of ≡ name
 IsRefusedOut name only_new (faults.IsThere of) = (of ≡ name) × (only_new ≡ true)
 IsRefusedOut name only_new fault = ⊥
+
+-- what lies under the name, if something does, is none of the inputs that these words name
+abbrev pub IsNoInput : List ℕ → List (List ℕ) → Texts → Type 0
+IsNoInput out words texts = All (λ word. (is_some (texts out) && bytes_eq out (path_of_input word)) ≡ false) words
+
+-- ---- the status of several files
+
+-- the worse one of both
+abbrev pub worse_status : Status → Status → Status
+worse_status statuses.Fault other = statuses.Fault
+worse_status statuses.CommandLine statuses.Fault = statuses.Fault
+worse_status statuses.CommandLine other = statuses.CommandLine
+worse_status statuses.Refused statuses.Good = statuses.Refused
+worse_status statuses.Refused other = other
+worse_status statuses.Good other = other
+
+-- ---- what is left of a run that writes a file
+
+-- What a run leaves that writes the file of that name, where so many failures were counted before it and after it. Where it ends well the
+-- file holds a text that is so, and nothing else changed. Else nothing did, unless a call failed, and where a file or a device failed,
+-- unless another call did: then something may be left under a name that says that it isn't whole. Where standard output failed, on which
+-- it is said how the run ended, either is so.
+abbrev pub WritesOut : List ℕ → ℕ → ℕ → (List ℕ → Type 0) → Result Status Stop → Texts → Texts → Type 0
+WritesOut out old now is (Ok statuses.Good) texts new = HoldsNew out is texts new
+WritesOut out old now is (Ok status) texts new = LeavesAll out old now texts new
+WritesOut out old now is (Err stops.Output) texts new = HoldsNew out is texts new ⊎ LeavesAll out old now texts new
+WritesOut out old now is (Err (stops.Fault faults.Memory)) texts new = LeavesAll out old now texts new
+WritesOut out old now is (Err (stops.Fault fault)) texts new = LeavesAll out (old + 1) now texts new

@@ -1,10 +1,10 @@
 -- What lies under names once a part has its name or is dropped.
 use Rattle.std.proofs.Common.{◌≡◌, ℕ, ◌+◌, ◌<◌, ◌≤◌, Bool, true, false, List, Option, Some, None, zero, suc, refl, sym, ap, subst, ◌∙◌, arith}
 use Rattle.std.proofs.lemmas.Slice.Eq.{bytes_eq-Decides}
-use Rattle.std.specs.Prelude.{Result, Ok, Err, if◌then◌else◌}
+use Rattle.std.specs.Prelude.{Result, Ok, Err, OnErr, if◌then◌else◌}
 use Rattle.std.specs.Str.{bytes_eq}
 use Rattle.cwr_devices.specs.Format.Failures.{most_failures}
-use Rattle.cwr_files.specs.Format.Files.{IsGivenUp, Same, SameBut, Texts, Turns, counted_on}
+use Rattle.cwr_files.specs.Format.Files.{IsClosed, IsGivenUp, Same, SameBut, Texts, Turns, counted_on}
 use Rattle.cwr_files.specs.Format.NewFiles.{LeavesNothing}
 use Rattle.cwr_files.specs.Steps.NewFiles.{EndsDropped, EndsKept, HasBegun, HasCounted, HasKeptCount, IsDropped, IsFinished, final_name, name_of_part}
 use Rattle.cwr_files.specs.declared.new_files.NewFile.{NewFile}
@@ -121,3 +121,84 @@ counted_up times old failures some k lt =
     let above : counted_on times old ≤ failures = k lt in
     let one : old < counted_on times old = some_counted times old some (omega arith) in
     omega arith
+
+-- ---- what couldn't be kept
+
+closed_but : {E : Type 0} (name : List ℕ) (written : Option (List ℕ)) (r : Result (Unit {0}) E) (texts new : Texts)
+    → IsClosed (Some name) written r texts new → SameBut name texts new
+closed_but name None (Ok u) texts new h = h
+closed_but name None (Err e) texts new h = h
+closed_but name (Some text) (Err e) texts new h = h
+closed_but name (Some text) (Ok u) texts new h = λ n e. h n ∙ ap (λ (b : Bool). if b then Some text else texts n) e
+
+same_but_dropped : (part : List ℕ) (most old failures : ℕ) (texts mid new : Texts) → (failures ≤ old + 1 → failures < most_failures → failures ≤ most)
+    → SameBut part texts mid → IsDropped part most failures mid new → IsDropped part (old + 1) failures texts new
+same_but_dropped part most old failures texts mid new few same h =
+    (λ n e. h.0 n e ∙ same n e, λ le lt. h.1 (few le lt) lt)
+
+-- what was closed, or couldn't be, is dropped
+pub closed_dropped : {E : Type 0} (part : List ℕ) (making written : Option (List ℕ)) (r : Result (Unit {0}) E) (most old failures : ℕ)
+    (held mid now : Option Texts) → making ≡ Some part → (failures ≤ old + 1 → failures < most_failures → failures ≤ most)
+    → Turns held mid (IsClosed making written r) → Turns mid now (IsDropped part most failures)
+    → Turns held now (IsDropped part (old + 1) failures)
+closed_dropped part making written r most old failures None mid now m few h d = tt
+closed_dropped part making written r most old failures (Some texts) None now m few h d = absurd h
+closed_dropped part making written r most old failures (Some texts) (Some on) None m few h d = absurd d
+closed_dropped part making written r most old failures (Some texts) (Some on) (Some new) m few h d =
+    same_but_dropped part most old failures texts on new few
+    (closed_but part written r texts on (subst (λ (w : Option (List ℕ)). IsClosed w written r texts on) m h)) d
+
+turned_back : (held mid now : Option Texts) (how : Texts → Texts → Type 0)
+    → ((texts mid new : Texts) → Same texts mid → how mid new → how texts new) → Turns held mid Same → Turns mid now how → Turns held now how
+turned_back None mid now how so s h = tt
+turned_back (Some texts) None now how so s h = absurd s
+turned_back (Some texts) (Some on) None how so s h = absurd h
+turned_back (Some texts) (Some on) (Some new) how so s h = so texts on new s h
+
+-- nor changes a rename that failed anything
+pub unnamed_dropped : (part : List ℕ) (most failures : ℕ) (held mid now : Option Texts) → Turns held mid Same
+    → Turns mid now (IsDropped part most failures) → Turns held now (IsDropped part most failures)
+unnamed_dropped part most failures held mid now s d =
+    turned_back held mid now (IsDropped part most failures)
+    (λ texts on new same h. (λ n e. h.0 n e ∙ same n, h.1)) s d
+
+-- a part that was dropped leaves all as it was when it was begun
+pub unfinished : (made : NewFile) (part : List ℕ) (old failures : ℕ) (texts : Texts) (held now : Option Texts)
+    (making : Option (List ℕ)) → name_of_part made ≡ Some part → HasBegun made making texts held
+    → (making ≡ Some part → Turns held now (IsDropped part (old + 1) failures)) → EndsDropped made (old + 1) failures texts now
+unfinished made part old failures texts None now making p h d = absurd h
+unfinished made part old failures texts (Some on) now making p h d = by now (d writing) where
+  same_part : h.part ≡ part
+  same_part = cc (h.called, p)
+
+  writing : making ≡ Some part
+  writing = h.is_part.2 ∙ sym (sym p ∙ h.called)
+
+  free : texts part ≡ None
+  free = subst (λ (q : List ℕ). texts q ≡ None) same_part h.is_part.0.free
+
+  same : SameBut part texts on
+  same = subst (λ (q : List ℕ). SameBut q texts on) same_part h.is_part.1
+
+  by : (o : Option Texts) → Turns (Some on) o (IsDropped part (old + 1) failures) → EndsDropped made (old + 1) failures texts o
+  by None k = absurd k
+  by (Some new) k = subst (λ (q : Option (List ℕ)). LeavesNothing q (old + 1) failures texts new) (sym p)
+      (left part (old + 1) failures texts on new free same k)
+
+pub unfinished_file : {E : Type 0} (made : NewFile) (part : List ℕ) (r : Result (Unit {0}) E) (old failures : ℕ) (texts : Texts)
+    (held now : Option Texts) (making : Option (List ℕ)) → name_of_part made ≡ Some part → HasBegun made making texts held
+    → (making ≡ Some part → OnErr r (Turns held now (IsDropped part (old + 1) failures)))
+    → OnErr r (EndsDropped made (old + 1) failures texts now)
+unfinished_file made part (Ok u) old failures texts held now making p h d = tt
+unfinished_file made part (Err e) old failures texts held now making p h d = unfinished made part old failures texts held now making p h d
+
+-- the same in another count
+pub dropped_alike : (made : NewFile) (old on failures : ℕ) (texts : Texts) (now : Option Texts) → HasKeptCount old on
+    → EndsDropped made (on + 1) failures texts now → EndsDropped made (old + 1) failures texts now
+dropped_alike made old on failures texts None k h = absurd h
+dropped_alike made old on failures texts (Some new) k h = (h.0, λ le lt. h.1 (within old on failures k le lt) lt)
+
+pub unkept_dropped : (made : NewFile) (times old failures : ℕ) (texts : Texts) (now : Option Texts) → 1 ≤ times
+    → EndsDropped made (counted_on times old) failures texts now → EndsDropped made (old + 1) failures texts now
+unkept_dropped made times old failures texts None some h = absurd h
+unkept_dropped made times old failures texts (Some new) some h = (h.0, λ le lt. h.1 (counted_more times old failures some le lt) lt)

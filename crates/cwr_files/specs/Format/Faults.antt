@@ -9,11 +9,6 @@ abbrev pub IfErr : {X E : Type 0} → Result X E → (E → Type 0) → Type 0
 IfErr (Ok x) is = Unit {0}
 IfErr (Err fault) is = is fault
 
--- an input couldn't be opened
-abbrev pub IsUnopened : Fault → Type 0
-IsUnopened (faults.Open of reason) = Unit {0}
-IsUnopened fault = ⊥
-
 -- the file of that name couldn't be opened, and the system said why, or there was no memory
 abbrev pub IsUnmade : Name → Fault → Type 0
 IsUnmade name (faults.Open of reason) = (of ≡ name) × IsSome reason

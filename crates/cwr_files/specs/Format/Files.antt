@@ -1,5 +1,6 @@
 -- What lies under names, and what one call of the system does to that.
-use Rattle.std.specs.Prelude.{◌≡◌, ℕ, zero, suc, ◌+◌, min, false, List, [], Option, Some, None, IsSome, Result, Ok, Err, if◌then◌else◌}
+use Rattle.std.specs.Prelude.{◌≡◌, ℕ, zero, suc, ◌+◌, min, Bool, false, ◌&&◌, List, [], Option, Some, None, IsSome, Result, Ok, Err, if◌then◌else◌}
+use Rattle.std.specs.Option.{is_some}
 use Rattle.std.specs.Str.{bytes_eq}
 use Rattle.cwr_devices.specs.Format.Failures.{most_failures, one_more_failure}
 use Rattle.cwr_files.specs.declared.stores.Found.{Found}
@@ -48,6 +49,22 @@ CountsMaking (Err IsThere) old new = new ≡ old
 CountsMaking (Err (Failed reason)) old new = new ≡ one_more_failure old
 
 -- ---- what calls answer, and what they change
+
+-- a reader of the text that lies there; where nothing does, none is answered
+abbrev pub IsReader : {R E : Type 0} → (R → Option (List ℕ)) → Option (List ℕ) → Result R E → Type 0
+IsReader remaining (Some text) (Ok reader) = remaining reader ≡ Some text
+IsReader remaining None (Ok reader) = ⊥
+IsReader remaining found (Err e) = Unit {0}
+
+abbrev pub Opens : {R E : Type 0} → (R → Option (List ℕ)) → Option Texts → List ℕ → Result R E → Type 0
+Opens remaining None name result = Unit {0}
+Opens remaining (Some texts) name result = IsReader remaining (texts name) result
+
+-- Where texts are known each name is that of a file of its own: two are those of one file just where they are the same name, and something
+-- lies under it.
+abbrev pub AreOne : Option Texts → List ℕ → List ℕ → Bool → Type 0
+AreOne None name other result = Unit {0}
+AreOne (Some texts) name other result = result ≡ (is_some (texts name) && bytes_eq name other)
 
 -- where texts are known, a file has the name, or nothing
 abbrev pub IsFound : {E : Type 0} → Option (List ℕ) → Result Found E → Type 0

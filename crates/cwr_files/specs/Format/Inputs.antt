@@ -1,7 +1,12 @@
--- Which words name standard input, and what inputs are called.
-use Rattle.std.specs.Prelude.{ℕ, Bool, true, false, if◌then◌else◌, List, [], ◌∷◌, map, Option, Some, None, codes, chars, encode_utf8_all}
+-- Which words name standard input, what is read under a word, and what inputs are called.
+use Rattle.std.specs.Prelude.{◌≡◌, ℕ, Bool, true, false, if◌then◌else◌, List, [], ◌∷◌, map, Option, Some, None, IfSome, codes, chars, encode_utf8_all}
 use Rattle.std.specs.Str.{bytes_eq}
 use Rattle.std.specs.Char.{is_control}
+use Rattle.cwr_devices.specs.Format.Failures.{one_more_failure}
+use Rattle.cwr_files.specs.declared.faults.Fault.{Fault}
+use Rattle.cwr_files.specs.declared.faults.Fault.TheVariants as faults
+use Rattle.cwr_files.specs.declared.faults.Name.TheVariants.{StandardInput}
+use Rattle.cwr_files.specs.Format.Files.{Texts}
 
 -- no word does, and `-`
 abbrev pub is_standard : Option (List ℕ) → Bool
@@ -13,6 +18,42 @@ abbrev pub are_standard : List (List ℕ) → Bool
 are_standard [] = true
 are_standard (name ∷ []) = is_standard (Some name)
 are_standard names = false
+
+-- ---- what is read under a word
+
+-- what lies there is this; nothing is read where nothing lies
+abbrev pub IfThere : Option (List ℕ) → (List ℕ → Type 0) → Type 0
+IfThere None is = ⊥
+IfThere (Some text) is = is text
+
+-- so is the text under a name, where texts are known
+abbrev pub IfHeld : Option Texts → List ℕ → (List ℕ → Type 0) → Type 0
+IfHeld None name is = Unit {0}
+IfHeld (Some texts) name is = IfThere (texts name) is
+
+-- so is what is on standard input, or in the file
+abbrev pub IfReadAt : Bool → Option Texts → Option (List ℕ) → List ℕ → (List ℕ → Type 0) → Type 0
+IfReadAt true held standard name is = IfSome standard is
+IfReadAt false held standard name is = IfHeld held name is
+
+-- so is what a word names: the file of that name, or standard input, where the bytes are known
+abbrev pub IfRead : Option Texts → Option (List ℕ) → Option (List ℕ) → (List ℕ → Type 0) → Type 0
+IfRead held standard None is = IfSome standard is
+IfRead held standard (Some name) is = IfReadAt (is_standard (Some name)) held standard name is
+
+-- ---- an input that couldn't be opened
+
+-- a file couldn't, which is counted, or standard input, which is there once
+abbrev pub IsUnopenedBy : {I : Type 0} → Option I → ℕ → ℕ → Fault → Type 0
+IsUnopenedBy standard old new (faults.Open StandardInput reason) = (standard ≡ None) × (new ≡ old)
+IsUnopenedBy standard old new (faults.Open name reason) = new ≡ one_more_failure old
+IsUnopenedBy standard old new fault = ⊥
+
+-- the name under which the system has what a word names
+abbrev pub path_of_input : List ℕ → List ℕ
+path_of_input word = if bytes_eq word (codes "-") then codes "/dev/stdin" else word
+
+-- ---- how inputs are shown
 
 -- a character as a line shows it: one that controls is `?`
 abbrev pub shown_char : ℕ → ℕ

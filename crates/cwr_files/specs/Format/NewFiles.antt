@@ -1,7 +1,8 @@
 -- The names of a file that isn't whole yet, and what lies under names once it is whole or given up.
-use Rattle.std.specs.Prelude.{◌≡◌, ℕ, ◌<◌, ◌≤◌, ◌==◌, List, ◌++◌, Option, Some, None, IsSome, codes, decimal, if◌then◌else◌}
+use Rattle.std.specs.Prelude.{◌≡◌, ℕ, ◌<◌, ◌≤◌, ◌==◌, false, List, ◌++◌, Option, Some, None, IsSome, codes, decimal, if◌then◌else◌}
+use Rattle.std.specs.Str.{bytes_eq}
 use Rattle.cwr_devices.specs.Format.Failures.{most_failures}
-use Rattle.cwr_files.specs.Format.Files.{Same, SameBut, Texts}
+use Rattle.cwr_files.specs.Format.Files.{Same, SameBut, Texts, put}
 
 -- the name of the whole one and `.part`, and from the second try on its number
 abbrev pub unfinished_name : List ℕ → ℕ → List ℕ
@@ -28,3 +29,18 @@ SameButPart (Some part) texts new = SameBut part texts new
 abbrev pub LeavesNothing : Option (List ℕ) → ℕ → ℕ → Texts → Texts → Type 0
 LeavesNothing part most failures texts new = SameButPart part texts new
     × (failures ≤ most → failures < most_failures → Same texts new)
+
+-- ---- what is left of a run that writes a file
+
+-- the file of that name holds a text that is so, and under any other name lies what lay there before
+abbrev pub HoldsNew : List ℕ → (List ℕ → Type 0) → Texts → Texts → Type 0
+HoldsNew name is texts new = (text : List ℕ) × is text × Same (put name (Some text) texts) new
+
+-- it is none of the names that the file of that name may have while it isn't whole
+abbrev pub IsNoPart : List ℕ → List ℕ → Type 0
+IsNoPart name n = (tries : ℕ) → bytes_eq n (unfinished_name name tries) ≡ false
+
+-- Nothing changed, unless more calls failed than so many: then something may be left under a name of what isn't whole.
+pub record LeavesAll (name : List ℕ) (most failures : ℕ) (texts new : Texts) : Type 0 where
+  pub others : (n : List ℕ) → IsNoPart name n → new n ≡ texts n
+  pub all : failures ≤ most → failures < most_failures → Same texts new

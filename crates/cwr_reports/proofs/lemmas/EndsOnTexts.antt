@@ -19,7 +19,15 @@ use Rattle.cwr_causes.specs.declared.trailing.Trailing.{Trailing}
 use Rattle.cwr_causes.specs.Format.Trailing.{IsTrailing}
 use Rattle.cwr_explain.specs.Format.Explained.{FindsAfter}
 use Rattle.cwr_files.specs.declared.faults.Told.{Told}
+use Rattle.cwr_files.specs.declared.faults.Fault.{Fault}
 use Rattle.cwr_files.specs.declared.faults.Fault.TheVariants as faults
+use Rattle.cwr_devices.specs.Format.Failures.{one_more_failure}
+use Rattle.cwr_files.specs.Format.Files.{Texts, counted_on}
+use Rattle.cwr_files.specs.Format.Inputs.{IsUnopenedBy}
+use Rattle.cwr_files.specs.Steps.Inputs.{IsLeftOf}
+use Rattle.cwr_files.proofs.lemmas.Reads.{if_read}
+use Rattle.cwr_endings.specs.declared.stops.Stop.{Stop}
+use Rattle.cwr_endings.specs.declared.stops.Stop.TheVariants as stops
 use Rattle.cwr_endings.specs.declared.endings.Look.{Look}
 use Rattle.cwr_endings.specs.declared.endings.Look.TheVariants as looks
 use Rattle.cwr_endings.specs.declared.endings.Status.{Status}
@@ -32,9 +40,9 @@ use Rattle.cwr_endings.specs.Steps.Looks.{CountsLook, IsLook, LooksOnce, follows
 use Rattle.cwr_endings.proofs.lemmas.StatusesOnTexts.{none_from, status_good}
 use Rattle.cwr_endings.specs.declared.judgements.Judgement.{Judgement}
 use Rattle.cwr_reports.specs.declared.tellings.Telling.{Telling}
-use Rattle.cwr_reports.specs.Format.Endings.{Counts, EndsOnInput}
-use Rattle.cwr_reports.specs.Steps.Tellings.{CountsFindings, CountsInput, CountsReading, CountsWriting, TellsText, TellsUpTo}
-use Rattle.cwr_reports.specs.Steps.Looks.{JudgesOn, LooksAfter, SeesFound, look_of}
+use Rattle.cwr_reports.specs.Format.Endings.{Counts, EndsAsExport, EndsAsExportOf, EndsOnInput, EndsOnRead}
+use Rattle.cwr_reports.specs.Steps.Tellings.{CountsFindings, CountsInput, CountsReading, CountsStop, CountsWriting, IsStopOf, TellsLines, TellsText, TellsUpTo}
+use Rattle.cwr_reports.specs.Steps.Looks.{JudgesOn, JudgesRead, LooksAfter, SeesFound, look_of}
 
 -- ---- the status of a verdict
 
@@ -271,27 +279,134 @@ judged_counts wanted (Err (tool_faults.Truncated records)) look found old new e 
 judged_counts wanted (Err (tool_faults.Limit limit)) look found old new e = e
 judged_counts wanted (Err tool_faults.Output) look found old new e = e
 
+-- what the input counted is counted by the store that takes it back
+looked_at_store : (look : Look) (read read_now old new : ℕ) → read ≡ 0 → CountsLook look read read_now
+    → new ≡ counted_on read_now old → CountsLook look old new
+looked_at_store (looks.Found trailing) read read_now old new none h e = e ∙ ap (λ (n : ℕ). counted_on n old) (h ∙ none)
+looked_at_store looks.Failed read read_now old new none h e =
+    e ∙ ap (λ (n : ℕ). counted_on n old) (h ∙ ap one_more_failure none)
+looked_at_store looks.Unasked read read_now old new none h e = e ∙ ap (λ (n : ℕ). counted_on n old) (h ∙ none)
+
+pub counts_at_store : (judged : Result Judgement ToolFault) (read read_now old new : ℕ) → read ≡ 0 → CountsInput judged read read_now
+    → new ≡ counted_on read_now old → CountsInput judged old new
+counts_at_store (Ok judgement) read read_now old new none h e = looked_at_store judgement.look read read_now old new none h e
+counts_at_store (Err tool_faults.Reader) read read_now old new none h e =
+    e ∙ ap (λ (n : ℕ). counted_on n old) (h ∙ ap one_more_failure none)
+counts_at_store (Err (tool_faults.Writer written)) read read_now old new none h e = e ∙ ap (λ (n : ℕ). counted_on n old) (h ∙ none)
+counts_at_store (Err tool_faults.Memory) read read_now old new none h e = e ∙ ap (λ (n : ℕ). counted_on n old) (h ∙ none)
+counts_at_store (Err (tool_faults.Refused refusal)) read read_now old new none h e = e ∙ ap (λ (n : ℕ). counted_on n old) (h ∙ none)
+counts_at_store (Err (tool_faults.Truncated records)) read read_now old new none h e = e ∙ ap (λ (n : ℕ). counted_on n old) (h ∙ none)
+counts_at_store (Err (tool_faults.Limit limit)) read read_now old new none h e = e ∙ ap (λ (n : ℕ). counted_on n old) (h ∙ none)
+counts_at_store (Err tool_faults.Output) read read_now old new none h e = e ∙ ap (λ (n : ℕ). counted_on n old) (h ∙ none)
+
 -- ---- how a run ends
 
-pub ends_ok : (advice : Option (Bool × ℕ)) (limits : Limits) (wanted : Wanted) (before : Option (List ℕ)) (judged : Result Judgement ToolFault)
-    (judgement : Judgement) → judged ≡ Ok judgement → JudgesOn advice limits wanted before judged → EndsOnInput advice limits wanted before
-    (Ok judgement.status)
-ends_ok advice limits wanted before judged judgement e h = subst (JudgesOn advice limits wanted before) e h
+-- what was judged ends so
+pub read_judged : {A B : Type 0} (advice : Option (Bool × ℕ)) (limits : Limits) (wanted : Wanted) (before : Option (List ℕ))
+    (judged : Result Judgement ToolFault) (judgement : Judgement) (a : A) (b : B) → judged ≡ Ok judgement
+    → JudgesOn advice limits wanted before judged → JudgesRead {A = A} {B = B} advice limits wanted before (Ok (judgement, a, b))
+read_judged advice limits wanted before judged judgement a b e h = subst (JudgesOn advice limits wanted before) e h
 
-pub ends_read : (advice : Option (Bool × ℕ)) (limits : Limits) (wanted : Wanted) (before : Option (List ℕ)) (told : Told)
-    → EndsOnInput advice limits wanted before (Err (faults.Read told))
-ends_read advice limits wanted None told = tt
-ends_read advice limits wanted (Some text) told = tt
+stops_so : (A B : Type 0) (advice : Option (Bool × ℕ)) (limits : Limits) (wanted : Wanted) (before : Option (List ℕ)) (told : Told)
+    (fault : ToolFault) (stop : Stop) → JudgesOn advice limits wanted before (Err fault) → IsStopOf told fault stop
+    → JudgesRead {A = A} {B = B} advice limits wanted before (Err stop)
+stops_so A B advice limits wanted before told tool_faults.Reader stop h e = subst (λ (s : Stop). EndsOnInput advice limits wanted before (Err s)) (sym e) tt
+stops_so A B advice limits wanted before told (tool_faults.Writer n) stop h e = subst (λ (s : Stop). EndsOnInput advice limits wanted before (Err s)) (sym e) tt
+stops_so A B advice limits wanted before told tool_faults.Memory stop h e = subst (λ (s : Stop). EndsOnInput advice limits wanted before (Err s)) (sym e) tt
+stops_so A B advice limits wanted before told (tool_faults.Refused r) stop h e = absurd h
+stops_so A B advice limits wanted before told (tool_faults.Truncated n) stop h e = absurd h
+stops_so A B advice limits wanted before told (tool_faults.Limit l) stop h e = absurd h
+stops_so A B advice limits wanted before told tool_faults.Output stop h e = absurd h
 
-pub ends_write : (advice : Option (Bool × ℕ)) (limits : Limits) (wanted : Wanted) (before : Option (List ℕ)) (told : Told)
-    → EndsOnInput advice limits wanted before (Err (faults.Write told))
-ends_write advice limits wanted None told = tt
-ends_write advice limits wanted (Some text) told = tt
+-- so does what couldn't be judged
+pub read_stopped : (A B : Type 0) (advice : Option (Bool × ℕ)) (limits : Limits) (wanted : Wanted) (before : Option (List ℕ))
+    (judged : Result Judgement ToolFault) (told : Told) (fault : ToolFault) (stop : Stop) → judged ≡ Err fault
+    → JudgesOn advice limits wanted before judged → IsStopOf told fault stop
+    → JudgesRead {A = A} {B = B} advice limits wanted before (Err stop)
+read_stopped A B advice limits wanted before judged told fault stop e h is =
+    stops_so A B advice limits wanted before told fault stop (subst (JudgesOn advice limits wanted before) e h) is
 
-pub ends_memory : (advice : Option (Bool × ℕ)) (limits : Limits) (wanted : Wanted) (before : Option (List ℕ))
-    → EndsOnInput advice limits wanted before (Err faults.Memory)
-ends_memory advice limits wanted None = tt
-ends_memory advice limits wanted (Some text) = tt
+-- the failures that a stop stands for
+counts_so : (A : Type 0) (advice : Option (Bool × ℕ)) (limits : Limits) (wanted : Wanted) (before : Option (List ℕ)) (told : Told)
+    (fault : ToolFault) (stop : Stop) (old new out out_now : ℕ) → JudgesOn advice limits wanted before (Err fault)
+    → IsStopOf told fault stop → CountsInput (Err fault) old new → CountsWriting (Err fault) out out_now
+    → CountsStop {A = A} (Err stop) old new out out_now
+counts_so A advice limits wanted before told tool_faults.Reader stop old new out out_now h e read written =
+    subst (λ (s : Stop). CountsStop {A = A} (Err s) old new out out_now) (sym e) (read, written)
+counts_so A advice limits wanted before told (tool_faults.Writer n) stop old new out out_now h e read written =
+    subst (λ (s : Stop). CountsStop {A = A} (Err s) old new out out_now) (sym e) written
+counts_so A advice limits wanted before told tool_faults.Memory stop old new out out_now h e read written =
+    subst (λ (s : Stop). CountsStop {A = A} (Err s) old new out out_now) (sym e) written
+counts_so A advice limits wanted before told (tool_faults.Refused r) stop old new out out_now h e read written = absurd h
+counts_so A advice limits wanted before told (tool_faults.Truncated n) stop old new out out_now h e read written = absurd h
+counts_so A advice limits wanted before told (tool_faults.Limit l) stop old new out out_now h e read written = absurd h
+counts_so A advice limits wanted before told tool_faults.Output stop old new out out_now h e read written = absurd h
+
+pub stop_counted : (A : Type 0) (advice : Option (Bool × ℕ)) (limits : Limits) (wanted : Wanted) (before : Option (List ℕ))
+    (judged : Result Judgement ToolFault) (told : Told) (fault : ToolFault) (stop : Stop) (old new out out_now : ℕ)
+    → judged ≡ Err fault → JudgesOn advice limits wanted before judged → IsStopOf told fault stop
+    → CountsInput judged old new → CountsWriting judged out out_now → CountsStop {A = A} (Err stop) old new out out_now
+stop_counted A advice limits wanted before judged told fault stop old new out out_now e h is read written =
+    counts_so A advice limits wanted before told fault stop old new out out_now (subst (JudgesOn advice limits wanted before) e h) is
+    (subst (λ (r : Result Judgement ToolFault). CountsInput r old new) e read)
+    (subst (λ (r : Result Judgement ToolFault). CountsWriting r out out_now) e written)
+
+-- none where it was judged
+pub end_counted : {A : Type 0} (judged : Result Judgement ToolFault) (judgement : Judgement) (a : A) (old new out out_now : ℕ)
+    → judged ≡ Ok judgement → CountsWriting judged out out_now → CountsStop (Ok a) old new out out_now
+end_counted judged judgement a old new out out_now e written =
+    subst (λ (r : Result Judgement ToolFault). CountsWriting r out out_now) e written
+
+-- the lines that were told
+pub lines_told : {A W : Type 0} (telling : Telling) (limits : Limits) (before : Option (List ℕ)) (contents : W → Option (List ℕ))
+    (old new : W) (judged : Result Judgement ToolFault) (judgement : Judgement) (a : A) → judged ≡ Ok judgement
+    → IfOk judged (λ j. TellsText telling limits before contents old new (Ok j.verdict))
+    → TellsLines {A = A} telling limits before contents old new (Ok a)
+lines_told telling limits before contents old new judged judgement a e h = (
+  judgement.verdict,
+  subst (λ (r : Result Judgement ToolFault). IfOk r (λ j. TellsText telling limits before contents old new (Ok j.verdict))) e h,
+)
+
+-- ---- a run over what a word names
+
+pub ends_on_read : (advice : Option (Bool × ℕ)) (limits : Limits) (wanted : Wanted) (held : Option Texts)
+    (standard name left : Option (List ℕ)) (ending : Result Status Stop) → IsLeftOf held standard name left
+    → EndsOnInput advice limits wanted left ending → EndsOnRead advice limits wanted held standard name ending
+ends_on_read advice limits wanted held standard name left (Ok status) e h =
+    if_read held standard name left (λ text. IsStatusBy (Counts advice) limits wanted text status) e h
+ends_on_read advice limits wanted held standard name left (Err stops.Output) e h = tt
+ends_on_read advice limits wanted held standard name left (Err (stops.Fault (faults.Read told))) e h = tt
+ends_on_read advice limits wanted held standard name left (Err (stops.Fault faults.Memory)) e h = tt
+ends_on_read advice limits wanted held standard name left (Err (stops.Fault (faults.Open of reason))) e h = absurd h
+ends_on_read advice limits wanted held standard name left (Err (stops.Fault (faults.Write told))) e h = absurd h
+ends_on_read advice limits wanted held standard name left (Err (stops.Fault (faults.Output of reason))) e h = absurd h
+ends_on_read advice limits wanted held standard name left (Err (stops.Fault (faults.IsInput of))) e h = absurd h
+ends_on_read advice limits wanted held standard name left (Err (stops.Fault (faults.IsThere of))) e h = absurd h
+ends_on_read advice limits wanted held standard name left (Err (stops.Fault (faults.IsTwice of))) e h = absurd h
+ends_on_read advice limits wanted held standard name left (Err (stops.Fault (faults.IsOther of))) e h = absurd h
+ends_on_read advice limits wanted held standard name left (Err (stops.Fault (faults.IsLate of))) e h = absurd h
+
+-- where it can't be opened
+pub unopened_ends : {I : Type 0} (advice : Option (Bool × ℕ)) (limits : Limits) (wanted : Wanted) (held : Option Texts)
+    (standard name : Option (List ℕ)) (input : Option I) (old new : ℕ) (fault : Fault) → IsUnopenedBy input old new fault
+    → EndsOnRead advice limits wanted held standard name (Err (stops.Fault fault))
+unopened_ends advice limits wanted held standard name input old new (faults.Open of reason) h = tt
+unopened_ends advice limits wanted held standard name input old new (faults.Read told) h = tt
+unopened_ends advice limits wanted held standard name input old new (faults.Write told) h = absurd h
+unopened_ends advice limits wanted held standard name input old new (faults.Output of reason) h = absurd h
+unopened_ends advice limits wanted held standard name input old new (faults.IsInput of) h = absurd h
+unopened_ends advice limits wanted held standard name input old new (faults.IsThere of) h = absurd h
+unopened_ends advice limits wanted held standard name input old new (faults.IsTwice of) h = absurd h
+unopened_ends advice limits wanted held standard name input old new (faults.IsOther of) h = absurd h
+unopened_ends advice limits wanted held standard name input old new (faults.IsLate of) h = absurd h
+unopened_ends advice limits wanted held standard name input old new faults.Memory h = tt
+
+pub export_of_read : (advice : Option (Bool × ℕ)) (limits : Limits) (wanted : Wanted) (held : Option Texts)
+    (standard name left : Option (List ℕ)) (ending : Result Status Stop) → IsLeftOf held standard name left
+    → EndsAsExport advice limits wanted left ending → EndsAsExportOf advice limits wanted held standard name ending
+export_of_read advice limits wanted held standard name left (Ok status) e h =
+    if_read held standard name left (λ text. IsStatusBy (Counts advice) limits wanted text status) e h
+export_of_read advice limits wanted held standard name left (Err stop) e h = tt
 
 -- ---- how many findings were told
 

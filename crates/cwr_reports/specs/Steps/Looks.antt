@@ -11,10 +11,11 @@ use Rattle.cwr_causes.specs.declared.trailing.Trailing.{Trailing}
 use Rattle.cwr_endings.specs.declared.endings.Look.{Look}
 use Rattle.cwr_endings.specs.declared.endings.Look.TheVariants as looks
 use Rattle.cwr_endings.specs.declared.endings.Wanted.{Wanted}
+use Rattle.cwr_endings.specs.declared.stops.Stop.{Stop}
 use Rattle.cwr_endings.specs.Format.Endings.{IsStatusBy}
 use Rattle.cwr_endings.specs.Steps.Looks.{IsLook}
 use Rattle.cwr_endings.specs.declared.judgements.Judgement.{Judgement}
-use Rattle.cwr_reports.specs.Format.Endings.{Counts}
+use Rattle.cwr_reports.specs.Format.Endings.{Counts, EndsOnInput}
 use Rattle.cwr_reports.specs.declared.tellings.Telling.{Telling}
 use Rattle.cwr_reports.specs.declared.tellings.Telling.TheVariants as tellings
 
@@ -49,3 +50,8 @@ JudgesOn advice limits wanted before (Err tool_faults.Reader) = Unit {0}
 JudgesOn advice limits wanted before (Err (tool_faults.Writer written)) = Unit {0}
 JudgesOn advice limits wanted before (Err tool_faults.Memory) = Unit {0}
 JudgesOn advice limits wanted before (Err fault) = ⊥
+
+-- what was read of an input, with its status, is as a run that ends so
+abbrev pub JudgesRead : {A B : Type 0} → Option (Bool × ℕ) → Limits → Wanted → Option (List ℕ) → Result (Judgement × A × B) Stop → Type 0
+JudgesRead advice limits wanted before (Ok read) = EndsOnInput advice limits wanted before (Ok read.0.status)
+JudgesRead advice limits wanted before (Err stop) = EndsOnInput advice limits wanted before (Err stop)

@@ -7,7 +7,7 @@ use Rattle.cwr_shape.specs.declared.limits.Limits.{Limits}
 use Rattle.cwr_tools.specs.declared.finding_counts.FindingCount.{FindingCount}
 use Rattle.cwr_tools.specs.declared.verdicts.Verdict.{Verdict}
 use Rattle.cwr_tools.specs.declared.verdicts.ToolFault.{ToolFault}
-use Rattle.cwr_tools.specs.declared.verdicts.ToolFault.TheVariants.{Writer}
+use Rattle.cwr_tools.specs.declared.verdicts.ToolFault.TheVariants.{Reader, Writer}
 use Rattle.cwr_tools.specs.Format.Reports.{CountsReaderFault, ItemLines, lines_of_counted, lines_of_data, lines_of_findings}
 use Rattle.cwr_tools.specs.Format.Watching.{CountsAccepted}
 use Rattle.cwr_tools.specs.Steps.Reports.{Reports}
@@ -22,6 +22,12 @@ use Rattle.cwr_lint.specs.Steps.Lints.{Lints, Tells}
 use Rattle.cwr_endings.specs.declared.endings.Look.{Look}
 use Rattle.cwr_endings.specs.Steps.Looks.{CountsLook}
 use Rattle.cwr_endings.specs.declared.judgements.Judgement.{Judgement}
+use Rattle.cwr_endings.specs.declared.stops.Stop.{Stop}
+use Rattle.cwr_endings.specs.declared.stops.Stop.TheVariants as stops
+use Rattle.cwr_files.specs.declared.faults.Fault.TheVariants as faults
+use Rattle.cwr_files.specs.declared.faults.Told.{Told}
+use Rattle.cwr_files.specs.declared.inputs.Input.{Input}
+use Rattle.cwr_files.specs.Steps.Inputs.{remaining_of}
 use Rattle.cwr_reports.specs.declared.tellings.Telling.{Telling}
 use Rattle.cwr_reports.specs.declared.tellings.Telling.TheVariants as tellings
 
@@ -88,3 +94,33 @@ CountsInput (Err fault) old new = CountsReaderFault (Err fault) old new
 abbrev pub CountsWriting : Result Judgement ToolFault → ℕ → ℕ → Type 0
 CountsWriting (Err (Writer written)) old new = new ≡ one_more_failure old
 CountsWriting judged old new = new ≡ old
+
+-- ---- why a run stopped, and which failures that stands for
+
+-- the input's fault, standard output's, or that there was no memory
+abbrev pub IsStopOf : Told → ToolFault → Stop → Type 0
+IsStopOf told Reader stop = stop ≡ stops.Fault (faults.Read told)
+IsStopOf told (Writer written) stop = stop ≡ stops.Output
+IsStopOf told fault stop = stop ≡ stops.Fault faults.Memory
+
+-- A fault of the input is answered only where one failure more was counted of it, and one of standard output only where that failed once
+-- more.
+abbrev pub CountsStop : {A : Type 0} → Result A Stop → ℕ → ℕ → ℕ → ℕ → Type 0
+CountsStop (Ok read) old new out out_now = out_now ≡ out
+CountsStop (Err stops.Output) old new out out_now = out_now ≡ one_more_failure out
+CountsStop (Err (stops.Fault (faults.Read told))) old new out out_now = (new ≡ one_more_failure old) × (out_now ≡ out)
+CountsStop (Err (stops.Fault (faults.Open name reason))) old new out out_now = (new ≡ one_more_failure old) × (out_now ≡ out)
+CountsStop (Err (stops.Fault faults.Memory)) old new out out_now = out_now ≡ out
+CountsStop (Err (stops.Fault fault)) old new out out_now = ⊥
+
+-- where the run came to its end, the lines that are asked for were written, on some verdict
+abbrev pub TellsLines : {A W : Type 0} → Telling → Limits → Option (List ℕ) → (W → Option (List ℕ)) → W → W → Result A Stop → Type 0
+TellsLines telling limits before contents old new (Ok read) =
+    (verdict : Verdict) × TellsText telling limits before contents old new (Ok verdict)
+TellsLines telling limits before contents old new (Err stop) = Unit {0}
+
+-- so it is of an input, by what its device has left
+abbrev pub TellsOf : {A W F I P : Type 0} → Telling → Limits → (F → Option (List ℕ)) → (I → Option (List ℕ)) → Input F I P
+    → (W → Option (List ℕ)) → W → W → Result A Stop → Type 0
+TellsOf telling limits of_file of_standard input contents old new ending =
+    TellsLines telling limits (remaining_of of_file of_standard input) contents old new ending

@@ -9,11 +9,14 @@ use Rattle.cwr_files.specs.declared.faults.Fault.{Fault}
 use Rattle.cwr_files.specs.declared.faults.Fault.TheVariants as faults
 use Rattle.cwr_files.specs.declared.faults.Name.TheVariants.{File}
 use Rattle.cwr_files.specs.declared.faults.Told.{Told}
-use Rattle.cwr_files.specs.Format.Faults.{IsUnkept, IsUnmade, IsUnopened}
+use Rattle.cwr_files.specs.Format.Faults.{IsUnkept, IsUnmade}
+use Rattle.cwr_files.specs.Format.Inputs.{IsUnopenedBy}
 use Rattle.cwr_endings.specs.declared.endings.Status.{Status}
 use Rattle.cwr_endings.specs.declared.endings.Status.TheVariants as statuses
 use Rattle.cwr_transform.specs.declared.joins.Union.{Union}
-use Rattle.cwr_endings.specs.Format.Endings.{EndsAfterFault, IsRefusedOut, IsUnwritten}
+use Rattle.cwr_endings.specs.declared.stops.Stop.{Stop}
+use Rattle.cwr_endings.specs.declared.stops.Stop.TheVariants as stops
+use Rattle.cwr_endings.specs.Format.Endings.{EndsAfterFault, IsRefusedOut}
 use Rattle.cwr_transform.specs.Format.Joins.{EndsAfterJoin, EndsAsJoin, EndsFound, EndsJoined, EndsLooked, EndsUnseen, IsJoinFault}
 use Rattle.cwr_transform.specs.Format.Joins.{IsRefusedSender, IsUnjoined, IsUnread}
 
@@ -30,18 +33,6 @@ unread union (faults.IsTwice name) h = absurd h
 unread union (faults.IsOther name) h = absurd h
 unread union (faults.IsLate name) h = absurd h
 unread union faults.Memory h = tt
-
-pub unwritten : (union : Union) (fault : Fault) → IsUnwritten fault → IsJoinFault union fault
-unwritten union (faults.Open name reason) h = absurd h
-unwritten union (faults.Read told) h = absurd h
-unwritten union (faults.Write told) h = tt
-unwritten union (faults.Output name reason) h = absurd h
-unwritten union (faults.IsInput name) h = absurd h
-unwritten union (faults.IsThere name) h = absurd h
-unwritten union (faults.IsTwice name) h = absurd h
-unwritten union (faults.IsOther name) h = absurd h
-unwritten union (faults.IsLate name) h = absurd h
-unwritten union faults.Memory h = absurd h
 
 pub refused_out : (union : Union) (fault : Fault) → IsRefusedOut (File union.out) union.only_new fault → IsJoinFault union fault
 refused_out union (faults.Open name reason) h = absurd h
@@ -93,31 +84,31 @@ unkept union faults.Memory h = absurd h
 
 -- ---- the end
 
-as_join : (union : Union) (n : ℕ) (ending goal : Result Status Fault) → ending ≡ goal → EndsAsJoin union n goal
+as_join : (union : Union) (n : ℕ) (ending goal : Result Status Stop) → ending ≡ goal → EndsAsJoin union n goal
     → EndsAsJoin union n ending
 as_join union n ending goal e h = subst (EndsAsJoin union n) (sym e) h
 
-looked : (union : Union) (n : ℕ) (b : Bool) (ending : Result Status Fault) → 0 < n → EndsLooked b ending → EndsAsJoin union n ending
+looked : (union : Union) (n : ℕ) (b : Bool) (ending : Result Status Stop) → 0 < n → EndsLooked b ending → EndsAsJoin union n ending
 looked union n true ending some h = as_join union n ending (Ok statuses.Refused) h some
 looked union n false ending some h = as_join union n ending (Ok statuses.Good) h some
 
-unseen : (union : Union) (n : ℕ) (b : Bool) (ending : Result Status Fault) → 0 < n → EndsUnseen b ending → EndsAsJoin union n ending
-unseen union n true ending some h = as_join union n ending (Err (faults.Read h.0)) h.1 tt
+unseen : (union : Union) (n : ℕ) (b : Bool) (ending : Result Status Stop) → 0 < n → EndsUnseen b ending → EndsAsJoin union n ending
+unseen union n true ending some h = as_join union n ending (Err (stops.Fault (faults.Read h.0))) h.1 tt
 unseen union n false ending some h = as_join union n ending (Ok statuses.Good) h some
 
-after : (union : Union) (n : ℕ) (whole : Bool) (found : Option (Result Bool ℕ)) (ending : Result Status Fault) → 0 < n
+after : (union : Union) (n : ℕ) (whole : Bool) (found : Option (Result Bool ℕ)) (ending : Result Status Stop) → 0 < n
     → EndsAfterJoin whole found ending → EndsAsJoin union n ending
 after union n whole (Some (Ok follows)) ending some h = looked union n (whole && follows) ending some h
 after union n whole (Some (Err number)) ending some h = unseen union n whole ending some h
 after union n whole None ending some h = as_join union n ending (Ok statuses.Good) h some
 
-failed : (union : Union) (n : ℕ) (read written : Told) (fault : ToolFault) (ending : Result Status Fault) → 0 < n
-    → EndsAfterFault read written (faults.Output (File union.out) None) (Some fault) ending → EndsAsJoin union n ending
-failed union n read written tool_faults.Reader ending some h = as_join union n ending (Err (faults.Read read)) h tt
-failed union n read written (tool_faults.Writer k) ending some h = as_join union n ending (Err (faults.Write written)) h tt
-failed union n read written tool_faults.Memory ending some h = as_join union n ending (Err faults.Memory) h tt
+failed : (union : Union) (n : ℕ) (read written : Told) (fault : ToolFault) (ending : Result Status Stop) → 0 < n
+    → EndsAfterFault read (stops.Fault (faults.Write written)) (stops.Fault (faults.Output (File union.out) None)) (Some fault) ending → EndsAsJoin union n ending
+failed union n read written tool_faults.Reader ending some h = as_join union n ending (Err (stops.Fault (faults.Read read))) h tt
+failed union n read written (tool_faults.Writer k) ending some h = as_join union n ending (Err (stops.Fault (faults.Write written))) h tt
+failed union n read written tool_faults.Memory ending some h = as_join union n ending (Err (stops.Fault faults.Memory)) h tt
 failed union n read written tool_faults.Output ending some h =
-    as_join union n ending (Err (faults.Output (File union.out) None)) h tt
+    as_join union n ending (Err (stops.Fault (faults.Output (File union.out) None))) h tt
 failed union n read written (tool_faults.Refused r) ending some h = as_join union n ending (Ok statuses.Refused) h some
 failed union n read written (tool_faults.Truncated k) ending some h = as_join union n ending (Ok statuses.Refused) h some
 failed union n read written (tool_faults.Limit l) ending some h = as_join union n ending (Ok statuses.Refused) h some
@@ -134,24 +125,24 @@ refused_sender union (faults.IsOther of) h = h
 refused_sender union (faults.IsLate of) h = absurd h
 refused_sender union faults.Memory h = tt
 
-found_or_after : (union : Union) (n : ℕ) (found whole : Bool) (looked : Option (Result Bool ℕ)) (ending : Result Status Fault)
+found_or_after : (union : Union) (n : ℕ) (found whole : Bool) (looked : Option (Result Bool ℕ)) (ending : Result Status Stop)
     → 0 < n → EndsFound found whole looked ending → EndsAsJoin union n ending
 found_or_after union n true whole looked ending some h = as_join union n ending (Ok statuses.Refused) h some
 found_or_after union n false whole looked ending some h = after union n whole looked ending some h
 
 pub join_ends : (union : Union) (n : ℕ) (outcome : Result JoinReport JoinFault) (found : Bool) (looked : Option (Result Bool ℕ))
-    (ending : Result Status Fault) → 0 < n → EndsJoined union outcome found looked ending → EndsAsJoin union n ending
+    (ending : Result Status Stop) → 0 < n → EndsJoined union outcome found looked ending → EndsAsJoin union n ending
 join_ends union n (Ok report) found looked ending some h = found_or_after union n found union.wanted.whole looked ending some h
 join_ends union n (Err stopped) found looked ending some h = failed union n h.0 h.1 stopped.fault ending some h.2
 
-pub unopened : (fault : Fault) → IsUnopened fault → IsUnread fault
-unopened (faults.Open name reason) h = tt
-unopened (faults.Read told) h = absurd h
-unopened (faults.Write told) h = absurd h
-unopened (faults.Output name reason) h = absurd h
-unopened (faults.IsInput name) h = absurd h
-unopened (faults.IsThere name) h = absurd h
-unopened (faults.IsTwice name) h = absurd h
-unopened (faults.IsOther name) h = absurd h
-unopened (faults.IsLate name) h = absurd h
-unopened faults.Memory h = absurd h
+pub unopened : {I : Type 0} (standard : Option I) (old new : ℕ) (fault : Fault) → IsUnopenedBy standard old new fault → IsUnread fault
+unopened standard old new (faults.Open name reason) h = tt
+unopened standard old new (faults.Read told) h = absurd h
+unopened standard old new (faults.Write told) h = absurd h
+unopened standard old new (faults.Output name reason) h = absurd h
+unopened standard old new (faults.IsInput name) h = absurd h
+unopened standard old new (faults.IsThere name) h = absurd h
+unopened standard old new (faults.IsTwice name) h = absurd h
+unopened standard old new (faults.IsOther name) h = absurd h
+unopened standard old new (faults.IsLate name) h = absurd h
+unopened standard old new faults.Memory h = absurd h

@@ -17,6 +17,7 @@ use Rattle.cwr_endings.specs.declared.endings.Status.TheVariants as statuses
 use Rattle.cwr_endings.specs.declared.endings.Wanted.{Wanted}
 use Rattle.cwr_files.specs.declared.faults.Told.{Told}
 use Rattle.cwr_files.specs.declared.faults.Fault.{Fault}
+use Rattle.cwr_endings.specs.declared.stops.Stop.{Stop}
 use Rattle.cwr_endings.specs.Format.Endings.{FindsFrom}
 use Rattle.cwr_transform.specs.Format.Splits.{EndsAsSplit}
 use Rattle.cwr_endings.specs.Steps.Looks.{IsLook, good_status}
@@ -73,7 +74,7 @@ ends_truncated limits wanted None n judged = tt
 ends_truncated limits wanted (Some text) n judged = inr (inl (n, judged))
 
 pub split_ends : (limits : Limits) (wanted : Wanted) (before : Option (List ℕ)) (input : Told) (made : Fault)
-    (outcome : Result SplitReport ToolFault) (look : Look) (count : FindingCount) (found : Bool) (ending : Result Status Fault)
+    (outcome : Result SplitReport ToolFault) (look : Look) (count : FindingCount) (found : Bool) (ending : Result Status Stop)
     → JudgesCut limits before outcome look → OnOk outcome (CountsAccepted limits before count)
     → found ≡ is_reached wanted.fail_on count.worst → SplitEndsAs input made outcome (good_status wanted look found) ending
     → EndsAsSplit limits wanted before ending

@@ -9,6 +9,8 @@ use Rattle.cwr_files.specs.declared.faults.Name.TheVariants.{File}
 use Rattle.cwr_files.specs.declared.faults.Told.{Told}
 use Rattle.cwr_endings.specs.declared.endings.Status.{Status}
 use Rattle.cwr_endings.specs.declared.endings.Status.TheVariants as statuses
+use Rattle.cwr_endings.specs.declared.stops.Stop.{Stop}
+use Rattle.cwr_endings.specs.declared.stops.Stop.TheVariants as stops
 use Rattle.cwr_transform.specs.declared.joins.Union.{Union}
 use Rattle.cwr_endings.specs.Format.Endings.{EndsAfterFault}
 
@@ -44,34 +46,35 @@ is_wanted whole (Some (Ok follows)) = not (whole && follows)
 is_wanted whole (Some (Err number)) = not whole
 
 -- a join that failed ends as its fault does, with what is known of the input and of the output
-abbrev pub EndsAfterJoinFault : Name → JoinFault → Result Status Fault → Type 0
+abbrev pub EndsAfterJoinFault : Name → JoinFault → Result Status Stop → Type 0
 EndsAfterJoinFault name stopped ending =
-    (read : Told) × (written : Told) × EndsAfterFault read written (faults.Output name None) (Some stopped.fault) ending
+    (read : Told) × (written : Told)
+    × EndsAfterFault read (stops.Fault (faults.Write written)) (stops.Fault (faults.Output name None)) (Some stopped.fault) ending
 
 -- something follows where nothing may
-abbrev pub EndsLooked : Bool → Result Status Fault → Type 0
+abbrev pub EndsLooked : Bool → Result Status Stop → Type 0
 EndsLooked true ending = ending ≡ Ok statuses.Refused
 EndsLooked false ending = ending ≡ Ok statuses.Good
 
 -- an input failed there
-abbrev pub EndsUnseen : Bool → Result Status Fault → Type 0
-EndsUnseen true ending = (told : Told) × (ending ≡ Err (faults.Read told))
+abbrev pub EndsUnseen : Bool → Result Status Stop → Type 0
+EndsUnseen true ending = (told : Told) × (ending ≡ Err (stops.Fault (faults.Read told)))
 EndsUnseen false ending = ending ≡ Ok statuses.Good
 
 -- A join that succeeds ends well unless something follows a transmission where nothing may, which ends it as refused, or an input
 -- failed there.
-abbrev pub EndsAfterJoin : Bool → Option (Result Bool ℕ) → Result Status Fault → Type 0
+abbrev pub EndsAfterJoin : Bool → Option (Result Bool ℕ) → Result Status Stop → Type 0
 EndsAfterJoin whole (Some (Ok follows)) ending = EndsLooked (whole && follows) ending
 EndsAfterJoin whole (Some (Err number)) ending = EndsUnseen whole ending
 EndsAfterJoin whole None ending = ending ≡ Ok statuses.Good
 
 -- a finding that is unwanted ends it as refused
-abbrev pub EndsFound : Bool → Bool → Option (Result Bool ℕ) → Result Status Fault → Type 0
+abbrev pub EndsFound : Bool → Bool → Option (Result Bool ℕ) → Result Status Stop → Type 0
 EndsFound true whole after ending = ending ≡ Ok statuses.Refused
 EndsFound false whole after ending = EndsAfterJoin whole after ending
 
 -- so a run ends, by what the join answered
-abbrev pub EndsJoined : Union → Result JoinReport JoinFault → Bool → Option (Result Bool ℕ) → Result Status Fault → Type 0
+abbrev pub EndsJoined : Union → Result JoinReport JoinFault → Bool → Option (Result Bool ℕ) → Result Status Stop → Type 0
 EndsJoined union (Ok report) found after ending = EndsFound found union.wanted.whole after ending
 EndsJoined union (Err stopped) found after ending = EndsAfterJoinFault (File union.out) stopped ending
 
@@ -84,11 +87,17 @@ IsJoinFault union (faults.IsOther of) = union.same_sender ≡ true
 IsJoinFault union (faults.IsLate of) = ⊥
 IsJoinFault union fault = Unit {0}
 
+-- so many inputs were named: none, or some were joined
+abbrev pub NamesInputs : {A : Type 0} → Option A → ℕ → Type 0
+NamesInputs None inputs = inputs ≡ 0
+NamesInputs (Some joined) inputs = 0 < inputs
+
 -- A join of so many inputs ends well or as refused; where there is none, as words do that ask for nothing. Else a file, a device or
 -- memory failed, or the file may not be written.
-abbrev pub EndsAsJoin : Union → ℕ → Result Status Fault → Type 0
+abbrev pub EndsAsJoin : Union → ℕ → Result Status Stop → Type 0
 EndsAsJoin union inputs (Ok statuses.Good) = 0 < inputs
 EndsAsJoin union inputs (Ok statuses.Refused) = 0 < inputs
 EndsAsJoin union inputs (Ok statuses.CommandLine) = inputs ≡ 0
 EndsAsJoin union inputs (Ok statuses.Fault) = ⊥
-EndsAsJoin union inputs (Err fault) = IsJoinFault union fault
+EndsAsJoin union inputs (Err stops.Output) = Unit {0}
+EndsAsJoin union inputs (Err (stops.Fault fault)) = IsJoinFault union fault

@@ -9,6 +9,8 @@ use Rattle.cwr_tools.specs.declared.verdicts.ToolFault.TheVariants.{Writer}
 use Rattle.cwr_parts.specs.Format.Splitting.{JudgesSplit}
 use Rattle.cwr_endings.specs.declared.endings.Look.{Look}
 use Rattle.cwr_endings.specs.declared.endings.Status.{Status}
+use Rattle.cwr_endings.specs.declared.stops.Stop.{Stop}
+use Rattle.cwr_endings.specs.declared.stops.Stop.TheVariants as stops
 use Rattle.cwr_files.specs.declared.faults.Told.{Told}
 use Rattle.cwr_files.specs.declared.faults.Fault.{Fault}
 use Rattle.cwr_files.specs.declared.faults.Fault.TheVariants as faults
@@ -24,8 +26,8 @@ JudgesCut limits before (Err fault) look = JudgesSplit limits before before (Err
 
 -- the run has the status, or the input failed where nothing may follow; else it ends as the fault does, and the writer of a part tells
 -- which part that is
-abbrev pub SplitEndsAs : Told → Fault → Result SplitReport ToolFault → Option Status → Result Status Fault → Type 0
+abbrev pub SplitEndsAs : Told → Fault → Result SplitReport ToolFault → Option Status → Result Status Stop → Type 0
 SplitEndsAs input made (Ok report) (Some status) ending = ending ≡ Ok status
-SplitEndsAs input made (Ok report) None ending = ending ≡ Err (faults.Read input)
-SplitEndsAs input made (Err (Writer written)) status ending = ending ≡ Err made
-SplitEndsAs input made (Err fault) status ending = EndsAfterFault input input made (Some fault) ending
+SplitEndsAs input made (Ok report) None ending = ending ≡ Err (stops.Fault (faults.Read input))
+SplitEndsAs input made (Err (Writer written)) status ending = ending ≡ Err (stops.Fault made)
+SplitEndsAs input made (Err fault) status ending = EndsAfterFault input (stops.Fault made) (stops.Fault made) (Some fault) ending

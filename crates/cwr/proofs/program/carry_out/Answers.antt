@@ -1,13 +1,14 @@
-use Rattle.cwr.specs.Format.Endings.{advice_of, wanted_in}
-use Rattle.cwr.proofs.lemmas.EndsOnInputs.{fault_ends, status_ends}
+use Rattle.std.specs.Prelude.{Err}
+use Rattle.cwr_files.specs.declared.faults.Fault.TheVariants.{Memory}
+use Rattle.cwr_endings.specs.declared.stops.Stop.TheVariants as stops
+use Rattle.cwr.proofs.lemmas.Unbegun.{unbegun}
 use Rattle.cwr.proofs.program.carry_out.Goals as goal
 
-pub returns-in-Ok : goal.returns-in-Ok
-returns-in-Ok g c =
-    λ of_input. status_ends (advice_of c.args.task.now.work) c.args.task.now.limits (wanted_in c.args.task.now.whole c.args.task.now.work)
-    (g.I.Read.remaining c.args.standard) c.in-Ok.status (c.in-Ok.ensures of_input)
-
-pub returns-in-Err : goal.returns-in-Err
-returns-in-Err g c =
-    λ of_input. fault_ends (advice_of c.args.task.now.work) c.args.task.now.limits (wanted_in c.args.task.now.whole c.args.task.now.work)
-    (g.I.Read.remaining c.args.standard) c.in-Err.fault c.report.result (c.in-Err.ensures of_input) c.report.ensures
+-- src/program.rt:761:9
+pub returns-in_default : goal.returns-in_default
+returns-in_default g c = (
+  Err (stops.Fault Memory),
+  unbegun c.args.task.now.limits c.args.task.now.whole c.args.task.now.work (g.S.Store.held c.args.store.now)
+      (g.I.Read.remaining c.args.standard),
+  c.report.ensures,
+)

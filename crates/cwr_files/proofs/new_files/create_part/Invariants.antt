@@ -8,4 +8,5 @@ invariant-loop-tries g l = record {
   tried : g.S.Store.making l.initial.store ≡ None
       → Turns (g.S.Store.held l.initial.store) (g.S.Store.held l.store) (HasTried l.name l.tries);
   making : g.S.Store.making l.initial.store ≡ None → g.S.Store.making l.store ≡ None;
+  unfailed : g.S.Store.failures l.store ≡ g.S.Store.failures l.initial.store;
 }

@@ -2,4 +2,4 @@ use Rattle.cwr_transform.proofs.lemmas.ImportsEnd.{import_ends}
 use Rattle.cwr_transform.proofs.imports.import_input.Goals as goal
 
 pub returns : goal.returns
-returns g c = import_ends c.args.import.now _ _ _ _ _ c.import_from-outcome.ensures c.import_ending.ensures
+returns g c = import_ends c.args.import.now _ _ _ _ c.import_from-output.ensures.judges c.import_ending.ensures

@@ -7,9 +7,9 @@ use Rattle.cwr_transform.proofs.splits.split_file.Goals as goal
 
 pub returns : goal.returns
 returns g c =
-    from_source (λ (known : Option (List ℕ)). EndsAsSplit c.args.cut.now.limits c.args.cut.now.wanted known c.split_ending.result)
-    (remaining_of g.R.File.Read.remaining g.I.Read.remaining) c.args.input c.new-reader.result.inner _
+    from_source (λ (known : Option (List ℕ)). EndsAsSplit c.args.cut.now.limits c.args.cut.now.wanted known c.split_ending-ended.result)
+    (remaining_of g.S.Reader.Read.remaining g.I.Read.remaining) c.args.input c.new-reader.result.inner _
     c.new-reader.ensures.inner c.new-reader.ensures.ahead
-    (split_ends c.args.cut.now.limits c.args.cut.now.wanted _ c.told-told.result c.fault.result c.cut_source-outcome.result.0
-    c.cut_source-outcome.result.1 c.cut_source-outcome.result.2 c.reaches-found.result c.split_ending.result
-    c.cut_source-outcome.ensures.judged c.cut_source-outcome.ensures.counted c.reaches-found.ensures c.split_ending.ensures)
+    (split_ends c.args.cut.now.limits c.args.cut.now.wanted _ c.end_input-told.result c.end-made.result.fault c.cut_source-outcome.result.0
+    c.cut_source-outcome.result.1 c.cut_source-outcome.result.2 c.reaches-found.result c.split_ending-ended.result
+    c.cut_source-outcome.ensures.judged c.cut_source-outcome.ensures.counted c.reaches-found.ensures c.split_ending-ended.ensures)

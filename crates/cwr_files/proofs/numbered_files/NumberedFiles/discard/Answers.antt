@@ -8,7 +8,7 @@ use Rattle.cwr_files.proofs.numbered_files.NumberedFiles.discard.Goals as goal
 pub returns-in-Some-clause-dropped : goal.returns-in-Some-clause-dropped
 returns-in-Some-clause-dropped g c =
     λ texts held.
-    let store = c.args.self.now.store in
+    let store = c.args.self.now.store.now in
     let is : c.args.self.now.open_file ≡ Some c.in-Some.made = cc c.in-Some.ensures.value in
     let begun : HasBegun c.in-Some.made (g.S.Store.making store) texts (g.S.Store.held store)
     = subst (λ (o : Option NewFile). IsInHand o (g.S.Store.making store) texts (g.S.Store.held store)) is held in

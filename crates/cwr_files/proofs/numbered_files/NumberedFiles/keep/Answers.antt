@@ -9,7 +9,7 @@ use Rattle.cwr_files.proofs.numbered_files.NumberedFiles.keep.Goals as goal
 pub returns-in-Ok-clause-named : goal.returns-in-Ok-clause-named
 returns-in-Ok-clause-named g c =
     λ texts text held has.
-    let store = c.args.self.now.store in
+    let store = c.args.self.now.store.now in
     let is : c.args.self.now.open_file ≡ Some c.in-Some.made = cc c.in-Some.ensures.value in
     let begun : HasBegun c.in-Some.made (g.S.Store.making store) texts (g.S.Store.held store)
     = subst (λ (o : Option NewFile). IsInHand o (g.S.Store.making store) texts (g.S.Store.held store)) is held in
@@ -21,7 +21,7 @@ returns-in-Ok-clause-named g c =
 pub returns-in-Err-clause-unnamed : goal.returns-in-Err-clause-unnamed
 returns-in-Err-clause-unnamed g c =
     λ texts text held has.
-    let store = c.args.self.now.store in
+    let store = c.args.self.now.store.now in
     let is : c.args.self.now.open_file ≡ Some c.in-Some.made = cc c.in-Some.ensures.value in
     let begun : HasBegun c.in-Some.made (g.S.Store.making store) texts (g.S.Store.held store)
     = subst (λ (o : Option NewFile). IsInHand o (g.S.Store.making store) texts (g.S.Store.held store)) is held in
