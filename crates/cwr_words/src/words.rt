@@ -1,19 +1,20 @@
 //! The words of the command line.
 
-ghost use Rattle.std.specs.Prelude.{◌≡◌, ◌==◌, ◌++◌, map, None, Some, IfErr, IfOk, IfSome, IsSome, [], codes, length, option_map, false, true, if◌then◌else◌};
+ghost use Rattle.std.specs.Prelude.{◌≡◌, ◌↔◌, ◌==◌, ◌++◌, map, None, Some, IfErr, IfOk, [], codes, length, option_map, false, true, if◌then◌else◌};
 ghost use Rattle.std.specs.List.{slice_split};
 ghost use Rattle.std.specs.Str.{bytes_eq};
-ghost use Rattle.clap.specs.Words.{fault_of, first_value, found_of, kind_of, rows_of, subcommand_of, subcommand_rows_of, takes};
+ghost use Rattle.clap.specs.Words.{fault_of, first_value, found_of, kind_of, rows_of, subcommand_of, subcommand_rows_of};
 ghost use Rattle.cwr_fields.specs.Format.MessageCodes.{status_code};
 ghost use Rattle.cwr_shape.specs.Format.Ranges.{limit_values};
+ghost use Rattle.cwr_moments.specs.Format.Moments.{moment_text};
 ghost use Rattle.cwr_grammar.specs.Format.CommandLine.{grammar};
-ghost use Rattle.cwr_words.specs.Format.Words.{Asks, IsLevelOf, IsPlainCheck, IsProgressOf, IsRenumberingOf, IsShowOf, IsSplitOf, IsTableOf, IsTaskOf};
-ghost use Rattle.cwr_words.specs.Format.Words.{AreBeside, AreLimitsOf, AreNamesOf, AreStatusesOf, AreValuesOf, IsAcksOf, IsAdviceOf, IsCreatedBy, IsExportOf, IsImportOf, IsLintOf, IsJoinOf, IsJoinOfNames, IsJudgingOf, IsWorkOf, colouring_given, colouring_named, level_given, level_named, named_out, rows_named, states_given, written_in, written_once};
+ghost use Rattle.cwr_words.specs.Format.Words.{AskFor, Asks, IsAnswer, IsLevelOf, IsPlainCheck, IsProgressOf, IsRenumberingOf, IsShowOf, IsSplitOf, IsTableOf, IsTaskOf};
+ghost use Rattle.cwr_words.specs.Format.Words.{AreBeside, AreLimitsOf, AreNamesOf, AreNamesOfJoin, AreStatusesOf, AreValuesOf, IsAcksOf, IsAdviceOf, IsCreatedBy, IsExportOf, IsImportOf, IsLintOf, IsJoinOf, IsJoinOfNames, IsJudgingOf, IsNumber, IsWorkOf, colouring_given, colouring_named, is_given, level_given, level_named, named_out, rows_named, states_given, written_in, written_once};
 ghost use Rattle.cwr_words.specs.Steps.Matches.{given_by};
 
 use clap::error::ErrorKind;
 use clap::{ArgMatches, Error};
-use cwr_fields::{Cell, Kind, TransactionStatus};
+use cwr_fields::{Cell, CivilDate, Kind, TimeOfDay, TransactionStatus};
 use cwr_grammar::grammar;
 use cwr_moments::Moment;
 use cwr_shape::{Level, Limits};
@@ -250,18 +251,38 @@ fn largest() -> Limits
     Limits::new(99_999_999, 99_999, 999_999).unwrap()
 }
 
+/// Whether the flag of that id is given.
+fn flag_in(given: &ArgMatches<'_>, id: &str) -> bool
+    ensures { result ≡ is_given (given_by (found_of given.now)) id.now }
+{
+    given.get_one::<bool>(id).unwrap_or(false)
+}
+
+/// The number of that id. `None` where there is none, or its text isn't one.
+fn number_in(given: &ArgMatches<'_>, id: &str) -> Option<u32>
+    ensures { IsAnswer (IsNumber ((given_by (found_of given.now)).read id.now)) result }
+{
+    given.get_one::<u32>(id)
+}
+
+/// The limits that the options of a subcommand say. `None` where one is missing or out of its range.
+fn limits_in(given: &ArgMatches<'_>) -> Option<Limits>
+    ensures { IsAnswer (AreLimitsOf (given_by (found_of given.now))) result }
+{
+    let records = number_in(given, grammar::RECORDS)?;
+    let groups = number_in(given, grammar::GROUPS)?;
+    let transaction = number_in(given, grammar::TRANSACTION)?;
+    Limits::new(records, groups, transaction).ok()
+}
+
 /// The limits that the words of a subcommand give. `None` where one is missing or out of its range. The manual takes none.
-fn limits_of(name: &str, matches: &ArgMatches<'_>) -> Option<Limits>
-    ensures { bytes_eq name.now (codes "manual") ≡ false
-        → IfSome result (AreLimitsOf (given_by (found_of matches.now))) }
+fn limits_of(name: &str, given: &ArgMatches<'_>) -> Option<Limits>
+    ensures { IsAnswer (λ limits. bytes_eq name.now (codes "manual") ≡ false → AreLimitsOf (given_by (found_of given.now)) limits) result }
 {
     if name == grammar::MANUAL {
         return Some(largest());
     }
-    let records = matches.get_one::<u32>(grammar::RECORDS)?;
-    let groups = matches.get_one::<u32>(grammar::GROUPS)?;
-    let transaction = matches.get_one::<u32>(grammar::TRANSACTION)?;
-    Limits::new(records, groups, transaction).ok()
+    limits_in(given)
 }
 
 /// The values of the word of that id.
@@ -346,21 +367,21 @@ fn named_out<'a>(word: Option<&'a str>) -> Option<&'a str>
 
 /// Which transmissions are judged, and how. `None` where a word is no level's letter.
 fn judging_in<'a>(alloc: Global, given: &ArgMatches<'a>) -> Result<Option<Judging<'a>>, AllocError>
-    ensures { IfOk result (λ found. IfSome found (IsJudgingOf (given_by (found_of given.now)))) }
+    ensures { IfOk result (IsAnswer (IsJudgingOf (given_by (found_of given.now)))) }
 {
     let Some(fail_on) = fail_on_in(given) else {
         return Ok(None);
     };
     Ok(Some(Judging {
         files: names_in(alloc, given)?,
-        quiet: given.get_flag(grammar::QUIET),
+        quiet: flag_in(given, grammar::QUIET),
         fail_on,
     }))
 }
 
 /// The work of showing. `None` where a word is no level's letter.
 fn show_in<'a>(given: &ArgMatches<'a>) -> Option<ShowWords<'a>>
-    ensures { IfSome result (IsShowOf (given_by (found_of given.now))) }
+    ensures { IsAnswer (IsShowOf (given_by (found_of given.now))) result }
 {
     Some(ShowWords {
         file: given.get_str(grammar::FILE),
@@ -370,17 +391,17 @@ fn show_in<'a>(given: &ArgMatches<'a>) -> Option<ShowWords<'a>>
 
 /// The work of a lint. `None` where all advice is wanted, and none is.
 fn lint_in<'a>(alloc: Global, given: &ArgMatches<'a>) -> Result<Option<LintWords<'a>>, AllocError>
-    ensures { IfOk result (λ found. IfSome found (IsLintOf (given_by (found_of given.now)))) }
+    ensures { IfOk result (IsAnswer (IsLintOf (given_by (found_of given.now)))) }
 {
-    let advised = given.get_flag(grammar::ADVICE);
-    let all = given.get_flag(grammar::ALL);
+    let advised = flag_in(given, grammar::ADVICE);
+    let all = flag_in(given, grammar::ALL);
     if all && !advised {
         return Ok(None);
     }
     Ok(Some(LintWords {
         files: names_in(alloc, given)?,
-        quiet: given.get_flag(grammar::QUIET),
-        explained: given.get_flag(grammar::EXPLAINED),
+        quiet: flag_in(given, grammar::QUIET),
+        explained: flag_in(given, grammar::EXPLAINED),
         advised,
         all,
     }))
@@ -391,9 +412,9 @@ fn advice_in<'a>(
     alloc: Global,
     given: &ArgMatches<'a>,
 ) -> Result<Option<AdviseWords<'a>>, AllocError>
-    ensures { IfOk result (λ found. IfSome found (IsAdviceOf (given_by (found_of given.now)))) }
+    ensures { IfOk result (IsAnswer (IsAdviceOf (given_by (found_of given.now)))) }
 {
-    let Some(repeated) = given.get_one::<u32>(grammar::REPEATED) else {
+    let Some(repeated) = number_in(given, grammar::REPEATED) else {
         return Ok(None);
     };
     let Some(judging) = judging_in(alloc, given)? else {
@@ -401,7 +422,7 @@ fn advice_in<'a>(
     };
     Ok(Some(AdviseWords {
         judging,
-        all: given.get_flag(grammar::ALL),
+        all: flag_in(given, grammar::ALL),
         repeated,
     }))
 }
@@ -413,8 +434,8 @@ fn export_in<'a>(given: &ArgMatches<'a>) -> JsonWords<'a>
     JsonWords {
         file: given.get_str(grammar::FILE),
         out: named_out(given.get_str(grammar::OUT)),
-        numbers: given.get_flag(grammar::NUMBERS),
-        utf8: given.get_flag(grammar::UTF8),
+        numbers: flag_in(given, grammar::NUMBERS),
+        utf8: flag_in(given, grammar::UTF8),
     }
 }
 
@@ -430,13 +451,13 @@ fn rows_of(word: &str) -> Option<Rows>
 
 /// The work of a table. `None` where what it has rows of is missing.
 fn table_in<'a>(given: &ArgMatches<'a>) -> Option<CsvWords<'a>>
-    ensures { IfSome result (IsTableOf (given_by (found_of given.now))) }
+    ensures { IsAnswer (IsTableOf (given_by (found_of given.now))) result }
 {
     Some(CsvWords {
         rows: rows_of(given.get_str(grammar::KIND)?)?,
         file: given.get_str(grammar::FILE),
         out: named_out(given.get_str(grammar::OUT)),
-        utf8: given.get_flag(grammar::UTF8),
+        utf8: flag_in(given, grammar::UTF8),
     })
 }
 
@@ -452,7 +473,7 @@ fn states_in(given: &ArgMatches<'_>) -> Option<States>
 
 /// The status with that code.
 fn status_of(code: &str) -> Option<TransactionStatus>
-    ensures { IfSome result (λ status. status_code status ≡ code.now) }
+    ensures { IsAnswer (λ status. status_code status ≡ code.now) result }
 {
     TransactionStatus::read(code.as_bytes())
 }
@@ -470,8 +491,9 @@ fn with_statuses(
     mut statuses: Vec<TransactionStatus>,
     text: &str,
 ) -> Result<Option<Vec<TransactionStatus>>, AllocError>
-    ensures { IfOk result (λ found. IfSome found (λ all. map status_code all.items
-        ≡ map status_code statuses.items ++ slice_split (λ b. b == 44) text.now)) }
+    ensures { IfOk result (λ found. IsAnswer
+        (λ all. map status_code all ≡ map status_code statuses.items ++ slice_split (λ b. b == 44) text.now)
+        (option_map (λ all. all.items) found)) }
 {
     let codes = codes_in(alloc, text)?;
     for code in codes.as_slice() {
@@ -488,7 +510,8 @@ fn statuses_in<'a>(
     alloc: Global,
     given: &ArgMatches<'a>,
 ) -> Result<Option<Vec<TransactionStatus>>, AllocError>
-    ensures { IfOk result (λ found. IfSome found (λ statuses. AreStatusesOf (given_by (found_of given.now)) statuses.items)) }
+    ensures { IfOk result (λ found. IsAnswer (AreStatusesOf (given_by (found_of given.now)))
+        (option_map (λ statuses. statuses.items) found)) }
 {
     let texts = values_of(alloc, given, grammar::STATUS)?;
     let mut statuses = Vec::new(alloc);
@@ -503,16 +526,16 @@ fn statuses_in<'a>(
 
 /// Whether what needs transmissions that were sent has some, and whether the table of states has rows of all statuses.
 fn are_beside(words: &AcksWords<'_>, given: &ArgMatches<'_>) -> bool
-    ensures { result ≡ true → AreBeside (given_by (found_of given.now)) words.now }
+    ensures { (result ≡ true) ↔ AreBeside (given_by (found_of given.now)) words.now }
 {
-    let wants_sent = words.by_place || words.state || given.contains_id(grammar::FAIL_ON);
+    let wants_sent = words.by_place || words.state || given.get_str(grammar::FAIL_ON).is_some();
     !(wants_sent && words.sent.is_empty()) && !(words.state && !words.statuses.is_empty())
 }
 
 /// The work of telling what acknowledgements say. `None` where the name of a state is none, or the code of a status, or a word stands
 /// without one that it needs.
 fn acks_in<'a>(alloc: Global, given: &ArgMatches<'a>) -> Result<Option<AcksWords<'a>>, AllocError>
-    ensures { IfOk result (λ found. IfSome found (IsAcksOf (given_by (found_of given.now)))) }
+    ensures { IfOk result (IsAnswer (IsAcksOf (given_by (found_of given.now)))) }
 {
     let Some(fail_on) = states_in(given) else {
         return Ok(None);
@@ -523,85 +546,109 @@ fn acks_in<'a>(alloc: Global, given: &ArgMatches<'a>) -> Result<Option<AcksWords
     let words = AcksWords {
         files: names_in(alloc, given)?,
         sent: values_of(alloc, given, grammar::SENT)?,
-        as_json: given.get_flag(grammar::AS_JSON),
-        by_place: given.get_flag(grammar::BY_PLACE),
-        state: given.get_flag(grammar::STATE),
+        as_json: flag_in(given, grammar::AS_JSON),
+        by_place: flag_in(given, grammar::BY_PLACE),
+        state: flag_in(given, grammar::STATE),
         fail_on,
         statuses,
-        utf8: given.get_flag(grammar::UTF8),
+        utf8: flag_in(given, grammar::UTF8),
     };
-    if are_beside(&words, given) {
-        Ok(Some(words))
-    } else {
-        Ok(None)
+    if !are_beside(&words, given) {
+        return Ok(None);
     }
+    Ok(Some(words))
 }
 
 /// The work of an import. `None` where the bound on lines is missing or out of its range.
 fn import_in<'a>(given: &ArgMatches<'a>) -> Option<WriteWords<'a>>
-    ensures { IfSome result (IsImportOf (given_by (found_of given.now))) }
+    ensures { IsAnswer (IsImportOf (given_by (found_of given.now))) result }
 {
     Some(WriteWords {
         file: given.get_str(grammar::FILE),
         out: named_out(given.get_str(grammar::OUT)),
-        line: given.get_one::<u32>(grammar::LINE)?,
-        utf8: given.get_flag(grammar::UTF8),
+        line: number_in(given, grammar::LINE)?,
+        utf8: flag_in(given, grammar::UTF8),
+    })
+}
+
+/// The moment that a text is, as `20240131T093000`. `None` where it is none.
+fn moment_of(text: &str) -> Option<Moment>
+    ensures { IsAnswer (λ moment. moment_text moment ≡ text.now) result }
+{
+    let bytes = text.as_bytes();
+    if bytes.len() != 15 || bytes[8] != b'T' {
+        return None;
+    }
+    Some(Moment {
+        date: CivilDate::read(&bytes[..8])?,
+        time: TimeOfDay::read(&bytes[9..])?,
     })
 }
 
 /// When the parts of a split were created, where a word says so. `None` where that is no moment.
 fn created_in(given: &ArgMatches<'_>) -> Option<Option<Moment>>
-    ensures { IfSome result (IsCreatedBy ((given_by (found_of given.now)).first (codes "created"))) }
+    ensures { IsAnswer (IsCreatedBy ((given_by (found_of given.now)).first (codes "created"))) result }
 {
     match given.get_str(grammar::CREATED) {
-        Some(text) => Some(Some(Moment::read(text)?)),
+        Some(text) => Some(Some(moment_of(text)?)),
         None => Some(None),
     }
 }
 
 /// The work of a split. `None` where a word is missing or out of its range.
 fn split_in<'a>(given: &ArgMatches<'a>) -> Option<SplitWords<'a>>
-    ensures { IfSome result (IsSplitOf (given_by (found_of given.now))) }
+    ensures { IsAnswer (IsSplitOf (given_by (found_of given.now))) result }
 {
-    let number = given.get_one::<u32>(grammar::NUMBER)?;
+    let number = number_in(given, grammar::NUMBER)?;
     Some(SplitWords {
         transactions: NonZeroU32::new(number)?,
         file: given.get_str(grammar::FILE)?,
         prefix: written_once(given, grammar::PREFIX)??,
         created: created_in(given)?,
-        only_new: given.get_flag(grammar::NEW),
+        only_new: flag_in(given, grammar::NEW),
         fail_on: fail_on_in(given)?,
     })
 }
 
-/// What a join writes and reads: with the option `-o` all words are read, and else those after the first. `None` where there is nothing
-/// to read, or it would be written to standard output.
-fn joined_in<'a>(
+/// The names of a join: with the option `-o` all words are read, and else those after the first, which is written. `None` where there is
+/// no first one.
+fn joined_names<'a>(
     alloc: Global,
     given: &ArgMatches<'a>,
 ) -> Result<Option<(&'a str, Vec<&'a str>)>, AllocError>
-    ensures { IfOk result (λ found. IfSome found
-        (λ names. IsJoinOfNames (given_by (found_of given.now)) names.0.now (map (λ name. name.now) names.1.items))) }
+    ensures { IfOk result (IsAnswer
+        (λ names. AreNamesOfJoin (given_by (found_of given.now)) names.0.now (map (λ name. name.now) names.1.items))) }
 {
-    if written_in(given, grammar::OUT) == Some(DASH) {
-        return Ok(None);
-    }
     let mut others = names_in(alloc, given)?;
     let Some(first) = given.get_str(grammar::OUT) else {
         return Ok(None);
     };
     let Some(out) = given.get_str(grammar::INTO) else {
-        return Ok((!others.is_empty()).then_some((first, others)));
+        return Ok(Some((first, others)));
     };
     others.insert(0, first)?;
     Ok(Some((out, others)))
 }
 
+/// What a join writes and reads. `None` where there is nothing to read, or it would be written to standard output.
+fn joined_in<'a>(
+    alloc: Global,
+    given: &ArgMatches<'a>,
+) -> Result<Option<(&'a str, Vec<&'a str>)>, AllocError>
+    ensures { IfOk result (IsAnswer
+        (λ names. IsJoinOfNames (given_by (found_of given.now)) names.0.now (map (λ name. name.now) names.1.items))) }
+{
+    match joined_names(alloc, given)? {
+        Some((out, files)) if out != DASH && !files.is_empty() => Ok(Some((out, files))),
+        _ => Ok(None),
+    }
+}
+
 /// The work of a join. `None` where a word is missing or out of its range.
 fn join_in<'a>(alloc: Global, given: &ArgMatches<'a>) -> Result<Option<JoinWords<'a>>, AllocError>
-    ensures { IfOk result (λ found. IfSome found (IsJoinOf (given_by (found_of given.now)))) }
+    ensures { IfOk result (IsAnswer (IsJoinOf (given_by (found_of given.now)))) }
 {
-    let Some(repeated) = given.get_one::<u32>(grammar::REPEATED) else {
+    let Some(repeated) = number_in(given, grammar::REPEATED) else {
         return Ok(None);
     };
     let Some((out, files)) = joined_in(alloc, given)? else {
@@ -613,23 +660,23 @@ fn join_in<'a>(alloc: Global, given: &ArgMatches<'a>) -> Result<Option<JoinWords
     Ok(Some(JoinWords {
         out,
         files,
-        only_new: given.get_flag(grammar::NEW),
+        only_new: flag_in(given, grammar::NEW),
         fail_on,
-        same_sender: given.get_flag(grammar::SAME_SENDER),
+        same_sender: flag_in(given, grammar::SAME_SENDER),
         repeated,
     }))
 }
 
 /// The work of a renumbering. `None` where what is written is named twice, or a word is no level's letter.
 fn renumber_in<'a>(given: &ArgMatches<'a>) -> Option<RenumberWords<'a>>
-    ensures { IfSome result (IsRenumberingOf (given_by (found_of given.now))) }
+    ensures { IsAnswer (IsRenumberingOf (given_by (found_of given.now))) result }
 {
     Some(RenumberWords {
         file: given.get_str(grammar::FILE),
         out: named_out(written_once(given, grammar::OUT)?),
-        only_new: given.get_flag(grammar::NEW),
+        only_new: flag_in(given, grammar::NEW),
         fail_on: fail_on_in(given)?,
-        anyway: given.get_flag(grammar::ANYWAY),
+        anyway: flag_in(given, grammar::ANYWAY),
     })
 }
 
@@ -639,30 +686,20 @@ fn work_in<'a>(
     name: &str,
     given: &ArgMatches<'a>,
 ) -> Result<Option<Work<'a>>, AllocError>
-    ensures { IfOk result
-        (λ found. IfSome found (λ work. IsWorkOf name.now (given_by (found_of given.now)) work)) }
+    ensures { IfOk result (IsAnswer (IsWorkOf name.now (given_by (found_of given.now)))) }
 {
     if name == grammar::SPLIT {
         Ok(split_in(given).map(Work::Split))
     } else if name == grammar::LINT {
-        match lint_in(alloc, given)? {
-            Some(words) => Ok(Some(Work::Lint(words))),
-            None => Ok(None),
-        }
+        Ok(lint_in(alloc, given)?.map(Work::Lint))
     } else if name == grammar::ADVISE {
         Ok(advice_in(alloc, given)?.map(Work::Advise))
     } else if name == grammar::JSON {
         Ok(Some(Work::Json(export_in(given))))
     } else if name == grammar::CSV {
-        match table_in(given) {
-            Some(words) => Ok(Some(Work::Csv(words))),
-            None => Ok(None),
-        }
+        Ok(table_in(given).map(Work::Csv))
     } else if name == grammar::ACKS {
-        match acks_in(alloc, given)? {
-            Some(words) => Ok(Some(Work::Acks(words))),
-            None => Ok(None),
-        }
+        Ok(acks_in(alloc, given)?.map(Work::Acks))
     } else if name == grammar::WRITE {
         Ok(import_in(given).map(Work::Write))
     } else if name == grammar::JOIN {
@@ -687,8 +724,8 @@ fn progress_in(given: &ArgMatches<'_>) -> Option<bool>
     ensures { IsProgressOf (given_by (found_of given.now)) result }
 {
     match (
-        given.get_flag(grammar::NO_PROGRESS),
-        given.get_flag(grammar::PROGRESS),
+        flag_in(given, grammar::NO_PROGRESS),
+        flag_in(given, grammar::PROGRESS),
     ) {
         (true, _) => Some(false),
         (false, true) => Some(true),
@@ -724,7 +761,7 @@ fn task_of_subcommand<'a>(
     name: &str,
     given: &ArgMatches<'a>,
 ) -> Result<Option<Task<'a>>, AllocError>
-    ensures { IfOk result (λ found. IfSome found (IsTaskOf name.now (given_by (found_of given.now)))) }
+    ensures { IfOk result (IsAnswer (IsTaskOf name.now (given_by (found_of given.now)))) }
 {
     let Some(work) = work_in(alloc, name, given)? else {
         return Ok(None);
@@ -738,7 +775,7 @@ fn task_of_subcommand<'a>(
     Ok(Some(Task {
         work,
         limits,
-        whole: given.get_flag(grammar::WHOLE),
+        whole: flag_in(given, grammar::WHOLE),
         progress: progress_in(given),
         colouring,
     }))
@@ -763,7 +800,7 @@ fn plain_check<'a>(alloc: Global) -> Task<'a>
 
 /// What is asked for. `None` where a word is missing or out of its range.
 fn task_in<'a>(alloc: Global, matches: &ArgMatches<'a>) -> Result<Option<Task<'a>>, AllocError>
-    ensures { IfOk result (λ found. IfSome found (Asks (subcommand_rows_of matches.now))) }
+    ensures { IfOk result (IsAnswer (Asks (subcommand_rows_of matches.now))) }
 {
     match matches.subcommand() {
         Some((name, given)) => task_of_subcommand(alloc, name, given),
@@ -819,38 +856,32 @@ fn matches_of<'a, S: AsStr>(alloc: Global, words: &'a [S]) -> Result<ArgMatches<
     ensures rows { IfOk result
         (λ m. subcommand_rows_of m ≡ subcommand_of grammar (map S.text words.entry.now)) }
     ensures fits { IfOk result (λ _. fault_of grammar (map S.text words.entry.now) ≡ []) }
-    ensures refused { IfErr result (λ e. takes grammar (map S.text words.entry.now) ≡ true
+    ensures refused { IfErr result (λ e. fault_of grammar (map S.text words.entry.now) ≡ []
         → kind_of e ≡ ErrorKind.OutOfMemory) }
 {
     let command = grammar::command(alloc)?;
     command.try_get_matches_from(words)
 }
 
-/// What the words ask for. `None` where they are refused.
+/// What the words ask for. `None` where they ask for nothing.
 fn asked<'a, S: AsStr>(alloc: Global, words: &'a [S]) -> Result<Option<Task<'a>>, Error>
-    ensures asked { IfOk result (λ found. IfSome found
-        (λ task. Asks (subcommand_of grammar (map S.text words.entry.now)) task)) }
-    ensures fits { IfOk result (λ found. IfSome found
-        (λ _. fault_of grammar (map S.text words.entry.now) ≡ [])) }
+    ensures answer { IfOk result (IsAnswer (AskFor (map S.text words.entry.now))) }
+    ensures memory { IfErr result (λ e. kind_of e ≡ ErrorKind.OutOfMemory) }
 {
     match matches_of(alloc, words) {
         Ok(matches) => Ok(task_in(alloc, &matches)?),
-        Err(error) => {
-            if error.kind() == ErrorKind::OutOfMemory {
-                Err(error)
-            } else {
-                Ok(None)
-            }
-        }
+        Err(error) if error.kind() == ErrorKind::OutOfMemory => Err(error),
+        Err(_) => Ok(None),
     }
 }
 
 /// What the words ask for, the program's name first, or what to tell the user in its place.
 pub fn task_of<'a, S: AsStr>(alloc: Global, words: &'a [S]) -> Result<Task<'a>, Error>
-    // The task is that of the words, as the grammar reads them.
-    ensures asked { IfOk result (λ task. Asks (subcommand_of grammar (map S.text words.entry.now)) task) }
-    // The grammar has no fault to find in them.
-    ensures fits { IfOk result (λ _. fault_of grammar (map S.text words.entry.now) ≡ []) }
+    // The task is what the words ask for.
+    ensures asked { IfOk result (AskFor (map S.text words.entry.now)) }
+    // Words that ask for one are refused for want of memory alone.
+    ensures refused { IfErr result (λ e. (task : Task) → AskFor (map S.text words.entry.now) task
+        → kind_of e ≡ ErrorKind.OutOfMemory) }
 {
     match asked(alloc, words)? {
         Some(task) => Ok(task),

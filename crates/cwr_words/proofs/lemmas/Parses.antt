@@ -1,11 +1,13 @@
 -- What a parse finds, in rows.
-use Rattle.std.proofs.Common.{◌≡◌, ℕ, List, Bool, true, false, Option, Some, None, Result, Ok, Err, IfOk, refl}
+use Rattle.std.proofs.Common.{◌≡◌, ℕ, List, [], false, Option, Some, None, Result, Ok, Err, IfErr, IfOk, inl, inr, refl, subst}
 use Rattle.std.specs.Prelude.{MatchResult, is_some, option_map}
 use Rattle.clap.proofs.WalkLemmas.{first_value-rows, one_text-rows, raw_values-rows}
-use Rattle.clap.specs.Words.{Row, rows_of, has_subcommand, subcommand_name_of, subcommand_rows_of}
+use Rattle.clap.specs.Words.{FailsBy, IsAmong, Kinds, Row, has_subcommand, kind_of, rows_of, subcommand_name_of, subcommand_rows_of}
+use Rattle.clap.specs.declared.error.Error.{Error}
+use Rattle.clap.specs.declared.error.kind.ErrorKind.TheVariants as kind
 use Rattle.clap.specs.declared.parser.matches.ArgMatches.{ArgMatches}
 use Rattle.clap.specs.declared.parser.matches.Found.{Found}
-use Rattle.cwr_words.specs.Format.Words.{Given, given_in}
+use Rattle.cwr_words.specs.Format.Words.{given_in}
 use Rattle.cwr_words.specs.Steps.Matches.{given_by}
 
 -- what was found gives what its rows give
@@ -40,3 +42,10 @@ none_met m e = unnamed _ _ _ e
 pub where_taken : {A E : Type 0} (r : Result A E) (P : A → Type 0) (Q : E → Type 0) → MatchResult r P Q → IfOk r P
 where_taken (Ok a) P Q h = h
 where_taken (Err e) P Q h = tt
+
+-- where no fault is found, memory was lacking
+pub where_refused : {A : Type 0} (r : Result A Error) (kinds : Kinds) → FailsBy kinds r
+    → IfErr r (λ e. kinds ≡ [] → kind_of e ≡ kind.OutOfMemory)
+where_refused (Ok a) kinds h = tt
+where_refused (Err e) kinds (inl memory) = λ none. memory
+where_refused (Err e) kinds (inr among) = λ none. absurd (subst (IsAmong (kind_of e)) none among)

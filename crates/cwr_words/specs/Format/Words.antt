@@ -1,21 +1,22 @@
 -- What the words of a subcommand ask for.
-use Rattle.std.specs.Prelude.{◌≡◌, ◌⊎◌, ◌<◌, ◌++◌, ℕ, Bool, true, false, List, [], ◌∷◌, map, Option, Some, None, IsSome, IsSomeAnd, fold, length, option_map, codes, if◌then◌else◌}
+use Rattle.std.specs.Prelude.{◌≡◌, ◌⊎◌, ◌<◌, ◌^◌, ◌++◌, ℕ, Bool, true, false, List, [], ◌∷◌, map, Option, Some, None, IsSome, IsSomeAnd, fold, length, option_map, codes, if◌then◌else◌}
 use Rattle.std.specs.Option.{option_and_then, option_or}
 use Rattle.std.specs.Str.{bytes_eq}
 use Rattle.std.specs.Int.NonZero.{non_zero_u32_get}
-use Rattle.std.specs.Str.Parse.{digits_value, without_leading_plus}
-use Rattle.clap.specs.Words.{Row, all_of, first_of, one_of}
+use Rattle.std.specs.Str.Parse.{IsNumeral, digits_value, without_leading_plus}
+use Rattle.clap.specs.Words.{Row, all_of, fault_of, first_of, one_of, subcommand_of}
 use Rattle.cwr_fields.specs.declared.message_codes.TransactionStatus.{TransactionStatus}
 use Rattle.cwr_fields.specs.Format.Kinds.{kind_of}
 use Rattle.cwr_fields.specs.Format.MessageCodes.{status_code}
 use Rattle.cwr_shape.specs.declared.limits.Limits.{Limits}
 use Rattle.cwr_shape.specs.declared.reasons.Level.{Level}
 use Rattle.cwr_shape.specs.declared.reasons.Level.TheVariants as levels
-use Rattle.cwr_shape.specs.Format.Ranges.{limit_values}
+use Rattle.cwr_shape.specs.Format.Ranges.{AreInRange, limit_values}
 use Rattle.cwr_moments.specs.declared.moments.Moment.{Moment}
 use Rattle.cwr_moments.specs.Format.Moments.{moment_text}
 use Rattle.cwr_states.specs.declared.state_sets.States.{States}
 use Rattle.cwr_states.specs.Format.StateSets.{names_in, no_states, states_in}
+use Rattle.cwr_grammar.specs.Format.CommandLine.{grammar}
 use Rattle.cwr_words.specs.declared.words.Colouring.{Colouring}
 use Rattle.cwr_words.specs.declared.words.Colouring.TheVariants as colourings
 use Rattle.cwr_words.specs.declared.words.Judging.{Judging}
@@ -42,17 +43,37 @@ pub record Given : Type 0 where
   pub read : List ℕ → Option (List ℕ)
   pub all : List ℕ → Option (List (List ℕ))
 
+-- what was asked for, or nothing, but only where nothing is that
+abbrev pub IsAnswer : {A : Type 0} → (A → Type 0) → Option A → Type 0
+IsAnswer {A} Is None = (a : A) → Is a → ⊥
+IsAnswer {A} Is (Some a) = Is a
+
+-- the text of a flag says that it is given
+abbrev pub flag_read : Option (List ℕ) → Bool
+flag_read None = false
+flag_read (Some text) = bytes_eq text (codes "true")
+
 -- the flag of that id is given
+abbrev pub is_given : Given → List ℕ → Bool
+is_given given id = flag_read (given.read id)
+
 abbrev pub IsFlagOf : Given → List ℕ → Bool → Type 0
-IsFlagOf given id value =
-    (given.read id ≡ None → value ≡ false) × (given.read id ≡ Some (codes "true") → value ≡ true)
-    × (given.read id ≡ Some (codes "false") → value ≡ false)
+IsFlagOf given id value = value ≡ is_given given id
 
 -- whether it is shown how far a long run is, where a flag says so
 abbrev pub IsProgressOf : Given → Option Bool → Type 0
 IsProgressOf given progress =
-    (yes : Bool) × (no : Bool) × IsFlagOf given (codes "progress") yes × IsFlagOf given (codes "no-progress") no
-    × (progress ≡ (if no then Some false else if yes then Some true else None))
+    progress ≡ (if is_given given (codes "no-progress") then Some false
+    else if is_given given (codes "progress") then Some true
+    else None)
+
+-- the text is that number, of 32 bits, perhaps with a plus before it
+pub record IsNumber (given : Option (List ℕ)) (number : ℕ) : Type 0 where
+  pub text : List ℕ
+  pub is : given ≡ Some text
+  pub numeral : IsNumeral 10 (without_leading_plus text)
+  pub below : digits_value 10 (without_leading_plus text) < 2 ^ 32
+  pub value : number ≡ digits_value 10 (without_leading_plus text)
 
 -- the values of the word of an id, in their order
 abbrev pub values_of : Option (List (List ℕ)) → List (List ℕ)
@@ -135,8 +156,7 @@ IsShowOf given words =
 -- a split into parts of so many transactions as N says, of the file FILE to files whose names begin with PREFIX
 abbrev pub IsSplitOf : Given → SplitWords → Type 0
 IsSplitOf given words =
-    ((text : List ℕ) → given.read (codes "N") ≡ Some text
-    → non_zero_u32_get words.transactions ≡ digits_value 10 (without_leading_plus text))
+    IsNumber (given.read (codes "N")) (non_zero_u32_get words.transactions)
     × (given.first (codes "FILE") ≡ Some words.file.now) × (written_once given (codes "PREFIX") ≡ Some (Some words.prefix.now))
     × IsCreatedBy (given.first (codes "created")) words.created × IsFlagOf given (codes "new") words.only_new
     × IsLevelOf given words.fail_on
@@ -153,8 +173,7 @@ IsLintOf given words =
 -- numbers of so many works are kept as that option says
 abbrev pub IsAdviceOf : Given → AdviseWords → Type 0
 IsAdviceOf given words =
-    IsJudgingOf given words.judging × IsFlagOf given (codes "all") words.all × ((text : List ℕ) → given.read (codes "repeated") ≡ Some text
-    → words.repeated ≡ digits_value 10 (without_leading_plus text))
+    IsJudgingOf given words.judging × IsFlagOf given (codes "all") words.all × IsNumber (given.read (codes "repeated")) words.repeated
 
 -- the data of the file FILE to the file OUT, with numbers where that flag is given, and in UTF-8 where that one is
 abbrev pub IsExportOf : Given → JsonWords → Type 0
@@ -211,22 +230,27 @@ abbrev pub IsImportOf : Given → WriteWords → Type 0
 IsImportOf given words =
     (option_map (λ f. f.now) words.file ≡ given.first (codes "FILE"))
     × (option_map (λ f. f.now) words.out ≡ named_out (given.first (codes "OUT")))
-    × ((text : List ℕ) → given.read (codes "line") ≡ Some text → words.line ≡ digits_value 10 (without_leading_plus text))
-    × IsFlagOf given (codes "utf8") words.utf8
+    × IsNumber (given.read (codes "line")) words.line × IsFlagOf given (codes "utf8") words.utf8
 
--- what a join writes and reads: OUT and the files FILE, or with the option -o what that names, and all the others
-abbrev pub IsJoinOfNames : Given → List ℕ → List (List ℕ) → Type 0
-IsJoinOfNames given out names =
+-- the names of a join: OUT and the files FILE, or with the option -o what that names, and all the others
+abbrev pub AreNamesOfJoin : Given → List ℕ → List (List ℕ) → Type 0
+AreNamesOfJoin given out names =
     ((given.first (codes "o") ≡ None) × (given.first (codes "OUT") ≡ Some out) × AreNamesOf given names)
     ⊎ ((given.first (codes "o") ≡ Some out) × (first : List ℕ) × (others : List (List ℕ))
     × (names ≡ first ∷ others) × (given.first (codes "OUT") ≡ Some first) × AreNamesOf given others)
+
+-- what a join writes, which isn't standard output, and reads, which is one file at least
+pub record IsJoinOfNames (given : Given) (out : List ℕ) (names : List (List ℕ)) : Type 0 where
+  pub named : AreNamesOfJoin given out names
+  pub written : bytes_eq out (codes "-") ≡ false
+  pub some : 0 < length names
 
 -- a join of files, in their order, to a file; the numbers of so many works are kept as that option says
 abbrev pub IsJoinOf : Given → JoinWords → Type 0
 IsJoinOf given words =
     IsJoinOfNames given words.out.now (map (λ name. name.now) words.files.items) × IsFlagOf given (codes "new") words.only_new
     × IsLevelOf given words.fail_on × IsFlagOf given (codes "same-sender") words.same_sender
-    × ((text : List ℕ) → given.read (codes "repeated") ≡ Some text → words.repeated ≡ digits_value 10 (without_leading_plus text))
+    × IsNumber (given.read (codes "repeated")) words.repeated
 
 -- the file FILE with its numbers put right, to the file OUT, whatever they show or not
 abbrev pub IsRenumberingOf : Given → RenumberWords → Type 0
@@ -253,14 +277,12 @@ IsWorkOf name given (Join words) = (bytes_eq name (codes "join") ≡ true) × Is
 IsWorkOf name given (Renumber words) = (bytes_eq name (codes "renumber") ≡ true) × IsRenumberingOf given words
 IsWorkOf name given Manual = bytes_eq name (codes "manual") ≡ true
 
--- the limits are the numbers that the options of a subcommand say
+-- the limits are the numbers that the options of a subcommand say, each in its range
 pub record AreLimitsOf (given : Given) (limits : Limits) : Type 0 where
-  pub records : (text : List ℕ) → given.read (codes "records") ≡ Some text
-      → limits.records ≡ digits_value 10 (without_leading_plus text)
-  pub groups : (text : List ℕ) → given.read (codes "groups") ≡ Some text
-      → limits.groups ≡ digits_value 10 (without_leading_plus text)
-  pub transaction : (text : List ℕ) → given.read (codes "transaction") ≡ Some text
-      → limits.transaction ≡ digits_value 10 (without_leading_plus text)
+  pub records : IsNumber (given.read (codes "records")) limits.records
+  pub groups : IsNumber (given.read (codes "groups")) limits.groups
+  pub transaction : IsNumber (given.read (codes "transaction")) limits.transaction
+  pub in_range : AreInRange limits
 
 -- the task is the work of the subcommand of that name, within the limits that its words give; the manual takes none
 pub record IsTaskOf (name : List ℕ) (given : Given) (task : Task) : Type 0 where
@@ -291,3 +313,8 @@ given_in rows = record { first = λ id. first_of id rows; read = λ id. one_of i
 abbrev pub Asks : Option (List ℕ × List Row) → Task → Type 0
 Asks None task = IsPlainCheck task
 Asks (Some parsed) task = IsTaskOf parsed.0 (given_in parsed.1) task
+
+-- The words of a command line ask for the task: the grammar finds no fault in them, and it is what they ask for as it reads them.
+pub record AskFor (words : List (List ℕ)) (task : Task) : Type 0 where
+  pub fits : fault_of grammar words ≡ []
+  pub asks : Asks (subcommand_of grammar words) task
