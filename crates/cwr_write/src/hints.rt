@@ -1,8 +1,8 @@
 //! What is told below a refusal: which keys there are, how wide a field is, and what an item lacks.
 
-ghost use Rattle.std.specs.Prelude.{◌≡◌, flat_map, option_map, unwrap_or, IfErr, false};
+ghost use Rattle.std.specs.Prelude.{◌≡◌, flat_map, option_map, unwrap_or};
 ghost use Rattle.cwr_devices.specs.Steps.Pens.{Adds};
-ghost use Rattle.cwr_devices.specs.Steps.Sinks.{Puts, has_failed, written_of};
+ghost use Rattle.cwr_devices.specs.Steps.Sinks.{PutsText};
 ghost use Rattle.cwr_fields.specs.Format.Layouts.{field_at, layout};
 ghost use Rattle.cwr_write.specs.Format.Lacks.{lack_after, lack_beside, lack_of, lack_told};
 ghost use Rattle.cwr_write.specs.Format.OutcomeTexts.{carried_if, carried_key, character_text, hint_text, keys_text, lack_text, lack_words, width_text};
@@ -196,9 +196,7 @@ pub fn put_hint<W: Target>(
     encoding: Encoding,
     sink: &mut Sink<W>,
 ) -> Result<(), SinkFault>
-    requires { has_failed sink.old ≡ false }
-    ensures puts { Puts W.contents W.failures (hint_text encoding refusal.now.fault) result sink.old sink.new }
-    ensures fault { IfErr result (λ f. f.written ≡ written_of sink.new) }
+    ensures puts { PutsText W.contents W.failures (hint_text encoding refusal.now.fault) result sink.old sink.new }
 {
     let mut pen = Pen::new(sink);
     hint_text(encoding, &refusal.fault, &mut pen);

@@ -10,7 +10,7 @@ ghost use Rattle.cwr_encode.specs.Steps.Finishing.{FinishesWriting};
 ghost use Rattle.cwr_write.specs.Format.Imports.{CountsReaderFault, CountsWriterFault, SaysItem, WritesWhole, given_records};
 ghost use Rattle.cwr_write.specs.Format.Faults.{IsOfLine, IsPlaceReason, IsReason, JudgesTrailer, reached_with};
 ghost use Rattle.cwr_devices.specs.Steps.Pens.{Adds};
-ghost use Rattle.cwr_devices.specs.Steps.Sinks.{Puts, has_failed, written_of};
+ghost use Rattle.cwr_devices.specs.Steps.Sinks.{PutsText};
 ghost use Rattle.cwr_write.specs.Format.OutcomeTexts.{outcome_text, written_text};
 ghost use Rattle.cwr_write.specs.Format.Endings.{EndsAtLine, LeavesAfter, WritesWhatIsSaid};
 ghost use Rattle.cwr_write.specs.Steps.Taking.{EndsLines, EndsWith, FinishesLines, IsCutShort, IsFinishFault, IsNoWriter, IsRunFaultOf, IsUnreadFault, JudgesNext};
@@ -88,9 +88,7 @@ pub fn put_write_outcome<W: Target>(
     outcome: &Result<Written, WriteFault>,
     sink: &mut Sink<W>,
 ) -> Result<(), SinkFault>
-    requires { has_failed sink.old ≡ false }
-    ensures puts { Puts W.contents W.failures (outcome_text outcome.now) result sink.old sink.new }
-    ensures fault { IfErr result (λ f. f.written ≡ written_of sink.new) }
+    ensures puts { PutsText W.contents W.failures (outcome_text outcome.now) result sink.old sink.new }
 {
     let mut pen = Pen::new(sink);
     outcome_text(outcome, &mut pen);
