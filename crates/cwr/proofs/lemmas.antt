@@ -4,3 +4,5 @@ pub mod Several
 pub mod Unbegun
 -- A run of a work ends as what it reads does.
 pub mod WorkEnds
+-- What a run leaves under names.
+pub mod Leaves

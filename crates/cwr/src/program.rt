@@ -5,10 +5,14 @@ ghost use Rattle.std.specs.Option.{is_some};
 ghost use Rattle.std.specs.IoError.{error_kind};
 ghost use Rattle.std.specs.declared.io.ErrorKind.TheVariants.{OutOfMemory as lacks_memory};
 ghost use Rattle.clap.specs.Values.{kind_of};
-ghost use Rattle.cwr.specs.Format.Endings.{AreStandardTwice, EndsAsAnswers, EndsAsData, EndsAsManual, EndsOnFiles, EndsOnWork, IsStatusOfWork, RunsWords, fault_status, status_code};
+ghost use Rattle.cwr.specs.Format.Endings.{AreStandardTwice, EndsAsAnswers, EndsAsData, EndsAsManual, EndsOnFiles, EndsOnWork, fault_status, status_code};
+ghost use Rattle.cwr.specs.Format.Files.{LeavesOut, LeavesWork, RunsTask, RunsWords};
 ghost use Rattle.cwr.specs.Steps.Tells.{TellsAsked, TellsData, TellsFiles, TellsJudged, TellsRead, TellsWork};
 ghost use Rattle.cwr_files.specs.Format.Faults.{IfErr};
+ghost use Rattle.cwr_files.specs.Format.Files.{Turns};
+ghost use Rattle.cwr_files.specs.Steps.NewFiles.{HasKeptCount};
 ghost use Rattle.cwr_reports.specs.Format.Endings.{EndsOnRead, advice_asked, advice_in};
+ghost use Rattle.cwr_reports.specs.Format.Exports.{IsExportAt, is_data};
 ghost use Rattle.cwr.specs.Format.Tables.{encoding_of, form_of, table_of};
 ghost use Rattle.cwr_reports.specs.Steps.Looks.{tells_findings};
 
@@ -64,8 +68,10 @@ pub fn run<
     terminals: Terminals,
 ) -> u8
     ensures few { result ≤ 3 }
-    // It is that of the task that the words ask for, by what lies under the names that they give, and on standard input; or they ask for none.
-    ensures runs { RunsWords (map S.text words.now) (F.held store.old) (I.remaining input) result }
+    // It is that of the task that the words ask for, by what lies under the names that they give, and on standard input, and so is what lies
+    // under names then; or they ask for none.
+    ensures runs { RunsWords (map S.text words.now) (I.remaining input) (F.held store.old) (F.held store.new)
+        (F.making store.old) (F.failures store.old) (F.failures store.new) result }
 {
     match task_of(rt.alloc(), words) {
         Ok(task) => {
@@ -125,7 +131,9 @@ fn file_in_place<'a, F: Store, S: AsStr>(
     store: &mut F,
     words: &'a [S],
     answer: &clap::Error,
-) -> Option<&'a str> {
+) -> Option<&'a str>
+    ensures kept { F.held store.new ≡ F.held store.old }
+{
     if !matches!(
         answer.kind(),
         ErrorKind::InvalidSubcommand | ErrorKind::UnknownArgument
@@ -226,7 +234,9 @@ fn asked_by(alloc: Global, task: &Task<'_>, fail_on: Option<Level>) -> Asked
 
 /// Whether the transmission may be written to where the words say.
 fn refuse_written<'a, S: Store>(store: &mut S, words: &WriteWords<'a>) -> Result<(), Fault<'a>>
-    ensures { S.held store.new ≡ S.held store.old }
+    ensures kept { S.held store.new ≡ S.held store.old }
+    ensures making { S.making store.new ≡ S.making store.old }
+    ensures failures { HasKeptCount (S.failures store.old) (S.failures store.new) }
 {
     match words.out {
         Some(name) => refuse_out(store, name, false, &[words.file.unwrap_or(DASH)]),
@@ -246,8 +256,10 @@ fn import_lines<'a, S: Store, I: Read + Drop, P: Pace, W: Target + Drop, E: Writ
     output: W,
     error: &mut E,
 ) -> (W, Result<Status, Stop<'a>>)
-    ensures { EndsOnWork task.now.limits task.now.whole (Work.Write words.now) (S.held store.old)
+    ensures ends { EndsOnWork task.now.limits task.now.whole (Work.Write words.now) (S.held store.old)
         (I.remaining standard) result.1 }
+    ensures files { S.making store.old ≡ None → LeavesWork task.now.limits task.now.whole (Work.Write words.now)
+        (S.held store.old) (I.remaining standard) (S.failures store.old) (S.failures store.new) result.1 (S.held store.new) }
 {
     let import = Import {
         limits: task.limits,
@@ -310,7 +322,12 @@ fn join_inputs<'a, S: Store, I: Read + Drop, P: Pace, W: Target + Drop, E: Write
     pace: &mut P,
     lines: W,
     error: &mut E,
-) -> (W, Result<Status, Stop<'a>>) {
+) -> (W, Result<Status, Stop<'a>>)
+    ensures ends { EndsOnWork task.now.limits task.now.whole (Work.Join words.now) (S.held store.old)
+        (I.remaining standard) result.1 }
+    ensures files { S.making store.old ≡ None → LeavesWork task.now.limits task.now.whole (Work.Join words.now)
+        (S.held store.old) (I.remaining standard) (S.failures store.old) (S.failures store.new) result.1 (S.held store.new) }
+{
     let union = Union {
         limits: task.limits,
         wanted: wanted_by(task, words.fail_on),
@@ -391,6 +408,10 @@ fn write_data<'a, S: Store, I: Read + Drop, P: Pace, W: Target + Drop, E: Write>
         (I.remaining standard) (option_map (λ n. n.now) name.entry) (is_some out.entry) result.1 }
     ensures told { TellsData (is_some out.entry) telling.entry asked.now.limits (S.held store.old)
         (I.remaining standard) (option_map (λ n. n.now) name.entry) W.contents lines result.0 result.1 }
+    ensures files { is_data telling.entry ≡ true → S.making store.old ≡ None → Turns (S.held store.old) (S.held store.new)
+        (LeavesOut (option_map (λ n. n.now) out.entry) (S.failures store.old) (S.failures store.new)
+        (IsExportAt telling.entry asked.now.limits (S.held store.old) (I.remaining standard) (option_map (λ n. n.now) name.entry))
+        result.1) }
 {
     match out {
         Some(out) => {
@@ -496,8 +517,9 @@ fn tell_answers<'a, S: Store, I: Read + Drop, P: Pace, W: Target + Drop, E: Writ
     error: &mut E,
 ) -> (W, Result<Status, Stop<'a>>)
     requires { asked.now.wanted.fail_on ≡ None }
-    ensures { EndsAsAnswers asked.now.limits asked.now.wanted (S.held store.old) (I.remaining standard)
+    ensures ends { EndsAsAnswers asked.now.limits asked.now.wanted (S.held store.old) (I.remaining standard)
         (map (λ name. name.now) answering.now.files.now) (map (λ name. name.now) answering.now.sent.now) result.1 }
+    ensures kept { S.held store.new ≡ S.held store.old }
 {
     let told = Telling::Answers {
         form: answering.form,
@@ -646,6 +668,8 @@ fn write_json<'a, S: Store, I: Read + Drop, P: Pace, W: Target + Drop, E: Write>
         (I.remaining standard) result.1 }
     ensures told { TellsWork task.now.limits (Work.Json words.now) (S.held store.old) (I.remaining standard)
         W.contents lines result.0 result.1 }
+    ensures files { S.making store.old ≡ None → LeavesWork task.now.limits task.now.whole (Work.Json words.now)
+        (S.held store.old) (I.remaining standard) (S.failures store.old) (S.failures store.new) result.1 (S.held store.new) }
 {
     let asked = asked_by(alloc, task, None);
     let telling = Telling::Data {
@@ -673,6 +697,8 @@ fn write_table<'a, S: Store, I: Read + Drop, P: Pace, W: Target + Drop, E: Write
         (I.remaining standard) result.1 }
     ensures told { TellsWork task.now.limits (Work.Csv words.now) (S.held store.old) (I.remaining standard)
         W.contents lines result.0 result.1 }
+    ensures files { S.making store.old ≡ None → LeavesWork task.now.limits task.now.whole (Work.Csv words.now)
+        (S.held store.old) (I.remaining standard) (S.failures store.old) (S.failures store.new) result.1 (S.held store.new) }
 {
     let asked = asked_by(alloc, task, None);
     let telling = Telling::Rows {
@@ -696,8 +722,9 @@ fn tell_acks<'a, S: Store, I: Read + Drop, P: Pace, W: Target + Drop, E: Write>(
     lines: W,
     error: &mut E,
 ) -> (W, Result<Status, Stop<'a>>)
-    ensures { EndsOnWork task.now.limits task.now.whole (Work.Acks words.now) (S.held store.old)
+    ensures ends { EndsOnWork task.now.limits task.now.whole (Work.Acks words.now) (S.held store.old)
         (I.remaining standard) result.1 }
+    ensures kept { S.held store.new ≡ S.held store.old }
 {
     let asked = asked_by(alloc, task, None);
     let answering = Answering {
@@ -754,8 +781,10 @@ fn carry_out<'a, S: Store, I: Read + Drop, P: Pace, O: Write + Drop, E: Write>(
     output: O,
     error: &mut E,
 ) -> Status
-    // It is the status of what came of the work, by what lies under the names that the words give, and on standard input.
-    ensures { IsStatusOfWork task.now (S.held store.old) (I.remaining standard) result }
+    // It is the status of what came of the work, by what lies under the names that the words give, and on standard input; and what lies
+    // there then is what such a run leaves.
+    ensures { RunsTask task.now (I.remaining standard) (S.held store.old) (S.held store.new) (S.making store.old)
+        (S.failures store.old) (S.failures store.new) result }
 {
     let Ok(lines) = gathered(alloc, output, Name::StandardOutput) else {
         return report(error, &Fault::Memory);
@@ -786,6 +815,8 @@ fn perform<'a, S: Store, I: Read + Drop, P: Pace, W: Target + Drop, E: Write>(
         result.1 }
     ensures told { TellsWork task.now.limits task.now.work (S.held store.old) (I.remaining standard)
         W.contents lines result.0 result.1 }
+    ensures files { S.making store.old ≡ None → LeavesWork task.now.limits task.now.whole task.now.work
+        (S.held store.old) (I.remaining standard) (S.failures store.old) (S.failures store.new) result.1 (S.held store.new) }
 {
     match &task.work {
         Work::Check(words) => {

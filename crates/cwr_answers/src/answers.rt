@@ -1,6 +1,6 @@
 //! Acknowledgements of one or several transmissions, matched with what was sent.
 
-ghost use Rattle.std.specs.Prelude.{IfOk};
+ghost use Rattle.std.specs.Prelude.{◌≡◌, IfOk};
 ghost use Rattle.cwr_sent.specs.Format.SentRows.{IsFresh};
 
 use cwr_acks::{Answers, Form, Manner, acks, put_rest};
@@ -85,7 +85,8 @@ fn sent_of<'a, S: Store, I: Read + Drop, P: Pace, E: Write>(
     pace: &mut P,
     error: &mut E,
 ) -> Result<Result<Sent, Status>, Fault<'a>>
-    ensures { IfOk result (λ read. IfOk read IsFresh) }
+    ensures fresh { IfOk result (λ read. IfOk read IsFresh) }
+    ensures kept { S.held store.new ≡ S.held store.old }
 {
     let input = open_input(store, Some(name), standard, &mut *pace)?;
     let mut reader = ReadAhead::new(input);
@@ -114,7 +115,9 @@ fn delivery_of<'a, S: Store, I: Read + Drop, P: Pace, E: Write>(
     standard: &mut Option<I>,
     pace: &mut P,
     error: &mut E,
-) -> Result<Result<Option<Delivery>, Status>, Fault<'a>> {
+) -> Result<Result<Option<Delivery>, Status>, Fault<'a>>
+    ensures kept { S.held store.new ≡ S.held store.old }
+{
     if answering.sent.is_empty() {
         return Ok(Ok(None));
     }
@@ -210,7 +213,9 @@ fn read_input<'a, S: Store, I: Read + Drop, P: Pace + Drop, W: Target + Drop>(
     before_each: Option<&str>,
     input: Input<'a, S::Reader, I, P>,
     reading: Reading<W>,
-) -> (Reading<W>, Result<Judgement, ToolFault>, Told<'a>, u64) {
+) -> (Reading<W>, Result<Judgement, ToolFault>, Told<'a>, u64)
+    ensures kept { S.held store.new ≡ S.held store.old }
+{
     let Reading {
         lines,
         delivery,
@@ -249,7 +254,9 @@ fn read_alone<'a, S: Store, I: Read + Drop, P: Pace, W: Target + Drop, E: Write>
     pace: &mut P,
     reading: Reading<W>,
     error: &mut E,
-) -> (Reading<W>, Result<Status, Stop<'a>>) {
+) -> (Reading<W>, Result<Status, Stop<'a>>)
+    ensures kept { S.held store.new ≡ S.held store.old }
+{
     let name = answering.files.first().copied();
     let input = match open_input(store, name, standard, &mut *pace) {
         Ok(input) => input,
@@ -283,7 +290,9 @@ fn read_several<'a, S: Store, I: Read + Drop, P: Pace, W: Target + Drop, E: Writ
     pace: &mut P,
     reading: Reading<W>,
     error: &mut E,
-) -> (Reading<W>, Result<Sums, Stop<'a>>) {
+) -> (Reading<W>, Result<Sums, Stop<'a>>)
+    ensures kept { S.held store.new ≡ S.held store.old }
+{
     let mut reading = reading;
     let mut sums = Sums::new();
     for name in answering.files {
@@ -365,7 +374,9 @@ fn read_all<'a, S: Store, I: Read + Drop, P: Pace, W: Target + Drop, E: Write>(
     pace: &mut P,
     reading: Reading<W>,
     error: &mut E,
-) -> (Reading<W>, Result<Status, Stop<'a>>) {
+) -> (Reading<W>, Result<Status, Stop<'a>>)
+    ensures kept { S.held store.new ≡ S.held store.old }
+{
     if answering.files.len() < 2 {
         return read_alone(store, answering, subjects, standard, pace, reading, error);
     }
@@ -418,7 +429,9 @@ fn tell_lines<'a, S: Store, I: Read + Drop, P: Pace, W: Target + Drop, E: Write>
     pace: &mut P,
     lines: W,
     error: &mut E,
-) -> (W, Result<Status, Stop<'a>>) {
+) -> (W, Result<Status, Stop<'a>>)
+    ensures kept { S.held store.new ≡ S.held store.old }
+{
     let subjects = match subjects_of(answering) {
         Ok(subjects) => subjects,
         Err(fault) => return (lines, Err(Stop::Fault(fault))),
@@ -521,7 +534,9 @@ fn tell_table<'a, S: Store, I: Read + Drop, P: Pace, W: Target, E: Write>(
     pace: &mut P,
     lines: W,
     error: &mut E,
-) -> (W, Result<Status, Stop<'a>>) {
+) -> (W, Result<Status, Stop<'a>>)
+    ensures kept { S.held store.new ≡ S.held store.old }
+{
     let reading = Reading {
         lines: Counted::new(io::sink()),
         delivery,
@@ -573,7 +588,9 @@ pub fn match_answers<'a, S: Store, I: Read + Drop, P: Pace, W: Target + Drop, E:
     pace: &mut P,
     lines: W,
     error: &mut E,
-) -> (W, Result<Status, Stop<'a>>) {
+) -> (W, Result<Status, Stop<'a>>)
+    ensures kept { S.held store.new ≡ S.held store.old }
+{
     if standard_inputs(answering) > 1 {
         let fault = Fault::IsTwice(Name::StandardInput);
         return (lines, Err(Stop::Fault(fault)));

@@ -175,7 +175,9 @@ pub struct Paced<'a, O, P> {
 
 impl<'a, O, P: Pace> Paced<'a, O, P> {
     /// A writer that was given nothing so far.
-    pub fn new(output: O, name: Name<'a>, mut pace: P) -> Paced<'a, O, P> {
+    pub fn new(output: O, name: Name<'a>, mut pace: P) -> Paced<'a, O, P>
+        ensures { paced_writer result ≡ output }
+    {
         pace.begin(None);
         Paced {
             output,

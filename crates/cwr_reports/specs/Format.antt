@@ -1,2 +1,3 @@
 -- What is promised, in the words of the format.
 pub mod Endings
+pub mod Exports

@@ -6,3 +6,11 @@ pub mod ImportsEnd
 pub mod JoinsEnd
 -- What is left of an import to a file.
 pub mod ImportFiles
+-- The readers of a join have what their words name, and their failures are counted.
+pub mod JoinInputs
+-- What is answered of a join is right of the texts of its readers.
+pub mod JoinsJudged
+-- What is left of a join to a file.
+pub mod JoinFiles
+-- A join of readers is right of their texts.
+pub mod JoinsRead

@@ -1,2 +1,3 @@
 -- What the code keeps, and what its calls do to that.
+pub mod Joins
 pub mod Splits

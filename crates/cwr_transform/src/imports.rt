@@ -96,7 +96,8 @@ pub fn import_input<'a, S: Store, I: Read + Drop, P: Pace + Drop, W: Target, E: 
     output: W,
     error: &mut E,
 ) -> (W, Result<Status, Stop<'a>>)
-    ensures { EndsAsImport import.now (remaining_of S.Reader.remaining I.remaining input.entry) result.1 }
+    ensures ends { EndsAsImport import.now (remaining_of S.Reader.remaining I.remaining input.entry) result.1 }
+    ensures kept { S.held store.new ≡ S.held store.old }
 {
     let (mut output, outcome, read) = import_from(store, alloc, import, input, output);
     // What is left is written before that is told, where it can be.

@@ -1,7 +1,7 @@
 //! What is told of transmissions that are joined, on standard error. What that doesn't take is lost.
 
+use crate::join_inputs::name_of;
 use crate::join_views::JoinView;
-use crate::joins::name_of;
 use cwr_findings::cell;
 use cwr_lines::{ControlRecord, RecordRef};
 use std::io;

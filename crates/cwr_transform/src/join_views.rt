@@ -39,7 +39,9 @@ impl JoinView {
     }
 
     /// Whether memory was refused for what is seen.
-    pub(crate) fn lacks_memory(&self) -> bool {
+    pub(crate) fn lacks_memory(&self) -> bool
+        ensures { result ≡ false → self.now.findings.lacks_memory ≡ false }
+    {
         self.findings.lacks_memory || self.lacks_openings || self.works.lacks_memory
     }
 

@@ -1,19 +1,23 @@
 //! Transmissions that are joined to one.
 
-ghost use Rattle.std.specs.Prelude.{◌≡◌, ◌<◌, ◌&&◌, not, length, IfOk, IfSome};
+ghost use Rattle.std.specs.Prelude.{◌≡◌, ◌<◌, ℕ, List, [], None, true, false, length, map, IfOk, IfSome, OnErr, OnOk};
+ghost use Rattle.cwr_parts.specs.Format.Joins.{CountsJoinWriter, SeesInputs};
 ghost use Rattle.cwr_files.specs.Format.Faults.{IfErr};
-ghost use Rattle.cwr_transform.specs.Format.Joins.{EndsAfterJoin, EndsAsJoin, EndsJoined, IsJoinFault, IsRefusedSender, IsUnjoined, IsUnread, NamesInputs, is_wanted};
+ghost use Rattle.cwr_files.specs.Format.Files.{Turns};
+ghost use Rattle.cwr_files.specs.Format.Written.{is_whole, times_failed, writer_in};
+ghost use Rattle.cwr_endings.specs.Format.Endings.{WritesOut};
+ghost use Rattle.cwr_transform.specs.Format.Joins.{EndsAfterJoin, EndsAsJoin, EndsJoined, IsJoinFault, IsRefusedSender, IsStatusOfJoin, IsTextOfJoin, IsUnjoined, NamesInputs};
+ghost use Rattle.cwr_transform.specs.Steps.Joins.{FailsAs, FindsIn, HaveTexts, IsTextOfReaders, JoinsReaders, JudgesJoin, JudgesNamed, LeavesJoin, LeavesNamed, LooksOn, StopsAs, WritesJoin, has_seen, judged_faults, keeps_file};
 
+use crate::join_inputs::{end_inputs, look_after_each, name_of, open_inputs};
 use crate::join_notes::{other_sender, tell_repeated, tell_senders, word_of};
 use crate::join_views::JoinView;
-use cwr_devices::{ReadAhead, Sink, Source, Target};
+use cwr_devices::{Sink, Source, Target};
 use cwr_endings::{
-    Look, Status, Stop, Wanted, ended_by, follows, hand_on, look_beyond, refuse_out, settle,
-    tell_findings, tell_following, tell_unjoined,
+    Status, Stop, Wanted, ended_by, hand_on, refuse_out, settle, tell_findings, tell_unjoined,
 };
 use cwr_files::{
-    Fault, Input, Name, Pace, Paced, Store, Told, Unwatched, Written, create_output, end_input,
-    gathered, is_standard, open_input, take_back,
+    Fault, Name, Pace, Paced, Store, Told, Written, create_output, gathered, take_back,
 };
 use cwr_parts::{join_viewed, put_join_outcome};
 use cwr_shape::Limits;
@@ -37,85 +41,6 @@ pub struct Union<'a> {
     pub repeated: u32,
 }
 
-/// An input that is read. How far that is isn't followed: the result is, as it is written.
-type Reader<'a, F, I> = ReadAhead<Input<'a, F, I, Unwatched>>;
-
-/// The inputs of these names, in their order.
-fn open_inputs<'a, S: Store, I: Read + Drop>(
-    store: &mut S,
-    alloc: Global,
-    names: &[&'a str],
-    standard: I,
-) -> Result<Vec<Reader<'a, S::Reader, I>>, Fault<'a>>
-    ensures opened { IfOk result (λ readers. length readers.items ≡ length names.now) }
-    ensures unopened { IfErr result IsUnread }
-{
-    let mut standard = Some(standard);
-    let mut readers = Vec::new(alloc);
-    for name in names {
-        match open_input(store, Some(*name), &mut standard, Unwatched) {
-            Ok(input) => {
-                if readers.push(ReadAhead::new(input)).is_err() {
-                    return Err(Fault::Memory);
-                }
-            }
-            Err(fault) => return Err(fault),
-        }
-    }
-    Ok(readers)
-}
-
-/// Takes the inputs back. What is known of the one of that number, from 1, is the answer.
-fn end_inputs<'a, S: Store, F: Drop, I: Drop>(
-    store: &mut S,
-    readers: Vec<Reader<'a, F, I>>,
-    number: usize,
-) -> Option<Told<'a>> {
-    let mut found = None;
-    let mut at: usize = 0;
-    for reader in readers {
-        let told = end_input(store, reader);
-        at = at.saturating_add(1);
-        if at == number {
-            found = Some(told);
-        }
-    }
-    found
-}
-
-/// What a word that names an input is called in messages.
-pub(crate) fn name_of(word: &str) -> Name<'_> {
-    if is_standard(Some(word)) {
-        Name::StandardInput
-    } else {
-        Name::File(word)
-    }
-}
-
-/// Looks what stands after the transmission of each input, and tells it: whether bytes do, or the number of the input that failed there.
-fn look_after_each<R: Source, E: Write>(
-    readers: &mut [R],
-    names: &[&str],
-    error: &mut E,
-) -> Result<bool, usize> {
-    let mut found = false;
-    let mut failed = None;
-    for i in 0..readers.len() {
-        let look = look_beyond(&mut readers[i]);
-        match look {
-            Look::Found(trailing) => found = found || follows(&trailing),
-            Look::Failed | Look::Unasked => failed = failed.or(Some(i + 1)),
-        }
-        if let Some(word) = names.get(i) {
-            tell_following(error, name_of(word), &look);
-        }
-    }
-    match failed {
-        None => Ok(found),
-        Some(number) => Err(number),
-    }
-}
-
 /// What came of a join.
 #[derive(Drop)]
 struct Joined<'a> {
@@ -132,7 +57,7 @@ impl Joined<'_> {
     /// Whether what was written is what is wanted: a transmission, without an unwanted finding, and where nothing may follow those of the
     /// inputs nothing does.
     fn is_wanted(&self, whole: bool) -> bool
-        ensures { result ≡ (is_wanted whole self.now.after && not self.now.found) }
+        ensures { result ≡ keeps_file whole self.now }
     {
         let is_whole = match self.after {
             Some(Ok(follows)) => !(whole && follows),
@@ -162,6 +87,11 @@ fn write_joined<'a, R: Source, F: Write + Drop, P: Pace>(
     pace: &mut P,
 ) -> Option<(Result<JoinReport, JoinFault>, Told<'a>, Written<F>)>
     requires { 0 < length readers.old }
+    ensures joins { IfSome result (λ r. JoinsReaders union.now.limits R.remaining R.failures readers.old readers.new
+        (F.contents file) (F.contents (writer_in r.2)) (is_whole r.2) r.0) }
+    ensures failures { IfSome result (λ r. CountsJoinWriter r.0 0 (times_failed r.2)) }
+    ensures seen { IfSome result (λ r. OnOk r.0
+        (SeesInputs union.now.limits R.remaining has_seen readers.old view.old view.new)) }
 {
     let name = Name::File(union.out);
     let writer = gathered(alloc, Paced::new(file, name, &mut *pace), name).ok()?;
@@ -196,7 +126,8 @@ fn tell_view<E: Write>(
 /// The fault of a join that succeeded: memory was refused for what was seen, or a transmission has another sender than the first and may
 /// not.
 fn fault_seen<'a>(union: &Union<'_>, names: &[&'a str], view: &JoinView) -> Option<Fault<'a>>
-    ensures { IfSome result (IsRefusedSender union.now.same_sender) }
+    ensures fault { IfSome result (IsRefusedSender union.now.same_sender) }
+    ensures memory { result ≡ None → view.now.findings.lacks_memory ≡ false }
 {
     if view.lacks_memory() {
         return Some(Fault::Memory);
@@ -206,6 +137,69 @@ fn fault_seen<'a>(union: &Union<'_>, names: &[&'a str], view: &JoinView) -> Opti
     }
     let number = other_sender(view.openings.as_slice())?;
     Some(Fault::IsOther(name_of(word_of(names, number)?)))
+}
+
+/// What came of a join, by what was seen in its inputs and what stands after their transmissions. Where memory was refused for what was
+/// seen, or an input has another sender and may not, that is the fault.
+fn judge_join<'a, R: Source, E: Write>(
+    union: &Union<'a>,
+    names: &[&'a str],
+    outcome: Result<JoinReport, JoinFault>,
+    written: Told<'a>,
+    readers: &mut [R],
+    view: &JoinView,
+    error: &mut E,
+) -> Result<Joined<'a>, Fault<'a>>
+    ensures fault { IfErr result (IsRefusedSender union.now.same_sender) }
+    ensures succeeded { OnErr result (OnErr outcome ⊥) }
+    ensures outcome { IfOk result (λ joined. joined.outcome ≡ outcome) }
+    ensures looks { IfOk result (λ joined. LooksOn R.remaining R.failures readers.old readers.new outcome joined.after) }
+    ensures finds { IfOk result (λ joined. FindsIn union.now.wanted view.now outcome joined.found) }
+{
+    if outcome.is_err() {
+        return Ok(Joined {
+            outcome,
+            after: None,
+            found: false,
+            written,
+        });
+    }
+    if let Some(fault) = fault_seen(union, names, view) {
+        return Err(fault);
+    }
+    Ok(Joined {
+        outcome,
+        after: Some(look_after_each(readers, names, error)),
+        found: view.findings.count.reaches(union.wanted.fail_on),
+        written,
+    })
+}
+
+/// Writes the join of the inputs to a file, and judges what came of that. `None` where there is no memory for writing.
+fn join_readers<'a, R: Source, F: Write + Drop, P: Pace, E: Write>(
+    alloc: Global,
+    union: &Union<'a>,
+    names: &[&'a str],
+    readers: &mut [R],
+    view: &mut JoinView,
+    file: F,
+    pace: &mut P,
+    error: &mut E,
+) -> Option<(Result<Joined<'a>, Fault<'a>>, Written<F>)>
+    requires some { 0 < length readers.old }
+    requires begun { has_seen view.old [] }
+    ensures fault { IfSome result (λ r. IfErr r.0 (IsRefusedSender union.now.same_sender)) }
+    ensures judged { IfSome result (λ r. IfOk r.0 (λ joined. (texts : List (List ℕ)) → HaveTexts R.remaining readers.old texts
+        → JudgesJoin union.now.limits union.now.wanted texts joined.outcome joined.found joined.after)) }
+    ensures failed { IfSome result (λ r. IfOk r.0 (λ joined. FailsAs R.failures readers.new joined.outcome joined.after)) }
+    ensures stops { IfSome result (λ r. IfOk r.0 (λ joined. StopsAs joined.outcome joined.after)) }
+    ensures written { IfSome result (λ r. IfOk r.0 (λ joined. keeps_file union.now.wanted.whole joined ≡ true
+        → WritesJoin union.now.limits union.now.wanted R.remaining readers.old (F.contents file) F.contents r.1)) }
+    ensures failures { IfSome result (λ r. times_failed r.1 ≡ judged_faults r.0) }
+{
+    let (outcome, told, written) = write_joined(alloc, union, readers, view, file, pace)?;
+    let judged = judge_join(union, names, outcome, told, readers, view, error);
+    Some((judged, written))
 }
 
 /// Joins the inputs to a file, which gets its name where that is what is wanted.
@@ -219,40 +213,41 @@ fn join_to_file<'a, S: Store, R: Source, P: Pace, E: Write>(
     error: &mut E,
 ) -> Result<Joined<'a>, Fault<'a>>
     requires { 0 < length readers.old }
-    ensures { IfErr result (IsUnjoined union.now) }
+    ensures fault { IfErr result (IsUnjoined union.now) }
+    ensures judged { IfOk result (λ joined. (texts : List (List ℕ)) → HaveTexts R.remaining readers.old texts
+        → JudgesJoin union.now.limits union.now.wanted texts joined.outcome joined.found joined.after) }
+    ensures failed { IfOk result (λ joined. FailsAs R.failures readers.new joined.outcome joined.after) }
+    ensures stops { IfOk result (λ joined. StopsAs joined.outcome joined.after) }
+    ensures files { S.making store.old ≡ None → Turns (S.held store.old) (S.held store.new)
+        (LeavesJoin union.now (S.failures store.old) (S.failures store.new)
+        (IsTextOfReaders union.now.limits union.now.wanted R.remaining readers.old) result) }
+    ensures making { S.making store.old ≡ None → S.making store.new ≡ None }
 {
     let (made, file) = match create_output(store, alloc, union.out) {
         Ok(made) => made,
         Err(fault) => return Err(fault),
     };
     let mut view = JoinView::new(alloc, union.repeated);
-    let Some((outcome, told, written)) = write_joined(
+    let Some((judged, written)) = join_readers(
         alloc,
         union,
+        names,
         &mut *readers,
         &mut view,
         file,
         pace,
+        &mut *error,
     ) else {
         made.discard(store, 0);
         return Err(Fault::Memory);
     };
-    if outcome.is_ok() {
-        if let Some(fault) = fault_seen(union, names, &view) {
+    let joined = match judged {
+        Ok(joined) => joined,
+        Err(fault) => {
             made.give_up(store, written);
             tell_senders(error, names, view.openings.as_slice(), false);
             return Err(fault);
         }
-    }
-    let after = match outcome {
-        Ok(_) => Some(look_after_each(readers, names, &mut *error)),
-        Err(_) => None,
-    };
-    let joined = Joined {
-        outcome,
-        after,
-        found: outcome.is_ok() && view.findings.count.reaches(union.wanted.fail_on),
-        written: told,
     };
     let is_kept = joined.is_wanted(union.wanted.whole);
     match settle(store, made, written, union.out, is_kept, &mut *error) {
@@ -327,6 +322,12 @@ fn join_named<'a, S: Store, I: Read + Drop, P: Pace, E: Write>(
 ) -> Result<Option<(Joined<'a>, Option<Told<'a>>)>, Fault<'a>>
     ensures some { IfOk result (λ answer. NamesInputs answer (length names.now)) }
     ensures fault { IfErr result (IsJoinFault union.now) }
+    ensures judged { IfOk result (λ answer. IfSome answer (λ a. JudgesNamed union.now.limits union.now.wanted (S.held store.old)
+        (I.remaining standard) (map (λ name. name.now) names.now) a.0)) }
+    ensures files { S.making store.old ≡ None → Turns (S.held store.old) (S.held store.new)
+        (LeavesNamed union.now (S.failures store.old) (S.failures store.new)
+        (IsTextOfJoin union.now.limits union.now.wanted (S.held store.old) (I.remaining standard) (map (λ name. name.now) names.now))
+        result) }
 {
     let mut readers = match open_inputs(store, alloc, names, standard) {
         Ok(readers) => readers,
@@ -366,7 +367,16 @@ pub fn join_files<'a, S: Store, I: Read + Drop, P: Pace, W: Target, E: Write>(
     lines: W,
     error: &mut E,
 ) -> (W, Result<Status, Stop<'a>>)
-    ensures { EndsAsJoin union.now (length names.now) result.1 }
+    ensures ends { EndsAsJoin union.now (length names.now) result.1 }
+    // The status is that of the texts that the words name.
+    ensures status { IfOk result.1 (IsStatusOfJoin union.now.limits union.now.wanted (S.held store.old) (I.remaining standard)
+        (map (λ name. name.now) names.now)) }
+    // Where it ends well the file holds the canonical text of the transmission to which they are joined, and nothing else changed; else
+    // nothing did.
+    ensures files { S.making store.old ≡ None → Turns (S.held store.old) (S.held store.new)
+        (WritesOut union.now.out.now (S.failures store.old) (S.failures store.new)
+        (IsTextOfJoin union.now.limits union.now.wanted (S.held store.old) (I.remaining standard) (map (λ name. name.now) names.now))
+        result.1) }
 {
     match join_named(store, alloc, union, names, standard, pace, error) {
         Ok(Some((joined, failed))) => {

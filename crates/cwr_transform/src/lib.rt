@@ -2,6 +2,7 @@
 #![tactic(auto)]
 
 mod imports;
+mod join_inputs;
 mod join_notes;
 mod join_views;
 mod joins;

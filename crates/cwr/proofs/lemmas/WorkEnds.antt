@@ -1,13 +1,11 @@
 -- A run of a work ends as what it reads does.
-use Rattle.std.proofs.Common.{◌≡◌, ℕ, ◌<◌, ◌-◌, Bool, true, false, List, [], ◌∷◌, length, map, Option, Some, None, Bor, refl, sym, ap, ap₂, subst, ◌∙◌}
-use Rattle.std.specs.Prelude.{◌^◌, Result, Ok, Err, IfSome, count_by, option_map}
+use Rattle.std.proofs.Common.{◌≡◌, ℕ, ◌<◌, ◌-◌, List, length, Option, Some, ap, subst}
+use Rattle.std.specs.Prelude.{◌^◌, Result, Ok, Err, IfOk, IfSome, option_map}
 use Rattle.cwr_shape.specs.declared.limits.Limits.{Limits}
 use Rattle.cwr_words.specs.declared.words.WriteWords.{WriteWords}
 use Rattle.cwr_json.specs.declared.encodings.Encoding.{Encoding}
-use Rattle.cwr_files.specs.declared.faults.Fault.{Fault}
 use Rattle.cwr_files.specs.declared.faults.Fault.TheVariants as faults
 use Rattle.cwr_files.specs.Format.Files.{Texts}
-use Rattle.cwr_files.specs.Format.Inputs.{IfRead, is_standard}
 use Rattle.cwr_files.specs.Steps.Inputs.{IsLeftOf}
 use Rattle.cwr_files.proofs.lemmas.Reads.{if_read}
 use Rattle.cwr_endings.specs.declared.endings.Status.{Status}
@@ -18,7 +16,9 @@ use Rattle.cwr_endings.specs.Format.Endings.{IsStatusOn}
 use Rattle.cwr_transform.specs.declared.imports.Import.{Import}
 use Rattle.cwr_transform.specs.Format.Imports.{EndsAsFileImport, EndsAsImport, IsImportStatus}
 use Rattle.cwr_transform.specs.Format.Splits.{EndsAsSplit}
-use Rattle.cwr.specs.Format.Endings.{EndsAsCut, EndsAsWriting, import_of}
+use Rattle.cwr_transform.specs.declared.joins.Union.{Union}
+use Rattle.cwr_transform.specs.Format.Joins.{EndsAsJoin, IsStatusOfJoin}
+use Rattle.cwr.specs.Format.Endings.{EndsAsCut, EndsAsUnion, EndsAsWriting, import_of}
 use Rattle.cwr.specs.Format.Tables.{encoding_of}
 
 -- an import that ends so
@@ -77,3 +77,21 @@ unfolding import_with
 file_written limits words encoding held now standard left ending is kept opened ends =
     file_writing_ends limits words (import_with limits words encoding) held standard left ending (ap (import_with limits words) is)
     (opened_so held now standard (option_map (λ name. name.now) words.file) left kept opened) ends
+
+-- ---- a join
+
+pub union_ends : (union : Union) (n : ℕ) (limits : Limits) (wanted : Wanted) (held : Option Texts) (standard : Option (List ℕ))
+    (names : List (List ℕ)) (ending : Result Status Stop) → EndsAsJoin union n ending
+    → IfOk ending (IsStatusOfJoin limits wanted held standard names) → EndsAsUnion limits wanted held standard names ending
+union_ends union n limits wanted held standard names (Ok status) ends h = h
+union_ends union n limits wanted held standard names (Err stops.Output) ends h = tt
+union_ends union n limits wanted held standard names (Err (stops.Fault (faults.Open of reason))) ends h = tt
+union_ends union n limits wanted held standard names (Err (stops.Fault (faults.Read told))) ends h = tt
+union_ends union n limits wanted held standard names (Err (stops.Fault (faults.Write told))) ends h = tt
+union_ends union n limits wanted held standard names (Err (stops.Fault (faults.Output of reason))) ends h = tt
+union_ends union n limits wanted held standard names (Err (stops.Fault (faults.IsInput of))) ends h = tt
+union_ends union n limits wanted held standard names (Err (stops.Fault (faults.IsThere of))) ends h = tt
+union_ends union n limits wanted held standard names (Err (stops.Fault (faults.IsTwice of))) ends h = absurd ends
+union_ends union n limits wanted held standard names (Err (stops.Fault (faults.IsOther of))) ends h = tt
+union_ends union n limits wanted held standard names (Err (stops.Fault (faults.IsLate of))) ends h = tt
+union_ends union n limits wanted held standard names (Err (stops.Fault faults.Memory)) ends h = tt

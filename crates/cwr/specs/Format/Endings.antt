@@ -1,16 +1,12 @@
 -- How a run of each work ends, by what lies under the names that the words give, and its status.
-use Rattle.std.specs.Prelude.{◌≡◌, ◌⊎◌, ◌<◌, Bool, true, false, List, [], ◌∷◌, ℕ, map, count_by, length, ◌^◌, ◌-◌, Option, None, Some, option_map}
+use Rattle.std.specs.Prelude.{◌≡◌, ◌<◌, Bool, true, false, List, [], ◌∷◌, ℕ, map, count_by, length, ◌^◌, ◌-◌, Option, None, Some, option_map}
 use Rattle.std.specs.Prelude.{Result, Ok, Err}
 use Rattle.std.specs.Option.{is_some}
 use Rattle.cwr_shape.specs.declared.limits.Limits.{Limits}
-use Rattle.cwr_words.specs.declared.words.Task.{Task}
 use Rattle.cwr_words.specs.declared.words.Work.{Work}
 use Rattle.cwr_words.specs.declared.words.Work.TheVariants.{Check, Show, Explain, Lint, Advise, Json, Csv, Acks, Write, Split}
 use Rattle.cwr_words.specs.declared.words.Work.TheVariants.{Join, Renumber, Manual}
 use Rattle.cwr_words.specs.declared.words.WriteWords.{WriteWords}
-use Rattle.cwr_words.specs.Format.Words.{Asks}
-use Rattle.cwr_grammar.specs.Format.CommandLine.{grammar}
-use Rattle.clap.specs.Words.{subcommand_of}
 use Rattle.cwr_files.specs.declared.faults.Fault.{Fault}
 use Rattle.cwr_files.specs.declared.faults.Fault.TheVariants as faults
 use Rattle.cwr_files.specs.Format.Files.{Texts}
@@ -24,6 +20,7 @@ use Rattle.cwr_endings.specs.Format.Endings.{IsStatusOn}
 use Rattle.cwr_reports.specs.Format.Endings.{EndsAsExportOf, EndsOnEach, EndsOnRead}
 use Rattle.cwr_transform.specs.declared.imports.Import.{Import}
 use Rattle.cwr_transform.specs.Format.Imports.{IsImportStatus}
+use Rattle.cwr_transform.specs.Format.Joins.{IsStatusOfJoin}
 use Rattle.cwr.specs.Format.Tables.{encoding_of}
 
 -- two of the words name standard input, which is there once
@@ -81,8 +78,15 @@ abbrev pub EndsAsCut : Limits → Wanted → Option Texts → Option (List ℕ) 
 EndsAsCut limits wanted held standard name (Ok status) = IfRead held standard (Some name) (λ text. IsStatusOn limits wanted text status)
 EndsAsCut limits wanted held standard name (Err stop) = Unit {0}
 
--- How a run of the work ends, within these limits, and where nothing may follow a transmission or something may. Of joins and of numbers
--- that are put right nothing is said here.
+-- a join has the status of the texts that its words name, of which standard input is one at most; else a file, a device or memory failed, or
+-- OUT may not be written, or an input has another sender and may not
+abbrev pub EndsAsUnion : Limits → Wanted → Option Texts → Option (List ℕ) → List (List ℕ) → Result Status Stop → Type 0
+EndsAsUnion limits wanted held standard names (Ok status) = IsStatusOfJoin limits wanted held standard names status
+EndsAsUnion limits wanted held standard names (Err (stops.Fault (faults.IsTwice of))) = AreStandardTwice names
+EndsAsUnion limits wanted held standard names (Err stop) = Unit {0}
+
+-- How a run of the work ends, within these limits, and where nothing may follow a transmission or something may. Of numbers that are put
+-- right nothing is said here.
 abbrev pub EndsOnWork : Limits → Bool → Work → Option Texts → Option (List ℕ) → Result Status Stop → Type 0
 EndsOnWork limits whole (Check judging) held standard ending =
     EndsOnFiles None limits (record { whole = whole; fail_on = judging.fail_on }) held standard (map (λ name. name.now) judging.files.items)
@@ -109,7 +113,8 @@ EndsOnWork limits whole (Acks words) held standard ending =
 EndsOnWork limits whole (Write words) held standard ending = EndsAsWriting limits words held standard ending
 EndsOnWork limits whole (Split words) held standard ending =
     EndsAsCut limits (record { whole = whole; fail_on = words.fail_on }) held standard words.file.now ending
-EndsOnWork limits whole (Join words) held standard ending = Unit {0}
+EndsOnWork limits whole (Join words) held standard ending =
+    EndsAsUnion limits (record { whole = whole; fail_on = words.fail_on }) held standard (map (λ name. name.now) words.files.items) ending
 EndsOnWork limits whole (Renumber words) held standard ending = Unit {0}
 EndsOnWork limits whole Manual held standard ending = EndsAsManual ending
 
@@ -128,22 +133,9 @@ ending_status (Ok status) = status
 ending_status (Err stops.Output) = statuses.Fault
 ending_status (Err (stops.Fault fault)) = fault_status fault
 
--- The status is that of an end which a run of the task may have.
-abbrev pub IsStatusOfWork : Task → Option Texts → Option (List ℕ) → Status → Type 0
-IsStatusOfWork task held standard status =
-    (ending : Result Status Stop) × EndsOnWork task.limits task.whole task.work held standard ending × (status ≡ ending_status ending)
-
 -- the number of a status
 abbrev pub status_code : Status → ℕ
 status_code statuses.Good = 0
 status_code statuses.Refused = 1
 status_code statuses.CommandLine = 2
 status_code statuses.Fault = 3
-
--- A run of a command line ends with the number of a status that the task has which it asks for. Else it asks for none, which is 2, or there
--- is no memory to tell, which is 3.
-abbrev pub RunsWords : List (List ℕ) → Option Texts → Option (List ℕ) → ℕ → Type 0
-RunsWords words held standard code =
-    ((task : Task) × (status : Status) × Asks (subcommand_of grammar words) task × IsStatusOfWork task held standard status
-    × (code ≡ status_code status))
-    ⊎ ((code ≡ 2) ⊎ (code ≡ 3))

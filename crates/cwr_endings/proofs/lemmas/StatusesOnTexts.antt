@@ -1,7 +1,7 @@
 -- The status of a run is right of its text.
 use Rattle.std.proofs.Common.{◌≡◌, ℕ, ◌<◌, ◌≤◌, Bool, true, false, not, ◌||◌, List, [], ◌∷◌, ◌++◌, length, drop, zero, suc}
 use Rattle.std.proofs.Common.{Option, Some, None, refl, sym, ap₂, subst, ◌∙◌, inl, inr, arith, true≢false}
-use Rattle.std.specs.Prelude.{◌≢◌, ◌^◌, ◌-◌, min, nat_lt, if◌then◌else◌}
+use Rattle.std.specs.Prelude.{IfSome, ◌≢◌, ◌^◌, ◌-◌, min, nat_lt, if◌then◌else◌}
 use Rattle.std.specs.Io.KnownBytes.{prepend_known}
 use Rattle.std.proofs.KnownBytes.{prepend_known-nil}
 use Rattle.std.proofs.lemmas.Bool.{lt-ltb, ltb-true}
@@ -59,6 +59,17 @@ follows_some text (Some rest) t h f =
       by true a b e f = let some : 0 < t.bytes = ltb-true 0 t.bytes b in omega (arith, some, h.counted)
       by false false b e f = let some : 1000000 ≤ length h.more = h.some e in omega (arith, some)
       by false true b e f = absurd (true≢false (sym f))
+
+-- what is left of an input whose bytes may be known
+pub nothing_left : (left after : Option (List ℕ)) (t : Trailing) → IsTrailing left after t → follows t ≡ false
+    → IfSome left (λ more. more ≡ [])
+nothing_left None after t h f = tt
+nothing_left (Some text) after t h f = follows_not text after t h f
+
+pub something_left : (left after : Option (List ℕ)) (t : Trailing) → IsTrailing left after t → follows t ≡ true
+    → IfSome left (λ more. more ≢ [])
+something_left None after t h f = tt
+something_left (Some text) after t h f = follows_some text after t h f
 
 -- ---- the status of a verdict
 

@@ -1,5 +1,5 @@
 -- What the end of a run over texts means for the program.
-use Rattle.std.specs.Prelude.{◌≡◌, ◌≢◌, ◌⊎◌, ◌&&◌, ℕ, ◌+◌, Bool, true, List, [], All, drop, false, Option, None, Some, IfSome, Result, Ok, Err}
+use Rattle.std.specs.Prelude.{◌≡◌, ◌≢◌, ◌⊎◌, ◌&&◌, ℕ, ◌+◌, Bool, true, List, [], All, drop, false, Option, None, Some, Result, Ok, Err}
 use Rattle.std.specs.Option.{is_some}
 use Rattle.std.specs.Str.{bytes_eq}
 use Rattle.cwr_shape.specs.declared.limits.Limits.{Limits}
@@ -93,6 +93,12 @@ worse_status statuses.Good other = other
 
 -- ---- what is left of a run that writes a file
 
+-- A file that is settled has its name and holds a text that is so, where it is wanted, and nothing else changed; else nothing did, unless
+-- more calls failed than so many.
+abbrev pub SettlesOut : List ℕ → ℕ → ℕ → (List ℕ → Type 0) → Bool → Texts → Texts → Type 0
+SettlesOut out most failures is true texts new = HoldsNew out is texts new
+SettlesOut out most failures is false texts new = LeavesAll out most failures texts new
+
 -- What a run leaves that writes the file of that name, where so many failures were counted before it and after it. Where it ends well the
 -- file holds a text that is so, and nothing else changed. Else nothing did, unless a call failed, and where a file or a device failed,
 -- unless another call did: then something may be left under a name that says that it isn't whole. Where standard output failed, on which
@@ -101,5 +107,6 @@ abbrev pub WritesOut : List ℕ → ℕ → ℕ → (List ℕ → Type 0) → Re
 WritesOut out old now is (Ok statuses.Good) texts new = HoldsNew out is texts new
 WritesOut out old now is (Ok status) texts new = LeavesAll out old now texts new
 WritesOut out old now is (Err stops.Output) texts new = HoldsNew out is texts new ⊎ LeavesAll out old now texts new
+WritesOut out old now is (Err (stops.Fault (faults.IsOther of))) texts new = LeavesAll out old now texts new
 WritesOut out old now is (Err (stops.Fault faults.Memory)) texts new = LeavesAll out old now texts new
 WritesOut out old now is (Err (stops.Fault fault)) texts new = LeavesAll out (old + 1) now texts new

@@ -1,10 +1,11 @@
 -- What is read under a word.
-use Rattle.std.proofs.Common.{◌≡◌, ℕ, ◌+◌, ◌<◌, Bool, true, false, List, [], ◌∷◌, ◌++◌, length, take, map, get_or, Option, Some, None, Bor, sym, ap, subst, ◌∙◌, true≢false}
-use Rattle.std.specs.Prelude.{IfSome, IsSome}
+use Rattle.std.proofs.Common.{◌≡◌, ℕ, ◌+◌, ◌<◌, Bool, true, false, List, [], ◌∷◌, ◌++◌, length, take, map, get_or, Option, Some, None, Bor, sym, ap, subst, ◌∙◌, true≢false, inl, inr}
+use Rattle.std.specs.Prelude.{◌⊎◌, IfSome, IsSome}
+use Rattle.std.proofs.lemmas.Option.{none-some}
 use Rattle.std.proofs.lemmas.List.{take_more, get_or-map, length-map}
 use Rattle.cwr_files.specs.Format.Files.{Texts}
-use Rattle.cwr_files.specs.Format.Inputs.{IfHeld, IfRead, IfReadAt, IfThere, is_standard}
-use Rattle.cwr_files.specs.Steps.Inputs.{IsLeftAt, IsLeftOf}
+use Rattle.cwr_files.specs.Format.Inputs.{IfHeld, IfRead, IfReadAt, IfThere, is_standard, text_at, text_of}
+use Rattle.cwr_files.specs.Steps.Inputs.{IsLeftAt, IsLeftOf, IsThereFor, standard_after, standard_left}
 
 there : (found left : Option (List ℕ)) (is : List ℕ → Type 0) → IsSome found → left ≡ found → IfSome left is → IfThere found is
 there None left is some e h = absurd (true≢false (sym some))
@@ -51,3 +52,54 @@ words_more words i d h =
     take_more (map {A = Bor (List ℕ)} {B = List ℕ} (λ w. w.now) words) i d.now inside
     ∙ ap (λ (n : List ℕ). take i (map {A = Bor (List ℕ)} {B = List ℕ} (λ w. w.now) words) ++ (n ∷ []))
     (get_or-map {X = Bor (List ℕ)} {Y = List ℕ} (λ w. w.now) words i d d.now h)
+
+-- ---- standard input, which is there once
+
+-- it is still there, or it was read
+abbrev pub IsLent : {I : Type 0} → I → Option I → Type 0
+IsLent input standard = (standard ≡ Some input) ⊎ (standard ≡ None)
+
+-- it is lent on
+pub lent_on : {I : Type 0} (b : Bool) (input : I) (standard after : Option I) → IsLent input standard → after ≡ standard_after b standard
+    → IsLent input after
+lent_on true input standard after lent e = inr e
+lent_on false input standard after lent e = subst (λ (o : Option _). IsLent input o) (sym e) lent
+
+standard_lent : {I : Type 0} (of_standard : I → Option (List ℕ)) (input : I) (standard : Option I) (left : Option (List ℕ))
+    → IsLent input standard → IsSome standard → left ≡ standard_left of_standard standard → left ≡ of_standard input
+standard_lent of_standard input None left lent there e = absurd (true≢false (sym there))
+standard_lent {I = I} of_standard input (Some other) left lent there e =
+    elim lent [
+      | inl is ↦ e ∙ ap (λ (o : Option I). standard_left of_standard o) is
+      | inr is ↦ absurd (none-some other (sym is))
+    ]
+
+-- what is left of what was opened is what the word names, where standard input is lent
+pub left_lent : {I : Type 0} (b : Bool) (held : Option Texts) (of_standard : I → Option (List ℕ)) (input : I) (standard : Option I)
+    (name : List ℕ) (left : Option (List ℕ)) → IsLent input standard → IsThereFor b standard
+    → IsLeftAt b held (standard_left of_standard standard) name left → IsLeftAt b held (of_standard input) name left
+left_lent true held of_standard input standard name left lent there h = standard_lent of_standard input standard left lent there h
+left_lent false None of_standard input standard name left lent there h = tt
+left_lent false (Some texts) of_standard input standard name left lent there h = h
+
+-- ---- the text that a word names
+
+text_left_at : (b : Bool) (held : Option Texts) (standard : Option (List ℕ)) (name : List ℕ) (left : Option (List ℕ)) (text : List ℕ)
+    → IsLeftAt b held standard name left → text_at b held standard name ≡ Some text → left ≡ Some text
+text_left_at true held standard name left text h e = h ∙ e
+text_left_at false None standard name left text h e = absurd (none-some text e)
+text_left_at false (Some texts) standard name left text h e = h.1 ∙ e
+
+-- it is left of what was opened
+pub text_left : (held : Option Texts) (standard : Option (List ℕ)) (name : List ℕ) (left : Option (List ℕ)) (text : List ℕ)
+    → IsLeftOf held standard (Some name) left → text_of held standard name ≡ Some text → left ≡ Some text
+text_left held standard name left text h e = text_left_at (is_standard (Some name)) held standard name left text h e
+
+some_there : (left : Option (List ℕ)) → IfSome left (λ text. Unit {0})
+some_there None = tt
+some_there (Some text) = tt
+
+-- and is there
+pub is_there : (held : Option Texts) (standard : Option (List ℕ)) (name : List ℕ) (left : Option (List ℕ))
+    → IsLeftOf held standard (Some name) left → IfRead held standard (Some name) (λ text. Unit {0})
+is_there held standard name left h = if_read held standard (Some name) left (λ text. Unit {0}) h (some_there left)

@@ -1,5 +1,6 @@
 -- Which words name standard input, what is read under a word, and what inputs are called.
-use Rattle.std.specs.Prelude.{◌≡◌, ℕ, Bool, true, false, if◌then◌else◌, List, [], ◌∷◌, map, Option, Some, None, IfSome, codes, chars, encode_utf8_all}
+use Rattle.std.specs.Prelude.{◌≡◌, ℕ, Bool, true, false, if◌then◌else◌, List, [], ◌∷◌, All, map, Option, Some, None, IfSome, codes, chars, encode_utf8_all}
+use Rattle.std.specs.List.{AllZip}
 use Rattle.std.specs.Str.{bytes_eq}
 use Rattle.std.specs.Char.{is_control}
 use Rattle.cwr_devices.specs.Format.Failures.{one_more_failure}
@@ -40,6 +41,23 @@ IfReadAt false held standard name is = IfHeld held name is
 abbrev pub IfRead : Option Texts → Option (List ℕ) → Option (List ℕ) → (List ℕ → Type 0) → Type 0
 IfRead held standard None is = IfSome standard is
 IfRead held standard (Some name) is = IfReadAt (is_standard (Some name)) held standard name is
+
+-- the text that a word names, where it is known and there
+abbrev pub text_at : Bool → Option Texts → Option (List ℕ) → List ℕ → Option (List ℕ)
+text_at true held standard name = standard
+text_at false None standard name = None
+text_at false (Some texts) standard name = texts name
+
+abbrev pub text_of : Option Texts → Option (List ℕ) → List ℕ → Option (List ℕ)
+text_of held standard name = text_at (is_standard (Some name)) held standard name
+
+-- the words name these texts, one each
+abbrev pub AreTexts : Option Texts → Option (List ℕ) → List (List ℕ) → List (List ℕ) → Type 0
+AreTexts held standard names texts = AllZip (λ name text. text_of held standard name ≡ Some text) names texts
+
+-- what each word names is there, where texts are known
+abbrev pub AreThere : Option Texts → Option (List ℕ) → List (List ℕ) → Type 0
+AreThere held standard names = All (λ name. IfRead held standard (Some name) (λ text. Unit {0})) names
 
 -- ---- an input that couldn't be opened
 

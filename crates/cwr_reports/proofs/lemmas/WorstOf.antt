@@ -1,5 +1,5 @@
 -- The worst status of several files, with that of one more.
-use Rattle.std.proofs.Common.{◌≡◌, ℕ, ◌+◌, ◌<◌, Bool, true, false, List, [], ◌∷◌, ◌++◌, length, get_or, All, Option, Some, None, refl, sym, ap, subst, ◌∙◌, inl, inr, arith, true≢false}
+use Rattle.std.proofs.Common.{◌≡◌, ℕ, Bool, true, false, List, [], ◌∷◌, ◌++◌, get_or, All, Option, Some, None, sym, subst, inl, inr, arith, true≢false}
 use Rattle.std.specs.Prelude.{◌⊎◌, Any, Err, IfSome, IsSome}
 use Rattle.std.proofs.lemmas.Grind.{common_steps}
 use Rattle.std.proofs.lemmas.List.Elements.{All-push}
@@ -7,21 +7,17 @@ use Rattle.std.proofs.lemmas.List.Quantifiers.{Any-push}
 use Rattle.cwr_shape.specs.declared.limits.Limits.{Limits}
 use Rattle.cwr_files.specs.Format.Files.{Texts}
 use Rattle.cwr_files.specs.Format.Inputs.{IfRead, IfReadAt, IfThere, is_standard}
-use Rattle.cwr_files.specs.Steps.Inputs.{IsLeftAt, IsThereFor, standard_after, standard_left}
+use Rattle.cwr_files.specs.Steps.Inputs.{IsLeftAt, IsThereFor, standard_left}
 use Rattle.cwr_files.specs.declared.faults.Fault.TheVariants as faults
 use Rattle.cwr_endings.specs.declared.stops.Stop.{Stop}
 use Rattle.cwr_endings.specs.declared.stops.Stop.TheVariants as stops
-use Rattle.cwr_files.proofs.lemmas.Reads.{read_so}
+use Rattle.cwr_files.proofs.lemmas.Reads.{IsLent, read_so}
 use Rattle.cwr_endings.specs.declared.endings.Status.{Status}
 use Rattle.cwr_endings.specs.declared.endings.Status.TheVariants as statuses
 use Rattle.cwr_endings.specs.declared.endings.Wanted.{Wanted}
 use Rattle.cwr_endings.specs.Format.Endings.{IsStatusBy, worse_status}
 use Rattle.cwr_reports.specs.Format.Endings.{Counts, EndsOnEach, IsWorstOf}
 use Rattle.cwr_reports.specs.Steps.Several.{CountsNext, IfNextAt, IfStandard, IsNext, IsUnsummed}
-
--- standard input is still there, or it was read
-abbrev pub IsLent : {I : Type 0} → I → Option I → Type 0
-IsLent input standard = (standard ≡ Some input) ⊎ (standard ≡ None)
 
 standard_so : {I : Type 0} (of_standard : I → Option (List ℕ)) (input : I) (standard : Option I) (is : List ℕ → Type 0)
     → IsLent input standard → IfStandard of_standard standard is → IfSome (of_standard input) is
@@ -107,12 +103,6 @@ worst_more advice limits wanted held of_standard input standard names name befor
           (λ text. IsStatusBy (Counts advice) limits wanted text status) lent h))
       | inr e ↦ subst (IsWorstOf advice limits wanted held (of_standard input) (names ++ name ∷ [])) (sym e) tt
     ]
-
--- standard input is lent on
-pub lent_on : {I : Type 0} (b : Bool) (input : I) (standard after : Option I) → IsLent input standard → after ≡ standard_after b standard
-    → IsLent input after
-lent_on true input standard after lent e = inr e
-lent_on false input standard after lent e = subst (λ (o : Option _). IsLent input o) (sym e) lent
 
 -- ---- the next one
 

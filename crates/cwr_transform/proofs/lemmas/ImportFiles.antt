@@ -1,9 +1,8 @@
 -- What is left of an import to a file.
-use Rattle.std.proofs.Common.{◌≡◌, ℕ, ◌+◌, ◌≤◌, ◌<◌, Bool, true, false, List, [], ◌++◌, Option, Some, None, refl, sym, ap, subst, ◌∙◌, arith}
+use Rattle.std.proofs.Common.{◌≡◌, ℕ, ◌+◌, ◌≤◌, ◌<◌, Bool, true, false, List, [], Option, Some, refl, sym, subst, arith}
 use Rattle.std.specs.Prelude.{Result, Ok, Err, IfOk}
 use Rattle.std.specs.Result.{is_ok}
-use Rattle.std.specs.Io.KnownBytes.{Appends, Keeps}
-use Rattle.std.proofs.lemmas.Option.{none-some}
+use Rattle.std.specs.Io.KnownBytes.{Keeps}
 use Rattle.cwr_devices.specs.Format.Failures.{most_failures, one_more_failure}
 use Rattle.cwr_write.specs.declared.writing.Written.{Written}
 use Rattle.cwr_write.specs.declared.writing.WriteFault.{WriteFault}
@@ -12,19 +11,16 @@ use Rattle.cwr_write.specs.Format.Imports.{CountsReaderFault, CountsWriterFault,
 use Rattle.cwr_values.specs.Format.Rows.{canonical_text}
 use Rattle.cwr_files.specs.declared.faults.Fault.{Fault}
 use Rattle.cwr_files.specs.declared.faults.Fault.TheVariants as faults
-use Rattle.cwr_files.specs.declared.faults.Name.{Name}
 use Rattle.cwr_files.specs.declared.faults.Told.{Told}
 use Rattle.cwr_files.specs.declared.new_files.NewFile.{NewFile}
-use Rattle.cwr_files.specs.Format.Faults.{IsUnkept}
 use Rattle.cwr_files.specs.Format.Files.{Texts, Turns, counted_on}
 use Rattle.cwr_files.specs.Format.NewFiles.{HoldsNew, LeavesAll}
 use Rattle.cwr_files.specs.Steps.NewFiles.{EndsDropped, EndsKept, HasBegun, final_name}
 use Rattle.cwr_endings.specs.declared.endings.Status.{Status}
-use Rattle.cwr_endings.specs.declared.endings.Status.TheVariants as statuses
 use Rattle.cwr_endings.specs.declared.stops.Stop.{Stop}
 use Rattle.cwr_endings.specs.declared.stops.Stop.TheVariants as stops
 use Rattle.cwr_endings.specs.Format.Endings.{WritesOut}
-use Rattle.cwr_endings.proofs.lemmas.Outs.{Begins, out_dropped, out_kept}
+use Rattle.cwr_endings.proofs.lemmas.Outs.{Begins, kept_whole, out_dropped, out_kept}
 use Rattle.cwr_transform.specs.declared.imports.Import.{Import}
 use Rattle.cwr_transform.specs.Format.Imports.{ImportEndsAs, IsImportOf}
 
@@ -55,41 +51,6 @@ few_more (Err (write_faults.Writer n)) old on failures e le lt = subst (λ (m : 
 few_more (Err write_faults.Memory) old on failures e le lt = subst (λ (n : ℕ). failures ≤ n + 1) (sym e) le
 
 -- ---- what was written
-
-kept_whole : (a b c : Option (List ℕ)) (text : List ℕ) → a ≡ Some [] → Appends a b text → Keeps b c → c ≡ Some text
-kept_whole None b c text e h k = absurd (none-some [] e)
-kept_whole (Some xs) None c text e h k = absurd h
-kept_whole (Some xs) (Some ys) None text e h k = absurd k
-kept_whole (Some xs) (Some ys) (Some zs) text e h k =
-    let empty : xs ≡ [] = cc e in
-    ap Some (k ∙ h ∙ ap (λ (l : List ℕ). l ++ text) empty)
-
--- only what is known has to turn so
-pub where_known : (held now : Option Texts) (how : Texts → Texts → Type 0) → ((texts : Texts) → held ≡ Some texts → Turns held now how)
-    → Turns held now how
-where_known None now how so = tt
-where_known (Some texts) now how so = so texts refl
-
--- then a file that was made is empty
-pub empty_so : (held now : Option Texts) (texts : Texts) (P : Type 0) (how : Texts → Texts → Type 0) → held ≡ Some texts
-    → Turns held now (λ t n. how t n × P) → P
-empty_so None now texts P how e h = absurd (none-some texts e)
-empty_so (Some t) None texts P how e h = absurd h
-empty_so (Some t) (Some n) texts P how e h = h.1
-
--- the file that couldn't be given its name
-pub unkept_so : (out : List ℕ) (old now : ℕ) (is : List ℕ → Type 0) (name : Name) (fault : Fault) (texts new : Texts) → IsUnkept name fault
-    → LeavesAll out (old + 1) now texts new → WritesOut out old now is (Err (stops.Fault fault)) texts new
-unkept_so out old now is name (faults.Open of reason) texts new u h = absurd u
-unkept_so out old now is name (faults.Read told) texts new u h = absurd u
-unkept_so out old now is name (faults.Write told) texts new u h = absurd u
-unkept_so out old now is name (faults.Output of reason) texts new u h = h
-unkept_so out old now is name (faults.IsInput of) texts new u h = absurd u
-unkept_so out old now is name (faults.IsThere of) texts new u h = absurd u
-unkept_so out old now is name (faults.IsTwice of) texts new u h = absurd u
-unkept_so out old now is name (faults.IsOther of) texts new u h = absurd u
-unkept_so out old now is name (faults.IsLate of) texts new u h = absurd u
-unkept_so out old now is name faults.Memory texts new u h = absurd u
 
 module _ {W : Type 0} (import : Import) (left : Option (List ℕ)) (contents : W → Option (List ℕ)) (first last : W) (final : Option (List ℕ))
     (out : List ℕ) (made : NewFile) (making : Option (List ℕ)) (f0 f2 f3 times : ℕ) (h0 h2 h3 : Option Texts) (wanted whole : Bool)

@@ -16,7 +16,6 @@ use Rattle.cwr_endings.specs.declared.stops.Stop.{Stop}
 use Rattle.cwr_endings.specs.declared.stops.Stop.TheVariants as stops
 use Rattle.cwr_transform.specs.declared.imports.Import.{Import}
 use Rattle.cwr_files.specs.declared.faults.Told.{Told}
-use Rattle.cwr_files.specs.declared.faults.Fault.{Fault}
 use Rattle.cwr_files.specs.declared.faults.Fault.TheVariants as faults
 
 -- an import that is written ends the run well, and one that is refused otherwise; the fault of a device or of memory is reported

@@ -1,5 +1,15 @@
 -- What the end of a join means for the program.
-use Rattle.std.specs.Prelude.{◌≡◌, ◌<◌, ℕ, Bool, true, false, not, ◌&&◌, Option, Some, None, Result, Ok, Err}
+use Rattle.std.specs.Prelude.{◌≡◌, ◌<◌, ℕ, Bool, true, false, not, ◌&&◌, List, [], drop, flat_map, Option, Some, None, Result, Ok, Err}
+use Rattle.std.specs.List.{AllZip}
+use Rattle.cwr_shape.specs.declared.limits.Limits.{Limits}
+use Rattle.cwr_values.specs.Format.Values.{FitsIn, TransmissionValue}
+use Rattle.cwr_values.specs.Format.Rows.{canonical_text}
+use Rattle.cwr_judge.specs.Format.Ends.{IsAccepted}
+use Rattle.cwr_judge.specs.Format.Items.{value_items}
+use Rattle.cwr_parts.specs.Format.Joins.{AreJoined}
+use Rattle.cwr_files.specs.Format.Files.{Texts}
+use Rattle.cwr_files.specs.Format.Inputs.{AreTexts, AreThere}
+use Rattle.cwr_endings.specs.declared.endings.Wanted.{Wanted}
 use Rattle.cwr_tools.specs.declared.verdicts.JoinFault.{JoinFault}
 use Rattle.cwr_tools.specs.declared.verdicts.JoinReport.{JoinReport}
 use Rattle.cwr_files.specs.declared.faults.Fault.{Fault}
@@ -12,7 +22,47 @@ use Rattle.cwr_endings.specs.declared.endings.Status.TheVariants as statuses
 use Rattle.cwr_endings.specs.declared.stops.Stop.{Stop}
 use Rattle.cwr_endings.specs.declared.stops.Stop.TheVariants as stops
 use Rattle.cwr_transform.specs.declared.joins.Union.{Union}
-use Rattle.cwr_endings.specs.Format.Endings.{EndsAfterFault}
+use Rattle.cwr_endings.specs.Format.Endings.{EndsAfterFault, FindsFrom}
+
+-- ---- what is joined
+
+-- the text is accepted as the transmission, and nothing follows where nothing may
+abbrev pub IsInput : Limits → Bool → List ℕ → TransmissionValue → Type 0
+IsInput limits whole text v = (n : ℕ) × IsAccepted limits text v n × (whole ≡ true → drop n text ≡ [])
+
+-- The texts are joined to that transmission: each of them is accepted and has what is wanted, and so has the join, which is within the limits.
+pub record JoinsTo (limits : Limits) (wanted : Wanted) (texts : List (List ℕ)) (joined : TransmissionValue) : Type 0 where
+  pub inputs : List TransmissionValue
+  pub accepted : AllZip (IsInput limits wanted.whole) texts inputs
+  pub joined_of : AreJoined inputs joined
+  pub within : FitsIn limits joined
+  pub calm : FindsFrom wanted.fail_on (flat_map value_items inputs) false
+
+-- they are joined to none
+abbrev pub JoinsToNone : Limits → Wanted → List (List ℕ) → Type 0
+JoinsToNone limits wanted texts = (joined : TransmissionValue) → JoinsTo limits wanted texts joined → ⊥
+
+-- A join of the texts ends well where they are joined to a transmission, and as refused where they are joined to none.
+abbrev pub IsJoinStatus : Limits → Wanted → List (List ℕ) → Status → Type 0
+IsJoinStatus limits wanted texts statuses.Good = (joined : TransmissionValue) × JoinsTo limits wanted texts joined
+IsJoinStatus limits wanted texts statuses.Refused = JoinsToNone limits wanted texts
+IsJoinStatus limits wanted texts statuses.CommandLine = texts ≡ []
+IsJoinStatus limits wanted texts statuses.Fault = ⊥
+
+-- the text is the canonical one of the transmission to which these are joined
+abbrev pub IsJoinText : Limits → Wanted → List (List ℕ) → List ℕ → Type 0
+IsJoinText limits wanted texts text = (joined : TransmissionValue) × JoinsTo limits wanted texts joined × (text ≡ canonical_text joined)
+
+-- so is the status of what these words name, where the texts are known, and each is there
+abbrev pub IsStatusOfJoin : Limits → Wanted → Option Texts → Option (List ℕ) → List (List ℕ) → Status → Type 0
+IsStatusOfJoin limits wanted held standard names status =
+    AreThere held standard names
+    × ((texts : List (List ℕ)) → AreTexts held standard names texts → IsJoinStatus limits wanted texts status)
+
+-- and the text that is written of them
+abbrev pub IsTextOfJoin : Limits → Wanted → Option Texts → Option (List ℕ) → List (List ℕ) → List ℕ → Type 0
+IsTextOfJoin limits wanted held standard names text =
+    (texts : List (List ℕ)) → AreTexts held standard names texts → IsJoinText limits wanted texts text
 
 -- ---- faults
 

@@ -1,19 +1,58 @@
-use Rattle.cwr_files.specs.Steps.Inputs.{remaining_of}
+use Rattle.std.proofs.Common.{ℕ, List, Option, Bor, sym, subst, ◌∙◌}
+use Rattle.std.specs.Prelude.{option_map}
+use Rattle.cwr_files.specs.Format.Files.{Texts, Turns}
+use Rattle.cwr_files.specs.Steps.Inputs.{IsLeftOf, remaining_of}
+use Rattle.cwr_files.specs.Steps.NewFiles.{HasKeptCount}
+use Rattle.cwr_endings.proofs.lemmas.Outs.{turns_so, writes_as, writes_on, writes_since}
+use Rattle.cwr_transform.specs.Format.Imports.{IsImportOf}
+use Rattle.cwr.specs.Format.Endings.{import_of}
+use Rattle.cwr.specs.Format.Files.{IsImportAt, LeavesOut}
+use Rattle.cwr.proofs.lemmas.Leaves.{import_at}
 use Rattle.cwr.proofs.lemmas.WorkEnds.{file_written, output_written}
 use Rattle.cwr.proofs.program.import_lines.Goals as goal
 
 -- src/program.rt:239:1
-pub returns-in-Some : goal.returns-in-Some
-returns-in-Some g c =
+pub returns-in-Some-clause-ends : goal.returns-in-Some-clause-ends
+returns-in-Some-clause-ends g c =
     file_written c.args.task.now.limits c.args.words.now c.encoding_of.result (g.S.Store.held c.args.store.now)
     (g.S.Store.held c.refuse_written.new.store) (g.I.Read.remaining c.args.standard)
     (remaining_of g.S.Reader.Read.remaining g.I.Read.remaining c.in-Ok.input) c.import_file-ended.result c.encoding_of.ensures
-    c.refuse_written.ensures c.in-Ok.ensures.left c.import_file-ended.ensures.ends
+    c.refuse_written.ensures.kept c.in-Ok.ensures.left c.import_file-ended.ensures.ends
 
 -- src/program.rt:239:1
-pub returns-in-None : goal.returns-in-None
-returns-in-None g c =
+pub returns-in-None-clause-ends : goal.returns-in-None-clause-ends
+returns-in-None-clause-ends g c =
     output_written c.args.task.now.limits c.args.words.now c.encoding_of.result (g.S.Store.held c.args.store.now)
     (g.S.Store.held c.refuse_written.new.store) (g.I.Read.remaining c.args.standard)
     (remaining_of g.S.Reader.Read.remaining g.I.Read.remaining c.in-Ok.input) c.import_input.result.1 c.encoding_of.ensures
-    c.refuse_written.ensures c.in-Ok.ensures.left c.import_input.ensures
+    c.refuse_written.ensures.kept c.in-Ok.ensures.left c.import_input.ensures.ends
+
+pub returns-in-Some-clause-files : goal.returns-in-Some-clause-files
+returns-in-Some-clause-files g c =
+    λ none.
+    let s0 = c.args.store.now in
+    let s1 = c.refuse_written.new.store in
+    let s2 = c.open_input.new.store in
+    let s3 = c.import_file-ended.new.store in
+    let words = c.args.words.now in
+    let limits = c.args.task.now.limits in
+    let out : List ℕ = c.in-Some.name.now in
+    let ending = c.import_file-ended.result in
+    let name : Option (List ℕ) = option_map (λ n. n.now) words.file in
+    let standard : Option (List ℕ) = g.I.Read.remaining c.args.standard in
+    let left : Option (List ℕ) = remaining_of g.S.Reader.Read.remaining g.I.Read.remaining c.in-Ok.input in
+    let is : List ℕ → Type 0 = IsImportOf (record { limits = limits; encoding = c.encoding_of.result; most = words.line }) left in
+    let other : List ℕ → Type 0 = IsImportAt (import_of limits words) (g.S.Store.held s0) standard name in
+    let opened : IsLeftOf (g.S.Store.held s0) standard name left
+    = subst (λ (h : Option Texts). IsLeftOf h standard name left) c.refuse_written.ensures.kept c.in-Ok.ensures.left in
+    let kept : HasKeptCount (g.S.Store.failures s0) (g.S.Store.failures s2)
+    = subst (λ (n : ℕ). HasKeptCount (g.S.Store.failures s0) n) (sym c.in-Ok.ensures.opened) c.refuse_written.ensures.failures in
+    subst
+    (λ (o : Option (Bor (List ℕ))). Turns (g.S.Store.held s0) (g.S.Store.held s3)
+    (LeavesOut (option_map (λ n. n.now) o) (g.S.Store.failures s0) (g.S.Store.failures s3) other ending)) (sym c.in-Some.is)
+    (writes_on (g.S.Store.held s0) (g.S.Store.held s2) (g.S.Store.held s3) _ (c.open_input.ensures.kept ∙ c.refuse_written.ensures.kept)
+    (turns_so (g.S.Store.held s2) (g.S.Store.held s3) _ _
+    (λ texts new h. writes_since out (g.S.Store.failures s0) (g.S.Store.failures s2) (g.S.Store.failures s3) other ending texts new kept
+    (writes_as out (g.S.Store.failures s2) (g.S.Store.failures s3) is other ending texts new
+    (λ text has. import_at limits words c.encoding_of.result (g.S.Store.held s0) standard name left text c.encoding_of.ensures opened has) h))
+    (c.import_file-ended.ensures.files (c.open_input.ensures.making ∙ c.refuse_written.ensures.making ∙ none))))

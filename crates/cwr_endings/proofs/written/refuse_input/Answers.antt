@@ -1,4 +1,4 @@
-use Rattle.std.proofs.Common.{◌≡◌, ℕ, List, [], Bor, get_or, map, take, sym, subst, ◌∙◌, arith}
+use Rattle.std.proofs.Common.{ℕ, List, [], Bor, get_or, map, take, sym, subst, ◌∙◌, arith}
 use Rattle.std.specs.Prelude.{IfSome}
 use Rattle.cwr_files.proofs.lemmas.Reads.{words_more}
 use Rattle.cwr_endings.specs.Format.Endings.{IsNoInput}

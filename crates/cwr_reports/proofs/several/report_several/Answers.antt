@@ -1,14 +1,14 @@
-use Rattle.std.proofs.Common.{◌≡◌, ℕ, ◌≤◌, List, [], Bor, length, get_or, map, take, Option, sym, subst, ◌∙◌, arith}
-use Rattle.std.specs.Prelude.{Result, Ok}
+use Rattle.std.proofs.Common.{ℕ, ◌≤◌, List, [], Bor, length, get_or, map, take, Option, sym, subst, ◌∙◌, arith}
+use Rattle.std.specs.Prelude.{Result}
 use Rattle.std.specs.Str.{bytes_eq}
 use Rattle.std.proofs.lemmas.List.{length-map, take_all}
 use Rattle.cwr_files.specs.Format.Files.{Texts}
-use Rattle.cwr_files.specs.Format.Inputs.{is_standard}
 use Rattle.cwr_files.proofs.lemmas.Reads.{words_more}
 use Rattle.cwr_endings.specs.declared.stops.Stop.{Stop}
 use Rattle.cwr_reports.specs.Format.Endings.{IsWorstOf, advice_asked}
 use Rattle.cwr_reports.specs.Steps.Several.{CountsNext, IsNext}
-use Rattle.cwr_reports.proofs.lemmas.WorstOf.{lent_on, worst_more}
+use Rattle.cwr_files.proofs.lemmas.Reads.{lent_on}
+use Rattle.cwr_reports.proofs.lemmas.WorstOf.{worst_more}
 use Rattle.cwr_reports.proofs.several.report_several.Goals as goal
 
 pub loop-name-preserved : goal.loop-name-preserved

@@ -1,6 +1,6 @@
 use Rattle.std.proofs.Common.{◌≡◌, take, map}
 use Rattle.cwr_reports.specs.Format.Endings.{IsWorstOf, advice_asked}
-use Rattle.cwr_reports.proofs.lemmas.WorstOf.{IsLent}
+use Rattle.cwr_files.proofs.lemmas.Reads.{IsLent}
 use Rattle.cwr_reports.proofs.several.report_several.Given as goal
 
 abbrev pub invariant-loop-name : goal.invariant-loop-name

@@ -7,11 +7,10 @@ use Rattle.cwr_files.specs.Steps.Gathering.{written_to}
 use Rattle.cwr_files.specs.Steps.Inputs.{remaining_of}
 use Rattle.cwr_files.specs.Steps.NewFiles.{IsBegun}
 use Rattle.cwr_files.specs.declared.faults.Name.TheVariants.{File}
-use Rattle.cwr_endings.specs.Format.Endings.{WritesOut}
-use Rattle.cwr_endings.proofs.lemmas.Outs.{Begins, out_dropped, turns_so}
+use Rattle.cwr_endings.proofs.lemmas.Outs.{Begins, empty_so, out_dropped, turns_so, unkept_so, where_known}
 use Rattle.cwr_write.specs.Format.Imports.{CountsReaderFault, CountsWriterFault}
 use Rattle.cwr_transform.specs.Format.Imports.{IsImportOf}
-use Rattle.cwr_transform.proofs.lemmas.ImportFiles.{empty_so, few_more, import_out, unkept_so, where_known}
+use Rattle.cwr_transform.proofs.lemmas.ImportFiles.{few_more, import_out}
 use Rattle.cwr_transform.proofs.lemmas.ImportsEnd.{file_ends}
 use Rattle.cwr_transform.proofs.imports.import_file.Goals as goal
 

@@ -1,0 +1,66 @@
+-- What lies under names after a run of each work, by how it ended.
+use Rattle.std.specs.Prelude.{◌≡◌, ◌⊎◌, ℕ, Bool, List, map, None, Option, Some, option_map, Result}
+use Rattle.cwr_shape.specs.declared.limits.Limits.{Limits}
+use Rattle.cwr_words.specs.declared.words.Task.{Task}
+use Rattle.cwr_words.specs.declared.words.Work.{Work}
+use Rattle.cwr_words.specs.declared.words.Work.TheVariants.{Csv, Join, Json, Renumber, Split, Write}
+use Rattle.cwr_words.specs.Format.Words.{AskFor}
+use Rattle.cwr_files.specs.Format.Files.{Same, Texts, Turns}
+use Rattle.cwr_files.specs.Format.Inputs.{IfRead}
+use Rattle.cwr_endings.specs.declared.endings.Status.{Status}
+use Rattle.cwr_endings.specs.declared.stops.Stop.{Stop}
+use Rattle.cwr_endings.specs.Format.Endings.{WritesOut}
+use Rattle.cwr_reports.specs.declared.tellings.Telling.TheVariants as tellings
+use Rattle.cwr_reports.specs.Format.Exports.{IsExportAt}
+use Rattle.cwr_transform.specs.declared.imports.Import.{Import}
+use Rattle.cwr_transform.specs.Format.Imports.{IsImportOf}
+use Rattle.cwr_transform.specs.Format.Joins.{IsTextOfJoin}
+use Rattle.cwr.specs.Format.Endings.{EndsOnWork, ending_status, import_of, status_code}
+use Rattle.cwr.specs.Format.Tables.{encoding_of, table_of}
+
+-- a run that writes a file leaves it or nothing, and one that writes to standard output changes nothing
+abbrev pub LeavesOut : Option (List ℕ) → ℕ → ℕ → (List ℕ → Type 0) → Result Status Stop → Texts → Texts → Type 0
+LeavesOut None old now is ending texts new = Same texts new
+LeavesOut (Some out) old now is ending texts new = WritesOut out old now is ending texts new
+
+-- the text is that of the import of what a word names
+abbrev pub IsImportAt : Import → Option Texts → Option (List ℕ) → Option (List ℕ) → List ℕ → Type 0
+IsImportAt import held standard name text = IfRead held standard name (λ known. IsImportOf import (Some known) text)
+
+-- What lies under names after a run of the work, within these limits, where so many calls had failed before it and had after it. Works that
+-- only tell something change nothing. Of parts, and of numbers that are put right, nothing is said here.
+abbrev pub LeavesWork : Limits → Bool → Work → Option Texts → Option (List ℕ) → ℕ → ℕ → Result Status Stop → Option Texts → Type 0
+LeavesWork limits whole (Json words) held standard old now ending after =
+    Turns held after (LeavesOut (option_map (λ name. name.now) words.out) old now
+    (IsExportAt (tellings.Data (encoding_of words.utf8) words.numbers) limits held standard (option_map (λ name. name.now) words.file))
+    ending)
+LeavesWork limits whole (Csv words) held standard old now ending after =
+    Turns held after (LeavesOut (option_map (λ name. name.now) words.out) old now
+    (IsExportAt (tellings.Rows (encoding_of words.utf8) (table_of words.rows)) limits held standard
+    (option_map (λ name. name.now) words.file)) ending)
+LeavesWork limits whole (Write words) held standard old now ending after =
+    Turns held after (LeavesOut (option_map (λ name. name.now) words.out) old now
+    (IsImportAt (import_of limits words) held standard (option_map (λ name. name.now) words.file)) ending)
+LeavesWork limits whole (Join words) held standard old now ending after =
+    Turns held after (WritesOut words.out.now old now (IsTextOfJoin limits (record { whole = whole; fail_on = words.fail_on }) held standard
+    (map (λ name. name.now) words.files.items)) ending)
+LeavesWork limits whole (Split words) held standard old now ending after = Unit {0}
+LeavesWork limits whole (Renumber words) held standard old now ending after = Unit {0}
+LeavesWork limits whole work held standard old now ending after = Turns held after Same
+
+-- What a run of the task comes to, where what is on standard input and lies under names is this: an end that the task may have, its status,
+-- and what lies under names then.
+pub record RunsTask (task : Task) (standard : Option (List ℕ)) (before after : Option Texts) (making : Option (List ℕ)) (old now : ℕ)
+    (status : Status) : Type 0 where
+  pub ending : Result Status Stop
+  pub ends : EndsOnWork task.limits task.whole task.work before standard ending
+  pub status_is : status ≡ ending_status ending
+  pub files : making ≡ None → LeavesWork task.limits task.whole task.work before standard old now ending after
+
+-- A run of a command line ends with the number of a status that the task has which it asks for, and leaves what such a run does. Where it asks
+-- for none, that is 2, or there is no memory to tell, which is 3: then nothing changed.
+abbrev pub RunsWords : List (List ℕ) → Option (List ℕ) → Option Texts → Option Texts → Option (List ℕ) → ℕ → ℕ → ℕ → Type 0
+RunsWords words standard before after making old now code =
+    ((task : Task) × (status : Status) × AskFor words task × RunsTask task standard before after making old now status
+    × (code ≡ status_code status))
+    ⊎ (Turns before after Same × (((code ≡ 2) × ((task : Task) → AskFor words task → ⊥)) ⊎ (code ≡ 3)))

@@ -1,0 +1,5 @@
+use Rattle.std.proofs.Common.{◌≡◌}
+use Rattle.cwr_answers.proofs.answers.read_several.Given as goal
+
+abbrev pub invariant-loop-name : goal.invariant-loop-name
+invariant-loop-name g l = g.S.Store.held l.store ≡ g.S.Store.held l.initial.store
