@@ -1,0 +1,16 @@
+-- What is written of a transmission's items is the items of what is selected of it.
+pub mod SelectedItems
+-- What is selected of a transmission is a transmission, within the limits that the whole is within.
+pub mod SelectedFits
+-- Items are written: each is no mistake, no limit refuses it, and a fault of the writer comes in one of them.
+pub mod ItemsWritten
+-- What is held between two items: HDR and GRH, never TRL, and few counts.
+pub mod HeldItems
+-- A selection continues with each item that is handed out.
+pub mod SelectingOn
+-- A selection at the end of its input, and at a fault.
+pub mod SelectionsEnded
+-- Laws over what is selected: just what is chosen, with the rest all, and of what was selected all.
+pub mod SelectionLaws
+-- A value is found by a binary search of a sorted list exactly where the list has it.
+pub mod FoundValues

@@ -1,0 +1,155 @@
+-- A selection continues with each item that is handed out.
+use Rattle.std.proofs.Common.{◌≡◌, ℕ, ◌+◌, ◌≤◌, List, [], ◌∷◌, ◌++◌, length, Option, Some, None, false, refl, sym, ap, subst, ◌∙◌}
+use Rattle.std.proofs.Common.{append_assoc, arith}
+use Rattle.std.specs.Prelude.{◌≢◌, Ok, IfSome}
+use Rattle.std.proofs.lemmas.List.{length-append}
+use Rattle.cwr_shape.specs.declared.limits.Limits.{Limits}
+use Rattle.cwr_shape.specs.Format.Ranges.{LimitValues}
+use Rattle.cwr_values.specs.declared.items.Item.{Item}
+use Rattle.cwr_values.specs.declared.items.Item.TheVariants.{Ended}
+use Rattle.cwr_values.specs.Format.Values.{TransmissionValue, FitsIn, IsTransmission}
+use Rattle.cwr_judge.specs.Format.Items.{AreFirstItems, value_items}
+use Rattle.cwr_decode.specs.Steps.Machines.{Standing, again}
+use Rattle.cwr_decode.specs.Steps.Readings.{Reads, answer_of}
+use Rattle.cwr_decode.specs.Steps.Runs.{IsReadingOn}
+use Rattle.cwr_decode.proofs.lemmas.ItemsReadSoFar.{fewer_left, some_read}
+use Rattle.cwr_encode.specs.Steps.Encoders.{Encodes, encoder_limits, is_stopped, target_of}
+use Rattle.cwr_parts.specs.Steps.SplitOutputs.{PutsOn}
+use Rattle.cwr_parts.proofs.lemmas.PutItems.{puts_more, puts_none}
+use Rattle.cwr_parts.proofs.lemmas.SplittingOn.{begun_so}
+use Rattle.cwr_select.specs.declared.held.Held.{Held}
+use Rattle.cwr_select.specs.declared.selecting.Selecting.{Selecting}
+use Rattle.cwr_select.specs.Format.Selections.{Choice, selected}
+use Rattle.cwr_select.specs.Steps.Held.{HasRoom, held_after, held_with, items_after, items_with, none_held}
+use Rattle.cwr_select.specs.Steps.Selecting.{MayTake, WritesItems}
+use Rattle.cwr_select.proofs.lemmas.HeldItems.{has_room, held_more, is_held, items_more}
+use Rattle.cwr_select.proofs.lemmas.SelectedFits.{selected_fits}
+use Rattle.cwr_select.proofs.lemmas.SelectedItems.{items_after-append, none_written, some_written}
+
+-- so many items were handed out, and what is selected of them is written
+pub record IsSelecting {W : Type 0} (limits : Limits) (choice : Choice) (d : Standing) (before now : Option (List ℕ))
+    (contents : W → Option (List ℕ)) (failures : W → ℕ) (count : ℕ) (old s : Selecting W) : Type 0 where
+  pub given : List Item
+  pub reading : IsReadingOn limits d before now given
+  pub handed_out : count ≡ length given
+  pub held : s.held ≡ held_after choice none_held given
+  pub on : PutsOn contents failures (items_after choice none_held given) old.encoder s.encoder
+
+unfoldable pub none_yet : {W : Type 0} (limits : Limits) (choice : Choice) (d : Standing) (before now : Option (List ℕ))
+    (contents : W → Option (List ℕ)) (failures : W → ℕ) (s : Selecting W) → IsReadingOn limits d before now []
+    → is_stopped s.encoder ≡ false → s.held ≡ none_held
+    → IsSelecting limits choice d before now contents failures 0 s s
+none_yet limits choice d before now contents failures s reading unfailed held =
+    record { given = []; reading = reading; handed_out = refl; held = held; on = puts_none contents failures s.encoder unfailed }
+
+-- ---- what is written begins what is selected
+
+front_nil : (xs ys : List Item) → xs ++ ys ≡ [] → xs ≡ []
+front_nil [] ys e = refl
+front_nil (x ∷ xs) ys e = absurd (cc e)
+
+-- the items that are written with those that were handed out begin those of a transmission
+pub begins_selected : (limits : Limits) (choice : Choice) (v : TransmissionValue) (given rest : List Item) → IsTransmission v
+    → FitsIn limits v → value_items v ≡ given ++ rest → AreFirstItems limits (items_after choice none_held given)
+begins_selected limits choice v given rest whole fits e = by (selected choice v) refl
+  where
+    put : List Item
+    put = items_after choice none_held given
+
+    later : List Item
+    later = items_after choice (held_after choice none_held given) rest
+
+    all : items_after choice none_held (value_items v) ≡ put ++ later
+    all = ap (items_after choice none_held) e ∙ items_after-append choice none_held given rest
+
+    by : (w : Option TransmissionValue) → selected choice v ≡ w → AreFirstItems limits (items_after choice none_held given)
+    by None none =
+        let nothing : put ≡ [] = front_nil put later (sym all ∙ none_written choice v none) in
+        subst (AreFirstItems limits) (sym nothing)
+        (record { value = v; whole = whole; within = fits; rest = value_items v; split = refl })
+    by (Some w) some =
+        let right = selected_fits limits choice v w whole fits some in
+        record {
+          value = w;
+          whole = right.0;
+          within = right.1;
+          rest = later ++ Ended ∷ [];
+          split =
+              some_written choice v w some ∙ ap (λ (l : List Item). l ++ Ended ∷ []) all
+              ∙ append_assoc put later (Ended ∷ []);
+        }
+
+-- ---- one item more
+
+pub next_item : {W : Type 0} (limits : Limits) (choice : Choice) (d new : Standing) (before left after : Option (List ℕ))
+    (contents : W → Option (List ℕ)) (failures : W → ℕ) (count : ℕ) (old s : Selecting W) (reported : Option Item) (item : Item)
+    (B C : Type 0) → reported ≡ Some item → (h : IsSelecting limits choice d before left contents failures count old s)
+    → Reads d left (Ok reported) new after → IfSome (again d.state) (λ o. (Some (Ok reported) ≡ answer_of o) × B × C)
+    → IsReadingOn limits new before after (h.given ++ item ∷ [])
+next_item limits choice d new before left after contents failures count old s reported item B C e h r same =
+    some_read limits d new before left after h.given reported item B C e h.reading r same
+
+pub few_handed_out : {W : Type 0} (limits : Limits) (choice : Choice) (d new : Standing) (before left after : Option (List ℕ))
+    (contents : W → Option (List ℕ)) (failures : W → ℕ) (count : ℕ) (old s : Selecting W) (item : Item)
+    → (h : IsSelecting limits choice d before left contents failures count old s)
+    → IsReadingOn limits new before after (h.given ++ item ∷ []) → count + 1 ≤ 199999998
+few_handed_out limits choice d new before left after contents failures count old s item h reading =
+    omega (
+      arith,
+      h.handed_out,
+      length-append h.given (item ∷ []),
+      fewer_left limits new before after (h.given ++ item ∷ []) reading,
+    )
+
+pub may_take : {W : Type 0} (limits : Limits) (choice : Choice) (d new : Standing) (before left after : Option (List ℕ))
+    (contents : W → Option (List ℕ)) (failures : W → ℕ) (count : ℕ) (old s : Selecting W) (item : Item)
+    → encoder_limits old.encoder ≡ limits → Encodes contents (contents (target_of old.encoder)) [] old.encoder
+    → (h : IsSelecting limits choice d before left contents failures count old s)
+    → IsReadingOn limits new before after (h.given ++ item ∷ [])
+    → MayTake contents choice item s
+may_take limits choice d new before left after contents failures count old s item same encodes h reading =
+    let held = is_held choice h.given in
+    let few =
+    few_handed_out limits choice d new before left after contents failures count old s item h reading in
+    let first = begun_so limits new before after h.given (item ∷ []) reading in
+    let begun : AreFirstItems limits (items_after choice none_held (h.given ++ item ∷ [])) =
+    begins_selected limits choice first.value (h.given ++ item ∷ []) first.more first.whole first.within
+    (first.split ∙ sym (append_assoc h.given (item ∷ []) first.more)) in
+    let with : AreFirstItems limits (items_after choice none_held h.given ++ items_with choice s.held item) =
+    subst (λ (k : Held). AreFirstItems limits (items_after choice none_held h.given ++ items_with choice k item)) (sym h.held)
+    (subst (AreFirstItems limits) (items_more choice none_held h.given item) begun) in
+    record {
+      unfailed = h.on.unfailed;
+      opening = subst (λ (k : Held). k.opening ≢ Some Ended) (sym h.held) held.opening;
+      head = subst (λ (k : Held). k.head ≢ Some Ended) (sym h.held) held.head;
+      room = subst HasRoom (sym h.held)
+          (has_room (held_after choice none_held h.given) (length h.given) held (omega (arith, few, h.handed_out)));
+      may = record {
+        start = contents (target_of old.encoder);
+        items = items_after choice none_held h.given;
+        encodes = h.on.more (contents (target_of old.encoder)) [] encodes;
+        first =
+            subst (λ (l : LimitValues). AreFirstItems l (items_after choice none_held h.given ++ items_with choice s.held item))
+            (sym (h.on.limits ∙ same)) with;
+      };
+    }
+
+unfoldable pub item_taken : {W A : Type 0} (limits : Limits) (choice : Choice) (d new : Standing)
+    (before left after : Option (List ℕ)) (contents : W → Option (List ℕ)) (failures : W → ℕ) (count : ℕ) (old s next : Selecting W)
+    (item : Item) (x : A) → (h : IsSelecting limits choice d before left contents failures count old s)
+    → IsReadingOn limits new before after (h.given ++ item ∷ [])
+    → WritesItems contents failures (items_with choice s.held item) (Ok x) s.encoder next.encoder
+    → next.held ≡ held_with choice s.held item
+    → IsSelecting limits choice new before after contents failures (count + 1) old next
+item_taken limits choice d new before left after contents failures count old s next item x h reading writes held = record {
+  given = h.given ++ item ∷ [];
+  reading = reading;
+  handed_out = omega (arith, h.handed_out, length-append h.given (item ∷ []));
+  held =
+      held ∙ ap (λ (k : Held). held_with choice k item) h.held ∙ sym (held_more choice none_held h.given item);
+  on = subst (λ (l : List Item). PutsOn contents failures l old.encoder next.encoder)
+      (ap (λ (k : Held). items_after choice none_held h.given ++ items_with choice k item) h.held
+      ∙ sym (items_more choice none_held h.given item))
+      (puts_more contents failures (items_after choice none_held h.given) (items_with choice s.held item) old.encoder s.encoder
+      next.encoder h.on writes);
+}

@@ -1,0 +1,158 @@
+use Rattle.std.proofs.Common.{rules, refl, sym, ap, subst, ◌∙◌, arith}
+use Rattle.std.specs.Prelude.{Result, Ok, Err}
+use Rattle.cwr_decode.specs.Steps.Runs.{HasReadAll}
+use Rattle.cwr_decode.proofs.lemmas.ItemsReadSoFar.{none_read, nothing_read_yet}
+use Rattle.cwr_tools.specs.declared.verdicts.ToolFault.{ToolFault}
+use Rattle.cwr_tools.specs.Steps.Verdicts.{StopsAfter}
+use Rattle.cwr_tools.proofs.lemmas.ReportsOn.{same_fault, stops_after}
+use Rattle.cwr_tools.proofs.lemmas.Viewed.{sees_more, sees_none, sees_text}
+use Rattle.std.specs.Prelude.{Option}
+use Rattle.cwr_values.specs.declared.items.Item.{Item}
+use Rattle.cwr_select.specs.Steps.Selecting.{SelectsItems}
+use Rattle.cwr_select.proofs.lemmas.SelectingOn.{few_handed_out, item_taken, may_take, next_item, none_yet}
+use Rattle.cwr_select.proofs.lemmas.SelectionsEnded.{all_selected, item_refused, reading_stopped}
+use Rattle.cwr_select.proofs.selection.select_items.Goals as goal
+
+pub items-init : goal.items-init
+unfolding none_yet
+items-init g c =
+    let new = c.new-reading.ensures in
+    let reading =
+    nothing_read_yet c.args.limits c.new-reading.result.decoder (g.R.Source.remaining c.args.reader.now)
+    (g.R.Source.remaining c.new-reading.result.reader.now) new.represents new.limits new.open new.fresh
+    (ap g.R.Source.remaining new.kept) in
+    record {
+      selecting =
+          none_yet c.args.limits (g.C.Chooses.choice c.args.choice.now) c.new-reading.result.decoder
+          (g.R.Source.remaining c.args.reader.now) (g.R.Source.remaining c.new-reading.result.reader.now) g.W.Target.contents
+          g.W.Target.failures c.args.selecting.now reading c.requires.unfailed c.requires.held;
+      seen = sees_none g.V.Viewer.has_seen c.args.viewer.now;
+      failures = ap g.R.Source.failures new.kept;
+      same = refl;
+    }
+
+pub take-requires : goal.take-requires
+take-requires g c =
+    let reading =
+    next_item c.args.limits (g.C.Chooses.choice c.args.choice.now) c.items.reading.decoder c.next_item_after.new.self.decoder
+    (g.R.Source.remaining c.args.reader.now) _ _ g.W.Target.contents g.W.Target.failures c.items.handed_out c.args.selecting.now
+    c.items.selecting c.in-Ok-Some.field-0 c.in-Ok-Some.item _ _ c.in-Ok-Some.field-0-is c.items.invariant.selecting
+    c.in-Ok-Some.ensures.reads c.in-Ok-Some.ensures.again in
+    may_take c.args.limits (g.C.Chooses.choice c.args.choice.now) c.items.reading.decoder c.next_item_after.new.self.decoder
+    (g.R.Source.remaining c.args.reader.now) _ _ g.W.Target.contents g.W.Target.failures c.items.handed_out c.args.selecting.now
+    c.items.selecting c.in-Ok-Some.item c.requires.limits c.requires.encodes c.items.invariant.selecting reading
+
+pub overflow_add-handed_out : goal.overflow_add-handed_out
+overflow_add-handed_out g c =
+    let reading =
+    next_item c.args.limits (g.C.Chooses.choice c.args.choice.now) c.items.reading.decoder c.next_item_after.new.self.decoder
+    (g.R.Source.remaining c.args.reader.now) _ _ g.W.Target.contents g.W.Target.failures c.items.handed_out c.args.selecting.now
+    c.items.selecting c.in-Ok-Some.field-0 c.in-Ok-Some.item _ _ c.in-Ok-Some.field-0-is c.items.invariant.selecting
+    c.in-Ok-Some.ensures.reads c.in-Ok-Some.ensures.again in
+    omega (
+      arith,
+      few_handed_out c.args.limits (g.C.Chooses.choice c.args.choice.now) c.items.reading.decoder
+          c.next_item_after.new.self.decoder (g.R.Source.remaining c.args.reader.now) _ _ g.W.Target.contents
+          g.W.Target.failures c.items.handed_out c.args.selecting.now c.items.selecting c.in-Ok-Some.item
+          c.items.invariant.selecting reading,
+    )
+
+pub items-smaller : goal.items-smaller
+items-smaller g c =
+    let reading =
+    next_item c.args.limits (g.C.Chooses.choice c.args.choice.now) c.items.reading.decoder c.next_item_after.new.self.decoder
+    (g.R.Source.remaining c.args.reader.now) _ _ g.W.Target.contents g.W.Target.failures c.items.handed_out c.args.selecting.now
+    c.items.selecting c.in-Ok-Some.field-0 c.in-Ok-Some.item _ _ c.in-Ok-Some.field-0-is c.items.invariant.selecting
+    c.in-Ok-Some.ensures.reads c.in-Ok-Some.ensures.again in
+    omega (
+      arith,
+      few_handed_out c.args.limits (g.C.Chooses.choice c.args.choice.now) c.items.reading.decoder
+          c.next_item_after.new.self.decoder (g.R.Source.remaining c.args.reader.now) _ _ g.W.Target.contents
+          g.W.Target.failures c.items.handed_out c.args.selecting.now c.items.selecting c.in-Ok-Some.item
+          c.items.invariant.selecting reading,
+    )
+
+pub items-preserved : goal.items-preserved
+unfolding item_taken
+items-preserved g c =
+    let reading =
+    next_item c.args.limits (g.C.Chooses.choice c.args.choice.now) c.items.reading.decoder c.next_item_after.new.self.decoder
+    (g.R.Source.remaining c.args.reader.now) _ _ g.W.Target.contents g.W.Target.failures c.items.handed_out c.args.selecting.now
+    c.items.selecting c.in-Ok-Some.field-0 c.in-Ok-Some.item _ _ c.in-Ok-Some.field-0-is c.items.invariant.selecting
+    c.in-Ok-Some.ensures.reads c.in-Ok-Some.ensures.again in
+    record {
+      selecting =
+          item_taken c.args.limits (g.C.Chooses.choice c.args.choice.now) c.items.reading.decoder
+          c.next_item_after.new.self.decoder (g.R.Source.remaining c.args.reader.now) _ _ g.W.Target.contents
+          g.W.Target.failures c.items.handed_out c.args.selecting.now c.items.selecting c.take.new.self c.in-Ok-Some.item
+          c.in_ok-spent-in-Ok-Some.spent c.items.invariant.selecting reading c.in_ok-spent-in-Ok-Some.ensures.writes
+          c.in_ok-spent-in-Ok-Some.ensures.held;
+      seen =
+          sees_more g.V.Viewer.has_seen c.args.viewer.now c.items.viewer c.see.new.self c.items.invariant.selecting.given
+          c.in-Ok-Some.item c.items.invariant.seen c.see.ensures;
+      failures = c.in-Ok-Some.ensures.failures ∙ c.items.invariant.failures;
+      same = c.in-Ok-Some.ensures.same_reference ∙ c.items.invariant.same;
+    }
+
+pub returns-in_err-spent-in-Ok-Some-clause-selects : goal.returns-in_err-spent-in-Ok-Some-clause-selects
+returns-in_err-spent-in-Ok-Some-clause-selects g c =
+    let reading =
+    next_item c.args.limits (g.C.Chooses.choice c.args.choice.now) c.items.reading.decoder c.next_item_after.new.self.decoder
+    (g.R.Source.remaining c.args.reader.now) _ _ g.W.Target.contents g.W.Target.failures c.items.handed_out c.args.selecting.now
+    c.items.selecting c.in-Ok-Some.field-0 c.in-Ok-Some.item _ _ c.in-Ok-Some.field-0-is c.items.invariant.selecting
+    c.in-Ok-Some.ensures.reads c.in-Ok-Some.ensures.again in
+    let faulty : SelectsItems c.args.limits (g.C.Chooses.choice c.args.choice.now) g.W.Target.contents g.W.Target.failures
+    (g.R.Source.remaining c.args.reader.now) (g.R.Source.remaining c.next_item_after.new.self.reader.now)
+    c.from_residual.result c.args.selecting.now c.take.new.self
+    = subst (λ (r : Result (Unit {0}) ToolFault). SelectsItems c.args.limits (g.C.Chooses.choice c.args.choice.now)
+    g.W.Target.contents g.W.Target.failures (g.R.Source.remaining c.args.reader.now)
+    (g.R.Source.remaining c.next_item_after.new.self.reader.now) r c.args.selecting.now c.take.new.self)
+    (sym (same_fault c.from_residual.result c.in_err-spent-in-Ok-Some.field-0.0 c.from_residual.ensures.1))
+    (item_refused (Option Item) c.args.limits (g.C.Chooses.choice c.args.choice.now) c.items.reading.decoder
+    c.next_item_after.new.self.decoder (g.R.Source.remaining c.args.reader.now) _ _ g.W.Target.contents g.W.Target.failures
+    c.items.handed_out c.args.selecting.now c.items.selecting c.take.new.self c.in-Ok-Some.item
+    c.in_err-spent-in-Ok-Some.field-0.0 c.items.invariant.selecting reading c.in_err-spent-in-Ok-Some.ensures.writes) in
+    search rules
+
+pub returns-in-Ok-None-clause-selects : goal.returns-in-Ok-None-clause-selects
+returns-in-Ok-None-clause-selects g c =
+    let all : HasReadAll c.args.limits (g.R.Source.remaining c.args.reader.now)
+    (g.R.Source.remaining c.next_item_after.new.self.reader.now) c.items.invariant.selecting.given
+    = none_read c.args.limits c.items.reading.decoder c.next_item_after.new.self.decoder (g.R.Source.remaining c.args.reader.now)
+    _ _ c.items.invariant.selecting.given c.in-Ok-None.field-0 _ c.in-Ok-None.field-0-is
+    c.items.invariant.selecting.reading c.in-Ok-None.ensures.reads c.in-Ok-None.ensures.again (λ e. ap g.R.Source.remaining e) in
+    let good : SelectsItems c.args.limits (g.C.Chooses.choice c.args.choice.now) g.W.Target.contents g.W.Target.failures
+    (g.R.Source.remaining c.args.reader.now) (g.R.Source.remaining c.next_item_after.new.self.reader.now) (Ok tt)
+    c.args.selecting.now c.items.selecting
+    = all_selected c.args.limits (g.C.Chooses.choice c.args.choice.now) c.items.reading.decoder
+    (g.R.Source.remaining c.args.reader.now) _ _ g.W.Target.contents g.W.Target.failures c.items.handed_out
+    c.args.selecting.now c.items.selecting tt c.items.invariant.selecting all in
+    search rules
+
+pub returns-in-Ok-None-clause-seen : goal.returns-in-Ok-None-clause-seen
+returns-in-Ok-None-clause-seen g c =
+    let all : HasReadAll c.args.limits (g.R.Source.remaining c.args.reader.now)
+    (g.R.Source.remaining c.next_item_after.new.self.reader.now) c.items.invariant.selecting.given
+    = none_read c.args.limits c.items.reading.decoder c.next_item_after.new.self.decoder (g.R.Source.remaining c.args.reader.now)
+    _ _ c.items.invariant.selecting.given c.in-Ok-None.field-0 _ c.in-Ok-None.field-0-is
+    c.items.invariant.selecting.reading c.in-Ok-None.ensures.reads c.in-Ok-None.ensures.again (λ e. ap g.R.Source.remaining e) in
+    sees_text c.args.limits g.V.Viewer.has_seen (g.R.Source.remaining c.args.reader.now) _ c.args.viewer.now c.items.viewer
+    c.items.invariant.selecting.given all c.items.invariant.seen
+
+pub returns-in-Err-clause-selects : goal.returns-in-Err-clause-selects
+returns-in-Err-clause-selects g c =
+    let stop : StopsAfter c.args.limits c.in-Err.fault (g.R.Source.remaining c.args.reader.now)
+    (g.R.Source.remaining c.next_item_after.new.self.reader.now) c.items.invariant.selecting.given
+    = stops_after c.args.limits c.items.reading.decoder c.next_item_after.new.self.decoder (g.R.Source.remaining c.args.reader.now)
+    _ _ c.items.invariant.selecting.given c.in-Err.fault _ _ c.items.invariant.selecting.reading c.in-Err.ensures.reads
+    c.in-Err.ensures.again in
+    let stopped : SelectsItems c.args.limits (g.C.Chooses.choice c.args.choice.now) g.W.Target.contents g.W.Target.failures
+    (g.R.Source.remaining c.args.reader.now) (g.R.Source.remaining c.next_item_after.new.self.reader.now)
+    (Err c.reading_fault.result) c.args.selecting.now c.items.selecting
+    = subst (λ (f : ToolFault). SelectsItems c.args.limits (g.C.Chooses.choice c.args.choice.now) g.W.Target.contents
+    g.W.Target.failures (g.R.Source.remaining c.args.reader.now) (g.R.Source.remaining c.next_item_after.new.self.reader.now)
+    (Err f) c.args.selecting.now c.items.selecting)
+    (sym c.reading_fault.ensures) (reading_stopped c.args.limits (g.C.Chooses.choice c.args.choice.now)
+    c.items.reading.decoder (g.R.Source.remaining c.args.reader.now) _ _ g.W.Target.contents g.W.Target.failures
+    c.items.handed_out c.args.selecting.now c.items.selecting c.in-Err.fault c.items.invariant.selecting stop) in
+    search rules

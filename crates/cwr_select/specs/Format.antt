@@ -1,0 +1,5 @@
+-- What is promised, in the words of the format.
+pub mod Criteria
+pub mod Laws
+pub mod Selections
+pub mod Selecting

@@ -1,0 +1,18 @@
+//! Some transactions of a transmission, as a transmission of their own.
+#![tactic(auto)]
+
+mod choices;
+mod criteria;
+mod held;
+mod laws;
+mod listed;
+mod reports;
+mod selecting;
+mod selection;
+
+pub use choices::{Both, Chooses, Others};
+pub use criteria::{ByKind, ByNumber, ByPlace, number_cell};
+pub use laws::{all_is_selected, chosen_are_selected, selection_is_accepted};
+pub use listed::Listed;
+pub use reports::SelectReport;
+pub use selection::{select, select_viewed};
