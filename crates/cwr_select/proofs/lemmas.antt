@@ -14,3 +14,5 @@ pub mod SelectionsEnded
 pub mod SelectionLaws
 -- A value is found by a binary search of a sorted list exactly where the list has it.
 pub mod FoundValues
+-- The cells of a record that have IPI name numbers, by the fields of its kind.
+pub mod PartyCells
