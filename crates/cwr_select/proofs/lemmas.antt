@@ -16,3 +16,5 @@ pub mod SelectionLaws
 pub mod FoundValues
 -- The cells of a record that have IPI name numbers, by the fields of its kind.
 pub mod PartyCells
+-- What a selection leaves written where it stops.
+pub mod LeftSelections

@@ -1,13 +1,13 @@
 //! Some transactions of a transmission, written as one of their own.
 
-ghost use Rattle.std.specs.Prelude.{◌≡◌, ◌<◌, [], IfOk, OnOk, false, true};
+ghost use Rattle.std.specs.Prelude.{◌≡◌, ◌<◌, [], IfErr, IfOk, OnOk, false, true};
 ghost use Rattle.cwr_encode.specs.Steps.Encoders.{Encodes, is_stopped, encoder_limits, target_of};
 ghost use Rattle.cwr_tools.specs.Format.Viewing.{SeesText};
 ghost use Rattle.cwr_parts.specs.Steps.Joined.{reading_fault};
 ghost use Rattle.cwr_parts.specs.Format.Splitting.{CountsSplitReader, CountsSplitWriter};
 ghost use Rattle.cwr_select.specs.Format.Selecting.{Selects, SelectsAccepted};
 ghost use Rattle.cwr_select.specs.Steps.Held.{none_held};
-ghost use Rattle.cwr_select.specs.Steps.Selecting.{SelectsItems};
+ghost use Rattle.cwr_select.specs.Steps.Selecting.{LeavesSelected, SelectsItems};
 
 use crate::choices::Chooses;
 use crate::reports::SelectReport;
@@ -87,6 +87,9 @@ pub fn select<R: Source, W: Target + Drop, C: Chooses>(
         (R.remaining reader.new) (W.contents writer) (W.contents result.0) result.1 }
     ensures accepted { SelectsAccepted limits (C.choice choice.now) (R.remaining reader.old)
         (R.remaining reader.new) (W.contents writer) (W.contents result.0) result.1 }
+    // Else what is selected of the items before that is written, and no TRL; or the first bytes, so many as a fault of the writer tells.
+    ensures leaves { IfErr result.1 (LeavesSelected limits (C.choice choice.now)
+        (R.remaining reader.old) (R.remaining reader.new) W.contents writer result.0) }
     // No failure is passed over: a reader or the writer failed only where that is the answer.
     ensures reader_failures { CountsSplitReader result.1 (R.failures reader.old)
         (R.failures reader.new) }
@@ -111,6 +114,8 @@ pub fn select_viewed<R: Source, W: Target + Drop, C: Chooses, V: Viewer>(
         (R.remaining reader.new) (W.contents writer) (W.contents result.0) result.1 }
     ensures accepted { SelectsAccepted limits (C.choice choice.now) (R.remaining reader.old)
         (R.remaining reader.new) (W.contents writer) (W.contents result.0) result.1 }
+    ensures leaves { IfErr result.1 (LeavesSelected limits (C.choice choice.now)
+        (R.remaining reader.old) (R.remaining reader.new) W.contents writer result.0) }
     ensures reader_failures { CountsSplitReader result.1 (R.failures reader.old)
         (R.failures reader.new) }
     ensures writer_failures { CountsSplitWriter result.1 (W.failures writer) (W.failures result.0) }

@@ -128,7 +128,7 @@ counted contents start choice v s h =
     ap (λ (k : Held). k.report.transactions) h.held ∙ all.0 in
     λ i. record { selected = selected i; transactions = transactions i }
 
-written_whole : {W : Type 0} (contents : W → Option (List ℕ)) (start : Option (List ℕ)) (text : List ℕ) (sink : Sink W)
+pub written_whole : {W : Type 0} (contents : W → Option (List ℕ)) (start : Option (List ℕ)) (text : List ℕ) (sink : Sink W)
     → has_failed sink ≡ false → HasWritten contents start text sink → Appends start (contents (writer_of sink)) text
 written_whole contents start text sink unfailed h =
     subst (Appends start (contents (writer_of sink)))
@@ -248,7 +248,7 @@ counts_short contents failures s new encode_faults.Incomplete fault f u e = absu
 -- ---- a whole run
 
 -- all that is known of an end is so of the transmission that was read
-selects_all : {W : Type 0} (limits : Limits) (choice : Choice) (contents : W → Option (List ℕ)) (failures : W → ℕ)
+pub selects_all : {W : Type 0} (limits : Limits) (choice : Choice) (contents : W → Option (List ℕ)) (failures : W → ℕ)
     (before after : Option (List ℕ)) (old s : Selecting W) → encoder_limits old.encoder ≡ limits
     → Encodes contents (contents (target_of old.encoder)) [] old.encoder
     → (h : SelectsItems limits choice contents failures before after (Ok tt) old s)

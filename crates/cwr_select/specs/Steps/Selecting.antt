@@ -1,5 +1,5 @@
 -- A selection while it is written: what items do to it, and how it ends.
-use Rattle.std.specs.Prelude.{◌≡◌, ◌≢◌, ℕ, false, List, ◌++◌, Option, Some, Result, Ok, Err}
+use Rattle.std.specs.Prelude.{◌≡◌, ◌≢◌, ◌⊎◌, ℕ, false, List, ◌++◌, Option, Some, Result, Ok, Err}
 use Rattle.std.specs.Io.KnownBytes.{Appends}
 use Rattle.cwr_devices.specs.Format.Failures.{one_more_failure}
 use Rattle.cwr_shape.specs.declared.limits.Limits.{Limits}
@@ -13,10 +13,13 @@ use Rattle.cwr_decode.specs.Format.Runs.{TakesFront}
 use Rattle.cwr_encode.specs.declared.encoders.Encoder.{Encoder}
 use Rattle.cwr_encode.specs.Steps.Encoders.{Encodes, bytes_written, is_stopped, encoder_limits, target_of}
 use Rattle.cwr_encode.specs.Format.Finishing.{HasFront}
+use Rattle.cwr_encode.specs.Format.Written.{IsPart}
 use Rattle.cwr_tools.specs.declared.verdicts.ToolFault.{ToolFault}
-use Rattle.cwr_tools.specs.declared.verdicts.ToolFault.TheVariants.{Reader, Writer, Memory, Refused, Truncated}
+use Rattle.cwr_tools.specs.declared.verdicts.ToolFault.TheVariants.{Reader, Writer, Memory, Refused, Truncated, Limit, Output}
 use Rattle.cwr_tools.specs.Steps.Reports.{HasHandedOut}
 use Rattle.cwr_tools.specs.Steps.Verdicts.{StopsAfter}
+use Rattle.cwr_parts.specs.Format.Joins.{WritesPart}
+use Rattle.cwr_parts.specs.Format.Told.{ComeBefore}
 use Rattle.cwr_parts.specs.Steps.SplitOutputs.{MayPut, PutsOn}
 use Rattle.cwr_select.specs.declared.reports.SelectReport.{SelectReport}
 use Rattle.cwr_select.specs.declared.selecting.Selecting.{Selecting}
@@ -123,3 +126,40 @@ abbrev pub Finishes : {W : Type 0} → (W → Option (List ℕ)) → Selecting W
 Finishes contents old new result =
     (start : Option (List ℕ)) (choice : Choice) (v : TransmissionValue) → HasSelected contents start choice v old
     → EndsSelection contents start choice v new result
+
+-- ---- what is written where a run stops
+
+-- the items that were handed out before a fault, of which what is selected was written
+pub record SelectsUpTo {W : Type 0} (limits : Limits) (choice : Choice) (fault : ToolFault) (contents : W → Option (List ℕ))
+    (before after : Option (List ℕ)) (old new : W) : Type 0 where
+  pub given : List Item
+  pub before_it : ComeBefore limits fault before after given
+  pub written : WritesPart limits contents (records_in (items_after choice none_held given)) old new
+
+-- the canonical text of the records of some of the first items that are written of those that were handed out before a fault
+pub record IsSelectedFront (limits : Limits) (choice : Choice) (fault : ToolFault) (before after : Option (List ℕ))
+    (text : List ℕ) : Type 0 where
+  pub given : List Item
+  pub before_it : ComeBefore limits fault before after given
+  pub begun : List Item
+  pub others : List Item
+  pub split : items_after choice none_held given ≡ begun ++ others
+  pub part : IsPart limits (records_in begun) text
+
+-- or that of all that is selected
+pub record IsSelectedWhole (limits : Limits) (choice : Choice) (before after : Option (List ℕ)) (text : List ℕ) : Type 0 where
+  pub value : TransmissionValue
+  pub taken : TakesFront limits before value after
+  pub text_is : text ≡ selected_text choice value
+
+-- Where a text isn't accepted, or a device or memory failed, what is selected of its items before that is written, and no TRL. Where the
+-- writer failed, so many of the first bytes are as its fault tells. No limit is a fault, and none is of an output.
+abbrev pub LeavesSelected : {W : Type 0} → Limits → Choice → Option (List ℕ) → Option (List ℕ) → (W → Option (List ℕ)) → W → W
+    → ToolFault → Type 0
+LeavesSelected limits choice before after contents old new (Writer written) = (text : List ℕ)
+    × (IsSelectedFront limits choice (Writer written) before after text ⊎ IsSelectedWhole limits choice before after text)
+    × HasFront contents (contents old) new text written
+LeavesSelected limits choice before after contents old new (Limit limit) = ⊥
+LeavesSelected limits choice before after contents old new Output = ⊥
+LeavesSelected limits choice before after contents old new fault =
+    SelectsUpTo limits choice fault contents before after old new

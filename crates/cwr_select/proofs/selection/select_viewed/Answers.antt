@@ -1,8 +1,10 @@
 use Rattle.std.proofs.Common.{[], sym, subst}
-use Rattle.std.specs.Prelude.{Err}
-use Rattle.cwr_encode.specs.Steps.Encoders.{Encodes}
+use Rattle.std.specs.Prelude.{Err, IfErr}
+use Rattle.cwr_encode.specs.Steps.Encoders.{Encodes, target_of}
 use Rattle.cwr_select.specs.Format.Selecting.{Selects}
 use Rattle.cwr_select.proofs.lemmas.SelectionsEnded.{may_finish, reader_still, selects_accepted, selects_stopped, selects_whole}
+use Rattle.cwr_select.specs.Steps.Selecting.{LeavesSelected}
+use Rattle.cwr_select.proofs.lemmas.LeftSelections.{left_at_end, left_in_items}
 use Rattle.cwr_select.proofs.selection.select_viewed.Goals as goal
 
 pub finish-requires-clause-may : goal.finish-requires-clause-may
@@ -67,3 +69,28 @@ returns-in-Err-clause-accepted g c =
     (g.R.Source.remaining c.args.reader.now) (g.R.Source.remaining c.select_items.new.reader)
     (g.W.Target.contents c.args.writer) (g.W.Target.contents c.abandon.result) c.new-selecting.result
     c.select_items.new.selecting c.in-Err.fault c.in-Err.ensures.selects)
+
+pub returns-in-Ok-clause-leaves : goal.returns-in-Ok-clause-leaves
+returns-in-Ok-clause-leaves g c =
+    subst (λ (w : g.row.W.Denot). IfErr c.finish.result.1 (LeavesSelected c.args.limits (g.C.Chooses.choice c.args.choice.now)
+    (g.R.Source.remaining c.args.reader.now) (g.R.Source.remaining c.select_items.new.reader) g.W.Target.contents w
+    c.finish.result.0)) c.new-selecting.ensures.writer
+    (left_at_end c.args.limits (g.C.Chooses.choice c.args.choice.now) g.W.Target.contents g.W.Target.failures
+    (g.R.Source.remaining c.args.reader.now) (g.R.Source.remaining c.select_items.new.reader) c.new-selecting.result
+    c.select_items.new.selecting c.finish.result.0 c.finish.result.1 c.new-selecting.ensures.limits
+    (subst (λ (w : g.row.W.Denot). Encodes g.W.Target.contents (g.W.Target.contents w) [] c.new-selecting.result.encoder)
+    (sym c.new-selecting.ensures.writer) c.new-selecting.ensures.encodes) c.in-Ok.ensures.selects c.finish.ensures.ends)
+
+pub returns-in-Err-clause-leaves : goal.returns-in-Err-clause-leaves
+returns-in-Err-clause-leaves g c =
+    subst (λ (w : g.row.W.Denot). LeavesSelected c.args.limits (g.C.Chooses.choice c.args.choice.now)
+    (g.R.Source.remaining c.args.reader.now) (g.R.Source.remaining c.select_items.new.reader) g.W.Target.contents w
+    c.abandon.result c.in-Err.fault) c.new-selecting.ensures.writer
+    (subst (λ (w : g.row.W.Denot). LeavesSelected c.args.limits (g.C.Chooses.choice c.args.choice.now)
+    (g.R.Source.remaining c.args.reader.now) (g.R.Source.remaining c.select_items.new.reader) g.W.Target.contents
+    (target_of c.new-selecting.result.encoder) w c.in-Err.fault) (sym c.abandon.ensures)
+    (left_in_items c.args.limits (g.C.Chooses.choice c.args.choice.now) g.W.Target.contents g.W.Target.failures
+    (g.R.Source.remaining c.args.reader.now) (g.R.Source.remaining c.select_items.new.reader) c.new-selecting.result
+    c.select_items.new.selecting c.in-Err.fault c.new-selecting.ensures.limits
+    (subst (λ (w : g.row.W.Denot). Encodes g.W.Target.contents (g.W.Target.contents w) [] c.new-selecting.result.encoder)
+    (sym c.new-selecting.ensures.writer) c.new-selecting.ensures.encodes) c.in-Err.ensures.selects))
