@@ -18,3 +18,7 @@ pub mod FoundValues
 pub mod PartyCells
 -- What a selection leaves written where it stops.
 pub mod LeftSelections
+-- The cells of HDR are set one by one, and with those of a moment they are a record.
+pub mod CreatedHeaders
+-- A transmission that is created at a moment is one, and its items are those of the transmission, but for HDR.
+pub mod CreatedItems

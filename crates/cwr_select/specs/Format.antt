@@ -1,4 +1,5 @@
 -- What is promised, in the words of the format.
+pub mod Created
 pub mod Criteria
 pub mod Laws
 pub mod Selections

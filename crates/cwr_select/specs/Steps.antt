@@ -1,4 +1,5 @@
 -- What the code keeps, and what its calls do to that.
+pub mod Headers
 pub mod Held
 pub mod Parties
 pub mod Selecting

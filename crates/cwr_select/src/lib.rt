@@ -3,6 +3,7 @@
 
 mod choices;
 mod criteria;
+mod headers;
 mod held;
 mod laws;
 mod listed;

@@ -1,12 +1,13 @@
 -- A selection continues with each item that is handed out.
+use Rattle.std.proofs.Common.{map, ap₂}
 use Rattle.std.proofs.Common.{◌≡◌, ℕ, ◌+◌, ◌≤◌, List, [], ◌∷◌, ◌++◌, length, Option, Some, None, false, refl, sym, ap, subst, ◌∙◌}
 use Rattle.std.proofs.Common.{append_assoc, arith}
 use Rattle.std.specs.Prelude.{◌≢◌, Ok, IfSome}
-use Rattle.std.proofs.lemmas.List.{length-append}
+use Rattle.std.proofs.lemmas.List.{length-append, length-map, map-append}
 use Rattle.cwr_shape.specs.declared.limits.Limits.{Limits}
 use Rattle.cwr_shape.specs.Format.Ranges.{LimitValues}
 use Rattle.cwr_values.specs.declared.items.Item.{Item}
-use Rattle.cwr_values.specs.declared.items.Item.TheVariants.{Ended}
+use Rattle.cwr_values.specs.declared.items.Item.TheVariants.{Ended, Opened}
 use Rattle.cwr_values.specs.Format.Values.{TransmissionValue, FitsIn, IsTransmission}
 use Rattle.cwr_judge.specs.Format.Items.{AreFirstItems, value_items}
 use Rattle.cwr_decode.specs.Steps.Machines.{Standing, again}
@@ -17,29 +18,35 @@ use Rattle.cwr_encode.specs.Steps.Encoders.{Encodes, encoder_limits, is_stopped,
 use Rattle.cwr_parts.specs.Steps.SplitOutputs.{PutsOn}
 use Rattle.cwr_parts.proofs.lemmas.PutItems.{puts_more, puts_none}
 use Rattle.cwr_parts.proofs.lemmas.SplittingOn.{begun_so}
+use Rattle.cwr_fields.specs.declared.kinds.Kind.TheVariants as kinds
+use Rattle.cwr_lines.specs.Format.Records.{RecordValue}
+use Rattle.cwr_moments.specs.declared.moments.Moment.{Moment}
 use Rattle.cwr_select.specs.declared.held.Held.{Held}
 use Rattle.cwr_select.specs.declared.selecting.Selecting.{Selecting}
+use Rattle.cwr_select.specs.Format.Created.{created_at}
 use Rattle.cwr_select.specs.Format.Selections.{Choice, selected}
+use Rattle.cwr_select.specs.Steps.Headers.{created_item}
 use Rattle.cwr_select.specs.Steps.Held.{HasRoom, held_after, held_with, items_after, items_with, none_held}
-use Rattle.cwr_select.specs.Steps.Selecting.{MayTake, WritesItems}
+use Rattle.cwr_select.specs.Steps.Selecting.{MayTake, WritesItems, held_of, written_of}
+use Rattle.cwr_select.proofs.lemmas.CreatedItems.{created_fits, created_items, created_right, opens_with_header}
 use Rattle.cwr_select.proofs.lemmas.HeldItems.{has_room, held_more, is_held, items_more}
 use Rattle.cwr_select.proofs.lemmas.SelectedFits.{selected_fits}
 use Rattle.cwr_select.proofs.lemmas.SelectedItems.{items_after-append, none_written, some_written}
 
 -- so many items were handed out, and what is selected of them is written
-pub record IsSelecting {W : Type 0} (limits : Limits) (choice : Choice) (d : Standing) (before now : Option (List ℕ))
+pub record IsSelecting {W : Type 0} (limits : Limits) (created : Option Moment) (choice : Choice) (d : Standing) (before now : Option (List ℕ))
     (contents : W → Option (List ℕ)) (failures : W → ℕ) (count : ℕ) (old s : Selecting W) : Type 0 where
   pub given : List Item
   pub reading : IsReadingOn limits d before now given
   pub handed_out : count ≡ length given
-  pub held : s.held ≡ held_after choice none_held given
-  pub on : PutsOn contents failures (items_after choice none_held given) old.encoder s.encoder
+  pub held : s.held ≡ held_of created choice given
+  pub on : PutsOn contents failures (written_of created choice given) old.encoder s.encoder
 
-unfoldable pub none_yet : {W : Type 0} (limits : Limits) (choice : Choice) (d : Standing) (before now : Option (List ℕ))
+unfoldable pub none_yet : {W : Type 0} (limits : Limits) (created : Option Moment) (choice : Choice) (d : Standing) (before now : Option (List ℕ))
     (contents : W → Option (List ℕ)) (failures : W → ℕ) (s : Selecting W) → IsReadingOn limits d before now []
     → is_stopped s.encoder ≡ false → s.held ≡ none_held
-    → IsSelecting limits choice d before now contents failures 0 s s
-none_yet limits choice d before now contents failures s reading unfailed held =
+    → IsSelecting limits created choice d before now contents failures 0 s s
+none_yet limits created choice d before now contents failures s reading unfailed held =
     record { given = []; reading = reading; handed_out = refl; held = held; on = puts_none contents failures s.encoder unfailed }
 
 -- ---- what is written begins what is selected
@@ -81,19 +88,19 @@ begins_selected limits choice v given rest whole fits e = by (selected choice v)
 
 -- ---- one item more
 
-pub next_item : {W : Type 0} (limits : Limits) (choice : Choice) (d new : Standing) (before left after : Option (List ℕ))
+pub next_item : {W : Type 0} (limits : Limits) (created : Option Moment) (choice : Choice) (d new : Standing) (before left after : Option (List ℕ))
     (contents : W → Option (List ℕ)) (failures : W → ℕ) (count : ℕ) (old s : Selecting W) (reported : Option Item) (item : Item)
-    (B C : Type 0) → reported ≡ Some item → (h : IsSelecting limits choice d before left contents failures count old s)
+    (B C : Type 0) → reported ≡ Some item → (h : IsSelecting limits created choice d before left contents failures count old s)
     → Reads d left (Ok reported) new after → IfSome (again d.state) (λ o. (Some (Ok reported) ≡ answer_of o) × B × C)
     → IsReadingOn limits new before after (h.given ++ item ∷ [])
-next_item limits choice d new before left after contents failures count old s reported item B C e h r same =
+next_item limits created choice d new before left after contents failures count old s reported item B C e h r same =
     some_read limits d new before left after h.given reported item B C e h.reading r same
 
-pub few_handed_out : {W : Type 0} (limits : Limits) (choice : Choice) (d new : Standing) (before left after : Option (List ℕ))
+pub few_handed_out : {W : Type 0} (limits : Limits) (created : Option Moment) (choice : Choice) (d new : Standing) (before left after : Option (List ℕ))
     (contents : W → Option (List ℕ)) (failures : W → ℕ) (count : ℕ) (old s : Selecting W) (item : Item)
-    → (h : IsSelecting limits choice d before left contents failures count old s)
+    → (h : IsSelecting limits created choice d before left contents failures count old s)
     → IsReadingOn limits new before after (h.given ++ item ∷ []) → count + 1 ≤ 199999998
-few_handed_out limits choice d new before left after contents failures count old s item h reading =
+few_handed_out limits created choice d new before left after contents failures count old s item h reading =
     omega (
       arith,
       h.handed_out,
@@ -101,55 +108,79 @@ few_handed_out limits choice d new before left after contents failures count old
       fewer_left limits new before after (h.given ++ item ∷ []) reading,
     )
 
-pub may_take : {W : Type 0} (limits : Limits) (choice : Choice) (d new : Standing) (before left after : Option (List ℕ))
+pub may_take : {W : Type 0} (limits : Limits) (created : Option Moment) (choice : Choice) (d new : Standing) (before left after : Option (List ℕ))
     (contents : W → Option (List ℕ)) (failures : W → ℕ) (count : ℕ) (old s : Selecting W) (item : Item)
     → encoder_limits old.encoder ≡ limits → Encodes contents (contents (target_of old.encoder)) [] old.encoder
-    → (h : IsSelecting limits choice d before left contents failures count old s)
+    → (h : IsSelecting limits created choice d before left contents failures count old s)
     → IsReadingOn limits new before after (h.given ++ item ∷ [])
-    → MayTake contents choice item s
-may_take limits choice d new before left after contents failures count old s item same encodes h reading =
-    let held = is_held choice h.given in
+    → MayTake contents choice (created_item created item) s
+may_take limits created choice d new before left after contents failures count old s item same encodes h reading =
+    let f : Item → Item = created_item created in
+    let given : List Item = map f h.given in
+    let held = is_held choice given in
     let few =
-    few_handed_out limits choice d new before left after contents failures count old s item h reading in
+    few_handed_out limits created choice d new before left after contents failures count old s item h reading in
     let first = begun_so limits new before after h.given (item ∷ []) reading in
-    let begun : AreFirstItems limits (items_after choice none_held (h.given ++ item ∷ [])) =
-    begins_selected limits choice first.value (h.given ++ item ∷ []) first.more first.whole first.within
-    (first.split ∙ sym (append_assoc h.given (item ∷ []) first.more)) in
-    let with : AreFirstItems limits (items_after choice none_held h.given ++ items_with choice s.held item) =
-    subst (λ (k : Held). AreFirstItems limits (items_after choice none_held h.given ++ items_with choice k item)) (sym h.held)
-    (subst (AreFirstItems limits) (items_more choice none_held h.given item) begun) in
+    let split : value_items (created_at created first.value) ≡ (given ++ f item ∷ []) ++ map f first.more =
+    created_items created first.value ∙ ap (map f) first.split ∙ map-append f h.given (item ∷ first.more)
+    ∙ sym (append_assoc given (f item ∷ []) (map f first.more)) in
+    let begun : AreFirstItems limits (items_after choice none_held (given ++ f item ∷ [])) =
+    begins_selected limits choice (created_at created first.value) (given ++ f item ∷ []) (map f first.more)
+    (created_right created first.value first.whole) (created_fits limits created first.value first.within) split in
+    let with : AreFirstItems limits (items_after choice none_held given ++ items_with choice s.held (f item)) =
+    subst (λ (k : Held). AreFirstItems limits (items_after choice none_held given ++ items_with choice k (f item))) (sym h.held)
+    (subst (AreFirstItems limits) (items_more choice none_held given (f item)) begun) in
     record {
       unfailed = h.on.unfailed;
       opening = subst (λ (k : Held). k.opening ≢ Some Ended) (sym h.held) held.opening;
       head = subst (λ (k : Held). k.head ≢ Some Ended) (sym h.held) held.head;
-      room = subst HasRoom (sym h.held)
-          (has_room (held_after choice none_held h.given) (length h.given) held (omega (arith, few, h.handed_out)));
+      room =
+          subst HasRoom (sym h.held)
+          (has_room (held_after choice none_held given) (length given) held
+          (omega (arith, few, h.handed_out, length-map h.given f)));
       may = record {
         start = contents (target_of old.encoder);
-        items = items_after choice none_held h.given;
+        items = items_after choice none_held given;
         encodes = h.on.more (contents (target_of old.encoder)) [] encodes;
         first =
-            subst (λ (l : LimitValues). AreFirstItems l (items_after choice none_held h.given ++ items_with choice s.held item))
+            subst (λ (l : LimitValues). AreFirstItems l (items_after choice none_held given ++ items_with choice s.held (f item)))
             (sym (h.on.limits ∙ same)) with;
       };
     }
 
-unfoldable pub item_taken : {W A : Type 0} (limits : Limits) (choice : Choice) (d new : Standing)
+-- HDR is the item that opens it
+pub opens_so : {W : Type 0} (limits : Limits) (created : Option Moment) (choice : Choice) (d new : Standing)
+    (before left after : Option (List ℕ)) (contents : W → Option (List ℕ)) (failures : W → ℕ) (count : ℕ) (old s : Selecting W)
+    (item : Item) → (h : IsSelecting limits created choice d before left contents failures count old s)
+    → IsReadingOn limits new before after (h.given ++ item ∷ []) → (r : RecordValue) → item ≡ Opened r → r.kind ≡ kinds.Hdr
+opens_so limits created choice d new before left after contents failures count old s item h reading =
+    let first = begun_so limits new before after h.given (item ∷ []) reading in
+    opens_with_header first.value h.given item first.more first.whole
+    (first.split ∙ sym (append_assoc h.given (item ∷ []) first.more))
+
+unfoldable pub item_taken : {W A : Type 0} (limits : Limits) (created : Option Moment) (choice : Choice) (d new : Standing)
     (before left after : Option (List ℕ)) (contents : W → Option (List ℕ)) (failures : W → ℕ) (count : ℕ) (old s next : Selecting W)
-    (item : Item) (x : A) → (h : IsSelecting limits choice d before left contents failures count old s)
+    (item put : Item) (x : A) → put ≡ created_item created item
+    → (h : IsSelecting limits created choice d before left contents failures count old s)
     → IsReadingOn limits new before after (h.given ++ item ∷ [])
-    → WritesItems contents failures (items_with choice s.held item) (Ok x) s.encoder next.encoder
-    → next.held ≡ held_with choice s.held item
-    → IsSelecting limits choice new before after contents failures (count + 1) old next
-item_taken limits choice d new before left after contents failures count old s next item x h reading writes held = record {
-  given = h.given ++ item ∷ [];
-  reading = reading;
-  handed_out = omega (arith, h.handed_out, length-append h.given (item ∷ []));
-  held =
-      held ∙ ap (λ (k : Held). held_with choice k item) h.held ∙ sym (held_more choice none_held h.given item);
-  on = subst (λ (l : List Item). PutsOn contents failures l old.encoder next.encoder)
-      (ap (λ (k : Held). items_after choice none_held h.given ++ items_with choice k item) h.held
-      ∙ sym (items_more choice none_held h.given item))
-      (puts_more contents failures (items_after choice none_held h.given) (items_with choice s.held item) old.encoder s.encoder
-      next.encoder h.on writes);
-}
+    → WritesItems contents failures (items_with choice s.held put) (Ok x) s.encoder next.encoder
+    → next.held ≡ held_with choice s.held put
+    → IsSelecting limits created choice new before after contents failures (count + 1) old next
+item_taken limits created choice d new before left after contents failures count old s next item put x e h reading writes held =
+    let f : Item → Item = created_item created in
+    let given : List Item = map f h.given in
+    let all : map f (h.given ++ item ∷ []) ≡ given ++ f item ∷ [] = map-append f h.given (item ∷ []) in
+    record {
+      given = h.given ++ item ∷ [];
+      reading = reading;
+      handed_out = omega (arith, h.handed_out, length-append h.given (item ∷ []));
+      held =
+          held ∙ ap₂ (λ (k : Held) (i : Item). held_with choice k i) h.held e ∙ sym (held_more choice none_held given (f item))
+          ∙ ap (held_after choice none_held) (sym all);
+      on =
+          subst (λ (l : List Item). PutsOn contents failures l old.encoder next.encoder)
+          (ap₂ (λ (k : Held) (i : Item). items_after choice none_held given ++ items_with choice k i) h.held e
+          ∙ sym (items_more choice none_held given (f item)) ∙ ap (items_after choice none_held) (sym all))
+          (puts_more contents failures (items_after choice none_held given) (items_with choice s.held put) old.encoder s.encoder
+          next.encoder h.on writes);
+    }

@@ -1,11 +1,12 @@
 -- A selection at the end of its input, and at a fault.
+use Rattle.std.proofs.Common.{ap₂}
 use Rattle.std.proofs.Common.{◌≡◌, ℕ, ◌<◌, List, [], ◌∷◌, ◌++◌, length, map, drop, Option, Some, None, false, sym, ap}
 use Rattle.std.proofs.Common.{subst, ◌∙◌, append-nil}
 use Rattle.std.specs.Prelude.{Result, Ok, Err, IfSome, MatchResult}
 use Rattle.std.specs.List.{flat_map}
 use Rattle.std.specs.Option.{option_map_or}
 use Rattle.std.specs.Io.KnownBytes.{Appends}
-use Rattle.std.proofs.lemmas.List.{append_cancel_right}
+use Rattle.std.proofs.lemmas.List.{append_cancel_right, map-append}
 use Rattle.cwr_shape.specs.declared.limits.Limits.{Limits}
 use Rattle.cwr_shape.specs.Format.Ranges.{LimitValues}
 use Rattle.cwr_values.specs.declared.items.Item.{Item}
@@ -41,13 +42,17 @@ use Rattle.cwr_parts.specs.Steps.SplitOutputs.{PutsOn}
 use Rattle.cwr_parts.proofs.lemmas.ItemsAdded.{records_in-append, records_in_value}
 use Rattle.cwr_parts.proofs.lemmas.JoinsEnded.{closed_end, reached_foot, right_end}
 use Rattle.cwr_parts.proofs.lemmas.ToldItems.{refused_before, truncated_before}
+use Rattle.cwr_moments.specs.declared.moments.Moment.{Moment}
 use Rattle.cwr_select.specs.declared.held.Held.{Held}
 use Rattle.cwr_select.specs.declared.reports.SelectReport.{SelectReport}
 use Rattle.cwr_select.specs.declared.selecting.Selecting.{Selecting}
+use Rattle.cwr_select.specs.Format.Created.{created_at}
 use Rattle.cwr_select.specs.Format.Selections.{Choice, selected, selected_text}
 use Rattle.cwr_select.specs.Format.Selecting.{Selects, SelectsAccepted, select_report}
+use Rattle.cwr_select.specs.Steps.Headers.{created_item}
 use Rattle.cwr_select.specs.Steps.Held.{held_after, items_after, items_with, none_held}
 use Rattle.cwr_select.specs.Steps.Selecting.{EndsSelection, FailsIn, Finishes, HasSelected, MayFinish, SelectsItems, WritesItems}
+use Rattle.cwr_select.proofs.lemmas.CreatedItems.{created_fits, created_items, created_right, same_numbers}
 use Rattle.cwr_select.proofs.lemmas.HeldItems.{items_more}
 use Rattle.cwr_select.proofs.lemmas.ItemsWritten.{fails_then}
 use Rattle.cwr_select.proofs.lemmas.SelectedFits.{none_selected, selected_fits, some_selected}
@@ -57,62 +62,65 @@ use Rattle.cwr_select.proofs.lemmas.SelectingOn.{IsSelecting}
 -- ---- the items
 
 -- all were read
-pub all_selected : {W : Type 0} (limits : Limits) (choice : Choice) (d : Standing) (before left after : Option (List ℕ))
+pub all_selected : {W : Type 0} (limits : Limits) (created : Option Moment) (choice : Choice) (d : Standing) (before left after : Option (List ℕ))
     (contents : W → Option (List ℕ)) (failures : W → ℕ) (count : ℕ) (old s : Selecting W) (u : Unit {0})
-    → (h : IsSelecting limits choice d before left contents failures count old s) → HasReadAll limits before after h.given
-    → SelectsItems limits choice contents failures before after (Ok u) old s
-all_selected limits choice d before left after contents failures count old s u h read =
+    → (h : IsSelecting limits created choice d before left contents failures count old s) → HasReadAll limits before after h.given
+    → SelectsItems limits created choice contents failures before after (Ok u) old s
+all_selected limits created choice d before left after contents failures count old s u h read =
     let all = all_items limits before after h.given read in
+    let same : map (created_item created) h.given ≡ value_items (created_at created all.value) =
+    ap (map (created_item created)) all.given_are ∙ sym (created_items created all.value) in
     record {
       value = all.value;
       taken =
           all_taken limits before after h.given all.value read
           (λ w whole are. items_once all.value w (sym all.given_are ∙ are));
-      held = h.held ∙ ap (held_after choice none_held) all.given_are;
-      on = subst (λ (l : List Item). PutsOn contents failures (items_after choice none_held l) old.encoder s.encoder) all.given_are
-          h.on;
+      held = h.held ∙ ap (held_after choice none_held) same;
+      on = subst (λ (l : List Item). PutsOn contents failures (items_after choice none_held l) old.encoder s.encoder) same h.on;
     }
 
 -- the reading stopped
-pub reading_stopped : {W : Type 0} (limits : Limits) (choice : Choice) (d : Standing) (before left after : Option (List ℕ))
+pub reading_stopped : {W : Type 0} (limits : Limits) (created : Option Moment) (choice : Choice) (d : Standing) (before left after : Option (List ℕ))
     (contents : W → Option (List ℕ)) (failures : W → ℕ) (count : ℕ) (old s : Selecting W) (fault : ReadFault)
-    → (h : IsSelecting limits choice d before left contents failures count old s) → StopsAfter limits fault before after h.given
-    → SelectsItems limits choice contents failures before after (Err (reading_fault fault)) old s
-reading_stopped limits choice d before left after contents failures count old s read_faults.Reader h stop =
+    → (h : IsSelecting limits created choice d before left contents failures count old s) → StopsAfter limits fault before after h.given
+    → SelectsItems limits created choice contents failures before after (Err (reading_fault fault)) old s
+reading_stopped limits created choice d before left after contents failures count old s read_faults.Reader h stop =
     record { given = h.given; stops = stop; on = h.on }
-reading_stopped limits choice d before left after contents failures count old s (read_faults.Refused refusal) h stop =
+reading_stopped limits created choice d before left after contents failures count old s (read_faults.Refused refusal) h stop =
     record { given = h.given; stops = stop; on = h.on }
-reading_stopped limits choice d before left after contents failures count old s (read_faults.Truncated records) h stop =
+reading_stopped limits created choice d before left after contents failures count old s (read_faults.Truncated records) h stop =
     record { given = h.given; stops = stop; on = h.on }
-reading_stopped limits choice d before left after contents failures count old s read_faults.Memory h stop =
+reading_stopped limits created choice d before left after contents failures count old s read_faults.Memory h stop =
     record { given = h.given; stops = stop; on = h.on }
 
 -- the writer failed in an item
-pub item_refused : (A : Type 0) {W : Type 0} (limits : Limits) (choice : Choice) (d new : Standing) (before left after : Option (List ℕ))
-    (contents : W → Option (List ℕ)) (failures : W → ℕ) (count : ℕ) (old s next : Selecting W) (item : Item) (fault : ToolFault)
-    → (h : IsSelecting limits choice d before left contents failures count old s)
+pub item_refused : (A : Type 0) {W : Type 0} (limits : Limits) (created : Option Moment) (choice : Choice) (d new : Standing) (before left after : Option (List ℕ))
+    (contents : W → Option (List ℕ)) (failures : W → ℕ) (count : ℕ) (old s next : Selecting W) (item put : Item)
+    (fault : ToolFault) → put ≡ created_item created item → (h : IsSelecting limits created choice d before left contents failures count old s)
     → IsReadingOn limits new before after (h.given ++ item ∷ [])
-    → WritesItems {A = A} contents failures (items_with choice s.held item) (Err fault) s.encoder next.encoder
-    → SelectsItems limits choice contents failures before after (Err fault) old next
-item_refused A limits choice d new before left after contents failures count old s next item (tool_faults.Writer n) h reading w =
+    → WritesItems {A = A} contents failures (items_with choice s.held put) (Err fault) s.encoder next.encoder
+    → SelectsItems limits created choice contents failures before after (Err fault) old next
+item_refused A limits created choice d new before left after contents failures count old s next item put (tool_faults.Writer n) e h reading w =
     record {
       given = h.given ++ item ∷ [];
       handed_out = (new, reading);
       fails =
           subst (λ (l : List Item). FailsIn contents failures l n old.encoder next.encoder)
-          (ap (λ (k : Held). items_after choice none_held h.given ++ items_with choice k item) h.held
-          ∙ sym (items_more choice none_held h.given item))
-          (fails_then contents failures (items_after choice none_held h.given) (items_with choice s.held item) n old.encoder s.encoder
-          next.encoder h.on w);
+          (ap₂ (λ (k : Held) (i : Item). items_after choice none_held (map (created_item created) h.given) ++ items_with choice k i)
+          h.held e
+          ∙ sym (items_more choice none_held (map (created_item created) h.given) (created_item created item))
+          ∙ ap (items_after choice none_held) (sym (map-append (created_item created) h.given (item ∷ []))))
+          (fails_then contents failures (items_after choice none_held (map (created_item created) h.given))
+          (items_with choice s.held put) n old.encoder s.encoder next.encoder h.on w);
     }
-item_refused A limits choice d new before left after contents failures count old s next item tool_faults.Reader h reading w = absurd w
-item_refused A limits choice d new before left after contents failures count old s next item tool_faults.Memory h reading w = absurd w
-item_refused A limits choice d new before left after contents failures count old s next item (tool_faults.Refused r) h reading w =
+item_refused A limits created choice d new before left after contents failures count old s next item put tool_faults.Reader e h reading w = absurd w
+item_refused A limits created choice d new before left after contents failures count old s next item put tool_faults.Memory e h reading w = absurd w
+item_refused A limits created choice d new before left after contents failures count old s next item put (tool_faults.Refused r) e h reading w =
     absurd w
-item_refused A limits choice d new before left after contents failures count old s next item (tool_faults.Truncated r) h reading w =
+item_refused A limits created choice d new before left after contents failures count old s next item put (tool_faults.Truncated r) e h reading w =
     absurd w
-item_refused A limits choice d new before left after contents failures count old s next item tool_faults.Output h reading w = absurd w
-item_refused A limits choice d new before left after contents failures count old s next item (tool_faults.Limit l) h reading w =
+item_refused A limits created choice d new before left after contents failures count old s next item put tool_faults.Output e h reading w = absurd w
+item_refused A limits created choice d new before left after contents failures count old s next item put (tool_faults.Limit l) e h reading w =
     absurd w
 
 -- ---- the end
@@ -248,47 +256,49 @@ counts_short contents failures s new encode_faults.Incomplete fault f u e = absu
 -- ---- a whole run
 
 -- all that is known of an end is so of the transmission that was read
-pub selects_all : {W : Type 0} (limits : Limits) (choice : Choice) (contents : W → Option (List ℕ)) (failures : W → ℕ)
+pub selects_all : {W : Type 0} (limits : Limits) (created : Option Moment) (choice : Choice) (contents : W → Option (List ℕ)) (failures : W → ℕ)
     (before after : Option (List ℕ)) (old s : Selecting W) → encoder_limits old.encoder ≡ limits
     → Encodes contents (contents (target_of old.encoder)) [] old.encoder
-    → (h : SelectsItems limits choice contents failures before after (Ok tt) old s)
-    → HasSelected contents (contents (target_of old.encoder)) choice h.value s
-selects_all limits choice contents failures before after old s same encodes h = record {
-  whole = h.taken.accepted.whole;
-  within = subst (λ (l : Limits). FitsIn l h.value) (sym (h.on.limits ∙ same)) h.taken.accepted.within;
+    → (h : SelectsItems limits created choice contents failures before after (Ok tt) old s)
+    → HasSelected contents (contents (target_of old.encoder)) choice (created_at created h.value) s
+selects_all limits created choice contents failures before after old s same encodes h = record {
+  whole = created_right created h.value h.taken.accepted.whole;
+  within =
+      subst (λ (l : Limits). FitsIn l (created_at created h.value)) (sym (h.on.limits ∙ same))
+      (created_fits limits created h.value h.taken.accepted.within);
   held = h.held;
   encodes = h.on.more (contents (target_of old.encoder)) [] encodes;
 }
 
 -- so the selection may end
-pub may_finish : {W : Type 0} (limits : Limits) (choice : Choice) (contents : W → Option (List ℕ)) (failures : W → ℕ)
+pub may_finish : {W : Type 0} (limits : Limits) (created : Option Moment) (choice : Choice) (contents : W → Option (List ℕ)) (failures : W → ℕ)
     (before after : Option (List ℕ)) (old s : Selecting W) → encoder_limits old.encoder ≡ limits
     → Encodes contents (contents (target_of old.encoder)) [] old.encoder
-    → SelectsItems limits choice contents failures before after (Ok tt) old s → MayFinish contents s
-may_finish limits choice contents failures before after old s same encodes h = record {
+    → SelectsItems limits created choice contents failures before after (Ok tt) old s → MayFinish contents s
+may_finish limits created choice contents failures before after old s same encodes h = record {
   start = contents (target_of old.encoder);
   choice = choice;
-  value = h.value;
-  all = selects_all limits choice contents failures before after old s same encodes h;
+  value = created_at created h.value;
+  all = selects_all limits created choice contents failures before after old s same encodes h;
 }
 
-pub unfailed_still : {W : Type 0} (limits : Limits) (choice : Choice) (contents : W → Option (List ℕ)) (failures : W → ℕ)
+pub unfailed_still : {W : Type 0} (limits : Limits) (created : Option Moment) (choice : Choice) (contents : W → Option (List ℕ)) (failures : W → ℕ)
     (before after : Option (List ℕ)) (old s : Selecting W)
-    → SelectsItems limits choice contents failures before after (Ok tt) old s → is_stopped s.encoder ≡ false
-unfailed_still limits choice contents failures before after old s h = h.on.unfailed
+    → SelectsItems limits created choice contents failures before after (Ok tt) old s → is_stopped s.encoder ≡ false
+unfailed_still limits created choice contents failures before after old s h = h.on.unfailed
 
-pub selects_whole : {W : Type 0} (limits : Limits) (choice : Choice) (contents : W → Option (List ℕ)) (failures : W → ℕ)
+pub selects_whole : {W : Type 0} (limits : Limits) (created : Option Moment) (choice : Choice) (contents : W → Option (List ℕ)) (failures : W → ℕ)
     (before after : Option (List ℕ)) (old s : Selecting W) (new : W) (result : Result SelectReport ToolFault)
     → encoder_limits old.encoder ≡ limits → Encodes contents (contents (target_of old.encoder)) [] old.encoder
-    → SelectsItems limits choice contents failures before after (Ok tt) old s → Finishes contents s new result
-    → Selects limits choice before after (contents (target_of old.encoder)) (contents new) result
-selects_whole limits choice contents failures before after old s new result same encodes h f =
-    by result (f (contents (target_of old.encoder)) choice h.value
-    (selects_all limits choice contents failures before after old s same encodes h))
+    → SelectsItems limits created choice contents failures before after (Ok tt) old s → Finishes contents s new result
+    → Selects limits created choice before after (contents (target_of old.encoder)) (contents new) result
+selects_whole limits created choice contents failures before after old s new result same encodes h f =
+    by result (f (contents (target_of old.encoder)) choice (created_at created h.value)
+    (selects_all limits created choice contents failures before after old s same encodes h))
   where
-    by : (r : Result SelectReport ToolFault) → EndsSelection contents (contents (target_of old.encoder)) choice h.value new r
-        → Selects limits choice before after (contents (target_of old.encoder)) (contents new) r
-    by (Ok report) e = record { value = h.value; taken = h.taken; written = e.1; reported = e.0 }
+    by : (r : Result SelectReport ToolFault) → EndsSelection contents (contents (target_of old.encoder)) choice (created_at created h.value) new r
+        → Selects limits created choice before after (contents (target_of old.encoder)) (contents new) r
+    by (Ok report) e = record { value = h.value; taken = h.taken; written = e.1; reported = e.0 ∙ same_numbers created choice h.value }
     by (Err (tool_faults.Writer n)) e = tt
     by (Err tool_faults.Reader) e = absurd e
     by (Err tool_faults.Memory) e = absurd e
@@ -302,38 +312,38 @@ known_text : (o : Option (List ℕ)) (text : List ℕ) (P : List ℕ → Type 0)
 known_text None text P e h = tt
 known_text (Some bytes) text P e h = subst P (sym e) h
 
-pub selects_stopped : {W : Type 0} (limits : Limits) (choice : Choice) (contents : W → Option (List ℕ)) (failures : W → ℕ)
+pub selects_stopped : {W : Type 0} (limits : Limits) (created : Option Moment) (choice : Choice) (contents : W → Option (List ℕ)) (failures : W → ℕ)
     (before after left right : Option (List ℕ)) (old s : Selecting W) (fault : ToolFault)
-    → SelectsItems limits choice contents failures before after (Err fault) old s
-    → Selects limits choice before after left right (Err fault)
-selects_stopped limits choice contents failures before after left right old s tool_faults.Reader h = tt
-selects_stopped limits choice contents failures before after left right old s tool_faults.Memory h = tt
-selects_stopped limits choice contents failures before after left right old s (tool_faults.Writer n) h = tt
-selects_stopped limits choice contents failures before after left right old s (tool_faults.Refused refusal) h =
+    → SelectsItems limits created choice contents failures before after (Err fault) old s
+    → Selects limits created choice before after left right (Err fault)
+selects_stopped limits created choice contents failures before after left right old s tool_faults.Reader h = tt
+selects_stopped limits created choice contents failures before after left right old s tool_faults.Memory h = tt
+selects_stopped limits created choice contents failures before after left right old s (tool_faults.Writer n) h = tt
+selects_stopped limits created choice contents failures before after left right old s (tool_faults.Refused refusal) h =
     let told = refused_before limits refusal before after h.given h.stops in
     known_text before told.text (λ text. IsRefused limits text refusal) told.known told.items.0
-selects_stopped limits choice contents failures before after left right old s (tool_faults.Truncated records) h =
+selects_stopped limits created choice contents failures before after left right old s (tool_faults.Truncated records) h =
     let told = truncated_before limits records before after h.given h.stops in
     known_text before told.text (λ text. IsTruncated limits text records) told.known told.items.0
-selects_stopped limits choice contents failures before after left right old s tool_faults.Output h = absurd h
-selects_stopped limits choice contents failures before after left right old s (tool_faults.Limit l) h = absurd h
+selects_stopped limits created choice contents failures before after left right old s tool_faults.Output h = absurd h
+selects_stopped limits created choice contents failures before after left right old s (tool_faults.Limit l) h = absurd h
 
 -- and where the text is accepted, what is selected of it is written, unless a device or memory failed
-pub selects_accepted : (limits : Limits) (choice : Choice) (before after old new : Option (List ℕ))
-    (result : Result SelectReport ToolFault) → Selects limits choice before after old new result
-    → SelectsAccepted limits choice before after old new result
-selects_accepted limits choice None after old new result h = tt
-selects_accepted limits choice (Some text) after old new result h = λ v n a. by result h v n a
+pub selects_accepted : (limits : Limits) (created : Option Moment) (choice : Choice) (before after old new : Option (List ℕ))
+    (result : Result SelectReport ToolFault) → Selects limits created choice before after old new result
+    → SelectsAccepted limits created choice before after old new result
+selects_accepted limits created choice None after old new result h = tt
+selects_accepted limits created choice (Some text) after old new result h = λ v n a. by result h v n a
   where
-    by : (r : Result SelectReport ToolFault) → Selects limits choice (Some text) after old new r → (v : TransmissionValue) (n : ℕ)
+    by : (r : Result SelectReport ToolFault) → Selects limits created choice (Some text) after old new r → (v : TransmissionValue) (n : ℕ)
         → IsAccepted limits text v n
         → MatchResult r (λ report. (report ≡ select_report choice v) × (after ≡ Some (drop n text))
-        × Appends old new (selected_text choice v)) IsOfDevice
+        × Appends old new (selected_text choice (created_at created v))) IsOfDevice
     by (Ok report) k v n a =
         let same = accepted_once limits text k.value v (length k.taken.input) n k.taken.front.0 a in (
           k.reported ∙ ap (select_report choice) same.0,
           k.taken.front.1 ∙ ap (λ (m : ℕ). Some (drop m text)) same.1,
-          subst (λ (w : TransmissionValue). Appends old new (selected_text choice w)) same.0 k.written,
+          subst (λ (w : TransmissionValue). Appends old new (selected_text choice (created_at created w))) same.0 k.written,
         )
     by (Err tool_faults.Reader) k v n a = tt
     by (Err tool_faults.Memory) k v n a = tt

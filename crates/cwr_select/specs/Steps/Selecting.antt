@@ -1,5 +1,5 @@
 -- A selection while it is written: what items do to it, and how it ends.
-use Rattle.std.specs.Prelude.{◌≡◌, ◌≢◌, ◌⊎◌, ℕ, false, List, ◌++◌, Option, Some, Result, Ok, Err}
+use Rattle.std.specs.Prelude.{◌≡◌, ◌≢◌, ◌⊎◌, ℕ, false, map, List, ◌++◌, Option, Some, Result, Ok, Err}
 use Rattle.std.specs.Io.KnownBytes.{Appends}
 use Rattle.cwr_devices.specs.Format.Failures.{one_more_failure}
 use Rattle.cwr_shape.specs.declared.limits.Limits.{Limits}
@@ -21,10 +21,14 @@ use Rattle.cwr_tools.specs.Steps.Verdicts.{StopsAfter}
 use Rattle.cwr_parts.specs.Format.Joins.{WritesPart}
 use Rattle.cwr_parts.specs.Format.Told.{ComeBefore}
 use Rattle.cwr_parts.specs.Steps.SplitOutputs.{MayPut, PutsOn}
+use Rattle.cwr_moments.specs.declared.moments.Moment.{Moment}
+use Rattle.cwr_select.specs.declared.held.Held.{Held}
 use Rattle.cwr_select.specs.declared.reports.SelectReport.{SelectReport}
 use Rattle.cwr_select.specs.declared.selecting.Selecting.{Selecting}
+use Rattle.cwr_select.specs.Format.Created.{created_at}
 use Rattle.cwr_select.specs.Format.Selections.{Choice, selected_text}
 use Rattle.cwr_select.specs.Format.Selecting.{select_report}
+use Rattle.cwr_select.specs.Steps.Headers.{created_item}
 use Rattle.cwr_select.specs.Steps.Held.{HasRoom, held_after, items_after, items_with, none_held}
 
 -- ---- items
@@ -58,43 +62,51 @@ pub record MayTake {W : Type 0} (contents : W → Option (List ℕ)) (choice : C
 
 -- ---- a whole input
 
+-- what is written of the items that were handed out, and what is held then
+abbrev pub written_of : Option Moment → Choice → List Item → List Item
+written_of created choice given = items_after choice none_held (map (created_item created) given)
+
+abbrev pub held_of : Option Moment → Choice → List Item → Held
+held_of created choice given = held_after choice none_held (map (created_item created) given)
+
 -- all was read and is accepted, and what is selected of it was written but TRL
-pub record SelectsAllItems {W : Type 0} (limits : Limits) (choice : Choice) (contents : W → Option (List ℕ)) (failures : W → ℕ)
+pub record SelectsAllItems {W : Type 0} (limits : Limits) (created : Option Moment) (choice : Choice) (contents : W → Option (List ℕ)) (failures : W → ℕ)
     (before after : Option (List ℕ)) (old new : Selecting W) : Type 0 where
   pub value : TransmissionValue
   pub taken : TakesFront limits before value after
-  pub held : new.held ≡ held_after choice none_held (value_items value)
-  pub on : PutsOn contents failures (items_after choice none_held (value_items value)) old.encoder new.encoder
+  pub held : new.held ≡ held_after choice none_held (value_items (created_at created value))
+  pub on : PutsOn contents failures (items_after choice none_held (value_items (created_at created value))) old.encoder
+      new.encoder
 
 -- the reading stopped with that fault after these items, of which what is selected was written
-pub record StopsReading {W : Type 0} (limits : Limits) (choice : Choice) (fault : ReadFault) (contents : W → Option (List ℕ))
+pub record StopsReading {W : Type 0} (limits : Limits) (created : Option Moment) (choice : Choice) (fault : ReadFault) (contents : W → Option (List ℕ))
     (failures : W → ℕ) (before after : Option (List ℕ)) (old new : Selecting W) : Type 0 where
   pub given : List Item
   pub stops : StopsAfter limits fault before after given
-  pub on : PutsOn contents failures (items_after choice none_held given) old.encoder new.encoder
+  pub on : PutsOn contents failures (written_of created choice given) old.encoder new.encoder
 
 -- the writer failed in what is written of these items
-pub record StopsWriting {W : Type 0} (limits : Limits) (choice : Choice) (written : ℕ) (contents : W → Option (List ℕ))
+pub record StopsWriting {W : Type 0} (limits : Limits) (created : Option Moment) (choice : Choice) (written : ℕ) (contents : W → Option (List ℕ))
     (failures : W → ℕ) (before after : Option (List ℕ)) (old new : Selecting W) : Type 0 where
   pub given : List Item
   pub handed_out : HasHandedOut limits before after given
-  pub fails : FailsIn contents failures (items_after choice none_held given) written old.encoder new.encoder
+  pub fails : FailsIn contents failures (written_of created choice given) written old.encoder new.encoder
 
-abbrev pub SelectsItems : {W : Type 0} → Limits → Choice → (W → Option (List ℕ)) → (W → ℕ) → Option (List ℕ)
+abbrev pub SelectsItems : {W : Type 0} → Limits → Option Moment → Choice → (W → Option (List ℕ)) → (W → ℕ) → Option (List ℕ)
     → Option (List ℕ) → Result (Unit {0}) ToolFault → Selecting W → Selecting W → Type 0
-SelectsItems limits choice contents failures before after (Ok u) old new =
-    SelectsAllItems limits choice contents failures before after old new
-SelectsItems limits choice contents failures before after (Err Reader) old new =
-    StopsReading limits choice read_faults.Reader contents failures before after old new
-SelectsItems limits choice contents failures before after (Err Memory) old new =
-    StopsReading limits choice read_faults.Memory contents failures before after old new
-SelectsItems limits choice contents failures before after (Err (Refused refusal)) old new =
-    StopsReading limits choice (read_faults.Refused refusal) contents failures before after old new
-SelectsItems limits choice contents failures before after (Err (Truncated records)) old new =
-    StopsReading limits choice (read_faults.Truncated records) contents failures before after old new
-SelectsItems limits choice contents failures before after (Err (Writer written)) old new =
-    StopsWriting limits choice written contents failures before after old new
-SelectsItems limits choice contents failures before after (Err fault) old new = ⊥
+SelectsItems limits created choice contents failures before after (Ok u) old new =
+    SelectsAllItems limits created choice contents failures before after old new
+SelectsItems limits created choice contents failures before after (Err Reader) old new =
+    StopsReading limits created choice read_faults.Reader contents failures before after old new
+SelectsItems limits created choice contents failures before after (Err Memory) old new =
+    StopsReading limits created choice read_faults.Memory contents failures before after old new
+SelectsItems limits created choice contents failures before after (Err (Refused refusal)) old new =
+    StopsReading limits created choice (read_faults.Refused refusal) contents failures before after old new
+SelectsItems limits created choice contents failures before after (Err (Truncated records)) old new =
+    StopsReading limits created choice (read_faults.Truncated records) contents failures before after old new
+SelectsItems limits created choice contents failures before after (Err (Writer written)) old new =
+    StopsWriting limits created choice written contents failures before after old new
+SelectsItems limits created choice contents failures before after (Err fault) old new = ⊥
 
 -- ---- the end
 
@@ -130,36 +142,36 @@ Finishes contents old new result =
 -- ---- what is written where a run stops
 
 -- the items that were handed out before a fault, of which what is selected was written
-pub record SelectsUpTo {W : Type 0} (limits : Limits) (choice : Choice) (fault : ToolFault) (contents : W → Option (List ℕ))
+pub record SelectsUpTo {W : Type 0} (limits : Limits) (created : Option Moment) (choice : Choice) (fault : ToolFault) (contents : W → Option (List ℕ))
     (before after : Option (List ℕ)) (old new : W) : Type 0 where
   pub given : List Item
   pub before_it : ComeBefore limits fault before after given
-  pub written : WritesPart limits contents (records_in (items_after choice none_held given)) old new
+  pub written : WritesPart limits contents (records_in (written_of created choice given)) old new
 
 -- the canonical text of the records of some of the first items that are written of those that were handed out before a fault
-pub record IsSelectedFront (limits : Limits) (choice : Choice) (fault : ToolFault) (before after : Option (List ℕ))
+pub record IsSelectedFront (limits : Limits) (created : Option Moment) (choice : Choice) (fault : ToolFault) (before after : Option (List ℕ))
     (text : List ℕ) : Type 0 where
   pub given : List Item
   pub before_it : ComeBefore limits fault before after given
   pub begun : List Item
   pub others : List Item
-  pub split : items_after choice none_held given ≡ begun ++ others
+  pub split : written_of created choice given ≡ begun ++ others
   pub part : IsPart limits (records_in begun) text
 
 -- or that of all that is selected
-pub record IsSelectedWhole (limits : Limits) (choice : Choice) (before after : Option (List ℕ)) (text : List ℕ) : Type 0 where
+pub record IsSelectedWhole (limits : Limits) (created : Option Moment) (choice : Choice) (before after : Option (List ℕ)) (text : List ℕ) : Type 0 where
   pub value : TransmissionValue
   pub taken : TakesFront limits before value after
-  pub text_is : text ≡ selected_text choice value
+  pub text_is : text ≡ selected_text choice (created_at created value)
 
 -- Where a text isn't accepted, or a device or memory failed, what is selected of its items before that is written, and no TRL. Where the
 -- writer failed, so many of the first bytes are as its fault tells. No limit is a fault, and none is of an output.
-abbrev pub LeavesSelected : {W : Type 0} → Limits → Choice → Option (List ℕ) → Option (List ℕ) → (W → Option (List ℕ)) → W → W
+abbrev pub LeavesSelected : {W : Type 0} → Limits → Option Moment → Choice → Option (List ℕ) → Option (List ℕ) → (W → Option (List ℕ)) → W → W
     → ToolFault → Type 0
-LeavesSelected limits choice before after contents old new (Writer written) = (text : List ℕ)
-    × (IsSelectedFront limits choice (Writer written) before after text ⊎ IsSelectedWhole limits choice before after text)
+LeavesSelected limits created choice before after contents old new (Writer written) = (text : List ℕ)
+    × (IsSelectedFront limits created choice (Writer written) before after text ⊎ IsSelectedWhole limits created choice before after text)
     × HasFront contents (contents old) new text written
-LeavesSelected limits choice before after contents old new (Limit limit) = ⊥
-LeavesSelected limits choice before after contents old new Output = ⊥
-LeavesSelected limits choice before after contents old new fault =
-    SelectsUpTo limits choice fault contents before after old new
+LeavesSelected limits created choice before after contents old new (Limit limit) = ⊥
+LeavesSelected limits created choice before after contents old new Output = ⊥
+LeavesSelected limits created choice before after contents old new fault =
+    SelectsUpTo limits created choice fault contents before after old new

@@ -8,8 +8,8 @@ use Rattle.cwr_tools.proofs.lemmas.ReportsOn.{same_fault, stops_after}
 use Rattle.cwr_tools.proofs.lemmas.Viewed.{sees_more, sees_none, sees_text}
 use Rattle.std.specs.Prelude.{Option}
 use Rattle.cwr_values.specs.declared.items.Item.{Item}
-use Rattle.cwr_select.specs.Steps.Selecting.{SelectsItems}
-use Rattle.cwr_select.proofs.lemmas.SelectingOn.{few_handed_out, item_taken, may_take, next_item, none_yet}
+use Rattle.cwr_select.specs.Steps.Selecting.{MayTake, SelectsItems}
+use Rattle.cwr_select.proofs.lemmas.SelectingOn.{few_handed_out, item_taken, may_take, next_item, none_yet, opens_so}
 use Rattle.cwr_select.proofs.lemmas.SelectionsEnded.{all_selected, item_refused, reading_stopped}
 use Rattle.cwr_select.proofs.selection.select_items.Goals as goal
 
@@ -23,7 +23,7 @@ items-init g c =
     (ap g.R.Source.remaining new.kept) in
     record {
       selecting =
-          none_yet c.args.limits (g.C.Chooses.choice c.args.choice.now) c.new-reading.result.decoder
+          none_yet c.args.limits c.args.created (g.C.Chooses.choice c.args.choice.now) c.new-reading.result.decoder
           (g.R.Source.remaining c.args.reader.now) (g.R.Source.remaining c.new-reading.result.reader.now) g.W.Target.contents
           g.W.Target.failures c.args.selecting.now reading c.requires.unfailed c.requires.held;
       seen = sees_none g.V.Viewer.has_seen c.args.viewer.now;
@@ -34,24 +34,37 @@ items-init g c =
 pub take-requires : goal.take-requires
 take-requires g c =
     let reading =
-    next_item c.args.limits (g.C.Chooses.choice c.args.choice.now) c.items.reading.decoder c.next_item_after.new.self.decoder
+    next_item c.args.limits c.args.created (g.C.Chooses.choice c.args.choice.now) c.items.reading.decoder c.next_item_after.new.self.decoder
     (g.R.Source.remaining c.args.reader.now) _ _ g.W.Target.contents g.W.Target.failures c.items.handed_out c.args.selecting.now
     c.items.selecting c.in-Ok-Some.field-0 c.in-Ok-Some.item _ _ c.in-Ok-Some.field-0-is c.items.invariant.selecting
     c.in-Ok-Some.ensures.reads c.in-Ok-Some.ensures.again in
-    may_take c.args.limits (g.C.Chooses.choice c.args.choice.now) c.items.reading.decoder c.next_item_after.new.self.decoder
+    subst (λ (i : Item). MayTake g.W.Target.contents (g.C.Chooses.choice c.args.choice.now) i c.items.selecting)
+    (sym c.created_item.ensures) (may_take c.args.limits c.args.created (g.C.Chooses.choice c.args.choice.now)
+    c.items.reading.decoder c.next_item_after.new.self.decoder (g.R.Source.remaining c.args.reader.now) _ _ g.W.Target.contents
+    g.W.Target.failures c.items.handed_out c.args.selecting.now c.items.selecting c.in-Ok-Some.item c.requires.limits
+    c.requires.encodes c.items.invariant.selecting reading)
+
+pub created_item-requires : goal.created_item-requires
+created_item-requires g c =
+    let reading =
+    next_item c.args.limits c.args.created (g.C.Chooses.choice c.args.choice.now) c.items.reading.decoder c.next_item_after.new.self.decoder
     (g.R.Source.remaining c.args.reader.now) _ _ g.W.Target.contents g.W.Target.failures c.items.handed_out c.args.selecting.now
-    c.items.selecting c.in-Ok-Some.item c.requires.limits c.requires.encodes c.items.invariant.selecting reading
+    c.items.selecting c.in-Ok-Some.field-0 c.in-Ok-Some.item _ _ c.in-Ok-Some.field-0-is c.items.invariant.selecting
+    c.in-Ok-Some.ensures.reads c.in-Ok-Some.ensures.again in
+    opens_so c.args.limits c.args.created (g.C.Chooses.choice c.args.choice.now) c.items.reading.decoder
+    c.next_item_after.new.self.decoder (g.R.Source.remaining c.args.reader.now) _ _ g.W.Target.contents g.W.Target.failures
+    c.items.handed_out c.args.selecting.now c.items.selecting c.in-Ok-Some.item c.items.invariant.selecting reading
 
 pub overflow_add-handed_out : goal.overflow_add-handed_out
 overflow_add-handed_out g c =
     let reading =
-    next_item c.args.limits (g.C.Chooses.choice c.args.choice.now) c.items.reading.decoder c.next_item_after.new.self.decoder
+    next_item c.args.limits c.args.created (g.C.Chooses.choice c.args.choice.now) c.items.reading.decoder c.next_item_after.new.self.decoder
     (g.R.Source.remaining c.args.reader.now) _ _ g.W.Target.contents g.W.Target.failures c.items.handed_out c.args.selecting.now
     c.items.selecting c.in-Ok-Some.field-0 c.in-Ok-Some.item _ _ c.in-Ok-Some.field-0-is c.items.invariant.selecting
     c.in-Ok-Some.ensures.reads c.in-Ok-Some.ensures.again in
     omega (
       arith,
-      few_handed_out c.args.limits (g.C.Chooses.choice c.args.choice.now) c.items.reading.decoder
+      few_handed_out c.args.limits c.args.created (g.C.Chooses.choice c.args.choice.now) c.items.reading.decoder
           c.next_item_after.new.self.decoder (g.R.Source.remaining c.args.reader.now) _ _ g.W.Target.contents
           g.W.Target.failures c.items.handed_out c.args.selecting.now c.items.selecting c.in-Ok-Some.item
           c.items.invariant.selecting reading,
@@ -60,13 +73,13 @@ overflow_add-handed_out g c =
 pub items-smaller : goal.items-smaller
 items-smaller g c =
     let reading =
-    next_item c.args.limits (g.C.Chooses.choice c.args.choice.now) c.items.reading.decoder c.next_item_after.new.self.decoder
+    next_item c.args.limits c.args.created (g.C.Chooses.choice c.args.choice.now) c.items.reading.decoder c.next_item_after.new.self.decoder
     (g.R.Source.remaining c.args.reader.now) _ _ g.W.Target.contents g.W.Target.failures c.items.handed_out c.args.selecting.now
     c.items.selecting c.in-Ok-Some.field-0 c.in-Ok-Some.item _ _ c.in-Ok-Some.field-0-is c.items.invariant.selecting
     c.in-Ok-Some.ensures.reads c.in-Ok-Some.ensures.again in
     omega (
       arith,
-      few_handed_out c.args.limits (g.C.Chooses.choice c.args.choice.now) c.items.reading.decoder
+      few_handed_out c.args.limits c.args.created (g.C.Chooses.choice c.args.choice.now) c.items.reading.decoder
           c.next_item_after.new.self.decoder (g.R.Source.remaining c.args.reader.now) _ _ g.W.Target.contents
           g.W.Target.failures c.items.handed_out c.args.selecting.now c.items.selecting c.in-Ok-Some.item
           c.items.invariant.selecting reading,
@@ -76,16 +89,16 @@ pub items-preserved : goal.items-preserved
 unfolding item_taken
 items-preserved g c =
     let reading =
-    next_item c.args.limits (g.C.Chooses.choice c.args.choice.now) c.items.reading.decoder c.next_item_after.new.self.decoder
+    next_item c.args.limits c.args.created (g.C.Chooses.choice c.args.choice.now) c.items.reading.decoder c.next_item_after.new.self.decoder
     (g.R.Source.remaining c.args.reader.now) _ _ g.W.Target.contents g.W.Target.failures c.items.handed_out c.args.selecting.now
     c.items.selecting c.in-Ok-Some.field-0 c.in-Ok-Some.item _ _ c.in-Ok-Some.field-0-is c.items.invariant.selecting
     c.in-Ok-Some.ensures.reads c.in-Ok-Some.ensures.again in
     record {
       selecting =
-          item_taken c.args.limits (g.C.Chooses.choice c.args.choice.now) c.items.reading.decoder
+          item_taken c.args.limits c.args.created (g.C.Chooses.choice c.args.choice.now) c.items.reading.decoder
           c.next_item_after.new.self.decoder (g.R.Source.remaining c.args.reader.now) _ _ g.W.Target.contents
           g.W.Target.failures c.items.handed_out c.args.selecting.now c.items.selecting c.take.new.self c.in-Ok-Some.item
-          c.in_ok-spent-in-Ok-Some.spent c.items.invariant.selecting reading c.in_ok-spent-in-Ok-Some.ensures.writes
+          c.created_item.result c.in_ok-spent-in-Ok-Some.spent c.created_item.ensures c.items.invariant.selecting reading c.in_ok-spent-in-Ok-Some.ensures.writes
           c.in_ok-spent-in-Ok-Some.ensures.held;
       seen =
           sees_more g.V.Viewer.has_seen c.args.viewer.now c.items.viewer c.see.new.self c.items.invariant.selecting.given
@@ -97,21 +110,21 @@ items-preserved g c =
 pub returns-in_err-spent-in-Ok-Some-clause-selects : goal.returns-in_err-spent-in-Ok-Some-clause-selects
 returns-in_err-spent-in-Ok-Some-clause-selects g c =
     let reading =
-    next_item c.args.limits (g.C.Chooses.choice c.args.choice.now) c.items.reading.decoder c.next_item_after.new.self.decoder
+    next_item c.args.limits c.args.created (g.C.Chooses.choice c.args.choice.now) c.items.reading.decoder c.next_item_after.new.self.decoder
     (g.R.Source.remaining c.args.reader.now) _ _ g.W.Target.contents g.W.Target.failures c.items.handed_out c.args.selecting.now
     c.items.selecting c.in-Ok-Some.field-0 c.in-Ok-Some.item _ _ c.in-Ok-Some.field-0-is c.items.invariant.selecting
     c.in-Ok-Some.ensures.reads c.in-Ok-Some.ensures.again in
-    let faulty : SelectsItems c.args.limits (g.C.Chooses.choice c.args.choice.now) g.W.Target.contents g.W.Target.failures
+    let faulty : SelectsItems c.args.limits c.args.created (g.C.Chooses.choice c.args.choice.now) g.W.Target.contents g.W.Target.failures
     (g.R.Source.remaining c.args.reader.now) (g.R.Source.remaining c.next_item_after.new.self.reader.now)
     c.from_residual.result c.args.selecting.now c.take.new.self
-    = subst (λ (r : Result (Unit {0}) ToolFault). SelectsItems c.args.limits (g.C.Chooses.choice c.args.choice.now)
+    = subst (λ (r : Result (Unit {0}) ToolFault). SelectsItems c.args.limits c.args.created (g.C.Chooses.choice c.args.choice.now)
     g.W.Target.contents g.W.Target.failures (g.R.Source.remaining c.args.reader.now)
     (g.R.Source.remaining c.next_item_after.new.self.reader.now) r c.args.selecting.now c.take.new.self)
     (sym (same_fault c.from_residual.result c.in_err-spent-in-Ok-Some.field-0.0 c.from_residual.ensures.1))
-    (item_refused (Option Item) c.args.limits (g.C.Chooses.choice c.args.choice.now) c.items.reading.decoder
+    (item_refused (Option Item) c.args.limits c.args.created (g.C.Chooses.choice c.args.choice.now) c.items.reading.decoder
     c.next_item_after.new.self.decoder (g.R.Source.remaining c.args.reader.now) _ _ g.W.Target.contents g.W.Target.failures
     c.items.handed_out c.args.selecting.now c.items.selecting c.take.new.self c.in-Ok-Some.item
-    c.in_err-spent-in-Ok-Some.field-0.0 c.items.invariant.selecting reading c.in_err-spent-in-Ok-Some.ensures.writes) in
+    c.created_item.result c.in_err-spent-in-Ok-Some.field-0.0 c.created_item.ensures c.items.invariant.selecting reading c.in_err-spent-in-Ok-Some.ensures.writes) in
     search rules
 
 pub returns-in-Ok-None-clause-selects : goal.returns-in-Ok-None-clause-selects
@@ -121,10 +134,10 @@ returns-in-Ok-None-clause-selects g c =
     = none_read c.args.limits c.items.reading.decoder c.next_item_after.new.self.decoder (g.R.Source.remaining c.args.reader.now)
     _ _ c.items.invariant.selecting.given c.in-Ok-None.field-0 _ c.in-Ok-None.field-0-is
     c.items.invariant.selecting.reading c.in-Ok-None.ensures.reads c.in-Ok-None.ensures.again (λ e. ap g.R.Source.remaining e) in
-    let good : SelectsItems c.args.limits (g.C.Chooses.choice c.args.choice.now) g.W.Target.contents g.W.Target.failures
+    let good : SelectsItems c.args.limits c.args.created (g.C.Chooses.choice c.args.choice.now) g.W.Target.contents g.W.Target.failures
     (g.R.Source.remaining c.args.reader.now) (g.R.Source.remaining c.next_item_after.new.self.reader.now) (Ok tt)
     c.args.selecting.now c.items.selecting
-    = all_selected c.args.limits (g.C.Chooses.choice c.args.choice.now) c.items.reading.decoder
+    = all_selected c.args.limits c.args.created (g.C.Chooses.choice c.args.choice.now) c.items.reading.decoder
     (g.R.Source.remaining c.args.reader.now) _ _ g.W.Target.contents g.W.Target.failures c.items.handed_out
     c.args.selecting.now c.items.selecting tt c.items.invariant.selecting all in
     search rules
@@ -146,13 +159,13 @@ returns-in-Err-clause-selects g c =
     = stops_after c.args.limits c.items.reading.decoder c.next_item_after.new.self.decoder (g.R.Source.remaining c.args.reader.now)
     _ _ c.items.invariant.selecting.given c.in-Err.fault _ _ c.items.invariant.selecting.reading c.in-Err.ensures.reads
     c.in-Err.ensures.again in
-    let stopped : SelectsItems c.args.limits (g.C.Chooses.choice c.args.choice.now) g.W.Target.contents g.W.Target.failures
+    let stopped : SelectsItems c.args.limits c.args.created (g.C.Chooses.choice c.args.choice.now) g.W.Target.contents g.W.Target.failures
     (g.R.Source.remaining c.args.reader.now) (g.R.Source.remaining c.next_item_after.new.self.reader.now)
     (Err c.reading_fault.result) c.args.selecting.now c.items.selecting
-    = subst (λ (f : ToolFault). SelectsItems c.args.limits (g.C.Chooses.choice c.args.choice.now) g.W.Target.contents
+    = subst (λ (f : ToolFault). SelectsItems c.args.limits c.args.created (g.C.Chooses.choice c.args.choice.now) g.W.Target.contents
     g.W.Target.failures (g.R.Source.remaining c.args.reader.now) (g.R.Source.remaining c.next_item_after.new.self.reader.now)
     (Err f) c.args.selecting.now c.items.selecting)
-    (sym c.reading_fault.ensures) (reading_stopped c.args.limits (g.C.Chooses.choice c.args.choice.now)
+    (sym c.reading_fault.ensures) (reading_stopped c.args.limits c.args.created (g.C.Chooses.choice c.args.choice.now)
     c.items.reading.decoder (g.R.Source.remaining c.args.reader.now) _ _ g.W.Target.contents g.W.Target.failures
     c.items.handed_out c.args.selecting.now c.items.selecting c.in-Err.fault c.items.invariant.selecting stop) in
     search rules
