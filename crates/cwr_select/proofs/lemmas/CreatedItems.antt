@@ -23,7 +23,8 @@ all_same : (items : List Item) → map (created_item None) items ≡ items
 all_same [] = refl
 all_same (item ∷ items) = ap (λ (l : List Item). item ∷ l) (all_same items)
 
-transactions_same : (m : Moment) (ts : List (List RecordValue)) → map (created_item (Some m)) (map Transaction ts) ≡ map Transaction ts
+transactions_same : (m : Moment) (ts : List (List RecordValue))
+    → map (created_item (Some m)) (map Transaction ts) ≡ map Transaction ts
 transactions_same m [] = refl
 transactions_same m (t ∷ ts) = ap (λ (l : List Item). Transaction t ∷ l) (transactions_same m ts)
 
@@ -33,7 +34,8 @@ group_same m g =
     (map-append (created_item (Some m)) (map Transaction g.transactions) (GroupClosed g.foot ∷ [])
     ∙ ap (λ (l : List Item). l ++ GroupClosed g.foot ∷ []) (transactions_same m g.transactions))
 
-groups_same : (m : Moment) (gs : List GroupValue) → map (created_item (Some m)) (flat_map group_items gs) ≡ flat_map group_items gs
+groups_same : (m : Moment) (gs : List GroupValue)
+    → map (created_item (Some m)) (flat_map group_items gs) ≡ flat_map group_items gs
 groups_same m [] = refl
 groups_same m (g ∷ gs) =
     map-append (created_item (Some m)) (group_items g) (flat_map group_items gs)

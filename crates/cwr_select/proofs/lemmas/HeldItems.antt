@@ -112,7 +112,8 @@ nothing_held = record {
 }
 
 pub is_held : (choice : Choice) (given : List Item) → IsHeld (held_after choice none_held given) (length given)
-is_held choice given = subst (IsHeld (held_after choice none_held given)) (omega arith) (held_from choice none_held 0 given nothing_held)
+is_held choice given =
+    subst (IsHeld (held_after choice none_held given)) (omega arith) (held_from choice none_held 0 given nothing_held)
 
 -- so there is room where few items were handed out
 pub has_room : (h : Held) (count : ℕ) → IsHeld h count → count ≤ 199999998 → HasRoom h

@@ -25,12 +25,14 @@ use Rattle.cwr_select.specs.Steps.Held.{end_with}
 use Rattle.cwr_select.specs.Steps.Selecting.{FailsIn, WritesItems}
 
 -- the writer failed in an item; there is no other fault of one
-pub item_failed : (A : Type 0) {W : Type 0} (contents : W → Option (List ℕ)) (failures : W → ℕ) (item : Item) (old new : Encoder W)
+pub item_failed : (A : Type 0) {W : Type 0} (contents : W → Option (List ℕ)) (failures : W → ℕ) (item : Item)
+    (old new : Encoder W)
     (other : EncodeFault) (fault : ToolFault) → MayPut contents (item ∷ []) old → Judged contents item old (Err other)
     → AddsRecords contents failures (item_records item) (Err other) old new → encoder_limits new ≡ encoder_limits old
     → is_fault_of other fault → WritesItems {A = A} contents failures (item ∷ []) (Err fault) old new
 item_failed A contents failures item old new (encode_faults.Limit limit) fault may judged adds same e =
-    absurd (puts.item_failed contents failures item old new (encode_faults.Limit limit) (tool_faults.Limit limit) may judged adds refl)
+    absurd (puts.item_failed contents failures item old new (encode_faults.Limit limit) (tool_faults.Limit limit) may judged adds
+    refl)
 item_failed A contents failures item old new (encode_faults.Writer n) fault may judged adds same e =
     subst (λ (f : ToolFault). WritesItems {A = A} contents failures (item ∷ []) (Err f) old new) (sym e) (record {
       begun = item ∷ [];
@@ -106,7 +108,8 @@ then_failed A B contents failures added more old mid new tool_faults.Output p h 
 then_failed A B contents failures added more old mid new (tool_faults.Limit l) p h = absurd h
 
 -- an answer of another type has the same fault
-pub same_failed : (A B : Type 0) {W : Type 0} (contents : W → Option (List ℕ)) (failures : W → ℕ) (added : List Item) (old new : Encoder W)
+pub same_failed : (A B : Type 0) {W : Type 0} (contents : W → Option (List ℕ)) (failures : W → ℕ) (added : List Item)
+    (old new : Encoder W)
     (fault : ToolFault) → WritesItems {A = A} contents failures added (Err fault) old new
     → WritesItems {A = B} contents failures added (Err fault) old new
 same_failed A B contents failures added old new (tool_faults.Writer n) h = h
@@ -131,13 +134,15 @@ may_held contents o p h k t e same alike may =
 
 held_written : {W : Type 0} (contents : W → Option (List ℕ)) (failures : W → ℕ) (o p : Option Item) (h k : Option Item) (t : Item)
     (result : Result (Unit {0}) ToolFault) (old new : Encoder W) → p ≡ o → k ≡ h
-    → WritesItems contents failures (after_held p k t) result old new → WritesItems contents failures (after_held o h t) result old new
+    → WritesItems contents failures (after_held p k t) result old new
+    → WritesItems contents failures (after_held o h t) result old new
 held_written contents failures o p h k t result old new same alike w =
     subst (λ (x : Option Item). WritesItems contents failures (after_held o x t) result old new) alike
     (subst (λ (x : Option Item). WritesItems contents failures (after_held x k t) result old new) same w)
 
 -- all are written
-pub all_written : {W : Type 0} (contents : W → Option (List ℕ)) (failures : W → ℕ) (o p : Option Item) (h k : Option Item) (t : Item)
+pub all_written : {W : Type 0} (contents : W → Option (List ℕ)) (failures : W → ℕ) (o p : Option Item) (h k : Option Item)
+    (t : Item)
     (x : Unit {0}) (a b c d : Encoder W) → p ≡ o → k ≡ h → PutsOn contents failures (option_to_list p) a b
     → PutsOn contents failures (option_to_list k) b c → PutsOn contents failures (t ∷ []) c d
     → WritesItems contents failures (after_held o h t) (Ok x) a d
@@ -146,7 +151,8 @@ all_written contents failures o p h k t x a b c d same alike u v w =
     (all_added contents failures (option_to_list p) (option_to_list k) (t ∷ []) a b c d u v w)
 
 -- HDR isn't
-pub opening_failed : {W : Type 0} (contents : W → Option (List ℕ)) (failures : W → ℕ) (o p : Option Item) (h : Option Item) (t : Item)
+pub opening_failed : {W : Type 0} (contents : W → Option (List ℕ)) (failures : W → ℕ) (o p : Option Item) (h : Option Item)
+    (t : Item)
     (result : Result (Unit {0}) ToolFault) (fault : ToolFault) (a b : Encoder W) → p ≡ o → result ≡ Err fault
     → WritesItems {A = Unit {0}} contents failures (option_to_list p) (Err fault) a b
     → WritesItems contents failures (after_held o h t) result a b
@@ -157,7 +163,8 @@ opening_failed contents failures o p h t result fault a b same e w =
     (first_failed (Unit {0}) (Unit {0}) contents failures (option_to_list p) (option_to_list h) a b fault w)))
 
 -- GRH isn't
-pub head_failed : {W : Type 0} (contents : W → Option (List ℕ)) (failures : W → ℕ) (o p : Option Item) (h k : Option Item) (t : Item)
+pub head_failed : {W : Type 0} (contents : W → Option (List ℕ)) (failures : W → ℕ) (o p : Option Item) (h k : Option Item)
+    (t : Item)
     (result : Result (Unit {0}) ToolFault) (fault : ToolFault) (a b c : Encoder W) → p ≡ o → k ≡ h → result ≡ Err fault
     → PutsOn contents failures (option_to_list p) a b
     → WritesItems {A = Unit {0}} contents failures (option_to_list k) (Err fault) b c
@@ -170,7 +177,8 @@ head_failed contents failures o p h k t result fault a b c same alike e u w =
 
 -- the transaction isn't
 pub transaction_failed : {W : Type 0} (contents : W → Option (List ℕ)) (failures : W → ℕ) (o p : Option Item) (h k : Option Item)
-    (t : Item) (result : Result (Unit {0}) ToolFault) (fault : ToolFault) (a b c d : Encoder W) → p ≡ o → k ≡ h → result ≡ Err fault
+    (t : Item) (result : Result (Unit {0}) ToolFault) (fault : ToolFault) (a b c d : Encoder W) → p ≡ o → k ≡ h
+    → result ≡ Err fault
     → PutsOn contents failures (option_to_list p) a b → PutsOn contents failures (option_to_list k) b c
     → WritesItems {A = Unit {0}} contents failures (t ∷ []) (Err fault) c d
     → WritesItems contents failures (after_held o h t) result a d

@@ -43,7 +43,8 @@ part_written limits contents records old new same unfailed h = record {
 }
 
 -- in the items of the input
-pub left_in_items : {W : Type 0} (limits : Limits) (created : Option Moment) (choice : Choice) (contents : W → Option (List ℕ)) (failures : W → ℕ)
+pub left_in_items : {W : Type 0} (limits : Limits) (created : Option Moment) (choice : Choice) (contents : W → Option (List ℕ))
+    (failures : W → ℕ)
     (before after : Option (List ℕ)) (old s : Selecting W) (fault : ToolFault) → encoder_limits old.encoder ≡ limits
     → Encodes contents (contents (target_of old.encoder)) [] old.encoder
     → SelectsItems limits created choice contents failures before after (Err fault) old s
@@ -99,7 +100,8 @@ left_in_items limits created choice contents failures before after old s tool_fa
 left_in_items limits created choice contents failures before after old s (tool_faults.Limit l) same encodes h = absurd h
 
 -- at the end
-pub left_at_end : {W : Type 0} (limits : Limits) (created : Option Moment) (choice : Choice) (contents : W → Option (List ℕ)) (failures : W → ℕ)
+pub left_at_end : {W : Type 0} (limits : Limits) (created : Option Moment) (choice : Choice) (contents : W → Option (List ℕ))
+    (failures : W → ℕ)
     (before after : Option (List ℕ)) (old s : Selecting W) (new : W) (result : Result SelectReport ToolFault)
     → encoder_limits old.encoder ≡ limits → Encodes contents (contents (target_of old.encoder)) [] old.encoder
     → SelectsItems limits created choice contents failures before after (Ok tt) old s → Finishes contents s new result
@@ -108,10 +110,12 @@ left_at_end limits created choice contents failures before after old s new resul
     by result (f (contents (target_of old.encoder)) choice (created_at created h.value)
     (selects_all limits created choice contents failures before after old s same encodes h))
   where
-    by : (r : Result SelectReport ToolFault) → EndsSelection contents (contents (target_of old.encoder)) choice (created_at created h.value) new r
+    by : (r : Result SelectReport ToolFault)
+        → EndsSelection contents (contents (target_of old.encoder)) choice (created_at created h.value) new r
         → IfErr r (LeavesSelected limits created choice before after contents (target_of old.encoder) new)
     by (Ok report) e = tt
-    by (Err (tool_faults.Writer n)) e = (selected_text choice (created_at created h.value), inr (record { value = h.value; taken = h.taken; text_is = refl }), e)
+    by (Err (tool_faults.Writer n)) e =
+        (selected_text choice (created_at created h.value), inr (record { value = h.value; taken = h.taken; text_is = refl }), e)
     by (Err tool_faults.Reader) e = absurd e
     by (Err tool_faults.Memory) e = absurd e
     by (Err (tool_faults.Refused r)) e = absurd e

@@ -14,7 +14,8 @@ use Rattle.cwr_shape.specs.declared.limits.Limits.{Limits}
 use Rattle.cwr_shape.specs.declared.symbols.Symbol.{Symbol}
 use Rattle.cwr_shape.specs.declared.symbols.Symbol.TheVariants.{Plain}
 use Rattle.cwr_shape.specs.Format.Outlines.{GroupOutline, group_symbols, symbols_of}
-use Rattle.cwr_values.specs.Format.Values.{GroupValue, TransmissionValue, FitsIn, IsGroup, IsRecordOf, IsTransaction, IsTransmission}
+use Rattle.cwr_values.specs.Format.Values.{GroupValue, TransmissionValue, FitsIn, IsGroup, IsRecordOf, IsTransaction}
+use Rattle.cwr_values.specs.Format.Values.{IsTransmission}
 use Rattle.cwr_values.specs.Format.Values.{outline_of_group, symbol_of, type_of}
 use Rattle.cwr_select.specs.Format.Selections.{Choice, selected, selected_group, selected_groups}
 use Rattle.cwr_select.specs.Format.Selections.{selected_count, selected_transactions, transactions_in, with_groups}
@@ -174,7 +175,8 @@ fits_selected limits choice v fits =
       omega (arith, m, fewer.records, all_symbols v.groups, all_symbols kept),
       omega (arith, w, fewer.groups, length-map v.groups outline_of_group, length-map kept outline_of_group),
       mapped P outline_of_group kept
-          (each_group (KeepTo limits.transaction) (KeepTo limits.transaction) choice 1 v.groups (λ m g h e. keeps_to limits.transaction choice m g h)
+          (each_group (KeepTo limits.transaction) (KeepTo limits.transaction) choice 1 v.groups
+          (λ m g h e. keeps_to limits.transaction choice m g h)
           (unmapped P outline_of_group v.groups fits.2)),
     )
 

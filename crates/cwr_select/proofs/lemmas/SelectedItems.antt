@@ -17,7 +17,8 @@ use Rattle.cwr_parts.specs.Steps.SplitOutputs.{blank_end}
 use Rattle.cwr_select.specs.declared.held.Held.{Held}
 use Rattle.cwr_select.specs.Format.Selections.{Choice, selected, selected_foot, selected_group, selected_groups}
 use Rattle.cwr_select.specs.Format.Selections.{selected_count, selected_transactions, transactions_in, with_groups}
-use Rattle.cwr_select.specs.Steps.Held.{end_with, entered, held_after, held_with, items_after, items_before, items_with, none_held}
+use Rattle.cwr_select.specs.Steps.Held.{end_with, entered, held_after, held_with, items_after, items_before, items_with}
+use Rattle.cwr_select.specs.Steps.Held.{none_held}
 use Rattle.cwr_select.specs.Steps.Held.{with_left_out, with_selected}
 
 -- ---- items after items
@@ -100,7 +101,8 @@ first_written choice h t ts kept e w =
     ap (λ (k : Held). items_after choice k (map Transaction ts)) now ∙ w.items
     ∙ ap (λ (l : List Item). l ++ map Transaction kept) (front_if-nil kept) in
     let held =
-    subst (λ (k : Held). IsPassed (with_selected h) (held_after choice k (map Transaction ts)) (length ts) kept) (sym now) w.held in
+    subst (λ (k : Held). IsPassed (with_selected h) (held_after choice k (map Transaction ts)) (length ts) kept) (sym now)
+    w.held in
     record {
       items =
           ap₂ (λ (l m : List Item). l ++ m) put rest
@@ -123,7 +125,8 @@ first_left_out choice h t ts kept e w =
     let put : items_with choice h (Transaction t) ≡ [] =
     ap (λ (b : Bool). if b then items_before h ++ Transaction t ∷ [] else []) e in
     let held =
-    subst (λ (k : Held). IsPassed (with_left_out h) (held_after choice k (map Transaction ts)) (length ts) kept) (sym now) w.held in
+    subst (λ (k : Held). IsPassed (with_left_out h) (held_after choice k (map Transaction ts)) (length ts) kept) (sym now)
+    w.held in
     record {
       items =
           ap₂ (λ (l m : List Item). l ++ m) put
@@ -239,12 +242,14 @@ pub group_first : (choice : Choice) (n : ℕ) (g : GroupValue) (gs : List GroupV
     → has_some (selected_group choice n g) ≡ true
     → selected_groups choice n (g ∷ gs) ≡ selected_group choice n g ∷ selected_groups choice (n + 1) gs
 group_first choice n g gs e =
-    ap (λ (b : Bool). cond b (selected_group choice n g ∷ selected_groups choice (n + 1) gs) (selected_groups choice (n + 1) gs)) e
+    ap (λ (b : Bool). cond b (selected_group choice n g ∷ selected_groups choice (n + 1) gs) (selected_groups choice (n + 1) gs))
+    e
 
 pub group_later : (choice : Choice) (n : ℕ) (g : GroupValue) (gs : List GroupValue)
     → has_some (selected_group choice n g) ≡ false → selected_groups choice n (g ∷ gs) ≡ selected_groups choice (n + 1) gs
 group_later choice n g gs e =
-    ap (λ (b : Bool). cond b (selected_group choice n g ∷ selected_groups choice (n + 1) gs) (selected_groups choice (n + 1) gs)) e
+    ap (λ (b : Bool). cond b (selected_group choice n g ∷ selected_groups choice (n + 1) gs) (selected_groups choice (n + 1) gs))
+    e
 
 some_front : {X : Type 0} (front : List Item) (xs : List X) → nat_lt 0 (length xs) ≡ true → front_if front xs ≡ front
 some_front front [] e = absurd (cc)

@@ -34,7 +34,8 @@ use Rattle.cwr_select.proofs.lemmas.SelectedFits.{selected_fits}
 use Rattle.cwr_select.proofs.lemmas.SelectedItems.{items_after-append, none_written, some_written}
 
 -- so many items were handed out, and what is selected of them is written
-pub record IsSelecting {W : Type 0} (limits : Limits) (created : Option Moment) (choice : Choice) (d : Standing) (before now : Option (List ℕ))
+pub record IsSelecting {W : Type 0} (limits : Limits) (created : Option Moment) (choice : Choice) (d : Standing)
+    (before now : Option (List ℕ))
     (contents : W → Option (List ℕ)) (failures : W → ℕ) (count : ℕ) (old s : Selecting W) : Type 0 where
   pub given : List Item
   pub reading : IsReadingOn limits d before now given
@@ -42,7 +43,8 @@ pub record IsSelecting {W : Type 0} (limits : Limits) (created : Option Moment) 
   pub held : s.held ≡ held_of created choice given
   pub on : PutsOn contents failures (written_of created choice given) old.encoder s.encoder
 
-unfoldable pub none_yet : {W : Type 0} (limits : Limits) (created : Option Moment) (choice : Choice) (d : Standing) (before now : Option (List ℕ))
+unfoldable pub none_yet : {W : Type 0} (limits : Limits) (created : Option Moment) (choice : Choice) (d : Standing)
+    (before now : Option (List ℕ))
     (contents : W → Option (List ℕ)) (failures : W → ℕ) (s : Selecting W) → IsReadingOn limits d before now []
     → is_stopped s.encoder ≡ false → s.held ≡ none_held
     → IsSelecting limits created choice d before now contents failures 0 s s
@@ -88,7 +90,8 @@ begins_selected limits choice v given rest whole fits e = by (selected choice v)
 
 -- ---- one item more
 
-pub next_item : {W : Type 0} (limits : Limits) (created : Option Moment) (choice : Choice) (d new : Standing) (before left after : Option (List ℕ))
+pub next_item : {W : Type 0} (limits : Limits) (created : Option Moment) (choice : Choice) (d new : Standing)
+    (before left after : Option (List ℕ))
     (contents : W → Option (List ℕ)) (failures : W → ℕ) (count : ℕ) (old s : Selecting W) (reported : Option Item) (item : Item)
     (B C : Type 0) → reported ≡ Some item → (h : IsSelecting limits created choice d before left contents failures count old s)
     → Reads d left (Ok reported) new after → IfSome (again d.state) (λ o. (Some (Ok reported) ≡ answer_of o) × B × C)
@@ -96,7 +99,8 @@ pub next_item : {W : Type 0} (limits : Limits) (created : Option Moment) (choice
 next_item limits created choice d new before left after contents failures count old s reported item B C e h r same =
     some_read limits d new before left after h.given reported item B C e h.reading r same
 
-pub few_handed_out : {W : Type 0} (limits : Limits) (created : Option Moment) (choice : Choice) (d new : Standing) (before left after : Option (List ℕ))
+pub few_handed_out : {W : Type 0} (limits : Limits) (created : Option Moment) (choice : Choice) (d new : Standing)
+    (before left after : Option (List ℕ))
     (contents : W → Option (List ℕ)) (failures : W → ℕ) (count : ℕ) (old s : Selecting W) (item : Item)
     → (h : IsSelecting limits created choice d before left contents failures count old s)
     → IsReadingOn limits new before after (h.given ++ item ∷ []) → count + 1 ≤ 199999998
@@ -108,7 +112,8 @@ few_handed_out limits created choice d new before left after contents failures c
       fewer_left limits new before after (h.given ++ item ∷ []) reading,
     )
 
-pub may_take : {W : Type 0} (limits : Limits) (created : Option Moment) (choice : Choice) (d new : Standing) (before left after : Option (List ℕ))
+pub may_take : {W : Type 0} (limits : Limits) (created : Option Moment) (choice : Choice) (d new : Standing)
+    (before left after : Option (List ℕ))
     (contents : W → Option (List ℕ)) (failures : W → ℕ) (count : ℕ) (old s : Selecting W) (item : Item)
     → encoder_limits old.encoder ≡ limits → Encodes contents (contents (target_of old.encoder)) [] old.encoder
     → (h : IsSelecting limits created choice d before left contents failures count old s)
@@ -159,7 +164,8 @@ opens_so limits created choice d new before left after contents failures count o
     (first.split ∙ sym (append_assoc h.given (item ∷ []) first.more))
 
 unfoldable pub item_taken : {W A : Type 0} (limits : Limits) (created : Option Moment) (choice : Choice) (d new : Standing)
-    (before left after : Option (List ℕ)) (contents : W → Option (List ℕ)) (failures : W → ℕ) (count : ℕ) (old s next : Selecting W)
+    (before left after : Option (List ℕ)) (contents : W → Option (List ℕ)) (failures : W → ℕ) (count : ℕ)
+    (old s next : Selecting W)
     (item put : Item) (x : A) → put ≡ created_item created item
     → (h : IsSelecting limits created choice d before left contents failures count old s)
     → IsReadingOn limits new before after (h.given ++ item ∷ [])

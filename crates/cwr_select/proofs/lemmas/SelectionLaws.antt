@@ -91,7 +91,8 @@ chosen_in_groups choice n (g ∷ gs) = by (has_some one) refl (chosen_in_groups 
     own : map (λ t. (g.head, t)) one.transactions ≡ chosen choice (in_group n g.head 0 g.transactions)
     own = chosen_in_group choice n g.head 0 g.transactions
 
-    by : (b : Bool) → has_some one ≡ b → transactions_of (selected_groups choice (n + 1) gs) ≡ chosen choice (placed_in (n + 1) gs)
+    by : (b : Bool) → has_some one ≡ b
+        → transactions_of (selected_groups choice (n + 1) gs) ≡ chosen choice (placed_in (n + 1) gs)
         → transactions_of (selected_groups choice n (g ∷ gs)) ≡ chosen choice (placed_in n (g ∷ gs))
     by true e same =
         ap transactions_of (group_first choice n g gs e) ∙ ap₂ (λ (l m : List Headed). l ++ m) own same
@@ -170,15 +171,18 @@ same_transactions : (choice : Choice) (n k : ℕ) (ts : List (List RecordValue))
     → selected_transactions (choice n) k ts ≡ ts
 same_transactions choice n k [] h = refl
 same_transactions choice n k (t ∷ ts) h =
-    selected_first (choice n) k t ts (h.0 n k) ∙ ap (λ (l : List (List RecordValue)). t ∷ l) (same_transactions choice n (k + 1) ts h.1)
+    selected_first (choice n) k t ts (h.0 n k)
+    ∙ ap (λ (l : List (List RecordValue)). t ∷ l) (same_transactions choice n (k + 1) ts h.1)
 
 same_group : (choice : Choice) (n : ℕ) (g : GroupValue) → AllByRecursion (IsChosen choice) g.transactions
     → selected_group choice n g ≡ g
 same_group choice n g h =
     let all = same_transactions choice n 0 g.transactions h in
-    let foot : selected_foot g.foot (length (selected_transactions (choice n) 0 g.transactions)) (length g.transactions) ≡ g.foot =
+    let foot : selected_foot g.foot (length (selected_transactions (choice n) 0 g.transactions)) (length g.transactions)
+    ≡ g.foot =
     ap (λ (l : List (List RecordValue)). selected_foot g.foot (length l) (length g.transactions)) all
-    ∙ ap (λ (b : Bool). if b then g.foot else blank_record kinds.Grt) (eq-eqb (length g.transactions) (length g.transactions) refl) in
+    ∙ ap (λ (b : Bool). if b then g.foot else blank_record kinds.Grt)
+    (eq-eqb (length g.transactions) (length g.transactions) refl) in
     λ i. record { head = g.head; transactions = all i; foot = foot i }
 
 -- a group that has a transaction, of which each is chosen
@@ -192,7 +196,8 @@ same_groups choice n (g ∷ gs) h =
     let same = same_group choice n g h.0.1 in
     let some : has_some (selected_group choice n g) ≡ true =
     ap has_some same ∙ lt-ltb 0 (length g.transactions) h.0.0 in
-    group_first choice n g gs some ∙ ap₂ (λ (x : GroupValue) (l : List GroupValue). x ∷ l) same (same_groups choice (n + 1) gs h.1)
+    group_first choice n g gs some
+    ∙ ap₂ (λ (x : GroupValue) (l : List GroupValue). x ∷ l) same (same_groups choice (n + 1) gs h.1)
 
 same_whole : (choice : Choice) (v : TransmissionValue) → 0 < length v.groups → AllByRecursion (AreChosen choice) v.groups
     → selected choice v ≡ Some v

@@ -62,7 +62,8 @@ use Rattle.cwr_select.proofs.lemmas.SelectingOn.{IsSelecting}
 -- ---- the items
 
 -- all were read
-pub all_selected : {W : Type 0} (limits : Limits) (created : Option Moment) (choice : Choice) (d : Standing) (before left after : Option (List ℕ))
+pub all_selected : {W : Type 0} (limits : Limits) (created : Option Moment) (choice : Choice) (d : Standing)
+    (before left after : Option (List ℕ))
     (contents : W → Option (List ℕ)) (failures : W → ℕ) (count : ℕ) (old s : Selecting W) (u : Unit {0})
     → (h : IsSelecting limits created choice d before left contents failures count old s) → HasReadAll limits before after h.given
     → SelectsItems limits created choice contents failures before after (Ok u) old s
@@ -80,9 +81,11 @@ all_selected limits created choice d before left after contents failures count o
     }
 
 -- the reading stopped
-pub reading_stopped : {W : Type 0} (limits : Limits) (created : Option Moment) (choice : Choice) (d : Standing) (before left after : Option (List ℕ))
+pub reading_stopped : {W : Type 0} (limits : Limits) (created : Option Moment) (choice : Choice) (d : Standing)
+    (before left after : Option (List ℕ))
     (contents : W → Option (List ℕ)) (failures : W → ℕ) (count : ℕ) (old s : Selecting W) (fault : ReadFault)
-    → (h : IsSelecting limits created choice d before left contents failures count old s) → StopsAfter limits fault before after h.given
+    → (h : IsSelecting limits created choice d before left contents failures count old s)
+    → StopsAfter limits fault before after h.given
     → SelectsItems limits created choice contents failures before after (Err (reading_fault fault)) old s
 reading_stopped limits created choice d before left after contents failures count old s read_faults.Reader h stop =
     record { given = h.given; stops = stop; on = h.on }
@@ -94,33 +97,46 @@ reading_stopped limits created choice d before left after contents failures coun
     record { given = h.given; stops = stop; on = h.on }
 
 -- the writer failed in an item
-pub item_refused : (A : Type 0) {W : Type 0} (limits : Limits) (created : Option Moment) (choice : Choice) (d new : Standing) (before left after : Option (List ℕ))
+pub item_refused : (A : Type 0) {W : Type 0} (limits : Limits) (created : Option Moment) (choice : Choice) (d new : Standing)
+    (before left after : Option (List ℕ))
     (contents : W → Option (List ℕ)) (failures : W → ℕ) (count : ℕ) (old s next : Selecting W) (item put : Item)
-    (fault : ToolFault) → put ≡ created_item created item → (h : IsSelecting limits created choice d before left contents failures count old s)
+    (fault : ToolFault) → put ≡ created_item created item
+    → (h : IsSelecting limits created choice d before left contents failures count old s)
     → IsReadingOn limits new before after (h.given ++ item ∷ [])
     → WritesItems {A = A} contents failures (items_with choice s.held put) (Err fault) s.encoder next.encoder
     → SelectsItems limits created choice contents failures before after (Err fault) old next
-item_refused A limits created choice d new before left after contents failures count old s next item put (tool_faults.Writer n) e h reading w =
+item_refused A limits created choice d new before left after contents failures count old s next item put (tool_faults.Writer n) e
+    h reading w =
     record {
       given = h.given ++ item ∷ [];
       handed_out = (new, reading);
       fails =
           subst (λ (l : List Item). FailsIn contents failures l n old.encoder next.encoder)
-          (ap₂ (λ (k : Held) (i : Item). items_after choice none_held (map (created_item created) h.given) ++ items_with choice k i)
+          (ap₂ (λ (k : Held) (i : Item). items_after choice none_held (map (created_item created) h.given)
+          ++ items_with choice k i)
           h.held e
           ∙ sym (items_more choice none_held (map (created_item created) h.given) (created_item created item))
           ∙ ap (items_after choice none_held) (sym (map-append (created_item created) h.given (item ∷ []))))
           (fails_then contents failures (items_after choice none_held (map (created_item created) h.given))
           (items_with choice s.held put) n old.encoder s.encoder next.encoder h.on w);
     }
-item_refused A limits created choice d new before left after contents failures count old s next item put tool_faults.Reader e h reading w = absurd w
-item_refused A limits created choice d new before left after contents failures count old s next item put tool_faults.Memory e h reading w = absurd w
-item_refused A limits created choice d new before left after contents failures count old s next item put (tool_faults.Refused r) e h reading w =
+item_refused A limits created choice d new before left after contents failures count old s next item put tool_faults.Reader e h
+    reading w =
     absurd w
-item_refused A limits created choice d new before left after contents failures count old s next item put (tool_faults.Truncated r) e h reading w =
+item_refused A limits created choice d new before left after contents failures count old s next item put tool_faults.Memory e h
+    reading w =
     absurd w
-item_refused A limits created choice d new before left after contents failures count old s next item put tool_faults.Output e h reading w = absurd w
-item_refused A limits created choice d new before left after contents failures count old s next item put (tool_faults.Limit l) e h reading w =
+item_refused A limits created choice d new before left after contents failures count old s next item put (tool_faults.Refused r) e
+    h reading w =
+    absurd w
+item_refused A limits created choice d new before left after contents failures count old s next item put (tool_faults.Truncated r)
+    e h reading w =
+    absurd w
+item_refused A limits created choice d new before left after contents failures count old s next item put tool_faults.Output e h
+    reading w =
+    absurd w
+item_refused A limits created choice d new before left after contents failures count old s next item put (tool_faults.Limit l) e h
+    reading w =
     absurd w
 
 -- ---- the end
@@ -246,7 +262,8 @@ pub counts_short : {W : Type 0} (contents : W → Option (List ℕ)) (failures :
     → IsUnlimited {A = ℕ} (Err other) → is_fault_of other fault
     → CountsSplitWriter {A = SelectReport} (Err fault) (failures (target_of s.encoder)) (failures new)
 counts_short contents failures s new (encode_faults.Writer n) fault f u e =
-    subst (λ (x : ToolFault). CountsSplitWriter {A = SelectReport} (Err x) (failures (target_of s.encoder)) (failures new)) (sym e)
+    subst (λ (x : ToolFault). CountsSplitWriter {A = SelectReport} (Err x) (failures (target_of s.encoder)) (failures new))
+    (sym e)
     f.0
 counts_short contents failures s new (encode_faults.Limit limit) fault f u e = absurd u
 counts_short contents failures s new encode_faults.OutOfOrder fault f u e = absurd e
@@ -256,7 +273,8 @@ counts_short contents failures s new encode_faults.Incomplete fault f u e = absu
 -- ---- a whole run
 
 -- all that is known of an end is so of the transmission that was read
-pub selects_all : {W : Type 0} (limits : Limits) (created : Option Moment) (choice : Choice) (contents : W → Option (List ℕ)) (failures : W → ℕ)
+pub selects_all : {W : Type 0} (limits : Limits) (created : Option Moment) (choice : Choice) (contents : W → Option (List ℕ))
+    (failures : W → ℕ)
     (before after : Option (List ℕ)) (old s : Selecting W) → encoder_limits old.encoder ≡ limits
     → Encodes contents (contents (target_of old.encoder)) [] old.encoder
     → (h : SelectsItems limits created choice contents failures before after (Ok tt) old s)
@@ -271,7 +289,8 @@ selects_all limits created choice contents failures before after old s same enco
 }
 
 -- so the selection may end
-pub may_finish : {W : Type 0} (limits : Limits) (created : Option Moment) (choice : Choice) (contents : W → Option (List ℕ)) (failures : W → ℕ)
+pub may_finish : {W : Type 0} (limits : Limits) (created : Option Moment) (choice : Choice) (contents : W → Option (List ℕ))
+    (failures : W → ℕ)
     (before after : Option (List ℕ)) (old s : Selecting W) → encoder_limits old.encoder ≡ limits
     → Encodes contents (contents (target_of old.encoder)) [] old.encoder
     → SelectsItems limits created choice contents failures before after (Ok tt) old s → MayFinish contents s
@@ -282,12 +301,14 @@ may_finish limits created choice contents failures before after old s same encod
   all = selects_all limits created choice contents failures before after old s same encodes h;
 }
 
-pub unfailed_still : {W : Type 0} (limits : Limits) (created : Option Moment) (choice : Choice) (contents : W → Option (List ℕ)) (failures : W → ℕ)
+pub unfailed_still : {W : Type 0} (limits : Limits) (created : Option Moment) (choice : Choice) (contents : W → Option (List ℕ))
+    (failures : W → ℕ)
     (before after : Option (List ℕ)) (old s : Selecting W)
     → SelectsItems limits created choice contents failures before after (Ok tt) old s → is_stopped s.encoder ≡ false
 unfailed_still limits created choice contents failures before after old s h = h.on.unfailed
 
-pub selects_whole : {W : Type 0} (limits : Limits) (created : Option Moment) (choice : Choice) (contents : W → Option (List ℕ)) (failures : W → ℕ)
+pub selects_whole : {W : Type 0} (limits : Limits) (created : Option Moment) (choice : Choice) (contents : W → Option (List ℕ))
+    (failures : W → ℕ)
     (before after : Option (List ℕ)) (old s : Selecting W) (new : W) (result : Result SelectReport ToolFault)
     → encoder_limits old.encoder ≡ limits → Encodes contents (contents (target_of old.encoder)) [] old.encoder
     → SelectsItems limits created choice contents failures before after (Ok tt) old s → Finishes contents s new result
@@ -296,9 +317,11 @@ selects_whole limits created choice contents failures before after old s new res
     by result (f (contents (target_of old.encoder)) choice (created_at created h.value)
     (selects_all limits created choice contents failures before after old s same encodes h))
   where
-    by : (r : Result SelectReport ToolFault) → EndsSelection contents (contents (target_of old.encoder)) choice (created_at created h.value) new r
+    by : (r : Result SelectReport ToolFault)
+        → EndsSelection contents (contents (target_of old.encoder)) choice (created_at created h.value) new r
         → Selects limits created choice before after (contents (target_of old.encoder)) (contents new) r
-    by (Ok report) e = record { value = h.value; taken = h.taken; written = e.1; reported = e.0 ∙ same_numbers created choice h.value }
+    by (Ok report) e =
+        record { value = h.value; taken = h.taken; written = e.1; reported = e.0 ∙ same_numbers created choice h.value }
     by (Err (tool_faults.Writer n)) e = tt
     by (Err tool_faults.Reader) e = absurd e
     by (Err tool_faults.Memory) e = absurd e
@@ -312,7 +335,8 @@ known_text : (o : Option (List ℕ)) (text : List ℕ) (P : List ℕ → Type 0)
 known_text None text P e h = tt
 known_text (Some bytes) text P e h = subst P (sym e) h
 
-pub selects_stopped : {W : Type 0} (limits : Limits) (created : Option Moment) (choice : Choice) (contents : W → Option (List ℕ)) (failures : W → ℕ)
+pub selects_stopped : {W : Type 0} (limits : Limits) (created : Option Moment) (choice : Choice) (contents : W → Option (List ℕ))
+    (failures : W → ℕ)
     (before after left right : Option (List ℕ)) (old s : Selecting W) (fault : ToolFault)
     → SelectsItems limits created choice contents failures before after (Err fault) old s
     → Selects limits created choice before after left right (Err fault)
@@ -335,7 +359,8 @@ pub selects_accepted : (limits : Limits) (created : Option Moment) (choice : Cho
 selects_accepted limits created choice None after old new result h = tt
 selects_accepted limits created choice (Some text) after old new result h = λ v n a. by result h v n a
   where
-    by : (r : Result SelectReport ToolFault) → Selects limits created choice (Some text) after old new r → (v : TransmissionValue) (n : ℕ)
+    by : (r : Result SelectReport ToolFault) → Selects limits created choice (Some text) after old new r
+        → (v : TransmissionValue) (n : ℕ)
         → IsAccepted limits text v n
         → MatchResult r (λ report. (report ≡ select_report choice v) × (after ≡ Some (drop n text))
         × Appends old new (selected_text choice (created_at created v))) IsOfDevice
@@ -354,7 +379,8 @@ selects_accepted limits created choice (Some text) after old new result h = λ v
     by (Err (tool_faults.Limit limit)) k v n a = absurd k
 
 -- the reader's failures stay where the end was reached
-pub reader_still : {W : Type 0} (contents : W → Option (List ℕ)) (s : Selecting W) (new : W) (result : Result SelectReport ToolFault)
+pub reader_still : {W : Type 0} (contents : W → Option (List ℕ)) (s : Selecting W) (new : W)
+    (result : Result SelectReport ToolFault)
     (old now : ℕ) → MayFinish contents s → Finishes contents s new result → now ≡ old → CountsSplitReader result old now
 reader_still contents s new result old now may f same = by result (f may.start may.choice may.value may.all)
   where

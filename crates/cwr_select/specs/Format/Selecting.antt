@@ -19,7 +19,8 @@ select_report choice v = record { selected = selected_count choice v; transactio
 
 -- The text is accepted. After what the writer had, the canonical text of what is selected is written, as created at the moment where there
 -- is one, and the report has its numbers.
-pub record SelectsAll (limits : Limits) (created : Option Moment) (choice : Choice) (before after old new : Option (List ℕ)) (report : SelectReport) : Type 0
+pub record SelectsAll (limits : Limits) (created : Option Moment) (choice : Choice) (before after old new : Option (List ℕ))
+    (report : SelectReport) : Type 0
   where
     pub value : TransmissionValue
     pub taken : TakesFront limits before value after
@@ -32,13 +33,15 @@ abbrev pub Selects : Limits → Option Moment → Choice → Option (List ℕ) �
     → Result SelectReport ToolFault → Type 0
 Selects limits created choice before after old new (Ok report) = SelectsAll limits created choice before after old new report
 Selects limits created choice before after old new (Err (Refused refusal)) = IfSome before (λ text. IsRefused limits text refusal)
-Selects limits created choice before after old new (Err (Truncated records)) = IfSome before (λ text. IsTruncated limits text records)
+Selects limits created choice before after old new (Err (Truncated records)) =
+    IfSome before (λ text. IsTruncated limits text records)
 Selects limits created choice before after old new (Err (Limit limit)) = ⊥
 Selects limits created choice before after old new (Err Output) = ⊥
 Selects limits created choice before after old new (Err fault) = Unit {0}
 
 -- where the text is accepted, what is selected of its transmission is written, unless a device or memory failed
-abbrev pub SelectsAccepted : Limits → Option Moment → Choice → Option (List ℕ) → Option (List ℕ) → Option (List ℕ) → Option (List ℕ)
+abbrev pub SelectsAccepted : Limits → Option Moment → Choice → Option (List ℕ) → Option (List ℕ) → Option (List ℕ)
+    → Option (List ℕ)
     → Result SelectReport ToolFault → Type 0
 SelectsAccepted limits created choice before after old new result =
     IfSome before (λ text. (v : TransmissionValue) (n : ℕ) → IsAccepted limits text v n

@@ -70,7 +70,8 @@ abbrev pub held_of : Option Moment → Choice → List Item → Held
 held_of created choice given = held_after choice none_held (map (created_item created) given)
 
 -- all was read and is accepted, and what is selected of it was written but TRL
-pub record SelectsAllItems {W : Type 0} (limits : Limits) (created : Option Moment) (choice : Choice) (contents : W → Option (List ℕ)) (failures : W → ℕ)
+pub record SelectsAllItems {W : Type 0} (limits : Limits) (created : Option Moment) (choice : Choice)
+    (contents : W → Option (List ℕ)) (failures : W → ℕ)
     (before after : Option (List ℕ)) (old new : Selecting W) : Type 0 where
   pub value : TransmissionValue
   pub taken : TakesFront limits before value after
@@ -79,14 +80,16 @@ pub record SelectsAllItems {W : Type 0} (limits : Limits) (created : Option Mome
       new.encoder
 
 -- the reading stopped with that fault after these items, of which what is selected was written
-pub record StopsReading {W : Type 0} (limits : Limits) (created : Option Moment) (choice : Choice) (fault : ReadFault) (contents : W → Option (List ℕ))
+pub record StopsReading {W : Type 0} (limits : Limits) (created : Option Moment) (choice : Choice) (fault : ReadFault)
+    (contents : W → Option (List ℕ))
     (failures : W → ℕ) (before after : Option (List ℕ)) (old new : Selecting W) : Type 0 where
   pub given : List Item
   pub stops : StopsAfter limits fault before after given
   pub on : PutsOn contents failures (written_of created choice given) old.encoder new.encoder
 
 -- the writer failed in what is written of these items
-pub record StopsWriting {W : Type 0} (limits : Limits) (created : Option Moment) (choice : Choice) (written : ℕ) (contents : W → Option (List ℕ))
+pub record StopsWriting {W : Type 0} (limits : Limits) (created : Option Moment) (choice : Choice) (written : ℕ)
+    (contents : W → Option (List ℕ))
     (failures : W → ℕ) (before after : Option (List ℕ)) (old new : Selecting W) : Type 0 where
   pub given : List Item
   pub handed_out : HasHandedOut limits before after given
@@ -142,14 +145,16 @@ Finishes contents old new result =
 -- ---- what is written where a run stops
 
 -- the items that were handed out before a fault, of which what is selected was written
-pub record SelectsUpTo {W : Type 0} (limits : Limits) (created : Option Moment) (choice : Choice) (fault : ToolFault) (contents : W → Option (List ℕ))
+pub record SelectsUpTo {W : Type 0} (limits : Limits) (created : Option Moment) (choice : Choice) (fault : ToolFault)
+    (contents : W → Option (List ℕ))
     (before after : Option (List ℕ)) (old new : W) : Type 0 where
   pub given : List Item
   pub before_it : ComeBefore limits fault before after given
   pub written : WritesPart limits contents (records_in (written_of created choice given)) old new
 
 -- the canonical text of the records of some of the first items that are written of those that were handed out before a fault
-pub record IsSelectedFront (limits : Limits) (created : Option Moment) (choice : Choice) (fault : ToolFault) (before after : Option (List ℕ))
+pub record IsSelectedFront (limits : Limits) (created : Option Moment) (choice : Choice) (fault : ToolFault)
+    (before after : Option (List ℕ))
     (text : List ℕ) : Type 0 where
   pub given : List Item
   pub before_it : ComeBefore limits fault before after given
@@ -159,17 +164,20 @@ pub record IsSelectedFront (limits : Limits) (created : Option Moment) (choice :
   pub part : IsPart limits (records_in begun) text
 
 -- or that of all that is selected
-pub record IsSelectedWhole (limits : Limits) (created : Option Moment) (choice : Choice) (before after : Option (List ℕ)) (text : List ℕ) : Type 0 where
+pub record IsSelectedWhole (limits : Limits) (created : Option Moment) (choice : Choice) (before after : Option (List ℕ))
+    (text : List ℕ) : Type 0 where
   pub value : TransmissionValue
   pub taken : TakesFront limits before value after
   pub text_is : text ≡ selected_text choice (created_at created value)
 
 -- Where a text isn't accepted, or a device or memory failed, what is selected of its items before that is written, and no TRL. Where the
 -- writer failed, so many of the first bytes are as its fault tells. No limit is a fault, and none is of an output.
-abbrev pub LeavesSelected : {W : Type 0} → Limits → Option Moment → Choice → Option (List ℕ) → Option (List ℕ) → (W → Option (List ℕ)) → W → W
+abbrev pub LeavesSelected : {W : Type 0} → Limits → Option Moment → Choice → Option (List ℕ) → Option (List ℕ)
+    → (W → Option (List ℕ)) → W → W
     → ToolFault → Type 0
 LeavesSelected limits created choice before after contents old new (Writer written) = (text : List ℕ)
-    × (IsSelectedFront limits created choice (Writer written) before after text ⊎ IsSelectedWhole limits created choice before after text)
+    × (IsSelectedFront limits created choice (Writer written) before after text
+    ⊎ IsSelectedWhole limits created choice before after text)
     × HasFront contents (contents old) new text written
 LeavesSelected limits created choice before after contents old new (Limit limit) = ⊥
 LeavesSelected limits created choice before after contents old new Output = ⊥

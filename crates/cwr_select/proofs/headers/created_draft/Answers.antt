@@ -37,6 +37,7 @@ returns c =
     ∙ ap (λ (d : RecordValue). set_cell 3 c.cell-3.result.now d) (c.put.ensures.set
     ∙ ap (λ (d : RecordValue). set_cell 2 c.cell-2.result.now d) c.blank-draft.ensures)))))))
     ∙ assembled c.args.moment c.args.shown.now c.cell-2.result.now c.cell-3.result.now c.cell-4.result.now c.cell-5.result.now
-    c.write.new.cell c.write-2.new.cell c.later_day-transmitted.result.now c.cell-6.result.now c.requires c.cell.ensures.fits c.cell-2.ensures.value
+    c.write.new.cell c.write-2.new.cell c.later_day-transmitted.result.now c.cell-6.result.now c.requires c.cell.ensures.fits
+    c.cell-2.ensures.value
     c.cell-3.ensures.value c.cell-4.ensures.value c.cell-5.ensures.value c.write.ensures c.write-2.ensures
     (c.later_day-transmitted.ensures ∙ ap₂ later_day c.cell.ensures.value c.write.ensures) c.cell-6.ensures.value

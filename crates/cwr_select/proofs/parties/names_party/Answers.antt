@@ -12,7 +12,8 @@ returns-then-is_party c =
     (unwrap_or (record_cell c.args.shown.now c.party_fields-first.result.1) []))
     (sym c.is_party.ensures ∙ c.if-is_party.true))
     ∙ sym (named c.args.number.now c.args.shown.now c.kind.result c.party_fields-first.result c.cell.result.now
-    (unwrap_or (record_cell c.args.shown.now c.party_fields-first.result.1) []) c.requires c.kind.ensures.value c.kind.ensures.fits
+    (unwrap_or (record_cell c.args.shown.now c.party_fields-first.result.1) []) c.requires c.kind.ensures.value
+    c.kind.ensures.fits
     c.party_fields-first.ensures c.cell.ensures.value refl)
 
 pub returns-else-is_party : goal.returns-else-is_party

@@ -12,5 +12,6 @@ returns-in-Ok g c =
 
 pub returns-in-Err : goal.returns-in-Err
 returns-in-Err g c =
-    item_failed (Unit {0}) g.W.Target.contents g.W.Target.failures c.args.item.now c.args.encoder.now c.encode.new.encoder c.in-Err.fault
+    item_failed (Unit {0}) g.W.Target.contents g.W.Target.failures c.args.item.now c.args.encoder.now c.encode.new.encoder
+    c.in-Err.fault
     c.fault_of.result c.requires.may c.in-Err.ensures.judged c.in-Err.ensures.adds c.in-Err.ensures.limits c.fault_of.ensures

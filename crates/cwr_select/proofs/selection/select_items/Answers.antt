@@ -34,7 +34,8 @@ items-init g c =
 pub take-requires : goal.take-requires
 take-requires g c =
     let reading =
-    next_item c.args.limits c.args.created (g.C.Chooses.choice c.args.choice.now) c.items.reading.decoder c.next_item_after.new.self.decoder
+    next_item c.args.limits c.args.created (g.C.Chooses.choice c.args.choice.now) c.items.reading.decoder
+    c.next_item_after.new.self.decoder
     (g.R.Source.remaining c.args.reader.now) _ _ g.W.Target.contents g.W.Target.failures c.items.handed_out c.args.selecting.now
     c.items.selecting c.in-Ok-Some.field-0 c.in-Ok-Some.item _ _ c.in-Ok-Some.field-0-is c.items.invariant.selecting
     c.in-Ok-Some.ensures.reads c.in-Ok-Some.ensures.again in
@@ -47,7 +48,8 @@ take-requires g c =
 pub created_item-requires : goal.created_item-requires
 created_item-requires g c =
     let reading =
-    next_item c.args.limits c.args.created (g.C.Chooses.choice c.args.choice.now) c.items.reading.decoder c.next_item_after.new.self.decoder
+    next_item c.args.limits c.args.created (g.C.Chooses.choice c.args.choice.now) c.items.reading.decoder
+    c.next_item_after.new.self.decoder
     (g.R.Source.remaining c.args.reader.now) _ _ g.W.Target.contents g.W.Target.failures c.items.handed_out c.args.selecting.now
     c.items.selecting c.in-Ok-Some.field-0 c.in-Ok-Some.item _ _ c.in-Ok-Some.field-0-is c.items.invariant.selecting
     c.in-Ok-Some.ensures.reads c.in-Ok-Some.ensures.again in
@@ -58,7 +60,8 @@ created_item-requires g c =
 pub overflow_add-handed_out : goal.overflow_add-handed_out
 overflow_add-handed_out g c =
     let reading =
-    next_item c.args.limits c.args.created (g.C.Chooses.choice c.args.choice.now) c.items.reading.decoder c.next_item_after.new.self.decoder
+    next_item c.args.limits c.args.created (g.C.Chooses.choice c.args.choice.now) c.items.reading.decoder
+    c.next_item_after.new.self.decoder
     (g.R.Source.remaining c.args.reader.now) _ _ g.W.Target.contents g.W.Target.failures c.items.handed_out c.args.selecting.now
     c.items.selecting c.in-Ok-Some.field-0 c.in-Ok-Some.item _ _ c.in-Ok-Some.field-0-is c.items.invariant.selecting
     c.in-Ok-Some.ensures.reads c.in-Ok-Some.ensures.again in
@@ -73,7 +76,8 @@ overflow_add-handed_out g c =
 pub items-smaller : goal.items-smaller
 items-smaller g c =
     let reading =
-    next_item c.args.limits c.args.created (g.C.Chooses.choice c.args.choice.now) c.items.reading.decoder c.next_item_after.new.self.decoder
+    next_item c.args.limits c.args.created (g.C.Chooses.choice c.args.choice.now) c.items.reading.decoder
+    c.next_item_after.new.self.decoder
     (g.R.Source.remaining c.args.reader.now) _ _ g.W.Target.contents g.W.Target.failures c.items.handed_out c.args.selecting.now
     c.items.selecting c.in-Ok-Some.field-0 c.in-Ok-Some.item _ _ c.in-Ok-Some.field-0-is c.items.invariant.selecting
     c.in-Ok-Some.ensures.reads c.in-Ok-Some.ensures.again in
@@ -89,7 +93,8 @@ pub items-preserved : goal.items-preserved
 unfolding item_taken
 items-preserved g c =
     let reading =
-    next_item c.args.limits c.args.created (g.C.Chooses.choice c.args.choice.now) c.items.reading.decoder c.next_item_after.new.self.decoder
+    next_item c.args.limits c.args.created (g.C.Chooses.choice c.args.choice.now) c.items.reading.decoder
+    c.next_item_after.new.self.decoder
     (g.R.Source.remaining c.args.reader.now) _ _ g.W.Target.contents g.W.Target.failures c.items.handed_out c.args.selecting.now
     c.items.selecting c.in-Ok-Some.field-0 c.in-Ok-Some.item _ _ c.in-Ok-Some.field-0-is c.items.invariant.selecting
     c.in-Ok-Some.ensures.reads c.in-Ok-Some.ensures.again in
@@ -98,7 +103,8 @@ items-preserved g c =
           item_taken c.args.limits c.args.created (g.C.Chooses.choice c.args.choice.now) c.items.reading.decoder
           c.next_item_after.new.self.decoder (g.R.Source.remaining c.args.reader.now) _ _ g.W.Target.contents
           g.W.Target.failures c.items.handed_out c.args.selecting.now c.items.selecting c.take.new.self c.in-Ok-Some.item
-          c.created_item.result c.in_ok-spent-in-Ok-Some.spent c.created_item.ensures c.items.invariant.selecting reading c.in_ok-spent-in-Ok-Some.ensures.writes
+          c.created_item.result c.in_ok-spent-in-Ok-Some.spent c.created_item.ensures c.items.invariant.selecting reading
+          c.in_ok-spent-in-Ok-Some.ensures.writes
           c.in_ok-spent-in-Ok-Some.ensures.held;
       seen =
           sees_more g.V.Viewer.has_seen c.args.viewer.now c.items.viewer c.see.new.self c.items.invariant.selecting.given
@@ -110,11 +116,13 @@ items-preserved g c =
 pub returns-in_err-spent-in-Ok-Some-clause-selects : goal.returns-in_err-spent-in-Ok-Some-clause-selects
 returns-in_err-spent-in-Ok-Some-clause-selects g c =
     let reading =
-    next_item c.args.limits c.args.created (g.C.Chooses.choice c.args.choice.now) c.items.reading.decoder c.next_item_after.new.self.decoder
+    next_item c.args.limits c.args.created (g.C.Chooses.choice c.args.choice.now) c.items.reading.decoder
+    c.next_item_after.new.self.decoder
     (g.R.Source.remaining c.args.reader.now) _ _ g.W.Target.contents g.W.Target.failures c.items.handed_out c.args.selecting.now
     c.items.selecting c.in-Ok-Some.field-0 c.in-Ok-Some.item _ _ c.in-Ok-Some.field-0-is c.items.invariant.selecting
     c.in-Ok-Some.ensures.reads c.in-Ok-Some.ensures.again in
-    let faulty : SelectsItems c.args.limits c.args.created (g.C.Chooses.choice c.args.choice.now) g.W.Target.contents g.W.Target.failures
+    let faulty : SelectsItems c.args.limits c.args.created (g.C.Chooses.choice c.args.choice.now) g.W.Target.contents
+    g.W.Target.failures
     (g.R.Source.remaining c.args.reader.now) (g.R.Source.remaining c.next_item_after.new.self.reader.now)
     c.from_residual.result c.args.selecting.now c.take.new.self
     = subst (λ (r : Result (Unit {0}) ToolFault). SelectsItems c.args.limits c.args.created (g.C.Chooses.choice c.args.choice.now)
@@ -124,7 +132,8 @@ returns-in_err-spent-in-Ok-Some-clause-selects g c =
     (item_refused (Option Item) c.args.limits c.args.created (g.C.Chooses.choice c.args.choice.now) c.items.reading.decoder
     c.next_item_after.new.self.decoder (g.R.Source.remaining c.args.reader.now) _ _ g.W.Target.contents g.W.Target.failures
     c.items.handed_out c.args.selecting.now c.items.selecting c.take.new.self c.in-Ok-Some.item
-    c.created_item.result c.in_err-spent-in-Ok-Some.field-0.0 c.created_item.ensures c.items.invariant.selecting reading c.in_err-spent-in-Ok-Some.ensures.writes) in
+    c.created_item.result c.in_err-spent-in-Ok-Some.field-0.0 c.created_item.ensures c.items.invariant.selecting reading
+    c.in_err-spent-in-Ok-Some.ensures.writes) in
     search rules
 
 pub returns-in-Ok-None-clause-selects : goal.returns-in-Ok-None-clause-selects
@@ -134,7 +143,8 @@ returns-in-Ok-None-clause-selects g c =
     = none_read c.args.limits c.items.reading.decoder c.next_item_after.new.self.decoder (g.R.Source.remaining c.args.reader.now)
     _ _ c.items.invariant.selecting.given c.in-Ok-None.field-0 _ c.in-Ok-None.field-0-is
     c.items.invariant.selecting.reading c.in-Ok-None.ensures.reads c.in-Ok-None.ensures.again (λ e. ap g.R.Source.remaining e) in
-    let good : SelectsItems c.args.limits c.args.created (g.C.Chooses.choice c.args.choice.now) g.W.Target.contents g.W.Target.failures
+    let good : SelectsItems c.args.limits c.args.created (g.C.Chooses.choice c.args.choice.now) g.W.Target.contents
+    g.W.Target.failures
     (g.R.Source.remaining c.args.reader.now) (g.R.Source.remaining c.next_item_after.new.self.reader.now) (Ok tt)
     c.args.selecting.now c.items.selecting
     = all_selected c.args.limits c.args.created (g.C.Chooses.choice c.args.choice.now) c.items.reading.decoder
@@ -156,13 +166,16 @@ pub returns-in-Err-clause-selects : goal.returns-in-Err-clause-selects
 returns-in-Err-clause-selects g c =
     let stop : StopsAfter c.args.limits c.in-Err.fault (g.R.Source.remaining c.args.reader.now)
     (g.R.Source.remaining c.next_item_after.new.self.reader.now) c.items.invariant.selecting.given
-    = stops_after c.args.limits c.items.reading.decoder c.next_item_after.new.self.decoder (g.R.Source.remaining c.args.reader.now)
+    = stops_after c.args.limits c.items.reading.decoder c.next_item_after.new.self.decoder
+    (g.R.Source.remaining c.args.reader.now)
     _ _ c.items.invariant.selecting.given c.in-Err.fault _ _ c.items.invariant.selecting.reading c.in-Err.ensures.reads
     c.in-Err.ensures.again in
-    let stopped : SelectsItems c.args.limits c.args.created (g.C.Chooses.choice c.args.choice.now) g.W.Target.contents g.W.Target.failures
+    let stopped : SelectsItems c.args.limits c.args.created (g.C.Chooses.choice c.args.choice.now) g.W.Target.contents
+    g.W.Target.failures
     (g.R.Source.remaining c.args.reader.now) (g.R.Source.remaining c.next_item_after.new.self.reader.now)
     (Err c.reading_fault.result) c.args.selecting.now c.items.selecting
-    = subst (λ (f : ToolFault). SelectsItems c.args.limits c.args.created (g.C.Chooses.choice c.args.choice.now) g.W.Target.contents
+    = subst
+    (λ (f : ToolFault). SelectsItems c.args.limits c.args.created (g.C.Chooses.choice c.args.choice.now) g.W.Target.contents
     g.W.Target.failures (g.R.Source.remaining c.args.reader.now) (g.R.Source.remaining c.next_item_after.new.self.reader.now)
     (Err f) c.args.selecting.now c.items.selecting)
     (sym c.reading_fault.ensures) (reading_stopped c.args.limits c.args.created (g.C.Chooses.choice c.args.choice.now)

@@ -28,7 +28,8 @@ returns-in-Ok-clause-selects g c =
 
 pub returns-in-Ok-clause-accepted : goal.returns-in-Ok-clause-accepted
 returns-in-Ok-clause-accepted g c =
-    let whole : Selects c.args.limits c.args.created (g.C.Chooses.choice c.args.choice.now) (g.R.Source.remaining c.args.reader.now)
+    let whole : Selects c.args.limits c.args.created (g.C.Chooses.choice c.args.choice.now)
+    (g.R.Source.remaining c.args.reader.now)
     (g.R.Source.remaining c.select_items.new.reader) (g.W.Target.contents c.args.writer)
     (g.W.Target.contents c.finish.result.0) c.finish.result.1 =
     subst (λ (w : g.row.W.Denot). Selects c.args.limits c.args.created (g.C.Chooses.choice c.args.choice.now)
@@ -72,7 +73,8 @@ returns-in-Err-clause-accepted g c =
 
 pub returns-in-Ok-clause-leaves : goal.returns-in-Ok-clause-leaves
 returns-in-Ok-clause-leaves g c =
-    subst (λ (w : g.row.W.Denot). IfErr c.finish.result.1 (LeavesSelected c.args.limits c.args.created (g.C.Chooses.choice c.args.choice.now)
+    subst (λ (w : g.row.W.Denot). IfErr c.finish.result.1
+    (LeavesSelected c.args.limits c.args.created (g.C.Chooses.choice c.args.choice.now)
     (g.R.Source.remaining c.args.reader.now) (g.R.Source.remaining c.select_items.new.reader) g.W.Target.contents w
     c.finish.result.0)) c.new-selecting.ensures.writer
     (left_at_end c.args.limits c.args.created (g.C.Chooses.choice c.args.choice.now) g.W.Target.contents g.W.Target.failures
