@@ -1,0 +1,5 @@
+//! Tests of selections on a worked transmission.
+#![tactic(auto)]
+
+#[cfg(test)]
+mod selections;
