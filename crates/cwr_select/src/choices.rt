@@ -1,6 +1,7 @@
 //! Which transactions are selected.
 
-ghost use Rattle.std.specs.Prelude.{◌≡◌, ◌&&◌, not};
+ghost use Rattle.std.specs.Prelude.{◌≡◌, ◌&&◌, not, true, if◌then◌else◌};
+ghost use Rattle.std.specs.Option.{option_map_or};
 
 use cwr_values::Transaction;
 
@@ -38,5 +39,37 @@ impl<A: Chooses> Chooses for Others<A> {
 
     fn chooses(&self, group: u32, place: u32, transaction: &Transaction) -> bool {
         !self.0.chooses(group, place, transaction)
+    }
+}
+
+/// Chooses what another does, or where it is turned all that the other doesn't choose.
+#[derive(Clone, Copy, Debug)]
+pub struct Turned<A> {
+    /// Who chooses.
+    pub choice: A,
+    /// Whether all others are chosen.
+    pub turned: bool,
+}
+
+impl<A: Chooses> Chooses for Turned<A> {
+    ghost choice = { λ by group place records.
+        if by.turned then not (A.choice by.choice group place records) else A.choice by.choice group place records };
+
+    fn chooses(&self, group: u32, place: u32, transaction: &Transaction) -> bool {
+        let chosen = self.choice.chooses(group, place, transaction);
+        if self.turned { !chosen } else { chosen }
+    }
+}
+
+impl<A: Chooses> Chooses for Option<A> {
+    // Who isn't there chooses all.
+    ghost choice = { λ one group place records.
+        option_map_or (λ by. A.choice by group place records) one true };
+
+    fn chooses(&self, group: u32, place: u32, transaction: &Transaction) -> bool {
+        match self {
+            Some(by) => by.chooses(group, place, transaction),
+            None => true,
+        }
     }
 }

@@ -12,7 +12,7 @@ mod reports;
 mod selecting;
 mod selection;
 
-pub use choices::{Both, Chooses, Others};
+pub use choices::{Both, Chooses, Others, Turned};
 pub use criteria::{ByKind, ByNumber, ByPlace, number_cell};
 pub use laws::{all_is_selected, chosen_are_selected, selection_is_accepted};
 pub use listed::Listed;

@@ -1,7 +1,7 @@
 //! Values that are asked for.
 
-ghost use Rattle.std.specs.Prelude.{◌≡◌, IsPermutation};
-ghost use Rattle.std.specs.List.{list_any};
+ghost use Rattle.std.specs.Prelude.{◌≡◌, ◌<◌, IfSome, IsPermutation, is_some, length, true};
+ghost use Rattle.std.specs.List.{HoldsAt, list_any};
 
 use std::marker::Model;
 
@@ -31,10 +31,23 @@ impl<T: Ord + Drop> Listed<T> {
         Listed { values }
     }
 
+    /// Where the value stands among them, in their order. `None` where it is none of them.
+    pub fn place(&self, value: &T) -> Option<usize>
+        ensures some { is_some result ≡ list_any (λ y. T.eq y value.now) self.now }
+        ensures within { IfSome result (λ i. i < length self.now) }
+        ensures value { IfSome result
+            (λ i. HoldsAt (λ y. T.eq y value.now ≡ true) self.now i) }
+    {
+        match self.values.binary_search(value) {
+            Ok(at) => Some(at),
+            Err(_) => None,
+        }
+    }
+
     /// Whether the value is one of them.
     pub fn has(&self, value: &T) -> bool
         ensures { result ≡ list_any (λ y. T.eq y value.now) self.now }
     {
-        self.values.binary_search(value).is_ok()
+        self.place(value).is_some()
     }
 }

@@ -1,7 +1,7 @@
 -- A value is found by a binary search of a sorted list exactly where the list has it.
-use Rattle.std.proofs.Common.{◌≡◌, ℕ, Bool, false, List, length, get_or, sym, ap, ◌∙◌, arith}
+use Rattle.std.proofs.Common.{Equal, true, ◌≡◌, ℕ, Bool, false, List, length, get_or, sym, ap, ◌∙◌, arith}
 use Rattle.std.specs.Prelude.{Result, Ok, Err, All, IsSorted, is_ok}
-use Rattle.std.specs.List.{list_any}
+use Rattle.std.specs.List.{HoldsAt, list_any}
 use Rattle.std.specs.List.Sorted.{IsBinarySearchResult, IsSearchInRange}
 use Rattle.std.specs.Cmp.{IsTotalOrder}
 use Rattle.std.specs.Ordering.{is_eq}
@@ -23,3 +23,8 @@ found {K = K} R o eq ties xs x (Err i) sorted within point =
     (λ after. sym (ties (get_or xs k d) x) ∙ ap is_eq (parted.1 k d after lt))
     (λ before. sym (ties (get_or xs k d) x) ∙ ap is_eq (parted.0 k d (omega arith) (omega arith))) in
     sym (list_any_none (λ y. eq y x) xs none)
+
+-- where it is found, it is the one that was asked for
+pub found_here : {K : Type 0} (R : K → K → Ordering) (eq : K → K → Bool) → ((a b : K) → is_eq (R a b) ≡ eq a b)
+    → (xs : List K) (x : K) (i : ℕ) → HoldsAt (λ y. R y x ≡ Equal) xs i → HoldsAt (λ y. eq y x ≡ true) xs i
+found_here R eq ties xs x i at = λ d. sym (ties (get_or xs i d) x) ∙ ap is_eq (at d)

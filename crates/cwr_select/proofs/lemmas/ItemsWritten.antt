@@ -1,6 +1,5 @@
 -- Items are written: each is no mistake, no limit refuses it, and a fault of the writer comes in one of them.
-use Rattle.std.proofs.Common.{◌≡◌, ℕ, List, [], ◌∷◌, ◌++◌, Option, refl, sym, ap, subst, ◌∙◌, append_assoc}
-use Rattle.std.proofs.Common.{Bool, false}
+use Rattle.std.proofs.Common.{◌≡◌, ℕ, List, [], ◌∷◌, ◌++◌, Option, refl, sym, ap, subst, ◌∙◌, append_assoc, Bool, false}
 use Rattle.std.specs.Prelude.{◌==◌, ◌≢◌, Result, Ok, Err, if◌then◌else◌}
 use Rattle.std.specs.Option.{option_to_list}
 use Rattle.std.proofs.lemmas.Bool.{eq-eqb, ne_eqb}
@@ -17,8 +16,7 @@ use Rattle.cwr_parts.specs.Steps.Joined.{is_fault_of}
 use Rattle.cwr_parts.specs.Steps.SplitOutputs.{MayPut, PutsOn, blank_end}
 use Rattle.cwr_parts.proofs.lemmas.JoiningOn.{records_more}
 use Rattle.cwr_parts.proofs.lemmas.PutItems as puts
-use Rattle.cwr_parts.proofs.lemmas.PutItems.{Judged}
-use Rattle.cwr_parts.proofs.lemmas.PutItems.{puts_more}
+use Rattle.cwr_parts.proofs.lemmas.PutItems.{Judged, puts_more}
 use Rattle.cwr_parts.proofs.lemmas.OutputAdded.{all_added}
 use Rattle.cwr_select.specs.declared.held.Held.{Held}
 use Rattle.cwr_select.specs.Steps.Held.{end_with}

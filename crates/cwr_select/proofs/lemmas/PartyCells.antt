@@ -1,8 +1,7 @@
 -- The cells of a record that have IPI name numbers, by the fields of its kind.
 use Prim.Native.String.{String}
 use Rattle.std.proofs.Common.{◌≡◌, ℕ, zero, suc, ◌<◌, Bool, true, false, cond, List, [], ◌∷◌, length, Some, None, refl, sym, ap}
-use Rattle.std.proofs.Common.{ap₂, subst}
-use Rattle.std.proofs.Common.{◌∙◌, arith}
+use Rattle.std.proofs.Common.{ap₂, subst, ◌∙◌, arith}
 use Rattle.std.proofs.lemmas.Bool.{ne_eqb}
 use Rattle.std.specs.Prelude.{◌==◌, ◌≢◌, ◌||◌, codes, find, option_map, slice_get, take, unwrap_or, zip}
 use Rattle.std.specs.List.{list_any}

@@ -15,8 +15,7 @@ use Rattle.cwr_shape.specs.declared.symbols.Symbol.{Symbol}
 use Rattle.cwr_shape.specs.declared.symbols.Symbol.TheVariants.{Plain}
 use Rattle.cwr_shape.specs.Format.Outlines.{GroupOutline, group_symbols, symbols_of}
 use Rattle.cwr_values.specs.Format.Values.{GroupValue, TransmissionValue, FitsIn, IsGroup, IsRecordOf, IsTransaction}
-use Rattle.cwr_values.specs.Format.Values.{IsTransmission}
-use Rattle.cwr_values.specs.Format.Values.{outline_of_group, symbol_of, type_of}
+use Rattle.cwr_values.specs.Format.Values.{IsTransmission, outline_of_group, symbol_of, type_of}
 use Rattle.cwr_select.specs.Format.Selections.{Choice, selected, selected_group, selected_groups}
 use Rattle.cwr_select.specs.Format.Selections.{selected_count, selected_transactions, transactions_in, with_groups}
 use Rattle.cwr_select.proofs.lemmas.SelectedItems.{group_first, group_later, has_some, selected_first, selected_later}

@@ -17,8 +17,7 @@ use Rattle.cwr_parts.specs.Steps.SplitOutputs.{blank_end}
 use Rattle.cwr_select.specs.declared.held.Held.{Held}
 use Rattle.cwr_select.specs.Format.Selections.{Choice, selected, selected_foot, selected_group, selected_groups}
 use Rattle.cwr_select.specs.Format.Selections.{selected_count, selected_transactions, transactions_in, with_groups}
-use Rattle.cwr_select.specs.Steps.Held.{end_with, entered, held_after, held_with, items_after, items_before, items_with}
-use Rattle.cwr_select.specs.Steps.Held.{none_held}
+use Rattle.cwr_select.specs.Steps.Held.{end_with, entered, held_after, held_with, items_after, items_before, items_with, none_held}
 use Rattle.cwr_select.specs.Steps.Held.{with_left_out, with_selected}
 
 -- ---- items after items

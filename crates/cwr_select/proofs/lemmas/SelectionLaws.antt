@@ -1,6 +1,6 @@
 -- Laws over what is selected: just what is chosen, with the rest all, and of what was selected all.
 use Rattle.std.proofs.Common.{◌≡◌, ℕ, ◌+◌, ◌<◌, Bool, true, false, not, cond, List, [], ◌∷◌, ◌++◌, length, map, Some}
-use Rattle.std.proofs.Common.{refl, sym, ap, ap₂, subst, ◌∙◌, arith, inl, inr}
+use Rattle.std.proofs.Common.{refl, sym, ap, ap₂, subst, ◌∙◌, arith, inl, inr, append-nil}
 use Rattle.std.specs.Prelude.{filter, if◌then◌else◌}
 use Rattle.std.specs.List.{AllByRecursion, enumerate_from}
 use Rattle.std.specs.Option.{option_map_or}
@@ -14,7 +14,6 @@ use Rattle.cwr_values.specs.Format.Values.{GroupValue, TransmissionValue, FitsIn
 use Rattle.cwr_values.specs.Format.Rows.{canonical_text}
 use Rattle.cwr_judge.specs.Format.Ends.{IsAccepted}
 use Rattle.cwr_judge.proofs.lemmas.Accepted.{canonical_accepted}
-use Rattle.std.proofs.Common.{append-nil}
 use Rattle.cwr_select.specs.Format.Selections.{Choice, selected, selected_foot, selected_group, selected_groups}
 use Rattle.cwr_select.specs.Format.Selections.{selected_transactions, with_groups}
 use Rattle.cwr_select.specs.Format.Laws.{IsMerge, Placed, others, placed_in, selected_of, transactions_of}

@@ -1,6 +1,5 @@
 -- A selection at the end of its input, and at a fault.
-use Rattle.std.proofs.Common.{ap₂}
-use Rattle.std.proofs.Common.{◌≡◌, ℕ, ◌<◌, List, [], ◌∷◌, ◌++◌, length, map, drop, Option, Some, None, false, sym, ap}
+use Rattle.std.proofs.Common.{ap₂, ◌≡◌, ℕ, ◌<◌, List, [], ◌∷◌, ◌++◌, length, map, drop, Option, Some, None, false, sym, ap}
 use Rattle.std.proofs.Common.{subst, ◌∙◌, append-nil}
 use Rattle.std.specs.Prelude.{Result, Ok, Err, IfSome, MatchResult}
 use Rattle.std.specs.List.{flat_map}

@@ -1,6 +1,5 @@
 -- What is selected of a transmission: some of its transactions, and the groups that have any.
-use Rattle.std.specs.Prelude.{ℕ, ◌==◌, nat_lt, Bool, length, map, filter, sum_by, List, [], ◌∷◌, Option, Some, None}
-use Rattle.std.specs.Prelude.{if◌then◌else◌}
+use Rattle.std.specs.Prelude.{ℕ, ◌==◌, nat_lt, Bool, length, map, filter, sum_by, List, [], ◌∷◌, Option, Some, None, if◌then◌else◌}
 use Rattle.std.specs.List.{enumerate_from}
 use Rattle.std.specs.Option.{option_map_or}
 use Rattle.cwr_fields.specs.declared.kinds.Kind.TheVariants as kinds

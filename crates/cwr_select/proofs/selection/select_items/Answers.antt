@@ -1,12 +1,11 @@
 use Rattle.std.proofs.Common.{rules, refl, sym, ap, subst, ◌∙◌, arith}
-use Rattle.std.specs.Prelude.{Result, Ok, Err}
+use Rattle.std.specs.Prelude.{Result, Ok, Err, Option}
 use Rattle.cwr_decode.specs.Steps.Runs.{HasReadAll}
 use Rattle.cwr_decode.proofs.lemmas.ItemsReadSoFar.{none_read, nothing_read_yet}
 use Rattle.cwr_tools.specs.declared.verdicts.ToolFault.{ToolFault}
 use Rattle.cwr_tools.specs.Steps.Verdicts.{StopsAfter}
 use Rattle.cwr_tools.proofs.lemmas.ReportsOn.{same_fault, stops_after}
 use Rattle.cwr_tools.proofs.lemmas.Viewed.{sees_more, sees_none, sees_text}
-use Rattle.std.specs.Prelude.{Option}
 use Rattle.cwr_values.specs.declared.items.Item.{Item}
 use Rattle.cwr_select.specs.Steps.Selecting.{MayTake, SelectsItems}
 use Rattle.cwr_select.proofs.lemmas.SelectingOn.{few_handed_out, item_taken, may_take, next_item, none_yet, opens_so}
