@@ -6,3 +6,5 @@ pub mod Unbegun
 pub mod WorkEnds
 -- What a run leaves under names.
 pub mod Leaves
+-- A run that puts numbers right ends as it may, and leaves what it may.
+pub mod Renumberings

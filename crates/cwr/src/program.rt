@@ -6,11 +6,12 @@ ghost use Rattle.std.specs.IoError.{error_kind};
 ghost use Rattle.std.specs.declared.io.ErrorKind.TheVariants.{OutOfMemory as lacks_memory};
 ghost use Rattle.clap.specs.Values.{kind_of};
 ghost use Rattle.cwr.specs.Format.Endings.{AreStandardTwice, EndsAsAnswers, EndsAsData, EndsAsManual, EndsOnFiles, EndsOnWork, fault_status, status_code};
-ghost use Rattle.cwr.specs.Format.Files.{LeavesOut, LeavesWork, RunsTask, RunsWords};
+ghost use Rattle.cwr.specs.Format.Files.{LeavesOut, LeavesWork, RunsRenumbering, RunsTask, RunsWords};
 ghost use Rattle.cwr.specs.Steps.Tells.{TellsAsked, TellsData, TellsFiles, TellsJudged, TellsRead, TellsWork};
 ghost use Rattle.cwr_files.specs.Format.Faults.{IfErr};
 ghost use Rattle.cwr_files.specs.Format.Files.{Turns};
 ghost use Rattle.cwr_files.specs.Steps.NewFiles.{HasKeptCount};
+ghost use Rattle.cwr_renumber.specs.Steps.Renumbered.{renumbered_text};
 ghost use Rattle.cwr_reports.specs.Format.Endings.{EndsOnRead, advice_asked, advice_in};
 ghost use Rattle.cwr_reports.specs.Format.Exports.{IsExportAt, is_data};
 ghost use Rattle.cwr.specs.Format.Tables.{encoding_of, form_of, table_of};
@@ -34,7 +35,8 @@ use cwr_shape::Level;
 use cwr_tables::Table;
 use cwr_terminal::{Style, Styled};
 use cwr_transform::{
-    Cut, Import, Repair, Union, import_file, import_input, join_files, repair_numbers, split_file,
+    Cut, Import, Repair, Union, import_file, import_input, join_files, repair_file, repair_input,
+    split_file,
 };
 use cwr_words::{
     AcksWords, AdviseWords, CsvWords, JoinWords, JsonWords, Judging, LintWords, RenumberWords,
@@ -70,7 +72,7 @@ pub fn run<
     ensures few { result ≤ 3 }
     // It is that of the task that the words ask for, by what lies under the names that they give, and on standard input, and so is what lies
     // under names then; or they ask for none.
-    ensures runs { RunsWords (map S.text words.now) (I.remaining input) (F.held store.old) (F.held store.new)
+    ensures runs { RunsWords renumbered_text (map S.text words.now) (I.remaining input) (F.held store.old) (F.held store.new)
         (F.making store.old) (F.failures store.old) (F.failures store.new) result }
 {
     match task_of(rt.alloc(), words) {
@@ -353,16 +355,25 @@ fn renumber<'a, S: Store, I: Read + Drop, P: Pace, W: Target + Drop, E: Write>(
     pace: &mut P,
     output: W,
     error: &mut E,
-) -> (W, Result<Status, Stop<'a>>) {
+) -> (W, Result<Status, Stop<'a>>)
+    ensures { RunsRenumbering renumbered_text task.now.limits task.now.whole (Work.Renumber words.now) (I.remaining standard)
+        (S.held store.old) (S.held store.new) (S.making store.old) (S.failures store.old) (S.failures store.new) result.1 }
+{
     let repair = Repair {
         limits: task.limits,
         wanted: wanted_by(task, words.fail_on),
         file: words.file,
-        out: words.out,
         only_new: words.only_new,
         anyway: words.anyway,
     };
-    repair_numbers(store, alloc, &repair, standard, pace, output, error)
+    let input = match open_input(store, words.file, &mut Some(standard), pace) {
+        Ok(input) => input,
+        Err(fault) => return (output, Err(Stop::Fault(fault))),
+    };
+    match words.out {
+        Some(out) => repair_file(store, alloc, &repair, input, out, output, error),
+        None => repair_input(store, alloc, &repair, input, output, error),
+    }
 }
 
 /// Reports on the transmission of the file of that name, or on that on standard input.
@@ -783,7 +794,7 @@ fn carry_out<'a, S: Store, I: Read + Drop, P: Pace, O: Write + Drop, E: Write>(
 ) -> Status
     // It is the status of what came of the work, by what lies under the names that the words give, and on standard input; and what lies
     // there then is what such a run leaves.
-    ensures { RunsTask task.now (I.remaining standard) (S.held store.old) (S.held store.new) (S.making store.old)
+    ensures { RunsTask renumbered_text task.now (I.remaining standard) (S.held store.old) (S.held store.new) (S.making store.old)
         (S.failures store.old) (S.failures store.new) result }
 {
     let Ok(lines) = gathered(alloc, output, Name::StandardOutput) else {
@@ -817,6 +828,8 @@ fn perform<'a, S: Store, I: Read + Drop, P: Pace, W: Target + Drop, E: Write>(
         W.contents lines result.0 result.1 }
     ensures files { S.making store.old ≡ None → LeavesWork task.now.limits task.now.whole task.now.work
         (S.held store.old) (I.remaining standard) (S.failures store.old) (S.failures store.new) result.1 (S.held store.new) }
+    ensures renumbers { RunsRenumbering renumbered_text task.now.limits task.now.whole task.now.work (I.remaining standard)
+        (S.held store.old) (S.held store.new) (S.making store.old) (S.failures store.old) (S.failures store.new) result.1 }
 {
     match &task.work {
         Work::Check(words) => {

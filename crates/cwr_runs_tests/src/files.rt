@@ -8,7 +8,7 @@ use cwr_files::{Fault, MemoryStore, Unwatched, open_input};
 use cwr_json::Encoding;
 use cwr_reports::{Asked, Telling, export, report_several};
 use cwr_shape::Limits;
-use cwr_transform::{Import, Repair, Union, import_file, join_files, repair_numbers};
+use cwr_transform::{Import, Repair, Union, import_file, join_files, repair_file};
 use cwr_worked::texts::{ONE_ACKNOWLEDGEMENT, TWO_GROUPS, canonical};
 use std::io::Cursor;
 use std::process::Abort;
@@ -160,21 +160,54 @@ fn an_input_is_not_written_to(rt: HostRuntime) {
         limits: asked(&rt).limits,
         wanted: asked(&rt).wanted,
         file: Some("good"),
-        out: Some("good"),
         only_new: false,
         anyway: false,
     };
-    let (_, ended) = repair_numbers(
+    let standard = Cursor::new(b"".as_slice());
+    let input = open_input(&mut store, repair.file, &mut Some(standard), Unwatched).expect(
+        &rt,
+        "the input",
+    );
+    let (_, ended) = repair_file(
         &mut store,
         rt.alloc(),
         &repair,
-        Cursor::new(b"".as_slice()),
-        Unwatched,
+        input,
+        "good",
         Counted::new(Vec::new(rt.alloc())),
         &mut Vec::new(rt.alloc()),
     );
     let is_input = matches!(ended, Err(Stop::Fault(Fault::IsInput(_))));
     assert!(rt; is_input, "{ended:?}");
+}
+
+#[test]
+fn numbers_are_put_right_in_a_file(rt: HostRuntime) {
+    let mut store = store(&rt);
+    let repair = Repair {
+        limits: asked(&rt).limits,
+        wanted: asked(&rt).wanted,
+        file: Some("works"),
+        only_new: true,
+        anyway: false,
+    };
+    let standard = Cursor::new(b"".as_slice());
+    let input = open_input(&mut store, repair.file, &mut Some(standard), Unwatched).expect(
+        &rt,
+        "the input",
+    );
+    let (_, ended) = repair_file(
+        &mut store,
+        rt.alloc(),
+        &repair,
+        input,
+        "out",
+        Counted::new(Vec::new(rt.alloc())),
+        &mut Vec::new(rt.alloc()),
+    );
+    assert_eq!(rt; ended, Ok(Status::Good));
+    let works = canonical(rt.alloc(), TWO_GROUPS).expect(&rt, "memory for a text");
+    assert_eq!(rt; text_under(&store, "out"), Some(works.as_slice()));
 }
 
 #[test]

@@ -14,3 +14,7 @@ pub mod JoinsJudged
 pub mod JoinFiles
 -- A join of readers is right of their texts.
 pub mod JoinsRead
+-- What is made of an input whose numbers are put right is right of its text.
+pub mod RepairsJudged
+-- What is left of a run that puts numbers right in a file.
+pub mod RepairFiles

@@ -2,4 +2,5 @@
 pub mod Imports
 pub mod Joins
 pub mod Openings
+pub mod Repairs
 pub mod Splits

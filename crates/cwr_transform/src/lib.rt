@@ -12,5 +12,5 @@ mod splits;
 
 pub use imports::{Import, import_file, import_input};
 pub use joins::{Union, join_files};
-pub use renumberings::{Repair, repair_numbers};
+pub use renumberings::{Repair, repair_file, repair_input};
 pub use splits::{Cut, split_file};

@@ -1,13 +1,23 @@
 //! A transmission whose numbers are put right.
 
-use cwr_devices::{Counted, ReadAhead, Sink, Target};
+ghost use Rattle.std.specs.Prelude.{◌≡◌, ◌&&◌, None, true, false, IfOk};
+ghost use Rattle.std.specs.Result.{is_ok};
+ghost use Rattle.cwr_files.specs.Format.Faults.{IfErr};
+ghost use Rattle.cwr_files.specs.Format.Files.{Turns};
+ghost use Rattle.cwr_files.specs.Steps.Inputs.{remaining_of};
+ghost use Rattle.cwr_renumber.specs.Steps.Renumbered.{renumbered_text};
+ghost use Rattle.cwr_renumber.specs.Steps.Renumberings.{CountsWriter};
+ghost use Rattle.cwr_tools.specs.Format.Watching.{AreFindingsIn, is_reached};
+ghost use Rattle.cwr_transform.specs.Format.Repairs.{IsRepairOf, WritesRepair};
+ghost use Rattle.cwr_transform.specs.Steps.Repairs.{CountsRead, EndsRenumbered, EndsRepaired, HasFailedAs, IsRenumberedOf, IsRightOf, LeavesRepaired, RepairsInput, Rewrites, keeps_repaired, kept_outcome};
+
+use cwr_devices::{Counted, ReadAhead, Sink, Source, Target};
 use cwr_endings::{
     Look, Status, Stop, Wanted, ended_by, follows, hand_on, look_beyond, refuse_out, settle,
     status_by, tell_findings, tell_following, tell_unwritten,
 };
 use cwr_files::{
-    DASH, Fault, Input, Name, Pace, Store, Told, create_output, end_input, gathered, open_input,
-    take_back,
+    DASH, Fault, Input, Name, Pace, Store, Told, create_output, end_input, gathered, take_back,
 };
 use cwr_renumber::{Count, Jump, Jumps, Step, put_renumber_outcome, renumber_viewed};
 use cwr_shape::Limits;
@@ -24,9 +34,7 @@ pub struct Repair<'a> {
     pub wanted: Wanted,
     /// The name of the transmission's file, or none for that on standard input.
     pub file: Option<&'a str>,
-    /// The name of the file that is written, or none for standard output.
-    pub out: Option<&'a str>,
-    /// That file may replace none.
+    /// A file that is written may replace none.
     pub only_new: bool,
     /// Numbers are put right also where records may have come into the transaction or the group before theirs.
     pub anyway: bool,
@@ -51,7 +59,9 @@ struct Repaired<'a> {
 impl Repaired<'_> {
     /// Whether what was written is what is wanted: a transmission without an unwanted finding, in which records didn't come into the
     /// transaction or the group before theirs, and where nothing may follow it in the input nothing does.
-    fn is_wanted(&self, whole: bool) -> bool {
+    fn is_wanted(&self, whole: bool) -> bool
+        ensures { result ≡ keeps_repaired whole self.now }
+    {
         let alone = match &self.look {
             Look::Found(trailing) => !follows(trailing),
             Look::Failed => false,
@@ -162,6 +172,78 @@ fn tell_mixed<E: Write>(error: &mut E, name: Name<'_>) {
     );
 }
 
+/// What came of writing the transmission of a reader with its numbers put right.
+#[derive(Drop)]
+struct Rewritten {
+    outcome: Result<JoinReport, ToolFault>,
+    /// What follows the transmission.
+    look: Look,
+    /// The findings in it.
+    count: FindingCount,
+    /// Where numbers don't go on.
+    jumps: Jumps,
+}
+
+/// Writes the transmission of a reader with its numbers put right, counts the findings in it, and looks what follows it there. The writer
+/// comes back.
+fn rewrite<R: Source, W: Target + Drop>(
+    alloc: Global,
+    limits: Limits,
+    reader: &mut R,
+    writer: W,
+) -> (W, Rewritten)
+    ensures rewrites { Rewrites renumbered_text limits (AreFindingsIn result.1.count) (R.remaining reader.old) W.contents writer
+        result.0 result.1.outcome }
+    ensures reads { HasFailedAs result.1.look (R.failures reader.new) }
+    ensures writer_failures { CountsWriter result.1.outcome (W.failures writer) (W.failures result.0) }
+{
+    let mut view = FindingView::new(alloc);
+    let (writer, outcome, jumps) = renumber_viewed(alloc, limits, reader, &mut view, writer);
+    let (outcome, look) = look_after(reader, outcome, view.lacks_memory);
+    let rewritten = Rewritten {
+        outcome,
+        look,
+        count: view.count,
+        jumps,
+    };
+    (writer, rewritten)
+}
+
+/// Looks what follows a transmission that was written. Where memory was refused for what was seen of it, that is the answer.
+fn look_after<R: Source>(
+    reader: &mut R,
+    outcome: Result<JoinReport, ToolFault>,
+    lacks_memory: bool,
+) -> (Result<JoinReport, ToolFault>, Look)
+    ensures outcome { result.0 ≡ kept_outcome lacks_memory outcome }
+    ensures reads { HasFailedAs result.1 (R.failures reader.new) }
+{
+    match outcome {
+        Ok(_) if lacks_memory => (Err(ToolFault::Memory), Look::Unasked),
+        Ok(_) => (outcome, look_beyond(reader)),
+        Err(_) => (outcome, Look::Unasked),
+    }
+}
+
+/// Whether a transmission was written in which a finding is unwanted.
+fn finds_unwanted(
+    outcome: &Result<JoinReport, ToolFault>,
+    count: &FindingCount,
+    wanted: Wanted,
+) -> bool
+    ensures { result ≡ (is_ok outcome.now && is_reached wanted.fail_on count.now.worst) }
+{
+    outcome.is_ok() && count.reaches(wanted.fail_on)
+}
+
+/// Whether a transmission was written though by its numbers records may have come into the transaction or the group before theirs, and that
+/// is unwanted.
+fn mixes_unwanted(outcome: &Result<JoinReport, ToolFault>, jumps: &Jumps, anyway: bool) -> bool
+    ensures { result ≡ true → anyway ≡ false }
+{
+    outcome.is_ok() && jumps.are_mixed && !anyway
+}
+
 /// Writes the transmission of an input with its numbers put right, and looks what follows it there. The writer comes back.
 fn run<'a, S: Store, I: Read + Drop, P: Pace + Drop, W: Target + Drop, E: Write>(
     store: &mut S,
@@ -170,27 +252,27 @@ fn run<'a, S: Store, I: Read + Drop, P: Pace + Drop, W: Target + Drop, E: Write>
     input: Input<'a, S::Reader, I, P>,
     writer: W,
     error: &mut E,
-) -> (Repaired<'a>, W) {
+) -> (Repaired<'a>, W)
+    ensures repairs { RepairsInput renumbered_text repair.now.limits repair.now.wanted
+        (remaining_of S.Reader.remaining I.remaining input.entry) W.contents writer result.1 result.0 }
+    ensures judged { IsRightOf renumbered_text repair.now.limits repair.now.wanted repair.now.anyway
+        (remaining_of S.Reader.remaining I.remaining input.entry) result.0 }
+    ensures failures { CountsWriter result.0.outcome (W.failures writer) (W.failures result.1) }
+    ensures reads { CountsRead result.0.look (S.failures store.old) (S.failures store.new) }
+    ensures kept { S.held store.new ≡ S.held store.old }
+    ensures making { S.making store.new ≡ S.making store.old }
+{
     let mut reader = ReadAhead::new(input);
-    let mut view = FindingView::new(alloc);
-    let (writer, outcome, jumps) = renumber_viewed(
-        alloc,
-        repair.limits,
-        &mut reader,
-        &mut view,
-        writer,
-    );
-    let outcome = match outcome {
-        Ok(_) if view.lacks_memory => Err(ToolFault::Memory),
-        outcome => outcome,
-    };
-    let look = match outcome {
-        Ok(_) => look_beyond(&mut reader),
-        Err(_) => Look::Unasked,
-    };
+    let (writer, rewritten) = rewrite(alloc, repair.limits, &mut reader, writer);
+    let Rewritten {
+        outcome,
+        look,
+        count,
+        jumps,
+    } = rewritten;
     let read = end_input(store, reader);
     tell_jumps(error, read.name, &jumps);
-    let mixed = outcome.is_ok() && jumps.are_mixed && !repair.anyway;
+    let mixed = mixes_unwanted(&outcome, &jumps, repair.anyway);
     if mixed {
         tell_mixed(error, read.name);
     }
@@ -198,9 +280,9 @@ fn run<'a, S: Store, I: Read + Drop, P: Pace + Drop, W: Target + Drop, E: Write>
     let repaired = Repaired {
         outcome,
         look,
-        found: outcome.is_ok() && view.count.reaches(repair.wanted.fail_on),
+        found: finds_unwanted(&outcome, &count, repair.wanted),
         mixed,
-        count: view.count,
+        count,
         read,
     };
     (repaired, writer)
@@ -224,7 +306,9 @@ fn ending<'a>(
     whole: bool,
     written: Stop<'a>,
     made: Stop<'a>,
-) -> Result<Status, Stop<'a>> {
+) -> Result<Status, Stop<'a>>
+    ensures { EndsRepaired whole written.entry made.entry repaired.entry.outcome repaired.entry result }
+{
     let is_wanted = repaired.is_wanted(whole);
     match (repaired.outcome, repaired.look) {
         (Ok(_), Look::Failed) if !is_wanted => Err(Stop::Fault(Fault::Read(repaired.read))),
@@ -243,18 +327,28 @@ struct RepairedFile<'a> {
     is_kept: bool,
 }
 
-/// Writes the transmission of an input with its numbers put right to a file.
-fn write_repaired<'a, S: Store, I: Read + Drop, P: Pace + Drop, E: Write>(
+/// Writes the transmission of an input with its numbers put right to a file, which gets its name where that is what is wanted.
+fn make_repaired<'a, S: Store, I: Read + Drop, P: Pace + Drop, E: Write>(
     store: &mut S,
     alloc: Global,
     repair: &Repair<'a>,
     input: Input<'a, S::Reader, I, P>,
     out: &'a str,
     error: &mut E,
-) -> Result<RepairedFile<'a>, Fault<'a>> {
-    refuse_out(store, out, repair.only_new, &[repair.file.unwrap_or(DASH)])?;
+) -> Result<RepairedFile<'a>, Fault<'a>>
+    ensures judged { IfOk result (λ file. IsRightOf renumbered_text repair.now.limits repair.now.wanted repair.now.anyway
+        (remaining_of S.Reader.remaining I.remaining input.entry) file.repaired) }
+    ensures named { IfOk result (λ file. file.is_kept ≡ keeps_repaired repair.now.wanted.whole file.repaired) }
+    ensures files { S.making store.old ≡ None → Turns (S.held store.old) (S.held store.new)
+        (LeavesRepaired out.now repair.now.wanted.whole (S.failures store.old) (S.failures store.new)
+        (IsRepairOf renumbered_text repair.now.limits repair.now.wanted (remaining_of S.Reader.remaining I.remaining input.entry))
+        result) }
+{
+    let (made, file) = match create_output(store, alloc, out) {
+        Ok(made) => made,
+        Err(fault) => return Err(fault),
+    };
     let name = Name::File(out);
-    let (made, file) = create_output(store, alloc, out)?;
     let Ok(writer) = gathered(alloc, file, name) else {
         made.discard(store, 0);
         return Err(Fault::Memory);
@@ -262,18 +356,46 @@ fn write_repaired<'a, S: Store, I: Read + Drop, P: Pace + Drop, E: Write>(
     let (repaired, writer) = run(store, alloc, repair, input, writer, &mut *error);
     let (told, written) = take_back(writer);
     let is_kept = repaired.is_wanted(repair.wanted.whole);
-    settle(store, made, written, out, is_kept, &mut *error)?;
-    tell_count(error, name, &repaired, is_kept);
-    Ok(RepairedFile {
-        repaired,
-        written: told,
-        is_kept,
-    })
+    match settle(store, made, written, out, is_kept, &mut *error) {
+        Ok(()) => {
+            tell_count(error, name, &repaired, is_kept);
+            Ok(RepairedFile {
+                repaired,
+                written: told,
+                is_kept,
+            })
+        }
+        Err(fault) => Err(fault),
+    }
 }
 
-/// Writes the transmission of an input with its numbers put right to a file, and the line that says how that ended to the output, which
-/// comes back.
-fn repair_to_file<'a, S: Store, I: Read + Drop, P: Pace + Drop, W: Target, E: Write>(
+/// Writes the transmission of an input with its numbers put right to a file that may be written.
+fn write_repaired<'a, S: Store, I: Read + Drop, P: Pace + Drop, E: Write>(
+    store: &mut S,
+    alloc: Global,
+    repair: &Repair<'a>,
+    input: Input<'a, S::Reader, I, P>,
+    out: &'a str,
+    error: &mut E,
+) -> Result<RepairedFile<'a>, Fault<'a>>
+    ensures judged { IfOk result (λ file. IsRightOf renumbered_text repair.now.limits repair.now.wanted repair.now.anyway
+        (remaining_of S.Reader.remaining I.remaining input.entry) file.repaired) }
+    ensures named { IfOk result (λ file. file.is_kept ≡ keeps_repaired repair.now.wanted.whole file.repaired) }
+    ensures files { S.making store.old ≡ None → Turns (S.held store.old) (S.held store.new)
+        (LeavesRepaired out.now repair.now.wanted.whole (S.failures store.old) (S.failures store.new)
+        (IsRepairOf renumbered_text repair.now.limits repair.now.wanted (remaining_of S.Reader.remaining I.remaining input.entry))
+        result) }
+{
+    let input_word = repair.file.unwrap_or(DASH);
+    if let Err(fault) = refuse_out(store, out, repair.only_new, &[input_word]) {
+        return Err(fault);
+    }
+    make_repaired(store, alloc, repair, input, out, error)
+}
+
+/// Writes the transmission of an input with its numbers put right to the file of that name, and the line that says how that ended to the
+/// output, which comes back: none where what was written isn't what is wanted.
+pub fn repair_file<'a, S: Store, I: Read + Drop, P: Pace + Drop, W: Target, E: Write>(
     store: &mut S,
     alloc: Global,
     repair: &Repair<'a>,
@@ -281,48 +403,61 @@ fn repair_to_file<'a, S: Store, I: Read + Drop, P: Pace + Drop, W: Target, E: Wr
     out: &'a str,
     lines: W,
     error: &mut E,
-) -> (W, Result<Status, Stop<'a>>) {
-    let RepairedFile {
-        repaired,
-        written,
-        is_kept,
-    } = match write_repaired(store, alloc, repair, input, out, error) {
-        Ok(repaired) => repaired,
+) -> (W, Result<Status, Stop<'a>>)
+    ensures ends { EndsRenumbered S.Reader.remaining I.remaining repair.now.limits repair.now.wanted repair.now.anyway
+        input.entry result.1 }
+    // Where it ends well the file holds the transmission with its numbers put right, and nothing else changed; else nothing did.
+    ensures files { S.making store.old ≡ None → Turns (S.held store.old) (S.held store.new)
+        (WritesRepair out.now (S.failures store.old) (S.failures store.new)
+        (IsRenumberedOf S.Reader.remaining I.remaining repair.now.limits repair.now.wanted input.entry) result.1) }
+{
+    let file = match write_repaired(store, alloc, repair, input, out, error) {
+        Ok(file) => file,
         Err(fault) => return (lines, Err(Stop::Fault(fault))),
     };
-    let whole = repair.wanted.whole;
-    let written = Stop::Fault(Fault::Write(written));
-    let made = Stop::Fault(Fault::Output(Name::File(out), None));
-    if !is_kept && repaired.outcome.is_ok() {
-        return (lines, ending(repaired, whole, written, made));
-    }
-    let mut sink = Sink::new(lines);
-    let put = put_renumber_outcome(&repaired.outcome, &mut sink);
-    let (lines, handed) = hand_on(put, sink);
+    let (lines, handed) = put_repaired(&file, lines);
     match handed {
-        Ok(()) => (lines, ending(repaired, whole, written, made)),
+        Ok(()) => (lines, file_ending(file, repair.wanted.whole, out)),
         Err(stop) => (lines, Err(stop)),
     }
 }
 
-/// Writes the transmission of a file, or of standard input, with its numbers put right: to a file, or to the output. There the line
-/// that says how that ended goes to standard error. The output comes back.
-pub fn repair_numbers<'a, S: Store, I: Read + Drop, P: Pace + Drop, W: Target + Drop, E: Write>(
+/// Writes the line that says how a run to a file ended: none where what was written isn't what is wanted.
+fn put_repaired<'a, W: Target>(file: &RepairedFile<'_>, lines: W) -> (W, Result<(), Stop<'a>>)
+    ensures { IfErr result.1 (λ stop. stop ≡ Stop.Output) }
+{
+    if !file.is_kept && file.repaired.outcome.is_ok() {
+        return (lines, Ok(()));
+    }
+    let mut sink = Sink::new(lines);
+    let put = put_renumber_outcome(&file.repaired.outcome, &mut sink);
+    hand_on(put, sink)
+}
+
+/// How a run to the file of that name ends.
+fn file_ending<'a>(file: RepairedFile<'a>, whole: bool, out: &'a str) -> Result<Status, Stop<'a>>
+    ensures { EndsRepaired whole (Stop.Fault (Fault.Write file.entry.written)) (Stop.Fault (Fault.Output (Name.File out.entry) None))
+        file.entry.repaired.outcome file.entry.repaired result }
+{
+    let written = Stop::Fault(Fault::Write(file.written));
+    let made = Stop::Fault(Fault::Output(Name::File(out), None));
+    ending(file.repaired, whole, written, made)
+}
+
+/// Writes the transmission of an input with its numbers put right to the output, and the line that says how that ended to standard error.
+/// The output comes back.
+pub fn repair_input<'a, S: Store, I: Read + Drop, P: Pace + Drop, W: Target + Drop, E: Write>(
     store: &mut S,
     alloc: Global,
     repair: &Repair<'a>,
-    standard: I,
-    pace: P,
+    input: Input<'a, S::Reader, I, P>,
     output: W,
     error: &mut E,
-) -> (W, Result<Status, Stop<'a>>) {
-    let input = match open_input(store, repair.file, &mut Some(standard), pace) {
-        Ok(input) => input,
-        Err(fault) => return (output, Err(Stop::Fault(fault))),
-    };
-    if let Some(out) = repair.out {
-        return repair_to_file(store, alloc, repair, input, out, output, error);
-    }
+) -> (W, Result<Status, Stop<'a>>)
+    ensures ends { EndsRenumbered S.Reader.remaining I.remaining repair.now.limits repair.now.wanted repair.now.anyway
+        input.entry result.1 }
+    ensures kept { S.held store.new ≡ S.held store.old }
+{
     let (repaired, mut output) = run(store, alloc, repair, input, output, &mut *error);
     // What is left is written before that is told, where it can be.
     let _ = output.flush();

@@ -8,7 +8,7 @@ use Rattle.cwr_shape.specs.declared.limits.Limits.{Limits}
 use Rattle.cwr_values.specs.declared.items.Item.{Item}
 use Rattle.cwr_judge.specs.Format.Items.{value_items}
 use Rattle.cwr_tools.specs.Format.Viewing.{SeesText}
-use Rattle.cwr_values.specs.Format.Values.{GroupValue, TransmissionValue}
+use Rattle.cwr_values.specs.Format.Values.{FitsIn, GroupValue, IsTransmission, TransmissionValue}
 use Rattle.cwr_values.specs.Format.Rows.{canonical_text}
 use Rattle.cwr_judge.specs.Format.Ends.{IsAccepted, IsRefused, IsTruncated}
 use Rattle.cwr_tools.specs.declared.verdicts.JoinFault.{JoinFault}
@@ -28,36 +28,43 @@ same_value v = ap (λ (gs : List GroupValue). record { opening = v.opening; grou
 
 -- ---- what is written of one input
 
--- the text is accepted, and written
-abbrev IsWritten : Limits → Option (List ℕ) → Option (List ℕ) → JoinReport → List ℕ → Type 0
-IsWritten limits before now report text =
-    (v : TransmissionValue) × (n : ℕ) × IsAccepted limits text v n × Appends before now (canonical_text v)
-    × (report ≡ join_report 1 v)
+-- the text is accepted as the transmission
+abbrev IsAcceptedAs : Limits → TransmissionValue → List ℕ → Type 0
+IsAcceptedAs limits v text = (n : ℕ) × IsAccepted limits text v n
 
-written_by : (limits : Limits) (o after before now : Option (List ℕ)) (v u : TransmissionValue) (n : ℕ) (report : JoinReport)
-    → IfSome o (λ text. IsAccepted limits text v n × (after ≡ Some (drop n text)))
-    → u ≡ v → Appends before now (canonical_text u) → report ≡ join_report 1 u → IfSome o (IsWritten limits before now report)
-written_by limits None after before now v u n report k same w r = tt
-written_by limits (Some text) after before now v u n report k same w r =
-    (v, n, k.0, subst (λ (x : TransmissionValue). Appends before now (canonical_text x)) same w, r ∙ ap (join_report 1) same)
+-- a transmission is written, as which the text is accepted
+abbrev IsWritten : Limits → Option (List ℕ) → Option (List ℕ) → JoinReport → Option (List ℕ) → Type 0
+IsWritten limits before now report o =
+    (v : TransmissionValue) × IsTransmission v × FitsIn limits v × Appends before now (canonical_text v) × (report ≡ join_report 1 v)
+    × IfSome o (IsAcceptedAs limits v)
+
+accepted_as : (limits : Limits) (o after : Option (List ℕ)) (v u : TransmissionValue) (n : ℕ)
+    → IfSome o (λ text. IsAccepted limits text v n × (after ≡ Some (drop n text))) → u ≡ v → IfSome o (IsAcceptedAs limits u)
+accepted_as limits None after v u n k same = tt
+accepted_as limits (Some text) after v u n k same = subst (λ (x : TransmissionValue). IsAcceptedAs limits x text) (sym same) (n, k.0)
 
 all_of_one : {R W : Type 0} (limits : Limits) (remaining : R → Option (List ℕ)) (failures : R → ℕ)
     (contents : W → Option (List ℕ)) (old : R) (after : List R) (before now : W) (report : JoinReport)
     → JoinsAll limits remaining failures contents (old ∷ []) after before now report
-    → IfSome (remaining old) (IsWritten limits (contents before) (contents now) report)
+    → IsWritten limits (contents before) (contents now) report (remaining old)
 all_of_one {R = R} {W = W} limits remaining failures contents old after before now report h =
     by h.inputs after h.taken h.joined_of
   where
     by : (inputs : List TransmissionValue) (after : List R) → TakeInputs limits remaining failures (old ∷ []) inputs after
-        → AreJoined inputs h.joined → IfSome (remaining old) (IsWritten limits (contents before) (contents now) report)
+        → AreJoined inputs h.joined → IsWritten limits (contents before) (contents now) report (remaining old)
     by [] after t j = absurd j
     by (v ∷ []) [] t j = absurd t
     by (v ∷ w ∷ inputs) [] t j = absurd t
     by (v ∷ w ∷ inputs) (new ∷ news) t j = absurd t.1
     by (v ∷ []) (new ∷ m ∷ news) t j = absurd t.1
-    by (v ∷ []) (new ∷ []) t j =
-        written_by limits (remaining old) (remaining new) (contents before) (contents now) v h.joined (length t.0.takes.input)
-        report t.0.takes.front (j ∙ same_value v) h.written h.reported
+    by (v ∷ []) (new ∷ []) t j = (
+      h.joined,
+      h.whole,
+      h.within,
+      h.written,
+      h.reported,
+      accepted_as limits (remaining old) (remaining new) v h.joined (length t.0.takes.input) t.0.takes.front (j ∙ same_value v),
+    )
 
 -- ---- why one input isn't written
 
@@ -122,9 +129,15 @@ renumbers_by : {R W : Type 0} (limits : Limits) (remaining : R → Option (List 
     → JoinsTexts limits remaining failures contents (old ∷ []) after before now joined
     → Renumbers limits o contents before now (of_one joined)
 renumbers_by limits remaining failures contents old after before now o (Ok report) same h =
-    of_text o (IsWritten limits (contents before) (contents now) report)
-    (subst (λ (x : Option (List ℕ)). IfSome x (IsWritten limits (contents before) (contents now) report)) same
-    (all_of_one limits remaining failures contents old after before now report h))
+    let all = all_of_one limits remaining failures contents old after before now report h in (
+      all.0,
+      all.1,
+      all.2,
+      all.3,
+      all.4,
+      of_text o (IsAcceptedAs limits all.0)
+          (subst (λ (x : Option (List ℕ)). IfSome x (IsAcceptedAs limits all.0)) same all.5),
+    )
 renumbers_by limits remaining failures contents old after before now o (Err stopped) same h =
     fault_of_text limits o contents before now stopped.fault
     (subst (λ (x : Option (List ℕ)). FaultOn limits x stopped.fault) same

@@ -3,7 +3,7 @@ use Rattle.std.specs.Prelude.{◌≡◌, ◌⊎◌, ℕ, List, [], Option, IfSom
 use Rattle.std.specs.Io.KnownBytes.{Appends}
 use Rattle.cwr_shape.specs.declared.limits.Limits.{Limits}
 use Rattle.cwr_values.specs.declared.items.Item.{Item}
-use Rattle.cwr_values.specs.Format.Values.{TransmissionValue}
+use Rattle.cwr_values.specs.Format.Values.{FitsIn, IsTransmission, TransmissionValue}
 use Rattle.cwr_values.specs.Format.Rows.{canonical_text}
 use Rattle.cwr_judge.specs.Format.Ends.{IsAccepted, IsRefused, IsTruncated}
 use Rattle.cwr_tools.specs.declared.verdicts.JoinFault.{JoinFault}
@@ -16,13 +16,13 @@ use Rattle.cwr_parts.specs.Format.Joins.{CountsOutputFault, IsOfDevice, IsWholeT
 use Rattle.cwr_parts.specs.Format.Told.{ComeBefore, JoinsUpTo, JoinsUpToLimit}
 use Rattle.cwr_renumber.specs.Steps.Renumbered.{renumbered_text}
 
--- Where the text with its numbers put right is accepted as a transmission, the canonical text of that one is written, and the report
--- has its numbers. What is refused is that text, or it is truncated.
+-- The canonical text of a transmission within the limits is written, and the report has its numbers. As that one the text with its numbers
+-- put right is accepted. What is refused is that text, or it is truncated.
 abbrev pub Renumbers : {W : Type 0} → Limits → Option (List ℕ) → (W → Option (List ℕ)) → W → W → Result JoinReport ToolFault
     → Type 0
 Renumbers limits before contents old new (Ok report) =
-    IfSome before (λ text. (v : TransmissionValue) × (n : ℕ) × IsAccepted limits (renumbered_text text) v n
-    × Appends (contents old) (contents new) (canonical_text v) × (report ≡ join_report 1 v))
+    (v : TransmissionValue) × IsTransmission v × FitsIn limits v × Appends (contents old) (contents new) (canonical_text v)
+    × (report ≡ join_report 1 v) × IfSome before (λ text. (n : ℕ) × IsAccepted limits (renumbered_text text) v n)
 Renumbers limits before contents old new (Err (Refused refusal)) =
     IfSome before (λ text. IsRefused limits (renumbered_text text) refusal)
 Renumbers limits before contents old new (Err (Truncated records)) =
