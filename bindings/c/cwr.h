@@ -1,4 +1,5 @@
-/// CWR 2.1 from C: checks, findings, an index of the records of a text in memory, reports, layouts and writing.
+/// CWR 2.1 from C: checks, findings, an index of the records of a text in memory, reports, layouts, selecting
+/// and writing.
 ///
 /// Link with `-lcwr`, or with `libcwr.a`. The library keeps no state, opens no file and prints nothing: all that a call reads
 /// or writes is handed in, and nothing of it is kept after the call. Any number of threads may call at once. What each call
@@ -34,7 +35,8 @@ uint32_t cwr_interface(void);
 #define CWR_MOST_RECORDS_OF_TRANSACTION 999999u
 #define CWR_NO_LIMITS CWR_MOST_RECORDS, CWR_MOST_GROUPS, CWR_MOST_RECORDS_OF_TRANSACTION
 
-/// The bytes of stack that a call takes at most, whatever the text; of cwr_write and cwr_write_json, and of cwr_report.
+/// The bytes of stack that a call takes at most, whatever the text; of those that write a
+/// transmission, and of cwr_report.
 /// That is measured, and not proved.
 #define CWR_STACK (64u << 10)
 #define CWR_STACK_OF_WRITING (64u << 10)
@@ -180,6 +182,20 @@ size_t cwr_code(const uint8_t *kind, size_t kind_size, uint8_t j, uint32_t i, ui
 /// The line of a record of the kind in which nothing was set, into `line`: the kind's letters, the constants, and spaces.
 /// Answers how many bytes it has, at most 1024, and 0 where the letters name no kind.
 size_t cwr_blank(const uint8_t *kind, size_t kind_size, uint8_t *line, size_t line_size);
+
+/// The place of a transaction.
+typedef struct cwr_place {
+    uint32_t group;       ///< of its group, from 1
+    uint32_t transaction; ///< its own in that group, from 0: its transaction sequence
+} cwr_place;
+
+/// The canonical text of the text's transactions that have these places, as a transmission of their own, into `room`, and the
+/// verdict: good, with how many transactions these are, and no other number. Places that no transaction has are passed over;
+/// where none has any there is no text. The places come in any order, and one that stands twice is one. The transmission has HDR, of each
+/// group with such a transaction GRH and these in their order, and GRT, whose total is left out where a transaction is. Answers how
+/// many bytes the text has. Memory holds it, and the places.
+size_t cwr_select(const uint8_t *text, size_t text_size, uint32_t records, uint32_t groups, uint32_t transaction,
+                  const cwr_place *places, size_t places_size, uint8_t *room, size_t room_size, cwr_verdict *verdict);
 
 /// How writing ended.
 enum cwr_writing {

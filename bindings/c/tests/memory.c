@@ -6,9 +6,9 @@
 #include "files.h"
 #include <string.h>
 
-enum { CHECK, FINDINGS, REPORT, WRITE = REPORT + 7, WRITE_JSON, CALLS };
+enum { CHECK, FINDINGS, SELECT, REPORT, WRITE = REPORT + 7, WRITE_JSON, CALLS };
 
-static const char *names[CALLS] = {"cwr_check", "cwr_findings", "cwr_report 0", "cwr_report 1", "cwr_report 2", "cwr_report 3", "cwr_report 4", "cwr_report 5", "cwr_report 6", "cwr_write", "cwr_write_json"};
+static const char *names[CALLS] = {"cwr_check", "cwr_findings", "cwr_select", "cwr_report 0", "cwr_report 1", "cwr_report 2", "cwr_report 3", "cwr_report 4", "cwr_report 5", "cwr_report 6", "cwr_write", "cwr_write_json"};
 
 /// What a call answers: how many bytes or findings there are, how it ended, and the room with a few bytes behind it.
 typedef struct {
@@ -19,6 +19,9 @@ typedef struct {
 } answer;
 
 #define BEHIND 64
+
+/// The first transaction of each of two groups.
+static const cwr_place places[] = {{2, 0}, {1, 0}};
 
 static unsigned long asked, refused, kept, tried;
 static int after, wrong;
@@ -67,6 +70,8 @@ static void call(int what, const uint8_t *text, size_t size, unsigned long numbe
         cwr_check(text, size, CWR_NO_LIMITS, &it->verdict);
     else if (what == FINDINGS)
         it->count = cwr_findings(text, size, CWR_NO_LIMITS, (cwr_finding *)it->room, it->space / sizeof(cwr_finding), &it->verdict);
+    else if (what == SELECT)
+        it->count = cwr_select(text, size, CWR_NO_LIMITS, places, 2, it->room, it->space, &it->verdict);
     else if (what < WRITE)
         it->count = cwr_report((uint32_t)(what - REPORT), text, size, CWR_NO_LIMITS, (const uint8_t *)"it", 2, it->room, it->space, &it->verdict);
     else if (what == WRITE)

@@ -25,6 +25,9 @@ static void *small(void *none) {
 
 static void *writing(void *none) {
     cwr_written told;
+    cwr_verdict verdict;
+    cwr_place first = {1, 0};
+    cwr_select(text, size, CWR_NO_LIMITS, &first, 1, room, sizeof room, &verdict);
     cwr_write(text, size, CWR_NO_LIMITS, room, sizeof room, &told);
     cwr_write_json(text, size, CWR_NO_LIMITS, room, sizeof room, &told);
     return none;

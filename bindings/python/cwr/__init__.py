@@ -8,6 +8,7 @@
             print(record["last name"], record.share("pr share"))   # DOE 33.05 (percent)
     print(cwr.explain("CW240001PB_052.V21"))
     text = cwr.write(records)                         # with all numbers made
+    text = cwr.select("CW240001PB_052.V21", lambda transaction: transaction.kind == "NWR")
 
 A source is a path, or bytes that are there already. Sizes are bytes, numbers of records and fields count from 1, shares are in
 percent. A text is judged up to the end of its transmission; what follows isn't looked at.
@@ -17,6 +18,7 @@ from ._layouts import KINDS, Field, Type, layout
 from ._limits import NO_LIMITS
 from ._records import Place, Record, Transaction
 from ._reports import explain, lint, report, show, to_json
+from ._selecting import select
 from ._verdicts import Ending, Error, Finding, Level, RefusedError, TruncatedError, Verdict, WriteError
 from ._writing import from_json, write
 
@@ -47,6 +49,7 @@ __all__ = [
     "lint",
     "read",
     "report",
+    "select",
     "show",
     "to_json",
     "write",

@@ -176,6 +176,11 @@ class Document(Sequence[Transaction]):
 _OUTSIDE = frozenset((b"HDR", b"GRH", b"GRT", b"TRL"))
 
 
+def text_of(document: Document) -> Text:
+    """The text that a document is of."""
+    return document._text
+
+
 def _document_of(text: bytes, name: str, limits: Limits) -> Document:
     """The document of a text that has come from another process, under the name that it had there."""
     found = Document(text, limits)

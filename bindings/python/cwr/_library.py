@@ -31,6 +31,7 @@ class Written(ctypes.Structure):
     _fields_ = [("ending", _u32), ("detail", _u32), ("line", _u64)]
 
 
+PLACE = "@II"  # `cwr_place`: group, transaction
 LINE = "@NNII"  # `cwr_line`, as struct has it: offset, length, group, transaction
 FINDING = "@IIII"  # `cwr_finding`: record, field, rule, level
 
@@ -62,6 +63,7 @@ kind = _call("cwr_kind", _size, _u32, _at, _size)
 field = _call("cwr_field", _size, _at, _size, _u8, _at, _at, _size)
 code = _call("cwr_code", _size, _at, _size, _u8, _u32, _at, _size)
 blank = _call("cwr_blank", _size, _at, _size, _at, _size)
+select = _call("cwr_select", _size, _at, _size, *_LIMITS, _at, _size, _at, _size, _at)
 write = _call("cwr_write", _size, _at, _size, *_LIMITS, _at, _size, _at)
 write_json = _call("cwr_write_json", _size, _at, _size, *_LIMITS, _at, _size, _at)
 

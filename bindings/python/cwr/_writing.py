@@ -32,7 +32,7 @@ def _written(call: Callable[..., int], text: bytes, size: int, limits: Limits) -
         size = count
 
 
-def _put(text: bytes, path: Optional[Path]) -> bytes:
+def put(text: bytes, path: Optional[Path]) -> bytes:
     """Writes a file under its name once it is whole. What was written of it goes where it doesn't become so."""
     if path is not None:
         name = os.fsdecode(path)
@@ -89,7 +89,7 @@ def write(
         kind = f" ({lines[found.line - 1][:3].decode('latin-1')})" if 0 < found.line <= len(lines) else ""
         why = _why_no_record(lines[found.line - 1]) if found.ending == 1 and kind else ""
         raise WriteError(f"{where}{kind} {words}{f', {why}' if why else ''}", found.line)
-    return _put(text, path)
+    return put(text, path)
 
 
 def from_json(text: Union[str, bytes, bytearray, memoryview], path: Optional[Path] = None, limits: Limits = NO_LIMITS) -> bytes:
@@ -103,4 +103,4 @@ def from_json(text: Union[str, bytes, bytearray, memoryview], path: Optional[Pat
     found, told_text = _written(_library.write_json, lines, 2 * len(lines) + 4096, limits)
     if found.ending:
         raise WriteError(told_text.decode("utf-8", "replace").strip(), found.line)
-    return _put(told_text, path)
+    return put(told_text, path)

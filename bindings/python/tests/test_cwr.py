@@ -529,5 +529,57 @@ class Changed(unittest.TestCase):
         self.assertGreater(asked, 0)
 
 
+class Selecting(unittest.TestCase):
+    """Some transactions of a transmission, as one of their own."""
+
+    def expected(self, document, chosen):
+        """The records of the transactions in these places: of each group that has any its GRH, and a GRT that is blank where some are left out."""
+        records, group, number = [document.record(1)], [], 0
+        for record in document.records():
+            if record.kind == "GRH":
+                group, number = [record], number + 1
+            elif record.kind == "GRT":
+                of_group = [it for it in document if it.group == number]
+                kept = [it for it in of_group if it.place in chosen]
+                if kept:
+                    records += [*group, *kept, record if len(kept) == len(of_group) else cwr.Record("GRT")]
+        return cwr.write(records)
+
+    def test_any_transactions_of_samples(self):
+        draw = random.Random(int(os.environ.get("SEED", "1")))
+        for name in SAMPLES:
+            document = cwr.Document(name)
+            if not document:
+                continue
+            places = [it.place for it in document]
+            self.assertEqual(cwr.select(name, lambda _: True), cwr.write(document.records()), name)
+            self.assertEqual(cwr.select(name, lambda _: False), b"", name)
+            for _ in range(5):
+                chosen = {it for it in places if draw.random() < 0.5}
+                text = cwr.select(name, lambda it: it.place in chosen)
+                self.assertEqual(text, self.expected(document, chosen) if chosen else b"", (name, chosen))
+                if chosen:
+                    self.assertEqual(len(cwr.read(text)), len(chosen))
+                    self.assertEqual(cwr.select(text, lambda _: True), text)
+
+    def test_a_file_is_written_where_something_is_chosen(self):
+        with tempfile.TemporaryDirectory() as folder:
+            path = os.path.join(folder, "out.V21")
+            self.assertEqual(cwr.select(WORKS, lambda _: False, path=path), b"")
+            self.assertEqual(os.listdir(folder), [])
+            text = cwr.select(WORKS, lambda it: it.place == cwr.read(WORKS)[0].place, path=path)
+            with open(path, "rb") as it:
+                self.assertEqual(it.read(), text)
+            self.assertEqual(os.listdir(folder), ["out.V21"])
+
+    def test_what_is_no_transmission_is_refused(self):
+        with self.assertRaises(cwr.RefusedError):
+            cwr.select(b"XYZ\n", lambda _: True)
+        with self.assertRaises(cwr.TruncatedError):
+            cwr.select(b"", lambda _: True)
+        with self.assertRaises(ValueError):
+            cwr.select(WORKS, lambda _: True, limits=(5, 0, 1))
+
+
 if __name__ == "__main__":
     unittest.main()

@@ -6,6 +6,7 @@
 
 use crate::documents::Line;
 use crate::errors::Error;
+use crate::selecting::Place;
 use crate::verdicts::Limits;
 
 #[repr(C)]
@@ -50,7 +51,7 @@ pub(crate) struct RawWritten {
 }
 
 mod c {
-    use super::{Line, RawFinding, RawPlace, RawVerdict, RawWritten};
+    use super::{Line, Place, RawFinding, RawPlace, RawVerdict, RawWritten};
 
     extern "C" {
         pub fn cwr_interface() -> u32;
@@ -92,6 +93,18 @@ mod c {
         pub fn cwr_field(kind: *const u8, size: usize, j: u8, place: *mut RawPlace, name: *mut u8, room: usize) -> usize;
         pub fn cwr_code(kind: *const u8, size: usize, j: u8, i: u32, code: *mut u8, room: usize) -> usize;
         pub fn cwr_blank(kind: *const u8, size: usize, line: *mut u8, room: usize) -> usize;
+        pub fn cwr_select(
+            text: *const u8,
+            size: usize,
+            records: u32,
+            groups: u32,
+            transaction: u32,
+            places: *const Place,
+            places_size: usize,
+            room: *mut u8,
+            room_size: usize,
+            verdict: *mut RawVerdict,
+        ) -> usize;
         pub fn cwr_write(
             lines: *const u8,
             size: usize,
@@ -238,6 +251,28 @@ pub(crate) fn code(kind: &[u8], j: u8, i: u32) -> Vec<u8> {
 pub(crate) fn blank(kind: &[u8]) -> Vec<u8> {
     // Safety: see the head of this module.
     small(|room| unsafe { c::cwr_blank(kind.as_ptr(), kind.len(), room.as_mut_ptr(), room.len()) })
+}
+
+pub(crate) fn select(text: &[u8], places: &[Place], limits: &Limits, first: usize) -> Result<(Vec<u8>, RawVerdict), Error> {
+    let mut verdict = RawVerdict::default();
+    let made = grown(first, |room| {
+        // Safety: see the head of this module.
+        unsafe {
+            c::cwr_select(
+                text.as_ptr(),
+                text.len(),
+                limits.records,
+                limits.groups,
+                limits.transaction,
+                places.as_ptr(),
+                places.len(),
+                room.as_mut_ptr(),
+                room.len(),
+                &mut verdict,
+            )
+        }
+    })?;
+    Ok((made, verdict))
 }
 
 pub(crate) fn write(lines: &[u8], limits: &Limits, is_json: bool, first: usize) -> Result<(Vec<u8>, RawWritten), Error> {

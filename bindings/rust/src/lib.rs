@@ -27,6 +27,7 @@ mod errors;
 mod layouts;
 mod records;
 mod reports;
+mod selecting;
 mod verdicts;
 mod writing;
 
@@ -35,5 +36,6 @@ pub use errors::Error;
 pub use layouts::{fields, kinds, Field, Type};
 pub use records::{Record, RecordBuf};
 pub use reports::{explain, lint, report, show, to_json, Report};
+pub use selecting::{select, Place};
 pub use verdicts::{check, findings, CellFault, Finding, Level, LimitKind, Limits, Reason, Refusal, Verdict};
 pub use writing::{from_json, write, Why};

@@ -2,7 +2,7 @@
 
 #![deny(unreachable_patterns)]
 
-use cwr::{CellFault, Document, Error, LimitKind, Limits, Reason, Record, RecordBuf, Report, Type, Verdict, Why};
+use cwr::{CellFault, Document, Error, LimitKind, Limits, Place, Reason, Record, RecordBuf, Report, Type, Verdict, Why};
 use std::fs;
 use std::path::{Path, PathBuf};
 use std::process::Command;
@@ -53,6 +53,40 @@ fn reports_and_verdicts_are_the_programs() {
         assert_eq!(Document::within(&text, &Limits::NONE).unwrap().verdict(), verdict);
         let (found, told) = cwr::findings(&text, &Limits::NONE).unwrap();
         assert_eq!((found.len(), told), (line.lines().filter(|it| it.starts_with("FINDING")).count(), verdict));
+    }
+}
+
+/// The places of a document's transactions.
+fn places(document: &Document<'_>) -> Vec<Place> {
+    let mut found: Vec<Place> = Vec::new();
+    for it in document.transactions() {
+        let before = found.last().filter(|last| last.group == it.group());
+        found.push(Place { group: it.group(), transaction: before.map_or(0, |last| last.transaction + 1) });
+    }
+    found
+}
+
+#[test]
+fn transactions_are_selected_by_their_places() {
+    for name in samples() {
+        let text = fs::read(&name).unwrap();
+        let document = Document::within(&text, &Limits::NONE).unwrap();
+        let (none, verdict) = cwr::select(&text, &[], &Limits::NONE).unwrap();
+        assert!(none.is_empty());
+        let Verdict::Good { .. } = document.verdict() else {
+            assert_eq!(verdict, document.verdict());
+            continue;
+        };
+        let all = places(&document);
+        let (whole, _) = cwr::select(&text, &all, &Limits::NONE).unwrap();
+        assert_eq!(whole, cwr::write(document.records(), &Limits::NONE).unwrap());
+        for (at, place) in all.iter().enumerate() {
+            let (one, verdict) = cwr::select(&text, &[Place { group: 99_999, transaction: 0 }, *place, *place], &Limits::NONE).unwrap();
+            assert_eq!(verdict, Verdict::Good { groups: 0, transactions: 1, records: 0 });
+            let found = Document::read(&one).unwrap();
+            let lines = |it: cwr::Transaction<'_, '_>| it.map(|record| record.line()[19..].to_vec()).collect::<Vec<_>>();
+            assert_eq!(found.transactions().map(lines).collect::<Vec<_>>(), [Document::read(&whole).unwrap().transactions().nth(at).map(lines).unwrap()]);
+        }
     }
 }
 

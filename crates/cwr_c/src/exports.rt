@@ -5,13 +5,15 @@ ghost use Rattle.cwr_calls.specs.Format.Answers.{Indexes, IsOutOfRange};
 ghost use Rattle.cwr_calls.specs.Steps.Checked.{Checks};
 ghost use Rattle.cwr_calls.specs.Format.VerdictNumbers.{ended};
 ghost use Rattle.cwr_calls.specs.Format.FieldNumbers.{TellsBlank, TellsCode, TellsField, TellsKind};
+ghost use Rattle.cwr_calls.specs.Format.Selected.{TellsSelected};
 ghost use Rattle.cwr_calls.specs.Format.WrittenTexts.{TellsImported, TellsWritten};
 ghost use Rattle.cwr_calls.specs.Steps.Listed.{TellsFindings};
 ghost use Rattle.cwr_calls.specs.Steps.Reported.{TellsReport};
 
 use cwr_calls::{
-    CwrField, CwrFinding, CwrVerdict, CwrWritten, blank_record, check_text, code_text, field_place,
-    findings_in, index_text, kind_letters, report_on, write_data, write_records,
+    CwrField, CwrFinding, CwrPlace, CwrVerdict, CwrWritten, blank_record, check_text, code_text,
+    field_place, findings_in, index_text, kind_letters, report_on, select_places, write_data,
+    write_records,
 };
 use cwr_decode::IndexEntry;
 use std::alloc::Global;
@@ -144,6 +146,36 @@ pub extern "C" fn cwr_blank(kind: &[u8], line: &mut [u8]) -> usize
     ensures { TellsBlank kind.now line.old line.new result }
 {
     blank_record(kind, line)
+}
+
+/// Writes the canonical text of the text's transactions that have these places into the room, as far as there is any, and how many there
+/// are. Places that no transaction has are passed over, and where none has any nothing is written. Answers how many bytes it has. Memory
+/// holds it, and the places.
+#[unsafe(no_mangle)]
+pub extern "C" fn cwr_select(
+    alloc: Global,
+    text: &[u8],
+    records: u32,
+    groups: u32,
+    transaction: u32,
+    places: &[CwrPlace],
+    room: &mut [u8],
+    verdict: &mut CwrVerdict,
+) -> usize
+    ensures told { TellsSelected records groups transaction text.now places.now room.old room.new
+        result verdict.new }
+    ensures out_of_range { IsOutOfRange records groups transaction → verdict.new ≡ ended 4 }
+{
+    select_places(
+        alloc,
+        text,
+        records,
+        groups,
+        transaction,
+        places,
+        room,
+        verdict,
+    )
 }
 
 /// Writes the canonical text of the transmission whose records the lines carry into the room, as far as there is any. The

@@ -3,4 +3,4 @@
 
 mod exports;
 
-pub use cwr_calls::{CwrField, CwrFinding, CwrVerdict, CwrWritten};
+pub use cwr_calls::{CwrField, CwrFinding, CwrPlace, CwrVerdict, CwrWritten};

@@ -16,3 +16,5 @@ pub mod ListedFindings
 pub mod ReportedTexts
 -- The line of a record in which nothing was set, field by field.
 pub mod BlankTexts
+-- What a selection of a text in memory answers, and what C is told of it.
+pub mod SelectedTexts

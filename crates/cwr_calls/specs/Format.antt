@@ -4,5 +4,6 @@ pub mod Answers
 pub mod FieldNumbers
 pub mod FindingNumbers
 pub mod Copies
+pub mod Selected
 pub mod LineRecords
 pub mod WrittenTexts

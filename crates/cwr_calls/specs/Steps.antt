@@ -3,3 +3,4 @@ pub mod Checked
 pub mod Reported
 pub mod Listed
 pub mod Writings
+pub mod Selecting

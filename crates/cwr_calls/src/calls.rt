@@ -5,6 +5,7 @@ ghost use Rattle.cwr_calls.specs.Format.Answers.{Indexes, IsOutOfRange};
 ghost use Rattle.cwr_calls.specs.Steps.Checked.{Checks};
 ghost use Rattle.cwr_calls.specs.Format.VerdictNumbers.{ended};
 ghost use Rattle.cwr_calls.specs.Format.FieldNumbers.{TellsBlank, TellsCode, TellsField, TellsKind};
+ghost use Rattle.cwr_calls.specs.Format.Selected.{TellsSelected};
 ghost use Rattle.cwr_calls.specs.Format.WrittenTexts.{TellsImported, TellsWritten};
 ghost use Rattle.cwr_calls.specs.Steps.Listed.{TellsFindings};
 ghost use Rattle.cwr_calls.specs.Steps.Reported.{TellsReport};
@@ -14,6 +15,7 @@ use crate::fields::{CwrField, find_field, kind_at, place_of};
 use crate::imports::import_text;
 use crate::listing::{CwrFinding, list_findings};
 use crate::report_texts::{copy_out, report, what_is_asked};
+use crate::selecting::{CwrPlace, listed, select_text, selected_in_c};
 use crate::verdicts::{CwrVerdict, end_in_c, ended, in_c};
 use crate::writing::{CwrWritten, write_text, written};
 use cwr_decode::{IndexEntry, index};
@@ -212,6 +214,39 @@ pub fn blank_record(kind: &[u8], line: &mut [u8]) -> usize
     match Kind::of(kind) {
         Some(kind) => copy_out(blank_line(kind).as_slice(), line),
         None => 0,
+    }
+}
+
+/// Writes the canonical text of the text's transactions that have these places into the room, as far as there is any, and how many there
+/// are. Places that no transaction has are passed over, and where none has any nothing is written. Answers how many bytes it has. Memory
+/// holds it, and the places.
+pub fn select_places(
+    alloc: Global,
+    text: &[u8],
+    records: u32,
+    groups: u32,
+    transaction: u32,
+    places: &[CwrPlace],
+    room: &mut [u8],
+    verdict: &mut CwrVerdict,
+) -> usize
+    ensures told { TellsSelected records groups transaction text.now places.now room.old room.new
+        result verdict.new }
+    ensures out_of_range { IsOutOfRange records groups transaction → verdict.new ≡ ended 4 }
+{
+    let Ok(limits) = Limits::new(records, groups, transaction) else {
+        *verdict = ended(4);
+        return 0;
+    };
+    let Ok(places) = listed(alloc, places) else {
+        *verdict = ended(3);
+        return 0;
+    };
+    let (made, outcome) = select_text(alloc, limits, &places, text);
+    *verdict = selected_in_c(outcome);
+    match outcome {
+        Ok(_) => copy_out(made.as_slice(), room),
+        Err(_) => 0,
     }
 }
 
