@@ -24,6 +24,7 @@ use cwr_tools::{ToolFault, Verdict, put_verdict_line, verdict_of};
 use std::alloc::Global;
 use std::io;
 use std::io::{Read, Write};
+use std::marker::Brand;
 
 /// Acknowledgements, and how they are told.
 #[derive(Clone, Copy, Debug)]
@@ -222,7 +223,7 @@ fn read_input<'a, S: Store, I: Read + Drop, P: Pace + Drop, W: Target + Drop>(
         answers,
     } = reading;
     let mut reader = ReadAhead::new(input);
-    let lines = FileLines::new(lines, before_each, Passing::All);
+    let lines: FileLines<'_, Brand, W> = FileLines::new(lines, before_each, Passing::All);
     let (lines, delivery, more, outcome) = acks(
         answering.alloc,
         answering.limits,
@@ -395,7 +396,7 @@ fn read_all<'a, S: Store, I: Read + Drop, P: Pace, W: Target + Drop, E: Write>(
             let _ = error.write_all(line.as_bytes());
             (reading, Ok(sums.status))
         }
-        Err(fault) => (reading, Err(Stop::Fault(fault))),
+        Err(_) => (reading, Err(Stop::Fault(Fault::Memory))),
     }
 }
 

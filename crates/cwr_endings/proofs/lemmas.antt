@@ -4,3 +4,5 @@ pub mod StatusesOnTexts
 pub mod Apart
 -- What is left of a run that writes a file, by how it came to its end.
 pub mod Outs
+-- A text that was put and handed on.
+pub mod HandedOn

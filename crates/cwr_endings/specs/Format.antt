@@ -1,2 +1,4 @@
 -- What is promised, in the words of the format.
 pub mod Endings
+pub mod Puts
+pub mod Sums

@@ -1,11 +1,12 @@
 //! What a run writes: where it may, and that it is handed on.
 
 ghost use Rattle.std.specs.Prelude.{◌≡◌, map, true, OnOk, IfSome};
-ghost use Rattle.cwr_devices.specs.Format.Failures.{one_more_failure};
+ghost use Rattle.std.specs.Io.KnownBytes.{Keeps};
 ghost use Rattle.cwr_devices.specs.Steps.Sinks.{writer_of};
 ghost use Rattle.cwr_files.specs.Format.Faults.{IfErr};
 ghost use Rattle.cwr_files.specs.Steps.NewFiles.{HasKeptCount};
 ghost use Rattle.cwr_endings.specs.Format.Endings.{IsNoInput, IsRefusedOut};
+ghost use Rattle.cwr_endings.specs.Format.Puts.{HandsOn};
 
 use crate::stops::Stop;
 use cwr_devices::{Sink, SinkFault, Target};
@@ -63,10 +64,16 @@ pub fn hand_on<'a, W: Target>(
 ) -> (W, Result<(), Stop<'a>>)
     ensures handed_on { OnOk result.1 (W.handed_on result.0 ≡ true) }
     ensures stopped { IfErr result.1 (λ stop. stop ≡ Stop.Output) }
+    // What the writer had it has.
+    ensures kept { Keeps (W.contents (writer_of sink)) (W.contents result.0) }
+    ensures failures { HandsOn put result.1 (W.failures (writer_of sink)) (W.failures result.0) }
 {
     let mut writer = sink.into_inner();
-    match (put, writer.flush()) {
-        (Ok(()), Ok(())) => (writer, Ok(())),
-        _ => (writer, Err(Stop::Output)),
+    match put {
+        Ok(()) => match writer.flush() {
+            Ok(()) => (writer, Ok(())),
+            Err(_) => (writer, Err(Stop::Output)),
+        },
+        Err(_) => (writer, Err(Stop::Output)),
     }
 }

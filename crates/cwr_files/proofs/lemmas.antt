@@ -10,3 +10,9 @@ pub mod Gathers
 pub mod Reads
 -- What is left of a run that writes a file.
 pub mod Outs
+-- Lines that are marked as they come are those of the whole text.
+pub mod Marks
+-- One piece of a line more, and how lines go on behind it.
+pub mod Pieces
+-- A step that the walks of `taken_texts` share.
+pub mod Walks

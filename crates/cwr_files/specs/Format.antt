@@ -1,5 +1,6 @@
 -- What is promised, in the words of the format.
 pub mod Faults
+pub mod FileLines
 pub mod Files
 pub mod Fronts
 pub mod Inputs

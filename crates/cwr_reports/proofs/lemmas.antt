@@ -4,3 +4,9 @@ pub mod EndsOnTexts
 pub mod WorstOf
 -- What is left of data or a table that is written to a file.
 pub mod ExportFiles
+-- What is told to a writer is told in the words of a list.
+pub mod Told
+-- What is written of one input where its lines are marked.
+pub mod MarkedLines
+-- The pieces on several files, with that of one more.
+pub mod Pieces

@@ -3,3 +3,5 @@ pub mod Looks
 pub mod Tellings
 -- How several files are judged, one after another.
 pub mod Several
+-- What is written of several files, and quiet lines.
+pub mod Marked

@@ -1,6 +1,11 @@
 //! Transmissions that are judged, shown, or written as data.
 
-ghost use Rattle.std.specs.Prelude.{◌≡◌, [], Option, true, false, not, IfOk, Ok, OnOk, None};
+ghost use Rattle.std.specs.Prelude.{◌≡◌, ◌<◌, [], Option, option_map, true, false, not, IfOk, Ok, OnOk, None};
+ghost use Rattle.cwr_devices.specs.Format.Failures.{most_failures};
+ghost use Rattle.cwr_devices.specs.Steps.Sinks.{PutsText, has_failed};
+ghost use Rattle.cwr_endings.specs.Format.Puts.{PutsOut, PutsQuiet};
+ghost use Rattle.cwr_endings.specs.Steps.Looks.{CountsLook};
+ghost use Rattle.cwr_reports.specs.Steps.Marked.{MarksRead, PassesRead, TellsQuiet, passing_asked, unwanted_line, unwanted_verdict};
 ghost use Rattle.cwr_acks.specs.Format.AckLines.{lines_of_acks};
 ghost use Rattle.cwr_shape.specs.declared.reasons.Level.{Level};
 ghost use Rattle.cwr_tools.specs.Format.Reports.{CountsReaderFault, CountsWriterFault, ItemLines, ReportsText};
@@ -10,21 +15,21 @@ ghost use Rattle.cwr_tools.specs.Format.Watching.{StandsAccepted, is_reached};
 ghost use Rattle.cwr_reports.specs.Format.Endings.{EndsOnInput, advice_asked, advice_in, telling_by};
 ghost use Rattle.cwr_files.specs.Format.Faults.{IfErr};
 ghost use Rattle.cwr_files.specs.Steps.Inputs.{remaining_of};
-ghost use Rattle.cwr_reports.specs.Steps.Tellings.{CountsFindings, CountsInput, CountsReading, CountsStop, CountsWriting, IsStopOf, ReportsUpTo, TellsLines, TellsOf, TellsText, telling_alone};
+ghost use Rattle.cwr_reports.specs.Steps.Tellings.{CountsFindings, CountsInput, CountsReading, CountsStop, CountsWriting, IsStopOf, ReportsUpTo, StopsTold, TellsLines, TellsOf, TellsText, telling_alone};
 ghost use Rattle.cwr_reports.specs.Steps.Looks.{JudgesOn, JudgesRead, LooksAfter, SeesFound, look_of, tells_findings};
 
 use crate::exports::tell_cut;
 use cwr_acks::{Form, Manner, acks};
 use cwr_advise::AdviceLines;
 use cwr_causes::Trailing;
-use cwr_devices::{ReadAhead, Sink, Source, Target};
+use cwr_devices::{ReadAhead, Sink, SinkFault, Source, Target};
 use cwr_endings::{
     Judgement, Look, Status, Stop, Wanted, hand_on, judgement_of, look_after, tell_characters,
     tell_findings, tell_following, tell_profile, tell_unanswering, tell_verdict, worst_level,
 };
 use cwr_explain::explain;
 use cwr_fields::TransactionStatus;
-use cwr_files::{Fault, FileLines, Input, Pace, Passing, Store, Told, end_input};
+use cwr_files::{Fault, FileLines, Input, Pace, Passing, Store, Told, Unmarked, end_input};
 use cwr_json::Encoding;
 use cwr_lint::lint;
 use cwr_shape::{Level, Limits, Reason};
@@ -35,6 +40,7 @@ use cwr_tools::{
 };
 use std::alloc::Global;
 use std::io::{Read, Write};
+use std::marker::Brand;
 
 /// What is written of a transmission.
 #[derive(Clone, Copy, Debug)]
@@ -123,11 +129,13 @@ pub struct Asked {
 
 impl Asked {
     /// Which of the lines that are told are written. Who asks for advice wants what stands before a good verdict.
-    pub(crate) fn passing(&self) -> Passing {
-        match (self.quiet, self.advised && !self.faults) {
-            (false, _) => Passing::All,
-            (true, true) => Passing::Told,
-            (true, false) => Passing::Bad,
+    fn passing(&self) -> Passing
+        ensures { result ≡ passing_asked self.now }
+    {
+        match (self.quiet, self.advised, self.faults) {
+            (false, _, _) => Passing::All,
+            (true, true, false) => Passing::Told,
+            (true, _, _) => Passing::Bad,
         }
     }
 }
@@ -372,6 +380,8 @@ fn judge_source<R: Source, W: Target + Drop>(
         (CountsFindings telling.entry asked.now.limits (R.remaining reader.old) result.2.findings) }
     ensures told { IfOk result.1 (λ judgement. TellsText telling.entry asked.now.limits
         (R.remaining reader.old) W.contents writer result.0 (Ok judgement.verdict)) }
+    // Where it failed, what was told up to there was written.
+    ensures stopped { IfErr result.1 (StopsTold telling.entry asked.now.limits (R.remaining reader.old) W.contents writer result.0) }
     ensures handed_on { OnOk result.1 (W.handed_on result.0 ≡ true) }
     // A fault of a device is answered only where that device counted one more failure.
     ensures reader_failures { CountsInput result.1 (R.failures reader.old) (R.failures reader.new) }
@@ -400,6 +410,8 @@ pub(crate) fn judge_input<'a, S: Store, I: Read + Drop, P: Pace + Drop, W: Targe
     ensures told { IfOk result.1 (λ judgement. TellsText telling.entry asked.now.limits
         (remaining_of S.Reader.remaining I.remaining input.entry) W.contents writer result.0
         (Ok judgement.verdict)) }
+    ensures stopped { IfErr result.1 (StopsTold telling.entry asked.now.limits
+        (remaining_of S.Reader.remaining I.remaining input.entry) W.contents writer result.0) }
     ensures handed_on { OnOk result.1 (W.handed_on result.0 ≡ true) }
     ensures reader_failures { CountsInput result.1 (S.failures store.old) (S.failures store.new) }
     ensures writer_failures { CountsWriting result.1 (W.failures writer) (W.failures result.0) }
@@ -480,18 +492,30 @@ pub(crate) fn tell_aside<E: Write>(
     }
 }
 
-/// Puts the verdict on what is good and has less than was wanted, which quiet lines leave out, and has it handed on.
+/// Puts the verdict on what is good and has less than was wanted, which quiet lines leave out.
+fn put_unwanted_verdict<W: Target>(
+    judgement: &Judgement,
+    sink: &mut Sink<W>,
+) -> Result<(), SinkFault>
+    requires { has_failed sink.old ≡ false }
+    ensures { PutsText W.contents W.failures (unwanted_verdict judgement.now.status judgement.now.verdict) result sink.old sink.new }
+{
+    match (judgement.status, judgement.verdict) {
+        (Status::Refused | Status::CommandLine | Status::Fault, Verdict::Good { .. }) => {
+            put_verdict_line(&judgement.verdict, sink)
+        }
+        (Status::Good, _) | (_, Verdict::Refused(_) | Verdict::Truncated { .. }) => Ok(()),
+    }
+}
+
+/// Puts it, and has it handed on.
 fn put_unwanted<'a, W: Target>(judgement: &Judgement, lines: W) -> (W, Result<(), Stop<'a>>)
     ensures handed_on { OnOk result.1 (W.handed_on result.0 ≡ true) }
     ensures stopped { IfErr result.1 (λ stop. stop ≡ Stop.Output) }
+    ensures puts { PutsOut W.contents W.failures (unwanted_verdict judgement.now.status judgement.now.verdict) result.1 lines result.0 }
 {
-    let is_good = matches!(judgement.verdict, Verdict::Good { .. });
     let mut sink = Sink::new(lines);
-    let put = if is_good && judgement.status != Status::Good {
-        put_verdict_line(&judgement.verdict, &mut sink)
-    } else {
-        Ok(())
-    };
+    let put = put_unwanted_verdict(judgement, &mut sink);
     hand_on(put, sink)
 }
 
@@ -532,6 +556,69 @@ fn all_lines_on<'a, S: Store, I: Read + Drop, P: Pace + Drop, W: Target + Drop>(
     }
 }
 
+/// How lines on an input are marked.
+#[derive(Clone, Copy, Debug)]
+struct Marks<'n> {
+    /// The name before each, if there is one.
+    name: Option<&'n str>,
+    /// Which are passed on.
+    passing: Passing,
+}
+
+/// The lines on an input that are passed on, each with the name before it if there is one.
+fn write_marked<'a, B: Unmarked, S: Store, I: Read + Drop, P: Pace + Drop, W: Target + Drop>(
+    store: &mut S,
+    asked: &Asked,
+    telling: Telling<'_>,
+    marks: Marks<'_>,
+    input: Input<'a, S::Reader, I, P>,
+    lines: W,
+) -> (W, Result<(Judgement, Told<'a>, Count), Stop<'a>>)
+    requires wanted { tells_findings telling ≡ false → asked.now.wanted.fail_on ≡ None }
+    requires start { B.start ≡ W.contents lines }
+    requires failures { B.failures ≡ W.failures lines }
+    requires name { B.name ≡ option_map (λ n. n.now) marks.name }
+    requires passing { B.passing ≡ marks.passing }
+    ensures judges { JudgesRead (advice_in telling.entry) asked.now.limits asked.now.wanted
+        (remaining_of S.Reader.remaining I.remaining input.entry) result.1 }
+    ensures told { W.failures lines < most_failures → PassesRead asked.now.limits telling.entry (option_map (λ n. n.now) marks.entry.name)
+        marks.entry.passing (remaining_of S.Reader.remaining I.remaining input.entry) W.contents lines result.0 result.1 }
+    ensures handed_on { OnOk result.1 (W.handed_on result.0 ≡ true) }
+    ensures failures { CountsStop result.1 (S.failures store.old) (S.failures store.new)
+        (W.failures lines) (W.failures result.0) }
+    ensures looks { IfOk result.1 (λ read. CountsLook read.0.look (S.failures store.old) (S.failures store.new)) }
+    ensures kept { S.held store.new ≡ S.held store.old }
+    ensures making { S.making store.new ≡ S.making store.old }
+{
+    let marked: FileLines<'_, B, W> = FileLines::new(lines, marks.name, marks.passing);
+    let (marked, judged, told, count) = judge_input(store, asked, telling, input, marked);
+    let lines = marked.into_inner();
+    match judged {
+        Ok(judgement) => (lines, Ok((judgement, told, count))),
+        Err(fault) => (lines, Err(stop_of(fault, told))),
+    }
+}
+
+/// Puts the verdict on what is good and has less than was wanted, with the name before it, and has it handed on.
+fn put_marked<'a, B: Unmarked, W: Target + Drop>(
+    marks: Marks<'_>,
+    judgement: &Judgement,
+    lines: W,
+) -> (W, Result<(), Stop<'a>>)
+    requires start { B.start ≡ W.contents lines }
+    requires failures { B.failures ≡ W.failures lines }
+    requires name { B.name ≡ option_map (λ n. n.now) marks.name }
+    requires passing { B.passing ≡ Passing.All }
+    ensures handed_on { OnOk result.1 (W.handed_on result.0 ≡ true) }
+    ensures stopped { IfErr result.1 (λ stop. stop ≡ Stop.Output) }
+    ensures puts { PutsOut W.contents W.failures (unwanted_line true (option_map (λ n. n.now) marks.entry.name) judgement.now)
+        result.1 lines result.0 }
+{
+    let all: FileLines<'_, B, W> = FileLines::new(lines, marks.name, Passing::All);
+    let (all, put) = put_unwanted(judgement, all);
+    (all.into_inner(), put)
+}
+
 /// The lines on an input, each with the name before it if there is one: all of them, or quiet ones.
 pub(crate) fn marked_lines_on<'a, S: Store, I: Read + Drop, P: Pace + Drop, W: Target + Drop>(
     store: &mut S,
@@ -544,25 +631,51 @@ pub(crate) fn marked_lines_on<'a, S: Store, I: Read + Drop, P: Pace + Drop, W: T
     requires { tells_findings telling ≡ false → asked.now.wanted.fail_on ≡ None }
     ensures judges { JudgesRead (advice_in telling.entry) asked.now.limits asked.now.wanted
         (remaining_of S.Reader.remaining I.remaining input.entry) result.1 }
+    ensures told { W.failures lines < most_failures → MarksRead asked.now telling.entry (option_map (λ n. n.now) name.entry)
+        (remaining_of S.Reader.remaining I.remaining input.entry) W.contents lines result.0 result.1 }
     ensures handed_on { OnOk result.1 (W.handed_on result.0 ≡ true) }
+    ensures failures { CountsStop result.1 (S.failures store.old) (S.failures store.new)
+        (W.failures lines) (W.failures result.0) }
+    ensures looks { IfOk result.1 (λ read. CountsLook read.0.look (S.failures store.old) (S.failures store.new)) }
     ensures kept { S.held store.new ≡ S.held store.old }
     ensures making { S.making store.new ≡ S.making store.old }
 {
-    let marked = FileLines::new(lines, name, asked.passing());
-    let (marked, judged, told, count) = judge_input(store, asked, telling, input, marked);
-    let lines = marked.into_inner();
-    let judgement = match judged {
-        Ok(judgement) => judgement,
-        Err(fault) => return (lines, Err(stop_of(fault, told))),
+    let marks = Marks {
+        name,
+        passing: asked.passing(),
     };
-    if !asked.quiet {
-        return (lines, Ok((judgement, told, count)));
+    let (lines, read) = write_marked::<Brand, S, I, P, W>(
+        store, asked, telling, marks, input, lines,
+    );
+    match read {
+        Ok((judgement, told, count)) => {
+            let (lines, put) = put_quiet(asked, marks, &judgement, lines);
+            match put {
+                Ok(()) => (lines, Ok((judgement, told, count))),
+                Err(stop) => (lines, Err(stop)),
+            }
+        }
+        Err(stop) => (lines, Err(stop)),
     }
-    let all = FileLines::new(lines, name, Passing::All);
-    let (all, put) = put_unwanted(&judgement, all);
-    match put {
-        Ok(()) => (all.into_inner(), Ok((judgement, told, count))),
-        Err(stop) => (all.into_inner(), Err(stop)),
+}
+
+/// Puts behind quiet lines the verdict on what is good and has less than was wanted, and has it handed on.
+fn put_quiet<'a, W: Target + Drop>(
+    asked: &Asked,
+    marks: Marks<'_>,
+    judgement: &Judgement,
+    lines: W,
+) -> (W, Result<(), Stop<'a>>)
+    requires { W.handed_on lines ≡ true }
+    ensures handed_on { OnOk result.1 (W.handed_on result.0 ≡ true) }
+    ensures stopped { IfErr result.1 (λ stop. stop ≡ Stop.Output) }
+    ensures puts { PutsQuiet W.contents W.failures (unwanted_line asked.now.quiet (option_map (λ n. n.now) marks.entry.name) judgement.now)
+        result.1 lines result.0 }
+{
+    if asked.quiet {
+        put_marked::<Brand, W>(marks, judgement, lines)
+    } else {
+        (lines, Ok(()))
     }
 }
 
@@ -579,9 +692,11 @@ fn lines_on<'a, S: Store, I: Read + Drop, P: Pace + Drop, W: Target + Drop>(
         (remaining_of S.Reader.remaining I.remaining input.entry) result.1 }
     ensures told { asked.now.quiet ≡ false → TellsLines telling.entry asked.now.limits
         (remaining_of S.Reader.remaining I.remaining input.entry) W.contents lines result.0 result.1 }
+    ensures quiet { asked.now.quiet ≡ true → W.failures lines < most_failures → MarksRead asked.now telling.entry None
+        (remaining_of S.Reader.remaining I.remaining input.entry) W.contents lines result.0 result.1 }
     ensures handed_on { OnOk result.1 (W.handed_on result.0 ≡ true) }
-    ensures failures { asked.now.quiet ≡ false → CountsStop result.1 (S.failures store.old)
-        (S.failures store.new) (W.failures lines) (W.failures result.0) }
+    ensures failures { CountsStop result.1 (S.failures store.old) (S.failures store.new)
+        (W.failures lines) (W.failures result.0) }
     ensures kept { S.held store.new ≡ S.held store.old }
     ensures making { S.making store.new ≡ S.making store.old }
 {
@@ -607,10 +722,13 @@ pub fn report_input<'a, S: Store, I: Read + Drop, P: Pace + Drop, W: Target + Dr
     // Where lines aren't quiet, those that are asked for were written.
     ensures told { asked.now.quiet ≡ false → TellsOf telling.entry asked.now.limits S.Reader.remaining I.remaining
         input.entry W.contents lines result.0 result.1 }
+    // Where they are, those of them were that aren't on what is good, and on what has less than was wanted its verdict.
+    ensures quiet { asked.now.quiet ≡ true → W.failures lines < most_failures → TellsQuiet asked.now telling.entry S.Reader.remaining
+        I.remaining input.entry W.contents lines result.0 result.1 }
     ensures handed_on { OnOk result.1 (W.handed_on result.0 ≡ true) }
     // A fault of a device is answered only where that device counted one more failure.
-    ensures failures { asked.now.quiet ≡ false → CountsStop result.1 (S.failures store.old)
-        (S.failures store.new) (W.failures lines) (W.failures result.0) }
+    ensures failures { CountsStop result.1 (S.failures store.old) (S.failures store.new)
+        (W.failures lines) (W.failures result.0) }
     ensures kept { S.held store.new ≡ S.held store.old }
     ensures making { S.making store.new ≡ S.making store.old }
 {

@@ -1,7 +1,6 @@
 -- What writers show that are taken back, and what is in them.
 use Rattle.std.specs.Prelude.{ℕ, Bool, List, Option, Some, None}
 use Rattle.cwr_moments.specs.declared.moments.Moment.{Moment}
-use Rattle.cwr_files.specs.declared.file_lines.FileLines.{FileLines}
 use Rattle.cwr_files.specs.declared.outputs.Written.{Written}
 use Rattle.cwr_files.specs.declared.progress.Paced.{Paced}
 use Rattle.cwr_files.specs.declared.stamps.Stamped.{Stamped}
@@ -33,7 +32,3 @@ kept_text (Some moment) text = None
 
 abbrev pub text_of_stamped : {F : Type 0} → (F → Option (List ℕ)) → Stamped F → Option (List ℕ)
 text_of_stamped contents stamped = kept_text stamped.moment (contents stamped.file)
-
--- the writer that lines are passed on to
-abbrev pub lines_in : {W : Type 0} → FileLines W → W
-lines_in lines = lines.lines

@@ -10,7 +10,8 @@ use Rattle.cwr_endings.specs.declared.endings.Wanted.{Wanted}
 use Rattle.cwr_endings.specs.declared.stops.Stop.{Stop}
 use Rattle.cwr_endings.specs.declared.stops.Stop.TheVariants as stops
 use Rattle.cwr_endings.specs.Format.Endings.{IsStatusBy, worse_status}
-use Rattle.std.specs.Prelude.{IfSome}
+use Rattle.std.specs.Prelude.{IfSome, IsSome}
+use Rattle.cwr_files.specs.Steps.Inputs.{standard_left}
 use Rattle.cwr_reports.specs.Format.Endings.{Counts}
 
 -- standard input, which is there once, is so
@@ -39,6 +40,10 @@ CountsNext advice limits wanted held of_standard standard name before now (Ok u)
 CountsNext advice limits wanted held of_standard standard name before now (Err stops.Output) = Unit {0}
 CountsNext advice limits wanted held of_standard standard name before now (Err (stops.Fault faults.Memory)) = Unit {0}
 CountsNext advice limits wanted held of_standard standard name before now (Err (stops.Fault fault)) = ⊥
+
+-- where standard input is still there, this is what it has
+abbrev pub IsFirst : {I : Type 0} → (I → Option (List ℕ)) → Option I → Option (List ℕ) → Type 0
+IsFirst of_standard standard first = IsSome standard → standard_left of_standard standard ≡ first
 
 -- the sums weren't written: standard output failed, or there was no memory
 abbrev pub IsUnsummed : Stop → Type 0

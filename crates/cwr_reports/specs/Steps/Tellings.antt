@@ -1,5 +1,5 @@
 -- What is written of a transmission, and which failures of its devices are counted.
-use Rattle.std.specs.Prelude.{◌≡◌, [], ℕ, List, Option, None, IfOk, Result, Ok, Err}
+use Rattle.std.specs.Prelude.{◌≡◌, [], ℕ, List, Option, None, Some, IfOk, Result, Ok, Err}
 use Rattle.std.specs.Option.{is_some}
 use Rattle.cwr_devices.specs.Format.Failures.{one_more_failure}
 use Rattle.cwr_fields.specs.declared.message_codes.TransactionStatus.{TransactionStatus}
@@ -72,6 +72,21 @@ abbrev pub TellsText : {W : Type 0} → Telling → Limits → Option (List ℕ)
     → Result Verdict ToolFault → Type 0
 TellsText telling limits before contents old new outcome =
     (after : Option (List ℕ)) × TellsUpTo telling limits before after contents old new outcome
+
+-- the run was judged so: by its verdict, or as its fault, and where what follows the transmission couldn't be read, as the reader's
+abbrev pub IsJudgedFrom : Result Verdict ToolFault → ToolFault → Type 0
+IsJudgedFrom (Ok verdict) fault = fault ≡ Reader
+IsJudgedFrom (Err other) fault = fault ≡ other
+
+-- what was told up to the fault was written
+abbrev pub StopsTold : {W : Type 0} → Telling → Limits → Option (List ℕ) → (W → Option (List ℕ)) → W → W → ToolFault → Type 0
+StopsTold telling limits before contents old new fault =
+    (outcome : Result Verdict ToolFault) × IsJudgedFrom outcome fault × TellsText telling limits before contents old new outcome
+
+-- the text is what is told of an input with that outcome: where nothing stood, it stands once that is told
+abbrev pub IsTold : Telling → Limits → Option (List ℕ) → List ℕ → Result Verdict ToolFault → Type 0
+IsTold telling limits before text outcome =
+    TellsText {W = Option (List ℕ)} telling limits before (λ known. known) (Some []) (Some text) outcome
 
 -- where the findings are told or counted, they are those of the transmission
 abbrev pub CountsFindings : Telling → Limits → Option (List ℕ) → FindingCount → Type 0

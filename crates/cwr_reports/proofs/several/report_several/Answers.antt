@@ -1,12 +1,17 @@
-use Rattle.std.proofs.Common.{ℕ, ◌≤◌, List, [], Bor, length, get_or, map, take, Option, sym, subst, ◌∙◌, arith}
-use Rattle.std.specs.Prelude.{Result}
+use Rattle.std.proofs.Common.{ℕ, ◌<◌, ◌≤◌, List, [], Bor, length, get_or, map, take, Option, refl, sym, subst, ◌∙◌, arith, inl}
+use Rattle.std.specs.Prelude.{Result, Ok}
 use Rattle.std.specs.Str.{bytes_eq}
 use Rattle.std.proofs.lemmas.List.{length-map, take_all}
 use Rattle.cwr_files.specs.Format.Files.{Texts}
 use Rattle.cwr_files.proofs.lemmas.Reads.{words_more}
 use Rattle.cwr_endings.specs.declared.stops.Stop.{Stop}
 use Rattle.cwr_reports.specs.Format.Endings.{IsWorstOf, advice_asked}
+use Rattle.cwr_devices.specs.Format.Failures.{most_failures}
 use Rattle.cwr_reports.specs.Steps.Several.{CountsNext, IsNext}
+use Rattle.cwr_reports.specs.Steps.Marked.{ArePieces, CountsOutput, Piece, TellsNext}
+use Rattle.cwr_endings.specs.declared.endings.Status.{Status}
+use Rattle.cwr_reports.proofs.lemmas.MarkedLines.{appends_none}
+use Rattle.cwr_reports.proofs.lemmas.Pieces.{first_of, no_pieces, pieces_more}
 use Rattle.cwr_files.proofs.lemmas.Reads.{lent_on}
 use Rattle.cwr_reports.proofs.lemmas.WorstOf.{worst_more}
 use Rattle.cwr_reports.proofs.several.report_several.Goals as goal
@@ -34,6 +39,28 @@ loop-name-preserved g c =
           c.report_next-after.ensures.standard;
       kept = c.report_next-after.ensures.kept ∙ c.loop-name.invariant.kept;
       making = c.report_next-after.ensures.making ∙ c.loop-name.invariant.making;
+      output = subst (λ (r : Result (Unit {0}) Stop). CountsOutput r (g.W.Target.failures c.loop-name.lines)
+          (g.W.Target.failures c.report_next-after.result.0)) c.in-Ok.is c.report_next-after.ensures.output ∙ c.loop-name.invariant.output;
+      told = λ few.
+          let held = g.S.Store.held c.args.store.now in
+          let first = g.I.Read.remaining c.args.standard in
+          let below : g.W.Target.failures c.loop-name.lines < most_failures =
+          subst (λ (n : ℕ). n < most_failures) (sym c.loop-name.invariant.output) few in
+          subst (λ (ws : List (List ℕ)). (pieces : List Piece) × ArePieces asked c.args.explained held first ws g.W.Target.contents
+          c.args.lines c.report_next-after.result.0 (g.S.Store.failures c.args.store.now) (g.S.Store.failures c.report_next-after.new.store)
+          c.report_next-after.new.tally.sums pieces) (sym (words_more c.args.names.now i d (omega arith)))
+          (pieces_more asked c.args.explained held first before name g.W.Target.contents c.args.lines c.loop-name.lines
+          c.report_next-after.result.0 (g.S.Store.failures c.args.store.now) (g.S.Store.failures c.loop-name.store)
+          (g.S.Store.failures c.report_next-after.new.store) c.loop-name.tally.sums c.report_next-after.new.tally.sums
+          (c.loop-name.invariant.told few)
+          (subst (λ (h : Option Texts). TellsNext asked c.args.explained h first name g.W.Target.contents c.loop-name.lines
+          c.report_next-after.result.0 (g.S.Store.failures c.loop-name.store) (g.S.Store.failures c.report_next-after.new.store)
+          c.loop-name.tally.sums c.report_next-after.new.tally.sums (Ok tt)) c.loop-name.invariant.kept
+          (subst (λ (r : Result (Unit {0}) Stop). TellsNext asked c.args.explained (g.S.Store.held c.loop-name.store) first name
+          g.W.Target.contents c.loop-name.lines c.report_next-after.result.0 (g.S.Store.failures c.loop-name.store)
+          (g.S.Store.failures c.report_next-after.new.store) c.loop-name.tally.sums c.report_next-after.new.tally.sums r) c.in-Ok.is
+          (c.report_next-after.ensures.told first
+          (first_of g.I.Read.remaining c.args.standard c.loop-name.standard c.loop-name.invariant.lent) below))));
     }
 
 pub returns-clause-ends : goal.returns-clause-ends
@@ -44,3 +71,20 @@ returns-clause-ends g c =
     let enough : length words ≤ i = rw length-map (omega arith) in
     subst (λ (ws : List (List ℕ)). IsWorstOf (advice_asked asked) asked.limits asked.wanted (g.S.Store.held c.args.store.now)
     (g.I.Read.remaining c.args.standard) ws c.loop-name.tally.sums.status) (take_all i words enough) c.loop-name.invariant.worst
+
+pub loop-name-init : goal.loop-name-init
+loop-name-init g c =
+    let asked = c.args.asked.now in
+    let held = g.S.Store.held c.args.store.now in
+    let first = g.I.Read.remaining c.args.standard in
+    record {
+      worst = subst (λ (s : Status). IsWorstOf (advice_asked asked) asked.limits asked.wanted held first [] s) (sym c.new.ensures.status)
+          (λ k d lt. absurd (omega (arith, lt)));
+      lent = inl refl;
+      kept = refl;
+      making = refl;
+      output = refl;
+      told = λ few.
+          no_pieces asked c.args.explained held first g.W.Target.contents c.args.lines (g.S.Store.failures c.args.store.now) c.new.result
+          (appends_none (g.W.Target.contents c.args.lines)) c.new.ensures.sums c.new.ensures.status;
+    }

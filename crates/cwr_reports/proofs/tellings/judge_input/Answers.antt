@@ -3,7 +3,8 @@ use Rattle.std.specs.Prelude.{IfOk, Ok, OnOk}
 use Rattle.cwr_files.specs.Steps.Inputs.{remaining_of}
 use Rattle.cwr_reports.specs.Steps.Looks.{JudgesOn}
 use Rattle.cwr_reports.specs.Format.Endings.{advice_in}
-use Rattle.cwr_reports.specs.Steps.Tellings.{CountsFindings, TellsText}
+use Rattle.cwr_files.specs.Format.Faults.{IfErr}
+use Rattle.cwr_reports.specs.Steps.Tellings.{CountsFindings, StopsTold, TellsText}
 use Rattle.cwr_endings.proofs.lemmas.StatusesOnTexts.{from_source}
 use Rattle.cwr_reports.proofs.lemmas.EndsOnTexts.{counts_at_store}
 use Rattle.cwr_reports.proofs.tellings.judge_input.Goals as goal
@@ -33,3 +34,10 @@ pub returns-clause-reader_failures : goal.returns-clause-reader_failures
 returns-clause-reader_failures g c =
     counts_at_store c.judge_source-writer.result.1 _ _ _ _ c.new-reader.ensures.failures c.judge_source-writer.ensures.reader_failures
     c.end_input.ensures.failures
+
+pub returns-clause-stopped : goal.returns-clause-stopped
+returns-clause-stopped g c =
+    from_source (λ (known : Option (List ℕ)). IfErr c.judge_source-writer.result.1 (StopsTold c.args.telling c.args.asked.now.limits known
+    g.W.Target.contents c.args.writer c.judge_source-writer.result.0)) (remaining_of g.S.Reader.Read.remaining g.I.Read.remaining)
+    c.args.input c.new-reader.result.inner _ c.new-reader.ensures.inner c.new-reader.ensures.ahead
+    c.judge_source-writer.ensures.stopped

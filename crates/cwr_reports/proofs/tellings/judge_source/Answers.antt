@@ -4,7 +4,9 @@ use Rattle.cwr_tools.specs.declared.verdicts.ToolFault.{ToolFault}
 use Rattle.cwr_endings.specs.declared.judgements.Judgement.{Judgement}
 use Rattle.cwr_reports.specs.Steps.Looks.{JudgesOn, SeesFound}
 use Rattle.cwr_reports.specs.Format.Endings.{advice_in}
-use Rattle.cwr_reports.specs.Steps.Tellings.{CountsFindings, CountsInput, CountsWriting, TellsText}
+use Rattle.cwr_files.specs.Format.Faults.{IfErr}
+use Rattle.cwr_reports.specs.Steps.Tellings.{CountsFindings, CountsInput, CountsWriting, StopsTold, TellsText}
+use Rattle.cwr_reports.proofs.lemmas.Told.{told_stopped}
 use Rattle.cwr_reports.proofs.lemmas.EndsOnTexts.{counts_input, judged_counts, judged_on, judges_on, told_verdict}
 use Rattle.cwr_reports.proofs.tellings.judge_source.Goals as goal
 
@@ -57,3 +59,11 @@ returns-clause-counted g c =
     (judged_on (CountsFindings c.args.telling c.args.asked.now.limits (g.R.Source.remaining c.args.reader.now)
     c.tell-writer.result.3.findings) c.args.asked.now.wanted c.tell-writer.result.1 c.tell-writer.result.2
     c.reaches-found.result c.tell-writer.ensures.counted)
+
+pub returns-clause-stopped : goal.returns-clause-stopped
+returns-clause-stopped g c =
+    subst (λ (r : Result Judgement ToolFault). IfErr r (StopsTold c.args.telling c.args.asked.now.limits
+    (g.R.Source.remaining c.args.reader.now) g.W.Target.contents c.args.writer c.tell-writer.result.0)) (sym c.judgement_of-judged.ensures)
+    (told_stopped c.args.telling c.args.asked.now.limits (g.R.Source.remaining c.args.reader.now) g.W.Target.contents c.args.writer
+    c.tell-writer.result.0 c.args.asked.now.wanted c.tell-writer.result.1 c.tell-writer.result.2 c.reaches-found.result
+    c.tell-writer.ensures.told)
