@@ -22,7 +22,7 @@ DESCRIPTION
        standard error says that it is waited for, and Ctrl-D at the start of a
        line ends it. Without any word `cwr` is `cwr check`. Memory holds one
        line and one transaction, however large the file is, but for `cwr acks
-       --sent`.
+       --sent` and lists.
 
        A word that begins with a hyphen is an option. After `--` it is a file.
        In lines and messages a control character in a name, as a line feed, is
@@ -389,6 +389,75 @@ COMMANDS
               Status 1 where a finding has that level or a worse one: F, R, T,
               G or E. No file is then written.
 
+   cwr select [OPTIONS] [FILE]
+       Writes some transactions of a transmission as one of their own, in full
+       width: its HDR, and each group of which one is selected, with its GRH,
+       these transactions in their order, and a GRT. Of a group that isn't
+       whole GRT has no currency and no total, which standard error tells
+       where it had one. The result goes to the file OUT, as `OUT.part` until
+       it is whole, or to standard output. What is told of it stands under
+       Output.
+
+       What each of `--works`, `--places`, `--kind` and `--party` asks for has
+       to be so of a transaction, and one of them is asked for at least. A
+       line of a list ends in a line feed. Spaces and a CR at its end don't
+       count, nor do blank lines, nor a UTF-8 mark at the front of the list.
+
+       An acknowledgement names the creation date and time of what it answers.
+       So a file asks for `--created` or `--same-created`. A rejected NWR is
+       sent again as NWR, mostly, and a REV is for a work that the society
+       has: no type is changed.
+
+       Where nothing is selected, or FILE is refused, OUT isn't written, and
+       the status is 1. It is 1 too where something of a list is missing: then
+       OUT has the rest. To standard output all was written by then. Memory
+       also holds the lists, and 24 bytes for each of their lines.
+
+       --works LIST
+              Those whose numbers stand in the file LIST, one a line: the
+              submitter's number of the work or the agreement, and of an
+              acknowledgement the submitter creation number, not that of its
+              copy. They are compared byte by byte. A line of more than 20
+              bytes is refused, with status 2.
+
+       --places LIST
+              Those whose places stand in the file LIST, one a line: the group
+              and the transaction as `cwr check` counts them, with a space
+              between them, as `1 0`. Any other line is refused, with status
+              2.
+
+       --kind KINDS
+              Those of these types, with commas between them: AGR, NWR, REV,
+              ACK.
+
+       --party NUMBER
+              Those in which an IPI name number is that one, whatever zeros
+              lead: of 1 to 11 digits, not all of them zeros. That of a writer
+              in EWT, VER and COM counts, and so does one in a copy.
+
+       --not  All others.
+
+       --created MOMENT
+              When the result is created, `YYYYMMDDTHHMMSS`, as
+              `20240131T093000`: HDR's creation date and time, and its
+              transmission date where that is earlier. With OUT the status is
+              2 where that is FILE's moment.
+
+       --same-created
+              The result keeps FILE's creation date and time.
+
+       --new  Replaces no file: where OUT is there, nothing is written, and
+              the status is 2.
+
+       --fail-on LEVEL
+              Status 1 where a finding in what is selected has that level or a
+              worse one: F, R, T, G or E. No file is then written.
+
+       -o OUT
+              The file that is written. Where it is an input, under whatever
+              name, nothing is written, and the status is 2. Without it, or
+              with `-`, standard output is written.
+
    cwr manual
        Prints this manual to standard output, with status 0.
 
@@ -415,7 +484,8 @@ OPTIONS
 
        --whole
               Status 1 where bytes follow the transmission. A join then writes
-              no file and no last line, nor does a renumbering to a file.
+              no file and no last line, nor does a renumbering or a selection
+              to a file.
 
        These go with each command that reads.
 
@@ -475,6 +545,10 @@ OUTPUT
               The result would pass that limit with input I. Before `REFUSED`
               and `TRUNCATED`, too, `cwr join` writes the number of the input.
 
+       SELECTED K of N
+              Of N transactions K are selected. With what follows it goes to
+              standard error where OUT isn't given.
+
        FAULTS F findings N records R
               `cwr lint` told so many faults and findings, in R lines.
 
@@ -503,6 +577,19 @@ OUTPUT
        LIMIT repeated N group G transaction T
               The numbers of N works are kept, and not that of this one. It
               and the works after it are compared with those N alone.
+
+       After `SELECTED` `cwr select` writes what of its lists is missing, or
+       is there several times, each once:
+
+       MISSING NUMBER
+              No transaction of FILE has that number. The status is 1.
+
+       TWICE NUMBER group G transaction T
+              Several have that number, and this is one of them. It changes no
+              status.
+
+       MISSING group G transaction T
+              FILE has no transaction there. The status is 1.
 
        `cwr acks` writes a line of counts last, where the transmission is
        whole:
@@ -635,12 +722,13 @@ EXIT STATUS
        0      Good: the verdict is `GOOD`, with findings or without; or what
               was asked for is written.
 
-       1      Refused, truncated, or past a limit; or less than `--whole` or
-              `--fail-on` ask for.
+       1      Refused, truncated, or past a limit; or less than `--whole`,
+              `--fail-on` or a list ask for; or nothing is selected.
 
        2      A wrong command line, or help; or a file that may not be
               written: an input, or with `--new` one that is there; or
-              standard input that would be read twice.
+              standard input that would be read twice; or a line that a list
+              can't have.
 
        3      A file, a device or memory failed. Standard error says which in
               a line that begins with `cwr: `, and on a second one why, with
@@ -777,6 +865,16 @@ EXAMPLES
            cwr: work_missing.cwr: line 9: the transaction count is 2, and 1 came; the record count is 6, and 4 came; lines may be missing before it, or stand twice
            cwr: work_missing.cwr: line 10: the transaction count is 3, and 2 came; the record count is 12, and 10 came; lines may be missing before it, or stand twice
            GOOD groups 2 transactions 2 records 10
+
+       Just these works, sent again:
+
+           $ printf '%s\\n' W0003 W0001 > numbers; cwr select --works numbers --created 20260301T090000 works.cwr -o chosen.cwr; cwr check chosen.cwr
+           SELECTED 2 of 3
+           GOOD groups 2 transactions 2 records 10
+           $ echo W0099 >> numbers; cwr select --works numbers --created 20260301T090000 works.cwr -o more.cwr; echo $?
+           SELECTED 2 of 3
+           MISSING W0099
+           1
 
        Parts of one work each, and the whole again:
 

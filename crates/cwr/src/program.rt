@@ -14,7 +14,7 @@ ghost use Rattle.cwr_files.specs.Steps.NewFiles.{HasKeptCount};
 ghost use Rattle.cwr_renumber.specs.Steps.Renumbered.{renumbered_text};
 ghost use Rattle.cwr_reports.specs.Format.Endings.{EndsOnRead, advice_asked, advice_in};
 ghost use Rattle.cwr_reports.specs.Format.Exports.{IsExportAt, is_data};
-ghost use Rattle.cwr.specs.Format.Tables.{encoding_of, form_of, table_of};
+ghost use Rattle.cwr.specs.Format.Tables.{encoding_of, form_of, kinds_by, selection_of, table_of};
 ghost use Rattle.cwr_reports.specs.Steps.Looks.{tells_findings};
 
 use crate::manual::MANUAL;
@@ -31,16 +31,17 @@ use cwr_files::{
 };
 use cwr_json::Encoding;
 use cwr_reports::{Asked, Telling, export, report_input, report_several, telling_of};
+use cwr_select::ByKind;
 use cwr_shape::Level;
 use cwr_tables::Table;
 use cwr_terminal::{Style, Styled};
 use cwr_transform::{
-    Cut, Import, Repair, Union, import_file, import_input, join_files, repair_file, repair_input,
-    split_file,
+    Cut, Import, Repair, Selection, Union, import_file, import_input, join_files, repair_file,
+    repair_input, select_file, split_file,
 };
 use cwr_words::{
-    AcksWords, AdviseWords, CsvWords, JoinWords, JsonWords, Judging, LintWords, RenumberWords,
-    Rows, ShowWords, SplitWords, Task, Work, WriteWords, task_of,
+    AcksWords, AdviseWords, CsvWords, JoinWords, JsonWords, Judging, Kinds, LintWords,
+    RenumberWords, Rows, SelectWords, ShowWords, SplitWords, Task, Work, WriteWords, task_of,
 };
 use std::alloc::Global;
 use std::cell::Cell;
@@ -374,6 +375,68 @@ fn renumber<'a, S: Store, I: Read + Drop, P: Pace, W: Target + Drop, E: Write>(
         Some(out) => repair_file(store, alloc, &repair, input, out, output, error),
         None => repair_input(store, alloc, &repair, input, output, error),
     }
+}
+
+/// The kinds by which transactions are chosen.
+fn kinds_by(kinds: Option<Kinds>) -> Option<ByKind>
+    ensures { result ≡ option_map kinds_by kinds }
+{
+    match kinds {
+        Some(kinds) => Some(ByKind {
+            agreements: kinds.agreements,
+            new_works: kinds.new_works,
+            revised_works: kinds.revised_works,
+            acknowledgements: kinds.acknowledgements,
+        }),
+        None => None,
+    }
+}
+
+/// How the words ask for transactions.
+fn selection_by<'a>(task: &Task<'a>, words: &SelectWords<'a>) -> Selection<'a>
+    ensures { result ≡ selection_of task.now.limits task.now.whole words.now }
+{
+    Selection {
+        limits: task.limits,
+        wanted: wanted_by(task, words.fail_on),
+        file: words.file,
+        out: words.out,
+        only_new: words.only_new,
+        works: words.works,
+        places: words.places,
+        kinds: kinds_by(words.kinds),
+        party: words.party,
+        others: words.others,
+        created: words.created,
+    }
+}
+
+/// Selects transactions of a transmission.
+fn select<'a, S: Store, I: Read + Drop, P: Pace, W: Target + Drop, E: Write>(
+    store: &mut S,
+    alloc: Global,
+    task: &Task<'a>,
+    words: &SelectWords<'a>,
+    standard: I,
+    pace: &mut P,
+    output: W,
+    error: &mut E,
+) -> (W, Result<Status, Stop<'a>>)
+    ensures ends { EndsOnWork task.now.limits task.now.whole (Work.Select words.now) (S.held store.old)
+        (I.remaining standard) result.1 }
+    ensures files { S.making store.old ≡ None → LeavesWork task.now.limits task.now.whole (Work.Select words.now)
+        (S.held store.old) (I.remaining standard) (S.failures store.old) (S.failures store.new) result.1 (S.held store.new) }
+{
+    let selection = selection_by(task, words);
+    let inputs = [
+        words.file.unwrap_or(DASH),
+        words.works.unwrap_or(""),
+        words.places.unwrap_or(""),
+    ];
+    if let Err(fault) = refuse_twice(&inputs) {
+        return (output, Err(Stop::Fault(fault)));
+    }
+    select_file(store, alloc, &selection, standard, pace, output, error)
 }
 
 /// Reports on the transmission of the file of that name, or on that on standard input.
@@ -852,6 +915,7 @@ fn perform<'a, S: Store, I: Read + Drop, P: Pace, W: Target + Drop, E: Write>(
         Work::Split(words) => split_input(store, alloc, task, words, standard, pace, lines, error),
         Work::Join(words) => join_inputs(store, alloc, task, words, standard, pace, lines, error),
         Work::Renumber(words) => renumber(store, alloc, task, words, standard, pace, lines, error),
+        Work::Select(words) => select(store, alloc, task, words, standard, pace, lines, error),
         Work::Manual => print_manual(lines),
     }
 }

@@ -61,6 +61,27 @@ pub const JOIN: &str = "join";
 /// The name of the subcommand that puts numbers right.
 pub const RENUMBER: &str = "renumber";
 
+/// The name of the subcommand that selects transactions.
+pub const SELECT: &str = "select";
+
+/// The id of the list of numbers.
+pub const LISTED: &str = "works";
+
+/// The id of the list of places.
+pub const PLACES: &str = "places";
+
+/// The id of the kinds of transactions.
+pub const KINDS: &str = "kind";
+
+/// The id of the party's number.
+pub const PARTY: &str = "party";
+
+/// The id of the flag that selects all others.
+pub const OTHERS: &str = "not";
+
+/// The id of the flag by which what is selected keeps its moment.
+pub const SAME_CREATED: &str = "same-created";
+
 /// The name of the subcommand that prints the manual.
 pub const MANUAL: &str = "manual";
 
@@ -147,7 +168,7 @@ pub const OUT: &str = "OUT";
 /// The id of the option that names what is written.
 pub const INTO: &str = "o";
 
-/// The id of the moment at which the parts of a split were created.
+/// The id of the moment at which what is written was created.
 pub const CREATED: &str = "created";
 
 /// The id of the flag that wants one sender.
@@ -613,6 +634,49 @@ const RENUMBERED: [Word; 6] = [
     },
 ];
 
+/// The words of a selection.
+const SELECTED: [Word; 11] = [
+    Word {
+        id: LISTED,
+        form: Form::Named("LIST"),
+        help: "Selects the transactions whose numbers stand in that file, one a line",
+    },
+    Word {
+        id: PLACES,
+        form: Form::Named("LIST"),
+        help: "Selects the transactions whose places stand in that file, a line GROUP TRANSACTION each",
+    },
+    Word {
+        id: KINDS,
+        form: Form::Named("KINDS"),
+        help: "Selects the transactions of these types, with commas between them: AGR, NWR, REV, ACK",
+    },
+    Word {
+        id: PARTY,
+        form: Form::Named("NUMBER"),
+        help: "Selects the transactions that have that IPI name number, without or with leading zeros",
+    },
+    Word {
+        id: OTHERS,
+        form: Form::Flag,
+        help: "Selects all others",
+    },
+    Word {
+        id: CREATED,
+        form: Form::Named("MOMENT"),
+        help: "When the result is created, YYYYMMDDTHHMMSS",
+    },
+    Word {
+        id: SAME_CREATED,
+        form: Form::Flag,
+        help: "The result keeps the transmission's creation date and time",
+    },
+    KEEPS,
+    FAILS,
+    ONE,
+    WRITTEN,
+];
+
 /// The subcommands, in the order of the help.
 const SUBCOMMANDS: &[Subcommand] = &[
     Subcommand {
@@ -686,6 +750,12 @@ const SUBCOMMANDS: &[Subcommand] = &[
         about: "Makes the numbers of a transmission fit its records; look first why they don't (cwr explain)",
         common: Common::Reading,
         own: &RENUMBERED,
+    },
+    Subcommand {
+        name: SELECT,
+        about: "Writes some transactions of a transmission as one of their own",
+        common: Common::Reading,
+        own: &SELECTED,
     },
     Subcommand {
         name: MANUAL,
@@ -1008,6 +1078,12 @@ more, and before ACKS what isn't answered:
 With --json it writes all this as lines of JSON, an object for each acknowledgement. With --state it writes a table in its place, and
 last to standard error:
   STATE sent N accepted A pending P ...      so many transactions of SENT, rows of each state, and acknowledgements that answer none
+
+`cwr select` writes these, to standard error where OUT isn't given:
+  SELECTED K of N                            of N transactions K are selected
+  MISSING NUMBER                             no transaction has that number of the list
+  TWICE NUMBER group G transaction T         several have that number, and this is one of them
+  MISSING group G transaction T              there is no transaction
 
 `cwr write` writes to standard error:
   WRITTEN lines L bytes B                    the transmission is written

@@ -18,3 +18,11 @@ pub mod JoinsRead
 pub mod RepairsJudged
 -- What is left of a run that puts numbers right in a file.
 pub mod RepairFiles
+-- The lines of a list, one by one.
+pub mod ListLines
+-- A run that selects is right of its text.
+pub mod SelectionsJudged
+-- What is left of a selection to a file, and how it ends.
+pub mod SelectionsLeft
+-- What is selected is chosen by what the words name.
+pub mod SelectionsNamed

@@ -1,6 +1,8 @@
 -- What is promised, in the words of the format.
 pub mod Imports
 pub mod Joins
+pub mod Lists
 pub mod Openings
 pub mod Repairs
+pub mod Selections
 pub mod Splits

@@ -1,4 +1,6 @@
 -- What the code keeps, and what its calls do to that.
 pub mod Joins
+pub mod Lists
 pub mod Repairs
+pub mod Selections
 pub mod Splits

@@ -4,6 +4,6 @@
 mod words;
 
 pub use words::{
-    AcksWords, AdviseWords, Colouring, CsvWords, JoinWords, JsonWords, Judging, LintWords,
-    RenumberWords, Rows, ShowWords, SplitWords, Task, Work, WriteWords, task_of,
+    AcksWords, AdviseWords, Colouring, CsvWords, JoinWords, JsonWords, Judging, Kinds, LintWords,
+    RenumberWords, Rows, SelectWords, ShowWords, SplitWords, Task, Work, WriteWords, task_of,
 };

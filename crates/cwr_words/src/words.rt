@@ -1,7 +1,8 @@
 //! The words of the command line.
 
-ghost use Rattle.std.specs.Prelude.{◌≡◌, ◌↔◌, ◌==◌, ◌++◌, map, None, Some, IfErr, IfOk, [], codes, length, option_map, false, true, if◌then◌else◌};
-ghost use Rattle.std.specs.List.{slice_split};
+ghost use Rattle.std.specs.Prelude.{◌≡◌, ◌↔◌, ◌==◌, ◌++◌, map, None, Some, IfErr, IfOk, [], codes, length, not, option_map, false, true, if◌then◌else◌};
+ghost use Rattle.std.specs.List.{list_all, list_any, slice_split};
+ghost use Rattle.std.specs.Char.{is_ascii_digit};
 ghost use Rattle.std.specs.Str.{bytes_eq};
 ghost use Rattle.clap.specs.Words.{fault_of, first_value, found_of, kind_of, rows_of, subcommand_of, subcommand_rows_of};
 ghost use Rattle.cwr_fields.specs.Format.MessageCodes.{status_code};
@@ -9,7 +10,7 @@ ghost use Rattle.cwr_shape.specs.Format.Ranges.{limit_values};
 ghost use Rattle.cwr_moments.specs.Format.Moments.{moment_text};
 ghost use Rattle.cwr_grammar.specs.Format.CommandLine.{grammar};
 ghost use Rattle.cwr_words.specs.Format.Words.{AskFor, Asks, IsAnswer, IsLevelOf, IsPlainCheck, IsProgressOf, IsRenumberingOf, IsShowOf, IsSplitOf, IsTableOf, IsTaskOf};
-ghost use Rattle.cwr_words.specs.Format.Words.{AreBeside, AreLimitsOf, AreNamesOf, AreNamesOfJoin, AreStatusesOf, AreValuesOf, IsAcksOf, IsAdviceOf, IsCreatedBy, IsExportOf, IsImportOf, IsLintOf, IsJoinOf, IsJoinOfNames, IsJudgingOf, IsNumber, IsWorkOf, colouring_given, colouring_named, is_given, level_given, level_named, named_out, rows_named, states_given, written_in, written_once};
+ghost use Rattle.cwr_words.specs.Format.Words.{AreBeside, AreLimitsOf, AreNamesOf, AreNamesOfJoin, AreStatusesOf, AreValuesOf, IsAcksOf, IsAdviceOf, IsCreatedBy, IsExportOf, IsImportOf, IsLintOf, IsJoinOf, IsJoinOfNames, IsJudgingOf, IsNumber, IsSelectionOf, IsWorkOf, asks_for_some, colouring_given, colouring_named, is_dated, is_given, is_party, kinds_given, kinds_in, level_given, level_named, named_out, party_given, rows_named, states_given, with_kind, written_in, written_once};
 ghost use Rattle.cwr_words.specs.Steps.Matches.{given_by};
 
 use clap::error::ErrorKind;
@@ -187,6 +188,44 @@ pub struct RenumberWords<'a> {
     pub anyway: bool,
 }
 
+/// Kinds of transactions.
+#[derive(Clone, Copy, Debug, PartialEq, Eq)]
+pub struct Kinds {
+    /// AGR.
+    pub agreements: bool,
+    /// NWR.
+    pub new_works: bool,
+    /// REV.
+    pub revised_works: bool,
+    /// ACK.
+    pub acknowledgements: bool,
+}
+
+/// What the words of `cwr select` ask for.
+#[derive(Debug, PartialEq, Eq, Drop)]
+pub struct SelectWords<'a> {
+    /// The name of the transmission's file, or none for that on standard input.
+    pub file: Option<&'a str>,
+    /// The name of the file that is written, or none for standard output.
+    pub out: Option<&'a str>,
+    /// The file that is written may replace none.
+    pub only_new: bool,
+    /// A finding of this level, or of a worse one, ends the run as a refusal does.
+    pub fail_on: Option<Level>,
+    /// The name of a file with the numbers of transactions.
+    pub works: Option<&'a str>,
+    /// The name of a file with the places of transactions.
+    pub places: Option<&'a str>,
+    /// The kinds of transactions.
+    pub kinds: Option<Kinds>,
+    /// The IPI name number of a party, as digits that aren't all zeros.
+    pub party: Option<&'a str>,
+    /// All others are selected.
+    pub others: bool,
+    /// When the result is created; without it when the transmission was.
+    pub created: Option<Moment>,
+}
+
 /// What is done. Each file that is read may be called `-`, which is standard input.
 #[derive(Debug, PartialEq, Eq, Drop)]
 pub enum Work<'a> {
@@ -214,6 +253,8 @@ pub enum Work<'a> {
     Join(JoinWords<'a>),
     /// The numbers of one are put right.
     Renumber(RenumberWords<'a>),
+    /// Some transactions of one are selected.
+    Select(SelectWords<'a>),
     /// The manual is printed.
     Manual,
 }
@@ -585,7 +626,7 @@ fn moment_of(text: &str) -> Option<Moment>
     })
 }
 
-/// When the parts of a split were created, where a word says so. `None` where that is no moment.
+/// When what is written is created, where a word says so. `None` where that is no moment.
 fn created_in(given: &ArgMatches<'_>) -> Option<Option<Moment>>
     ensures { IsAnswer (IsCreatedBy ((given_by (found_of given.now)).first (codes "created"))) result }
 {
@@ -680,6 +721,140 @@ fn renumber_in<'a>(given: &ArgMatches<'a>) -> Option<RenumberWords<'a>>
     })
 }
 
+/// The kinds with that one, too. `None` where the name is none's.
+fn with_kind(kinds: Kinds, name: &str) -> Option<Kinds>
+    ensures { result ≡ with_kind kinds name.now }
+{
+    match name {
+        "AGR" => Some(Kinds {
+            agreements: true,
+            ..kinds
+        }),
+        "NWR" => Some(Kinds {
+            new_works: true,
+            ..kinds
+        }),
+        "REV" => Some(Kinds {
+            revised_works: true,
+            ..kinds
+        }),
+        "ACK" => Some(Kinds {
+            acknowledgements: true,
+            ..kinds
+        }),
+        _ => None,
+    }
+}
+
+/// The kinds of these names, which stand with commas between them. `None` where one is no kind's, as an empty one isn't.
+fn kinds_of(names: &str) -> Option<Kinds>
+    ensures { result ≡ kinds_in names.now }
+{
+    let mut kinds = Kinds {
+        agreements: false,
+        new_works: false,
+        revised_works: false,
+        acknowledgements: false,
+    };
+    let mut rest = names;
+    while let Some((name, after)) = rest.split_once(',') {
+        kinds = with_kind(kinds, name)?;
+        rest = after;
+    }
+    with_kind(kinds, rest)
+}
+
+/// The kinds of transactions, where a word says them. `None` where a name is no kind's.
+fn kinds_in(given: &ArgMatches<'_>) -> Option<Option<Kinds>>
+    ensures { result ≡ kinds_given ((given_by (found_of given.now)).first (codes "kind")) }
+{
+    match given.get_str(grammar::KINDS) {
+        Some(names) => kinds_of(names).map(Some),
+        None => Some(None),
+    }
+}
+
+/// The most digits of an IPI name number.
+const PARTY_DIGITS: usize = 11;
+
+/// Whether each byte is a digit.
+fn are_digits(text: &[u8]) -> bool
+    ensures { result ≡ list_all is_ascii_digit text.now }
+{
+    text.iter().all(|b| b.is_ascii_digit())
+}
+
+/// Whether a byte is no zero digit.
+fn has_others_than_zeros(text: &[u8]) -> bool
+    ensures { result ≡ list_any (λ b. not (b == 48)) text.now }
+{
+    text.iter().any(|b| *b != b'0')
+}
+
+/// Whether the text is the number of a party: digits, not all of them zeros.
+fn is_party(text: &str) -> bool
+    ensures { result ≡ is_party text.now }
+{
+    let digits = text.as_bytes();
+    digits.len() <= PARTY_DIGITS && are_digits(digits) && has_others_than_zeros(digits)
+}
+
+/// The number of a party, where a word says one. `None` where it is none.
+fn party_in<'a>(given: &ArgMatches<'a>) -> Option<Option<&'a str>>
+    ensures { option_map (λ party. option_map (λ number. number.now) party) result
+        ≡ party_given ((given_by (found_of given.now)).first (codes "party")) }
+{
+    match given.get_str(grammar::PARTY) {
+        Some(number) if is_party(number) => Some(Some(number)),
+        Some(_) => None,
+        None => Some(None),
+    }
+}
+
+/// Whether a word says which transactions are selected.
+fn asks_for_some(given: &ArgMatches<'_>) -> bool
+    ensures { result ≡ asks_for_some (given_by (found_of given.now)) }
+{
+    given.get_str(grammar::LISTED).is_some()
+        || given.get_str(grammar::PLACES).is_some()
+        || given.get_str(grammar::KINDS).is_some()
+        || given.get_str(grammar::PARTY).is_some()
+}
+
+/// Whether it is said when the result is created, where that has to be, and once.
+fn is_dated(given: &ArgMatches<'_>) -> bool
+    ensures { result ≡ is_dated (given_by (found_of given.now)) }
+{
+    let is_moment = given.get_str(grammar::CREATED).is_some();
+    if flag_in(given, grammar::SAME_CREATED) {
+        !is_moment
+    } else {
+        is_moment || named_out(given.get_str(grammar::OUT)).is_none()
+    }
+}
+
+/// The work of a selection. `None` where no word says which transactions are selected, or when the result is created, or a word is none of
+/// those that it may be.
+fn select_in<'a>(given: &ArgMatches<'a>) -> Option<SelectWords<'a>>
+    ensures { IsAnswer (IsSelectionOf (given_by (found_of given.now))) result }
+{
+    if !asks_for_some(given) || !is_dated(given) {
+        return None;
+    }
+    Some(SelectWords {
+        file: given.get_str(grammar::FILE),
+        out: named_out(given.get_str(grammar::OUT)),
+        only_new: flag_in(given, grammar::NEW),
+        fail_on: fail_on_in(given)?,
+        works: given.get_str(grammar::LISTED),
+        places: given.get_str(grammar::PLACES),
+        kinds: kinds_in(given)?,
+        party: party_in(given)?,
+        others: flag_in(given, grammar::OTHERS),
+        created: created_in(given)?,
+    })
+}
+
 /// The work that a subcommand asks for. `None` where a word is missing or out of its range, or there is no such subcommand.
 fn work_in<'a>(
     alloc: Global,
@@ -706,6 +881,8 @@ fn work_in<'a>(
         Ok(join_in(alloc, given)?.map(Work::Join))
     } else if name == grammar::RENUMBER {
         Ok(renumber_in(given).map(Work::Renumber))
+    } else if name == grammar::SELECT {
+        Ok(select_in(given).map(Work::Select))
     } else if name == grammar::MANUAL {
         Ok(Some(Work::Manual))
     } else if name == grammar::SHOW {
@@ -813,12 +990,16 @@ const NO_STATE: &str = "\
 a word for '--fail-on <STATES>' is no state
   [possible values: accepted, pending, rejected, conflict, duplicate, claim-rejected, no-participation, unanswered]";
 
+/// What is told where a word is no moment.
+const MOMENT_REFUSAL: &str =
+    "the word for '--created <MOMENT>' is no moment: YYYYMMDDTHHMMSS, as 20240131T093000";
+
 /// What is told where a split has no name to write to, or no moment.
 fn split_refusal(given: &ArgMatches<'_>) -> &'static str {
     if written_in(given, grammar::PREFIX).is_none() {
         "the following required arguments were not provided:\n  <PREFIX>, or -o <PREFIX>"
     } else {
-        "the word for '--created <MOMENT>' is no moment: YYYYMMDDTHHMMSS, as 20240131T093000"
+        MOMENT_REFUSAL
     }
 }
 
@@ -831,12 +1012,30 @@ fn join_refusal(given: &ArgMatches<'_>) -> &'static str {
     }
 }
 
+/// What is told where a selection lacks a word, or has one too many, or one that is none of those that it may be.
+fn select_refusal(given: &ArgMatches<'_>) -> &'static str {
+    if !asks_for_some(given) {
+        "no word says which transactions: --works <LIST>, --places <LIST>, --kind <KINDS> or --party <NUMBER>"
+    } else if flag_in(given, grammar::SAME_CREATED) && !is_dated(given) {
+        "the argument '--created <MOMENT>' cannot be used with '--same-created'"
+    } else if !is_dated(given) {
+        "a file asks for '--created <MOMENT>', or '--same-created': with the same creation date and time an answer to it can't be told from one to the transmission"
+    } else if kinds_in(given).is_none() {
+        "a word for '--kind <KINDS>' is no type of a transaction\n  [possible values: AGR, NWR, REV, ACK]"
+    } else if party_in(given).is_none() {
+        "the word for '--party <NUMBER>' is no IPI name number: 11 digits at most, not all of them zeros"
+    } else {
+        MOMENT_REFUSAL
+    }
+}
+
 /// What is told where a word is missing or out of its range, and `clap` took it.
 fn refusal_of(matches: &ArgMatches<'_>) -> &'static str {
     match matches.subcommand() {
         Some((grammar::ACKS, _)) => NO_STATE,
         Some((grammar::SPLIT, given)) => split_refusal(given),
         Some((grammar::JOIN, given)) => join_refusal(given),
+        Some((grammar::SELECT, given)) => select_refusal(given),
         // `clap` has judged the numbers already, but its clauses don't say so of a subcommand's.
         _ => "a word is missing, or a number is out of its range",
     }

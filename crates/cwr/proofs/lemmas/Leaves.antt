@@ -9,7 +9,7 @@ use Rattle.cwr_words.specs.declared.words.Task.{Task}
 use Rattle.cwr_words.specs.declared.words.WriteWords.{WriteWords}
 use Rattle.cwr_words.specs.declared.words.Work.{Work}
 use Rattle.cwr_words.specs.declared.words.Work.TheVariants.{Check, Show, Explain, Lint, Advise, Json, Csv, Acks, Write, Split}
-use Rattle.cwr_words.specs.declared.words.Work.TheVariants.{Join, Renumber, Manual}
+use Rattle.cwr_words.specs.declared.words.Work.TheVariants.{Join, Renumber, Select, Manual}
 use Rattle.cwr_words.specs.Format.Words.{AskFor}
 use Rattle.cwr_files.specs.declared.faults.Fault.TheVariants.{Memory}
 use Rattle.cwr_files.specs.Format.Files.{Same, Texts, Turns}
@@ -22,6 +22,7 @@ use Rattle.cwr_endings.specs.declared.stops.Stop.TheVariants as stops
 use Rattle.cwr_endings.proofs.lemmas.Outs.{stays, turns_so}
 use Rattle.cwr_transform.specs.declared.imports.Import.{Import}
 use Rattle.cwr_transform.specs.Format.Imports.{IsImportOf}
+use Rattle.cwr_transform.proofs.lemmas.SelectionsNamed.{stopped_same}
 use Rattle.cwr.specs.Format.Endings.{import_of, status_code}
 use Rattle.cwr.specs.Format.Files.{IsImportAt, LeavesOut, LeavesWork}
 use Rattle.cwr.specs.Format.Tables.{encoding_of}
@@ -57,6 +58,8 @@ unbegun_leaves limits whole (Split words) held standard old now = tt
 unbegun_leaves limits whole (Join words) held standard old now =
     turns_so held held Same _ (λ texts new same. leaves_same words.out.now old now texts new same) (stays held held refl)
 unbegun_leaves limits whole (Renumber words) held standard old now = tt
+unbegun_leaves limits whole (Select words) held standard old now =
+    stopped_same (option_map (λ name. name.now) words.out) old now _ (stops.Fault Memory) held held (stays held held refl)
 unbegun_leaves limits whole Manual held standard old now = stays held held refl
 
 -- ---- an import of what was opened

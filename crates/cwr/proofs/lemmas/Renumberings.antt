@@ -5,7 +5,7 @@ use Rattle.cwr_shape.specs.declared.limits.Limits.{Limits}
 use Rattle.cwr_words.specs.declared.words.RenumberWords.{RenumberWords}
 use Rattle.cwr_words.specs.declared.words.Work.{Work}
 use Rattle.cwr_words.specs.declared.words.Work.TheVariants.{Check, Show, Explain, Lint, Advise, Json, Csv, Acks, Write, Split}
-use Rattle.cwr_words.specs.declared.words.Work.TheVariants.{Join, Renumber, Manual}
+use Rattle.cwr_words.specs.declared.words.Work.TheVariants.{Join, Renumber, Select, Manual}
 use Rattle.cwr_files.specs.declared.faults.Fault.{Fault}
 use Rattle.cwr_files.specs.declared.faults.Fault.TheVariants as faults
 use Rattle.cwr_files.specs.Format.Files.{Same, Texts, Turns}
@@ -115,4 +115,5 @@ unbegun_renumbers renumbered limits whole (Acks words) standard held making old 
 unbegun_renumbers renumbered limits whole (Write words) standard held making old now = tt
 unbegun_renumbers renumbered limits whole (Split words) standard held making old now = tt
 unbegun_renumbers renumbered limits whole (Join words) standard held making old now = tt
+unbegun_renumbers renumbered limits whole (Select words) standard held making old now = tt
 unbegun_renumbers renumbered limits whole Manual standard held making old now = tt

@@ -5,7 +5,7 @@ use Rattle.std.specs.Option.{is_some}
 use Rattle.cwr_shape.specs.declared.limits.Limits.{Limits}
 use Rattle.cwr_words.specs.declared.words.Work.{Work}
 use Rattle.cwr_words.specs.declared.words.Work.TheVariants.{Check, Show, Explain, Lint, Advise, Json, Csv, Acks, Write, Split}
-use Rattle.cwr_words.specs.declared.words.Work.TheVariants.{Join, Renumber, Manual}
+use Rattle.cwr_words.specs.declared.words.Work.TheVariants.{Join, Renumber, Select, Manual}
 use Rattle.cwr_files.specs.declared.faults.Fault.TheVariants.{Memory}
 use Rattle.cwr_files.specs.Format.Files.{Texts}
 use Rattle.cwr_endings.specs.declared.endings.Wanted.{Wanted}
@@ -54,4 +54,5 @@ unbegun limits whole (Write words) held standard = tt
 unbegun limits whole (Split words) held standard = tt
 unbegun limits whole (Join words) held standard = tt
 unbegun limits whole (Renumber words) held standard = tt
+unbegun limits whole (Select words) held standard = tt
 unbegun limits whole Manual held standard = tt

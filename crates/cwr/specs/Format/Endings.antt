@@ -5,7 +5,7 @@ use Rattle.std.specs.Option.{is_some}
 use Rattle.cwr_shape.specs.declared.limits.Limits.{Limits}
 use Rattle.cwr_words.specs.declared.words.Work.{Work}
 use Rattle.cwr_words.specs.declared.words.Work.TheVariants.{Check, Show, Explain, Lint, Advise, Json, Csv, Acks, Write, Split}
-use Rattle.cwr_words.specs.declared.words.Work.TheVariants.{Join, Renumber, Manual}
+use Rattle.cwr_words.specs.declared.words.Work.TheVariants.{Join, Renumber, Select, Manual}
 use Rattle.cwr_words.specs.declared.words.WriteWords.{WriteWords}
 use Rattle.cwr_files.specs.declared.faults.Fault.{Fault}
 use Rattle.cwr_files.specs.declared.faults.Fault.TheVariants as faults
@@ -21,7 +21,8 @@ use Rattle.cwr_reports.specs.Format.Endings.{EndsAsExportOf, EndsOnEach, EndsOnR
 use Rattle.cwr_transform.specs.declared.imports.Import.{Import}
 use Rattle.cwr_transform.specs.Format.Imports.{IsImportStatus}
 use Rattle.cwr_transform.specs.Format.Joins.{IsStatusOfJoin}
-use Rattle.cwr.specs.Format.Tables.{encoding_of}
+use Rattle.cwr_transform.specs.Format.Selections.{EndsAsSelectionAt}
+use Rattle.cwr.specs.Format.Tables.{encoding_of, selection_of}
 
 -- two of the words name standard input, which is there once
 abbrev pub AreStandardTwice : List (List ℕ) → Type 0
@@ -116,6 +117,7 @@ EndsOnWork limits whole (Split words) held standard ending =
 EndsOnWork limits whole (Join words) held standard ending =
     EndsAsUnion limits (record { whole = whole; fail_on = words.fail_on }) held standard (map (λ name. name.now) words.files.items) ending
 EndsOnWork limits whole (Renumber words) held standard ending = Unit {0}
+EndsOnWork limits whole (Select words) held standard ending = EndsAsSelectionAt (selection_of limits whole words) held standard ending
 EndsOnWork limits whole Manual held standard ending = EndsAsManual ending
 
 -- the status of a fault: what was to be written may not be, or what was to be read can't be, or a file, a device or memory failed

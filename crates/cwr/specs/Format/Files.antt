@@ -3,7 +3,7 @@ use Rattle.std.specs.Prelude.{◌≡◌, ◌⊎◌, ℕ, Bool, List, map, None, 
 use Rattle.cwr_shape.specs.declared.limits.Limits.{Limits}
 use Rattle.cwr_words.specs.declared.words.Task.{Task}
 use Rattle.cwr_words.specs.declared.words.Work.{Work}
-use Rattle.cwr_words.specs.declared.words.Work.TheVariants.{Csv, Join, Json, Renumber, Split, Write}
+use Rattle.cwr_words.specs.declared.words.Work.TheVariants.{Csv, Join, Json, Renumber, Select, Split, Write}
 use Rattle.cwr_words.specs.declared.words.RenumberWords.{RenumberWords}
 use Rattle.cwr_words.specs.Format.Words.{AskFor}
 use Rattle.cwr_files.specs.Format.Files.{Same, Texts, Turns}
@@ -18,8 +18,9 @@ use Rattle.cwr_transform.specs.declared.imports.Import.{Import}
 use Rattle.cwr_transform.specs.Format.Imports.{IsImportOf}
 use Rattle.cwr_transform.specs.Format.Joins.{IsTextOfJoin}
 use Rattle.cwr_transform.specs.Format.Repairs.{IsRepairOf, IsRepairStatus, WritesRepair}
+use Rattle.cwr_transform.specs.Format.Selections.{IsSelectionAt, LeavesSelection}
 use Rattle.cwr.specs.Format.Endings.{EndsOnWork, ending_status, import_of, status_code}
-use Rattle.cwr.specs.Format.Tables.{encoding_of, table_of}
+use Rattle.cwr.specs.Format.Tables.{encoding_of, selection_of, table_of}
 
 -- a run that writes a file leaves it or nothing, and one that writes to standard output changes nothing
 abbrev pub LeavesOut : Option (List ℕ) → ℕ → ℕ → (List ℕ → Type 0) → Result Status Stop → Texts → Texts → Type 0
@@ -49,6 +50,9 @@ LeavesWork limits whole (Join words) held standard old now ending after =
     (map (λ name. name.now) words.files.items)) ending)
 LeavesWork limits whole (Split words) held standard old now ending after = Unit {0}
 LeavesWork limits whole (Renumber words) held standard old now ending after = Unit {0}
+LeavesWork limits whole (Select words) held standard old now ending after =
+    Turns held after (LeavesSelection (option_map (λ name. name.now) words.out) old now
+    (IsSelectionAt (selection_of limits whole words) held standard) ending)
 LeavesWork limits whole work held standard old now ending after = Turns held after Same
 
 -- so a run that puts numbers right does

@@ -1,5 +1,10 @@
--- The table that the words ask for, and how cells and acknowledgements are told.
-use Rattle.std.specs.Prelude.{Bool, true, false, if◌then◌else◌}
+-- The table that the words ask for, how cells and acknowledgements are told, and how transactions are selected.
+use Rattle.std.specs.Prelude.{Bool, true, false, if◌then◌else◌, option_map}
+use Rattle.cwr_shape.specs.declared.limits.Limits.{Limits}
+use Rattle.cwr_words.specs.declared.words.Kinds.{Kinds}
+use Rattle.cwr_words.specs.declared.words.SelectWords.{SelectWords}
+use Rattle.cwr_select.specs.declared.criteria.ByKind.{ByKind}
+use Rattle.cwr_transform.specs.declared.selections.Selection.{Selection}
 use Rattle.cwr_words.specs.declared.words.Rows.{Rows}
 use Rattle.cwr_words.specs.declared.words.Rows.TheVariants as rows
 use Rattle.cwr_tables.specs.declared.tables.Table.{Table}
@@ -24,3 +29,27 @@ abbrev pub form_of : Bool → Bool → Form
 form_of true utf8 = Json (encoding_of utf8)
 form_of false true = Words (Characters Utf8)
 form_of false false = Words Bytes
+
+-- how transactions are selected, within these limits, where nothing may follow them or something may
+abbrev pub kinds_by : Kinds → ByKind
+kinds_by kinds = record {
+  agreements = kinds.agreements;
+  new_works = kinds.new_works;
+  revised_works = kinds.revised_works;
+  acknowledgements = kinds.acknowledgements;
+}
+
+abbrev pub selection_of : Limits → Bool → SelectWords → Selection
+selection_of limits whole words = record {
+  limits = limits;
+  wanted = record { whole = whole; fail_on = words.fail_on };
+  file = words.file;
+  out = words.out;
+  only_new = words.only_new;
+  works = words.works;
+  places = words.places;
+  kinds = option_map kinds_by words.kinds;
+  party = words.party;
+  others = words.others;
+  created = words.created;
+}

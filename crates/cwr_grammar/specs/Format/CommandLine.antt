@@ -129,12 +129,17 @@ abbrev pub renumber : Shape
 renumber = subcommand (codes "renumber")
     (reads ++ fail_on ∷ flag (codes "new") ∷ flag (codes "anyway") ∷ file ∷ place (codes "OUT") ∷ written (codes "o") ∷ [])
 
+abbrev pub select : Shape
+select = subcommand (codes "select")
+    (reads ++ option (codes "works") ∷ option (codes "places") ∷ option (codes "kind") ∷ option (codes "party") ∷ flag (codes "not")
+    ∷ option (codes "created") ∷ flag (codes "same-created") ∷ flag (codes "new") ∷ fail_on ∷ file ∷ written (codes "OUT") ∷ [])
+
 abbrev pub manual : Shape
 manual = subcommand (codes "manual") []
 
 unfoldable pub subcommands : List Shape
 subcommands =
-    check ∷ show ∷ explain ∷ lint ∷ advise ∷ json ∷ csv ∷ acks ∷ write ∷ split ∷ join ∷ renumber ∷ manual ∷ []
+    check ∷ show ∷ explain ∷ lint ∷ advise ∷ json ∷ csv ∷ acks ∷ write ∷ split ∷ join ∷ renumber ∷ select ∷ manual ∷ []
 
 -- The words of the program: one of these subcommands, or none. It has a version.
 unfoldable pub grammar : App

@@ -15,7 +15,6 @@ use Rattle.cwr_tools.specs.declared.verdicts.ToolFault.TheVariants as tool_fault
 use Rattle.cwr_renumber.specs.Steps.Renumberings.{CountsWriter}
 use Rattle.cwr_files.specs.declared.faults.Fault.{Fault}
 use Rattle.cwr_files.specs.declared.faults.Fault.TheVariants as faults
-use Rattle.cwr_files.specs.declared.faults.Name.TheVariants.{File}
 use Rattle.cwr_files.specs.declared.faults.Told.{Told}
 use Rattle.cwr_files.specs.Format.Files.{Texts, counted_on}
 use Rattle.cwr_files.specs.Format.NewFiles.{LeavesAll}

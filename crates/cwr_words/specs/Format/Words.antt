@@ -1,5 +1,7 @@
 -- What the words of a subcommand ask for.
-use Rattle.std.specs.Prelude.{◌≡◌, ◌⊎◌, ◌<◌, ◌^◌, ◌++◌, ℕ, Bool, true, false, List, [], ◌∷◌, map, Option, Some, None, IsSome, IsSomeAnd, fold, length, option_map, codes, if◌then◌else◌}
+use Rattle.std.specs.Prelude.{◌≡◌, ◌⊎◌, ◌<◌, ◌^◌, ◌++◌, ◌==◌, ◌&&◌, ◌||◌, ℕ, nat_le, Bool, true, false, not, List, [], ◌∷◌, map, Option, Some, None, IsSome, IsSomeAnd, is_none, is_some, fold, length, option_map, codes, if◌then◌else◌}
+use Rattle.std.specs.Char.{is_ascii_digit}
+use Rattle.std.specs.List.{list_all, list_any}
 use Rattle.std.specs.Option.{option_and_then, option_or}
 use Rattle.std.specs.Str.{bytes_eq}
 use Rattle.std.specs.Int.NonZero.{non_zero_u32_get}
@@ -25,8 +27,10 @@ use Rattle.cwr_words.specs.declared.words.AdviseWords.{AdviseWords}
 use Rattle.cwr_words.specs.declared.words.CsvWords.{CsvWords}
 use Rattle.cwr_words.specs.declared.words.JoinWords.{JoinWords}
 use Rattle.cwr_words.specs.declared.words.JsonWords.{JsonWords}
+use Rattle.cwr_words.specs.declared.words.Kinds.{Kinds}
 use Rattle.cwr_words.specs.declared.words.LintWords.{LintWords}
 use Rattle.cwr_words.specs.declared.words.RenumberWords.{RenumberWords}
+use Rattle.cwr_words.specs.declared.words.SelectWords.{SelectWords}
 use Rattle.cwr_words.specs.declared.words.ShowWords.{ShowWords}
 use Rattle.cwr_words.specs.declared.words.SplitWords.{SplitWords}
 use Rattle.cwr_words.specs.declared.words.WriteWords.{WriteWords}
@@ -35,7 +39,7 @@ use Rattle.cwr_words.specs.declared.words.Rows.TheVariants.{Records, Works}
 use Rattle.cwr_words.specs.declared.words.Task.{Task}
 use Rattle.cwr_words.specs.declared.words.Work.{Work}
 use Rattle.cwr_words.specs.declared.words.Work.TheVariants.{Check, Show, Explain, Lint, Advise, Json, Csv, Acks, Write, Split}
-use Rattle.cwr_words.specs.declared.words.Work.TheVariants.{Join, Renumber, Manual}
+use Rattle.cwr_words.specs.declared.words.Work.TheVariants.{Join, Renumber, Select, Manual}
 
 -- What a command line gives: under each id the first of its texts, that text as flags and numbers are read, and all of them.
 pub record Given : Type 0 where
@@ -259,9 +263,80 @@ IsRenumberingOf given words =
     × (Some (option_map (λ f. f.now) words.out) ≡ option_map named_out (written_once given (codes "OUT"))) × IsFlagOf given (codes "new") words.only_new
     × IsLevelOf given words.fail_on × IsFlagOf given (codes "anyway") words.anyway
 
+-- ---- selections
+
+-- no kind of transactions, and some with the one of that name, too
+abbrev pub no_kinds : Kinds
+no_kinds = record {
+  agreements = false;
+  new_works = false;
+  revised_works = false;
+  acknowledgements = false;
+}
+
+abbrev pub with_kind : Kinds → List ℕ → Option Kinds
+with_kind kinds name =
+    if bytes_eq name (codes "AGR") then Some (record kinds { agreements = true })
+    else if bytes_eq name (codes "NWR") then Some (record kinds { new_works = true })
+    else if bytes_eq name (codes "REV") then Some (record kinds { revised_works = true })
+    else if bytes_eq name (codes "ACK") then Some (record kinds { acknowledgements = true })
+    else None
+
+-- those of these names, too, or no answer where one is no kind's
+abbrev pub with_kinds : Kinds → List (List ℕ) → Option Kinds
+with_kinds kinds [] = Some kinds
+with_kinds kinds (name ∷ rest) = option_and_then (λ it. with_kinds it rest) (with_kind kinds name)
+
+-- the kinds whose names a text has, with commas between them
+abbrev pub kinds_in : List ℕ → Option Kinds
+kinds_in text = with_kinds no_kinds (names_in text)
+
+-- The kinds that the option's text has, or none without the option. There is no answer where a name is no kind's.
+abbrev pub kinds_given : Option (List ℕ) → Option (Option Kinds)
+kinds_given None = Some None
+kinds_given (Some names) = option_map (λ kinds. Some kinds) (kinds_in names)
+
+-- the text is the number of a party: at most 11 digits, not all of them zeros
+abbrev pub is_party : List ℕ → Bool
+is_party text = nat_le (length text) 11 && list_all is_ascii_digit text && list_any (λ b. not (b == 48)) text
+
+-- The number that the option's text is, or none without the option. There is no answer where it is none.
+abbrev pub party_given : Option (List ℕ) → Option (Option (List ℕ))
+party_given None = Some None
+party_given (Some text) = if is_party text then Some (Some text) else None
+
+-- a word says which transactions are selected
+abbrev pub asks_for_some : Given → Bool
+asks_for_some given =
+    is_some (given.first (codes "works")) || is_some (given.first (codes "places")) || is_some (given.first (codes "kind"))
+    || is_some (given.first (codes "party"))
+
+-- It is said when the result is created: at a moment of its own, or when the transmission was. Of what goes to standard output nothing has to
+-- be said.
+abbrev pub is_dated : Given → Bool
+is_dated given =
+    if is_given given (codes "same-created") then not (is_some (given.first (codes "created")))
+    else is_some (given.first (codes "created")) || is_none (named_out (given.first (codes "OUT")))
+
+-- Some transactions of the file FILE to the file OUT: those whose numbers or places stand in the files that these options name, that have one
+-- of these kinds, and that name that party; or with that flag all others.
+pub record IsSelectionOf (given : Given) (words : SelectWords) : Type 0 where
+  pub file : option_map (λ f. f.now) words.file ≡ given.first (codes "FILE")
+  pub out : option_map (λ f. f.now) words.out ≡ named_out (given.first (codes "OUT"))
+  pub only_new : IsFlagOf given (codes "new") words.only_new
+  pub fail_on : IsLevelOf given words.fail_on
+  pub works : option_map (λ f. f.now) words.works ≡ given.first (codes "works")
+  pub places : option_map (λ f. f.now) words.places ≡ given.first (codes "places")
+  pub kinds : kinds_given (given.first (codes "kind")) ≡ Some words.kinds
+  pub party : party_given (given.first (codes "party")) ≡ Some (option_map (λ number. number.now) words.party)
+  pub others : IsFlagOf given (codes "not") words.others
+  pub created : IsCreatedBy (given.first (codes "created")) words.created
+  pub some : asks_for_some given ≡ true
+  pub dated : is_dated given ≡ true
+
 -- Work of the subcommand of that name: transmissions are checked, explained, linted or advised on; one is shown, or written as JSON or as a table, that of the
 -- first file that FILE names, if it names one; what the acknowledgements of some say is told; one is written from lines of JSON, one is split, some are joined,
--- the numbers of one are put right, or the manual is printed.
+-- the numbers of one are put right, some transactions of one are selected, or the manual is printed.
 abbrev pub IsWorkOf : List ℕ → Given → Work → Type 0
 IsWorkOf name given (Check judging) = (bytes_eq name (codes "check") ≡ true) × IsJudgingOf given judging
 IsWorkOf name given (Show words) = (bytes_eq name (codes "show") ≡ true) × IsShowOf given words
@@ -275,6 +350,7 @@ IsWorkOf name given (Write words) = (bytes_eq name (codes "write") ≡ true) × 
 IsWorkOf name given (Split words) = (bytes_eq name (codes "split") ≡ true) × IsSplitOf given words
 IsWorkOf name given (Join words) = (bytes_eq name (codes "join") ≡ true) × IsJoinOf given words
 IsWorkOf name given (Renumber words) = (bytes_eq name (codes "renumber") ≡ true) × IsRenumberingOf given words
+IsWorkOf name given (Select words) = (bytes_eq name (codes "select") ≡ true) × IsSelectionOf given words
 IsWorkOf name given Manual = bytes_eq name (codes "manual") ≡ true
 
 -- the limits are the numbers that the options of a subcommand say, each in its range

@@ -1,7 +1,6 @@
 use Rattle.std.proofs.Common.{◌≡◌, ℕ, ◌≤◌, ◌+◌, Bool, List, [], Option, Some, sym, subst, ◌∙◌}
 use Rattle.std.specs.Prelude.{Err}
 use Rattle.cwr_devices.specs.Steps.Counted.{failures_of}
-use Rattle.cwr_files.specs.declared.faults.Fault.TheVariants.{Memory}
 use Rattle.cwr_files.specs.declared.faults.Name.TheVariants.{File}
 use Rattle.cwr_files.specs.Format.Files.{Texts, Turns, counted_on}
 use Rattle.cwr_files.specs.Format.NewFiles.{LeavesAll}

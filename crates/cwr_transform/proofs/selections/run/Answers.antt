@@ -1,0 +1,28 @@
+use Rattle.std.proofs.Common.{List, ℕ, Option}
+use Rattle.cwr_files.specs.Steps.Inputs.{remaining_of}
+use Rattle.cwr_endings.proofs.lemmas.StatusesOnTexts.{from_source}
+use Rattle.cwr_transform.specs.Steps.Selections.{WritesBy}
+use Rattle.cwr_transform.proofs.lemmas.SelectionsJudged.{counts_writer, reads_so, run_judged}
+use Rattle.cwr_transform.proofs.selections.run.Goals as goal
+
+pub returns-clause-judges : goal.returns-clause-judges
+returns-clause-judges g c =
+    from_source (λ (known : Option (List ℕ)). WritesBy c.args.selection.now.limits c.args.selection.now.created
+    (g.C.Chooses.choice c.args.choice.now) known g.W.Target.contents c.args.writer c.select_viewed-writer.result.0 c.with_memory-outcome.result
+    c.look_after-look.result c.is_empty.result) (remaining_of g.S.Reader.Read.remaining g.I.Read.remaining) c.args.input
+    c.new-reader.result.inner _ c.new-reader.ensures.inner c.new-reader.ensures.ahead
+    (run_judged c.args.selection.now.limits c.args.selection.now.created (g.C.Chooses.choice c.args.choice.now) _ _ _ g.W.Target.contents
+    c.args.writer c.select_viewed-writer.result.0 c.select_viewed-writer.result.1 c.with_memory-outcome.result c.lacks_memory.result
+    c.is_empty.result c.look_after-look.result c.select_viewed-writer.ensures.selects c.with_memory-outcome.ensures
+    c.is_empty.ensures c.look_after-look.ensures.look)
+
+pub returns-clause-failures : goal.returns-clause-failures
+returns-clause-failures g c =
+    counts_writer c.select_viewed-writer.result.1 c.with_memory-outcome.result c.lacks_memory.result _ _ c.with_memory-outcome.ensures
+    c.select_viewed-writer.ensures.writer_failures
+
+pub returns-clause-reads : goal.returns-clause-reads
+returns-clause-reads g c =
+    reads_so c.select_viewed-writer.result.1 c.with_memory-outcome.result c.lacks_memory.result c.look_after-look.result _ _ _ _ _
+    c.with_memory-outcome.ensures c.new-reader.ensures.failures c.select_viewed-writer.ensures.reader_failures
+    c.look_after-look.ensures.failures c.end_input-read.ensures.failures

@@ -1,0 +1,45 @@
+-- A list while its lines are read.
+use Rattle.std.specs.Prelude.{◌≡◌, IfSome, IsPermutation, ℕ, nat_lt, length, List, ◌++◌, Option, Some, None, option_map, if◌then◌else◌}
+use Rattle.cwr_files.specs.Format.Files.{Texts}
+use Rattle.cwr_files.specs.Format.Inputs.{is_standard}
+use Rattle.cwr_files.specs.Steps.Inputs.{IsLeftOf, IsThereFor, standard_after}
+use Rattle.cwr_transform.specs.Format.Lists.{IsListed, all_read, entries_in, entries_of, entry_of}
+
+-- what a line says, if it says anything; none where that is none of a list
+abbrev pub line_read : {A : Type 0} → (List ℕ → Option A) → List ℕ → Option (Option A)
+line_read reads line = if nat_lt 0 (length (entry_of line)) then option_map (λ a. Some a) (reads (entry_of line)) else Some None
+
+-- what lines say that come after these values
+abbrev pub all_after : {A : Type 0} → (List ℕ → Option A) → List A → List (List ℕ) → Option (List A)
+all_after reads before lines = option_map (λ values. before ++ values) (all_read reads (entries_of lines))
+
+-- ---- a list that is read
+
+-- these are all bytes that lie under the name, or were on standard input
+abbrev pub ReadsText : Option Texts → Option (List ℕ) → List ℕ → List ℕ → Type 0
+ReadsText held standard name bytes = (left : Option (List ℕ)) × IsLeftOf held standard (Some name) left × IfSome left (λ known. bytes ≡ known)
+
+-- standard input is there, and taken, where the word that names a list, if one does, names it
+abbrev pub IsThereForList : {I : Type 0} → Option (List ℕ) → Option I → Type 0
+IsThereForList None standard = Unit {0}
+IsThereForList (Some name) standard = IsThereFor (is_standard (Some name)) standard
+
+abbrev pub standard_after_list : {I : Type 0} → Option (List ℕ) → Option I → Option I
+standard_after_list None standard = standard
+standard_after_list (Some name) standard = standard_after (is_standard (Some name)) standard
+
+-- these are the others, in whatever order
+abbrev pub ArePermuted : {A : Type 0} → Option (List A) → Option (List A) → Type 0
+ArePermuted None None = Unit {0}
+ArePermuted None (Some ys) = ⊥
+ArePermuted (Some xs) None = ⊥
+ArePermuted (Some xs) (Some ys) = IsPermutation xs ys
+
+-- the values are what a text says
+abbrev pub SaysText : {A : Type 0} → (List ℕ → Option A) → List ℕ → List A → Type 0
+SaysText {A} reads text values = (listed : List A) × (all_read reads (entries_in text) ≡ Some listed) × IsPermutation listed values
+
+-- they are what the list of that name says
+abbrev pub ReadsList : {A : Type 0} → (List ℕ → Option A) → Option Texts → Option (List ℕ) → Option (List ℕ) → Option (List A) → Type 0
+ReadsList {A} reads held standard name values =
+    (listed : Option (List A)) × IsListed reads held standard name listed × ArePermuted listed values

@@ -1,0 +1,146 @@
+-- What came of a run that selects, and what it leaves.
+use Rattle.std.specs.Prelude.{◌≡◌, ◌<◌, ◌+◌, ◌==◌, ◌||◌, ℕ, Bool, true, false, if◌then◌else◌, List, drop, Option, Some, None, IfSome, Result, Ok, Err}
+use Rattle.std.specs.Io.KnownBytes.{Appends}
+use Rattle.cwr_devices.specs.Format.Failures.{one_more_failure}
+use Rattle.cwr_shape.specs.declared.limits.Limits.{Limits}
+use Rattle.cwr_values.specs.Format.Values.{TransmissionValue}
+use Rattle.cwr_judge.specs.Format.Ends.{IsAccepted}
+use Rattle.cwr_moments.specs.declared.moments.Moment.{Moment}
+use Rattle.cwr_tools.specs.declared.verdicts.ToolFault.{ToolFault}
+use Rattle.cwr_tools.specs.declared.verdicts.ToolFault.TheVariants as tool_faults
+use Rattle.cwr_select.specs.declared.reports.SelectReport.{SelectReport}
+use Rattle.cwr_select.specs.Format.Created.{created_at}
+use Rattle.cwr_select.specs.Format.Selections.{Choice, selected_count, selected_text}
+use Rattle.cwr_files.specs.declared.faults.Fault.{Fault}
+use Rattle.cwr_files.specs.declared.faults.Fault.TheVariants as faults
+use Rattle.cwr_files.specs.declared.faults.Told.{Told}
+use Rattle.cwr_files.specs.Format.Files.{Texts}
+use Rattle.cwr_endings.specs.declared.endings.Look.{Look}
+use Rattle.cwr_endings.specs.declared.endings.Look.TheVariants as looks
+use Rattle.cwr_endings.specs.declared.endings.Status.{Status}
+use Rattle.cwr_endings.specs.declared.endings.Status.TheVariants as statuses
+use Rattle.cwr_endings.specs.declared.endings.Wanted.{Wanted}
+use Rattle.cwr_endings.specs.declared.stops.Stop.{Stop}
+use Rattle.cwr_endings.specs.declared.stops.Stop.TheVariants as stops
+use Rattle.cwr_endings.specs.Format.Endings.{EndsAfterFault, SettlesOut, WritesOut}
+use Rattle.cwr_endings.specs.Steps.Looks.{CountsLook, IsLook, good_status}
+use Rattle.cwr_transform.specs.declared.selections.Selected.{Selected}
+use Rattle.cwr_transform.specs.declared.selections.SelectedFile.{SelectedFile}
+use Rattle.cwr_transform.specs.Steps.Joins.{faults_of}
+
+-- ---- what came of it
+
+-- it failed where memory was refused for what was seen
+abbrev pub with_memory : Result SelectReport ToolFault → Bool → Result SelectReport ToolFault
+with_memory (Ok report) true = Err tool_faults.Memory
+with_memory (Ok report) false = Ok report
+with_memory (Err fault) lacks = Err fault
+
+-- nothing is selected
+abbrev pub is_empty : Result SelectReport ToolFault → Bool
+is_empty (Ok report) = report.selected == 0
+is_empty (Err fault) = false
+
+-- what follows the transmission is looked at where all was selected
+abbrev pub LooksAfterSelecting : Option (List ℕ) → Option (List ℕ) → Result SelectReport ToolFault → Look → Type 0
+LooksAfterSelecting left after (Ok report) look = IsLook left after look
+LooksAfterSelecting left after (Err fault) look = look ≡ looks.Unasked
+
+abbrev pub CountsLookAfter : Result SelectReport ToolFault → Look → ℕ → ℕ → Type 0
+CountsLookAfter (Ok report) look old new = CountsLook look old new
+CountsLookAfter (Err fault) look old new = new ≡ old
+
+-- the status of what is selected of a transmission, by that of the transmission
+abbrev pub short_status : Bool → Option Status → Option Status
+short_status true (Some statuses.Good) = Some statuses.Refused
+short_status short status = status
+
+-- none where the input failed after its transmission, and nothing may follow that; where something may be missing, or not
+abbrev pub status_where : Bool → Wanted → Selected → Option Status
+status_where missing wanted s =
+    if s.is_same_moment then Some statuses.CommandLine else short_status (missing || s.is_empty) (good_status wanted s.look s.found)
+
+abbrev pub selected_status : Wanted → Selected → Option Status
+selected_status wanted s = status_where s.is_missing wanted s
+
+abbrev pub is_good : Option Status → Bool
+is_good (Some statuses.Good) = true
+is_good status = false
+
+-- what was written is what is wanted, whether something is missing or not
+abbrev pub keeps : Result SelectReport ToolFault → Option Status → Bool
+keeps (Ok report) status = is_good status
+keeps (Err fault) status = false
+
+abbrev pub keeps_selected : Wanted → Selected → Bool
+keeps_selected wanted s = keeps s.outcome (status_where false wanted s)
+
+-- ---- of which text
+
+-- some of a transmission is selected, unless nothing is, and what follows that was looked at
+pub record HasJudged (limits : Limits) (choice : Choice) (left : Option (List ℕ)) (look : Look) (empty : Bool) : Type 0 where
+  pub value : TransmissionValue
+  pub some : empty ≡ false → 0 < selected_count choice value
+  pub from : IfSome left
+      (λ known. (n : ℕ) × IsAccepted limits known value n × (after : Option (List ℕ)) × IsLook (Some (drop n known)) after look)
+
+-- no output is made
+abbrev pub JudgesBy : Limits → Choice → Option (List ℕ) → Result SelectReport ToolFault → Look → Bool → Type 0
+JudgesBy limits choice left (Ok report) look empty = HasJudged limits choice left look empty
+JudgesBy limits choice left (Err tool_faults.Output) look empty = ⊥
+JudgesBy limits choice left (Err fault) look empty = Unit {0}
+
+abbrev pub JudgesSelected : Limits → Choice → Option (List ℕ) → Selected → Type 0
+JudgesSelected limits choice left s = JudgesBy limits choice left s.outcome s.look s.is_empty
+
+-- and its text is written
+pub record HasWritten {W : Type 0} (limits : Limits) (created : Option Moment) (choice : Choice) (left : Option (List ℕ))
+    (contents : W → Option (List ℕ)) (old new : W) (look : Look) (empty : Bool) : Type 0 where
+  pub judged : HasJudged limits choice left look empty
+  pub written : Appends (contents old) (contents new) (selected_text choice (created_at created judged.value))
+
+abbrev pub WritesBy : {W : Type 0} → Limits → Option Moment → Choice → Option (List ℕ) → (W → Option (List ℕ)) → W → W
+    → Result SelectReport ToolFault → Look → Bool → Type 0
+WritesBy limits created choice left contents old new (Ok report) look empty =
+    HasWritten limits created choice left contents old new look empty
+WritesBy limits created choice left contents old new (Err tool_faults.Output) look empty = ⊥
+WritesBy limits created choice left contents old new (Err fault) look empty = Unit {0}
+
+abbrev pub JudgesSelection : {W : Type 0} → Limits → Option Moment → Choice → Option (List ℕ) → (W → Option (List ℕ)) → W → W → Selected
+    → Type 0
+JudgesSelection limits created choice left contents old new s =
+    WritesBy limits created choice left contents old new s.outcome s.look s.is_empty
+
+-- ---- how often a device failed
+
+abbrev pub CountsSelecting : Result SelectReport ToolFault → Look → ℕ → ℕ → Type 0
+CountsSelecting (Ok report) look old new = CountsLook look old new
+CountsSelecting (Err tool_faults.Reader) look old new = new ≡ one_more_failure old
+CountsSelecting (Err fault) look old new = new ≡ old
+
+abbrev pub look_faults : Look → ℕ
+look_faults looks.Failed = 1
+look_faults look = 0
+
+abbrev pub selected_faults : Result SelectReport ToolFault → Look → ℕ
+selected_faults (Ok report) look = look_faults look
+selected_faults (Err fault) look = faults_of fault
+
+-- ---- how it ends
+
+abbrev pub EndsWith : Told → Option Status → Result Status Stop → Type 0
+EndsWith read (Some status) ending = ending ≡ Ok status
+EndsWith read None ending = ending ≡ Err (stops.Fault (faults.Read read))
+
+abbrev pub EndsBy : Stop → Stop → Told → Result SelectReport ToolFault → Option Status → Result Status Stop → Type 0
+EndsBy written made read (Ok report) status ending = EndsWith read status ending
+EndsBy written made read (Err fault) status ending = EndsAfterFault read written made (Some fault) ending
+
+abbrev pub EndsSelected : Wanted → Stop → Stop → Selected → Result Status Stop → Type 0
+EndsSelected wanted written made s ending = EndsBy written made s.read s.outcome (selected_status wanted s) ending
+
+-- what is left once the file is settled
+abbrev pub LeavesSelected : Wanted → List ℕ → ℕ → ℕ → (List ℕ → Type 0) → Result SelectedFile Fault → Texts → Texts → Type 0
+LeavesSelected wanted out old now is (Ok file) texts new =
+    SettlesOut out (old + selected_faults file.selected.outcome file.selected.look) now is (keeps_selected wanted file.selected) texts new
+LeavesSelected wanted out old now is (Err fault) texts new = WritesOut out old now is (Err (stops.Fault fault)) texts new

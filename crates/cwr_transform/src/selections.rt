@@ -1,0 +1,751 @@
+//! Transactions of a transmission that are selected, as one of their own.
+
+ghost use Rattle.std.specs.Prelude.{◌≡◌, None, IfOk, IfSome, OnOk, option_map};
+ghost use Rattle.cwr_parts.specs.Format.Splitting.{CountsSplitWriter};
+ghost use Rattle.cwr_files.specs.Format.Faults.{IfErr};
+ghost use Rattle.cwr_files.specs.Format.Files.{Turns};
+ghost use Rattle.cwr_files.specs.Steps.Inputs.{remaining_of, standard_left};
+ghost use Rattle.cwr_select.specs.Format.Criteria.{significant};
+ghost use Rattle.cwr_transform.specs.Format.Selections.{EndsAsSelection, EndsAsSelectionAt, IsSelectionAt, IsSelectionFrom, LeavesSelection, WritesSelection, asked_choice};
+ghost use Rattle.cwr_transform.specs.Format.Lists.{number_in, place_in};
+ghost use Rattle.cwr_transform.specs.Steps.Lists.{IsThereForList, ReadsList, SaysText, standard_after_list};
+ghost use Rattle.cwr_transform.specs.Steps.Selections.{CountsLookAfter, CountsSelecting, EndsSelected, JudgesSelected, JudgesSelection, LeavesSelected, LooksAfterSelecting, is_empty, keeps_selected, selected_status, status_where, with_memory};
+
+use crate::join_inputs::name_of;
+use crate::lists::{Entry, NumberCell, Place, Untaken, read_list, values_in};
+use crate::select_notes::{
+    lacks_number, lacks_place, put_numbers, put_places, put_selected, tell_blanked, tell_line,
+    tell_none, tell_same_moment,
+};
+use crate::select_views::SelectView;
+use crate::sought::{SoughtNumbers, SoughtPlaces};
+use cwr_devices::{Counted, Pen, ReadAhead, Sink, SinkFault, Source, Target};
+use cwr_endings::{
+    Look, Status, Stop, Wanted, ended_by, good_status, hand_on, look_beyond, refuse_out, settle,
+    status_by, tell_findings, tell_following, tell_unwritten,
+};
+use cwr_files::{
+    DASH, Fault, Input, Name, Pace, Store, Told, create_output, end_input, gathered, open_input,
+    take_back,
+};
+use cwr_moments::Moment;
+use cwr_parts::input_line;
+use cwr_select::{
+    Both, ByKind, ByNumber, ByParty, ByPlace, Chooses, Listed, SelectReport, Turned, select_viewed,
+};
+use cwr_shape::Limits;
+use cwr_tools::ToolFault;
+use std::alloc::{AllocError, Global};
+use std::io::{Read, Write};
+
+/// How transactions are selected.
+#[derive(Clone, Copy, Debug)]
+pub struct Selection<'a> {
+    pub limits: Limits,
+    /// What is wanted of the transmission, and of findings of what is selected.
+    pub wanted: Wanted,
+    /// The name of the transmission's file, or none for that on standard input.
+    pub file: Option<&'a str>,
+    /// The name of the file that is written, or none for standard output.
+    pub out: Option<&'a str>,
+    /// That file may replace none.
+    pub only_new: bool,
+    /// The name of a file with the numbers of transactions, one a line. Those that have one of them are chosen.
+    pub works: Option<&'a str>,
+    /// The name of a file with the places of transactions, one a line. Those that have one of them are chosen.
+    pub places: Option<&'a str>,
+    /// Those with such headers are chosen.
+    pub kinds: Option<ByKind>,
+    /// Those that name the party of that number are chosen: digits, not all of them zeros.
+    pub party: Option<&'a str>,
+    /// All others are selected in place of those that are chosen by all of these.
+    pub others: bool,
+    /// When what is selected is created. Without it that is when the transmission was.
+    pub created: Option<Moment>,
+}
+
+/// A list that was read.
+#[derive(Drop)]
+struct ReadList<T: Ord + Drop> {
+    text: Vec<u8>,
+    /// How many values it has, and these in order.
+    count: usize,
+    values: Listed<T>,
+}
+
+/// The lists that were read.
+#[derive(Drop)]
+struct Lists {
+    works: Option<ReadList<NumberCell>>,
+    places: Option<ReadList<Place>>,
+}
+
+/// Why there are no lists.
+#[derive(Clone, Copy, Debug, PartialEq, Eq)]
+enum Unlisted<'a> {
+    /// The line of that number of the file of that name is none.
+    Line(&'a str, u64, &'static str),
+    Fault(Fault<'a>),
+}
+
+/// The list that a text is, which was read from the file of that name.
+fn list_of<'a, T: Entry + Ord>(
+    alloc: Global,
+    text: Vec<u8>,
+    name: &'a str,
+) -> Result<ReadList<T>, Unlisted<'a>>
+    ensures { IfOk result (λ list. SaysText T.reads text.items list.values) }
+{
+    match values_in(alloc, text.as_slice()) {
+        Ok(values) => Ok(ReadList {
+            text,
+            count: values.len(),
+            values: Listed::new(values),
+        }),
+        Err(Untaken::Line(line)) => Err(Unlisted::Line(name, line, T::expected())),
+        Err(Untaken::Memory) => Err(Unlisted::Fault(Fault::Memory)),
+    }
+}
+
+/// The list of the file of that name, if one is named.
+fn read_values<'a, T: Entry + Ord, S: Store, I: Read + Drop>(
+    store: &mut S,
+    alloc: Global,
+    name: Option<&'a str>,
+    standard: &mut Option<I>,
+) -> Result<Option<ReadList<T>>, Unlisted<'a>>
+    ensures listed { IfOk result (λ list. ReadsList T.reads (S.held store.old) (standard_left I.remaining standard.old)
+        (option_map (λ n. n.now) name.entry) (option_map (λ l. l.values) list)) }
+    ensures there { OnOk result (IsThereForList (option_map (λ n. n.now) name.entry) standard.old) }
+    ensures standard { standard.new ≡ standard_after_list (option_map (λ n. n.now) name.entry) standard.old }
+    ensures failures { OnOk result (S.failures store.new ≡ S.failures store.old) }
+    ensures kept { S.held store.new ≡ S.held store.old }
+    ensures making { S.making store.new ≡ S.making store.old }
+{
+    let Some(name) = name else {
+        return Ok(None);
+    };
+    match read_list(store, alloc, name, standard) {
+        Ok(text) => match list_of(alloc, text, name) {
+            Ok(list) => Ok(Some(list)),
+            Err(fault) => Err(fault),
+        },
+        Err(fault) => Err(Unlisted::Fault(fault)),
+    }
+}
+
+/// The lists that the words name.
+fn read_lists<'a, S: Store, I: Read + Drop>(
+    store: &mut S,
+    alloc: Global,
+    selection: &Selection<'a>,
+    standard: &mut Option<I>,
+) -> Result<Lists, Unlisted<'a>>
+    ensures works { IfOk result (λ lists. ReadsList number_in (S.held store.old) (standard_left I.remaining standard.old)
+        (option_map (λ n. n.now) selection.now.works) (option_map (λ l. l.values) lists.works)) }
+    ensures places { IfOk result (λ lists. ReadsList place_in (S.held store.old)
+        (standard_left I.remaining (standard_after_list (option_map (λ n. n.now) selection.now.works) standard.old))
+        (option_map (λ n. n.now) selection.now.places) (option_map (λ l. l.values) lists.places)) }
+    ensures there { OnOk result (IsThereForList (option_map (λ n. n.now) selection.now.places)
+        (standard_after_list (option_map (λ n. n.now) selection.now.works) standard.old)) }
+    ensures standard { OnOk result (standard.new ≡ standard_after_list (option_map (λ n. n.now) selection.now.places)
+        (standard_after_list (option_map (λ n. n.now) selection.now.works) standard.old)) }
+    ensures failures { OnOk result (S.failures store.new ≡ S.failures store.old) }
+    ensures kept { S.held store.new ≡ S.held store.old }
+    ensures making { S.making store.new ≡ S.making store.old }
+{
+    let works = match read_values(store, alloc, selection.works, standard) {
+        Ok(works) => works,
+        Err(fault) => return Err(fault),
+    };
+    match read_values(store, alloc, selection.places, standard) {
+        Ok(places) => Ok(Lists { works, places }),
+        Err(fault) => Err(fault),
+    }
+}
+
+/// Who chooses by all that is asked for.
+type Asked<'l, 'a> = Turned<
+    Both<
+        Option<ByNumber<'l>>,
+        Both<Option<ByPlace<'l>>, Both<Option<ByKind>, Option<ByParty<'a>>>>,
+    >,
+>;
+
+/// Who chooses by the numbers of a list, if there is one.
+fn by_numbers(works: &Option<ReadList<NumberCell>>) -> Option<ByNumber<'_>>
+    ensures { option_map (λ by. by.0.now) result ≡ option_map (λ list. list.values) works.now }
+{
+    match works {
+        Some(list) => Some(ByNumber(&list.values)),
+        None => None,
+    }
+}
+
+/// Who chooses by the places of a list, if there is one.
+fn by_places(places: &Option<ReadList<Place>>) -> Option<ByPlace<'_>>
+    ensures { option_map (λ by. by.0.now) result ≡ option_map (λ list. list.values) places.now }
+{
+    match places {
+        Some(list) => Some(ByPlace(&list.values)),
+        None => None,
+    }
+}
+
+/// Who chooses by all that the selection asks for, where the party has that number.
+fn asked_for<'l, 'a>(
+    selection: &Selection<'a>,
+    lists: &'l Lists,
+    party: Option<ByParty<'a>>,
+) -> Asked<'l, 'a>
+    ensures works { option_map (λ by. by.0.now) result.choice.0 ≡ option_map (λ list. list.values) lists.entry.now.works }
+    ensures places { option_map (λ by. by.0.now) result.choice.1.0 ≡ option_map (λ list. list.values) lists.entry.now.places }
+    ensures kinds { result.choice.1.1.0 ≡ selection.now.kinds }
+    ensures party { result.choice.1.1.1 ≡ party.entry }
+    ensures others { result.turned ≡ selection.now.others }
+{
+    let works = by_numbers(&lists.works);
+    let places = by_places(&lists.places);
+    Turned {
+        choice: Both(works, Both(places, Both(selection.kinds, party))),
+        turned: selection.others,
+    }
+}
+
+/// What is sought, of which nothing was found so far.
+fn sought_in<'l>(
+    alloc: Global,
+    lists: &'l Lists,
+) -> Result<(Option<SoughtNumbers<'l>>, Option<SoughtPlaces<'l>>), AllocError> {
+    let numbers = match &lists.works {
+        Some(list) => Some(SoughtNumbers::new(alloc, &list.values, list.count)?),
+        None => None,
+    };
+    let places = match &lists.places {
+        Some(list) => Some(SoughtPlaces::new(alloc, &list.values, list.count)?),
+        None => None,
+    };
+    Ok((numbers, places))
+}
+
+/// What came of a run.
+#[derive(Drop)]
+struct Selected<'a> {
+    outcome: Result<SelectReport, ToolFault>,
+    /// What follows the transmission.
+    look: Look,
+    /// Whether a finding in what is selected is unwanted.
+    found: bool,
+    /// Whether the transmission was created at the moment at which what is selected is to be.
+    is_same_moment: bool,
+    /// Whether no transaction is selected.
+    is_empty: bool,
+    /// Whether no transaction has a number or a place of a list.
+    is_missing: bool,
+    /// What is known of the input.
+    read: Told<'a>,
+}
+
+impl Selected<'_> {
+    /// The status of a transmission that is good, where something of the lists is missing or isn't. `None` where nothing may follow it, and
+    /// the input failed there.
+    fn status_where(&self, is_missing: bool, wanted: Wanted) -> Option<Status>
+        ensures { result ≡ status_where is_missing wanted self.now }
+    {
+        if self.is_same_moment {
+            return Some(Status::CommandLine);
+        }
+        match good_status(wanted, self.look, self.found) {
+            Some(Status::Good) if is_missing || self.is_empty => Some(Status::Refused),
+            status => status,
+        }
+    }
+
+    /// The status of a transmission that is good. `None` where nothing may follow it, and the input failed there.
+    fn status(&self, wanted: Wanted) -> Option<Status>
+        ensures { result ≡ selected_status wanted self.now }
+    {
+        self.status_where(self.is_missing, wanted)
+    }
+
+    /// Whether what was written is what is wanted. It may be where something of the lists is missing.
+    fn is_wanted(&self, wanted: Wanted) -> bool
+        ensures { result ≡ keeps_selected wanted self.now }
+    {
+        match (self.outcome, self.status_where(false, wanted)) {
+            (Ok(_), Some(Status::Good)) => true,
+            (_, _) => false,
+        }
+    }
+}
+
+/// Whether something of the lists is missing.
+fn is_missing<C>(lists: &Lists, view: &SelectView<'_, C>) -> bool {
+    let lacks_works = match (&lists.works, &view.numbers) {
+        (Some(list), Some(sought)) => lacks_number(list.text.as_slice(), sought),
+        _ => false,
+    };
+    let lacks_places = match (&lists.places, &view.places) {
+        (Some(list), Some(sought)) => lacks_place(list.text.as_slice(), sought),
+        _ => false,
+    };
+    lacks_works || lacks_places
+}
+
+/// What a selection comes to for which memory was refused, or not.
+fn with_memory(
+    outcome: Result<SelectReport, ToolFault>,
+    lacks_memory: bool,
+) -> Result<SelectReport, ToolFault>
+    ensures { result ≡ with_memory outcome lacks_memory }
+{
+    match outcome {
+        Ok(_) if lacks_memory => Err(ToolFault::Memory),
+        outcome => outcome,
+    }
+}
+
+/// Looks what an input has left after its transmission, where something was selected or not.
+fn look_after<R: Source>(reader: &mut R, outcome: &Result<SelectReport, ToolFault>) -> Look
+    ensures look { LooksAfterSelecting (R.remaining reader.old) (R.remaining reader.new) outcome.now result }
+    ensures failures { CountsLookAfter outcome.now result (R.failures reader.old) (R.failures reader.new) }
+{
+    match outcome {
+        Ok(_) => look_beyond(reader),
+        Err(_) => Look::Unasked,
+    }
+}
+
+/// Whether nothing is selected.
+fn is_empty(outcome: &Result<SelectReport, ToolFault>) -> bool
+    ensures { result ≡ is_empty outcome.now }
+{
+    match outcome {
+        Ok(report) => report.selected == 0,
+        Err(_) => false,
+    }
+}
+
+/// Writes what is selected of an input, and looks what follows its transmission there. The writer comes back.
+fn run<'a, S: Store, I: Read + Drop, P: Pace + Drop, W: Target + Drop, C: Chooses, E: Write>(
+    store: &mut S,
+    alloc: Global,
+    selection: &Selection<'_>,
+    lists: &Lists,
+    choice: &C,
+    view: &mut SelectView<'_, C>,
+    input: Input<'a, S::Reader, I, P>,
+    writer: W,
+    error: &mut E,
+) -> (Selected<'a>, W)
+    ensures judges { JudgesSelection selection.now.limits selection.now.created (C.choice choice.now)
+        (remaining_of S.Reader.remaining I.remaining input.entry) W.contents writer result.1 result.0 }
+    ensures failures { CountsSplitWriter result.0.outcome (W.failures writer) (W.failures result.1) }
+    ensures reads { CountsSelecting result.0.outcome result.0.look (S.failures store.old) (S.failures store.new) }
+    ensures kept { S.held store.new ≡ S.held store.old }
+    ensures making { S.making store.new ≡ S.making store.old }
+{
+    let mut reader = ReadAhead::new(input);
+    let (writer, outcome) = select_viewed(
+        alloc,
+        selection.limits,
+        &mut reader,
+        selection.created,
+        choice,
+        &mut *view,
+        writer,
+    );
+    let outcome = with_memory(outcome, view.lacks_memory());
+    let look = look_after(&mut reader, &outcome);
+    let read = end_input(store, reader);
+    tell_following(error, read.name, &look);
+    let selected = Selected {
+        outcome,
+        look,
+        found: view.findings.count.reaches(selection.wanted.fail_on),
+        is_same_moment: view.is_same_moment,
+        is_empty: is_empty(&outcome),
+        is_missing: is_missing(lists, view),
+        read,
+    };
+    (selected, writer)
+}
+
+/// Puts the lines that say how a selection ended: how many transactions are selected, and what of the lists is missing, or is there several
+/// times; or what became of the input. Where a device or memory failed it puts nothing.
+fn put_lines<W: Target, C>(
+    selected: &Selected<'_>,
+    lists: &Lists,
+    view: &mut SelectView<'_, C>,
+    sink: &mut Sink<W>,
+) -> Result<(), SinkFault> {
+    let report = match &selected.outcome {
+        Ok(report) => *report,
+        Err(fault) => {
+            let mut pen = Pen::new(sink);
+            input_line(fault, &mut pen);
+            return pen.end();
+        }
+    };
+    put_selected(report, sink)?;
+    if let (Some(list), Some(sought)) = (&lists.works, &mut view.numbers) {
+        put_numbers(list.text.as_slice(), sought, sink)?;
+    }
+    if let (Some(list), Some(sought)) = (&lists.places, &mut view.places) {
+        put_places(list.text.as_slice(), sought, sink)?;
+    }
+    Ok(())
+}
+
+/// Tells on standard error what isn't as it is wanted, and what is lost of groups' trailers. What is written is called so.
+fn tell<E: Write, C>(
+    error: &mut E,
+    name: Name<'_>,
+    selected: &Selected<'_>,
+    view: &SelectView<'_, C>,
+    is_kept: bool,
+) {
+    if selected.outcome.is_err() {
+        return;
+    }
+    if selected.is_same_moment {
+        tell_same_moment(error, selected.read.name);
+    } else if selected.is_empty {
+        tell_none(error);
+    } else {
+        tell_blanked(error, view.blanked.as_slice());
+        if is_kept {
+            tell_findings(error, name, &view.findings.count, status_by(selected.found));
+        } else if selected.found {
+            tell_unwritten(error, name, &view.findings.count);
+        }
+    }
+}
+
+/// How a run ends, where that is why it stopped if its output failed, or couldn't be made.
+fn ending<'a>(
+    selected: Selected<'a>,
+    wanted: Wanted,
+    written: Stop<'a>,
+    made: Stop<'a>,
+) -> Result<Status, Stop<'a>>
+    ensures { EndsSelected wanted written.entry made.entry selected.entry result }
+{
+    match selected.outcome {
+        Ok(_) => match selected.status(wanted) {
+            Some(status) => Ok(status),
+            None => Err(Stop::Fault(Fault::Read(selected.read))),
+        },
+        Err(fault) => ended_by(Some(fault), selected.read, written, made),
+    }
+}
+
+/// What came of a run to a file.
+#[derive(Drop)]
+struct SelectedFile<'a> {
+    selected: Selected<'a>,
+    /// What is known of the file.
+    written: Told<'a>,
+}
+
+/// Writes what is selected of an input to a file, which gets its name where that is what is wanted.
+fn write_selected<'a, S: Store, I: Read + Drop, P: Pace + Drop, C: Chooses, E: Write>(
+    store: &mut S,
+    alloc: Global,
+    selection: &Selection<'a>,
+    lists: &Lists,
+    choice: &C,
+    view: &mut SelectView<'_, C>,
+    input: Input<'a, S::Reader, I, P>,
+    out: &'a str,
+    error: &mut E,
+) -> Result<SelectedFile<'a>, Fault<'a>>
+    ensures judged { IfOk result (λ file. JudgesSelected selection.now.limits (C.choice choice.now)
+        (remaining_of S.Reader.remaining I.remaining input.entry) file.selected) }
+    ensures files { S.making store.old ≡ None → Turns (S.held store.old) (S.held store.new)
+        (LeavesSelected selection.now.wanted out.now (S.failures store.old) (S.failures store.new)
+        (IsSelectionFrom selection.now.limits selection.now.wanted.whole selection.now.created (C.choice choice.now)
+        (remaining_of S.Reader.remaining I.remaining input.entry)) result) }
+{
+    let name = Name::File(out);
+    let (made, file) = match create_output(store, alloc, out) {
+        Ok(made) => made,
+        Err(fault) => return Err(fault),
+    };
+    let Ok(writer) = gathered(alloc, file, name) else {
+        made.discard(store, 0);
+        return Err(Fault::Memory);
+    };
+    let (selected, writer) = run(
+        store,
+        alloc,
+        selection,
+        lists,
+        choice,
+        &mut *view,
+        input,
+        writer,
+        &mut *error,
+    );
+    let (told, written) = take_back(writer);
+    let is_kept = selected.is_wanted(selection.wanted);
+    match settle(store, made, written, out, is_kept, &mut *error) {
+        Ok(()) => {
+            tell(error, name, &selected, view, is_kept);
+            Ok(SelectedFile {
+                selected,
+                written: told,
+            })
+        }
+        Err(fault) => Err(fault),
+    }
+}
+
+/// Whether the lines say how a selection ended: not where its moment isn't its own, or something follows the transmission where nothing may,
+/// or a finding is unwanted.
+fn has_lines(selected: &Selected<'_>, wanted: Wanted) -> bool {
+    selected.outcome.is_err()
+        || !selected.is_same_moment
+            && matches!(
+                good_status(wanted, selected.look, selected.found),
+                Some(Status::Good)
+            )
+}
+
+/// Puts the lines that say how a selection to a file ended, if any do, and hands them on.
+fn put_file_lines<'a, W: Target, C>(
+    selected: &Selected<'_>,
+    wanted: Wanted,
+    lists: &Lists,
+    view: &mut SelectView<'_, C>,
+    lines: W,
+) -> (W, Result<(), Stop<'a>>)
+    ensures { IfErr result.1 (λ stop. stop ≡ Stop.Output) }
+{
+    if !has_lines(selected, wanted) {
+        return (lines, Ok(()));
+    }
+    let mut sink = Sink::new(lines);
+    let put = put_lines(selected, lists, view, &mut sink);
+    hand_on(put, sink)
+}
+
+/// Writes what is selected of an input to a file, and the lines that say how that ended to the output, which comes back.
+fn select_to_file<'a, S: Store, I: Read + Drop, P: Pace + Drop, W: Target, C: Chooses, E: Write>(
+    store: &mut S,
+    alloc: Global,
+    selection: &Selection<'a>,
+    lists: &Lists,
+    choice: &C,
+    view: &mut SelectView<'_, C>,
+    input: Input<'a, S::Reader, I, P>,
+    out: &'a str,
+    lines: W,
+    error: &mut E,
+) -> (W, Result<Status, Stop<'a>>)
+    ensures ends { EndsAsSelection selection.now.limits selection.now.wanted.whole selection.now.created (C.choice choice.now)
+        (remaining_of S.Reader.remaining I.remaining input.entry) result.1 }
+    ensures files { S.making store.old ≡ None → Turns (S.held store.old) (S.held store.new)
+        (WritesSelection out.now (S.failures store.old) (S.failures store.new)
+        (IsSelectionFrom selection.now.limits selection.now.wanted.whole selection.now.created (C.choice choice.now)
+        (remaining_of S.Reader.remaining I.remaining input.entry)) result.1) }
+{
+    let inputs = inputs_of(selection);
+    if let Err(fault) = refuse_out(store, out, selection.only_new, &inputs) {
+        return (lines, Err(Stop::Fault(fault)));
+    }
+    let file = match write_selected(
+        store, alloc, selection, lists, choice, &mut *view, input, out, error,
+    ) {
+        Ok(file) => file,
+        Err(fault) => return (lines, Err(Stop::Fault(fault))),
+    };
+    let (lines, put) = put_file_lines(&file.selected, selection.wanted, lists, view, lines);
+    let written = Stop::Fault(Fault::Write(file.written));
+    let made = Stop::Fault(Fault::Output(Name::File(out), None));
+    match put {
+        Ok(()) => (
+            lines,
+            ending(file.selected, selection.wanted, written, made),
+        ),
+        Err(stop) => (lines, Err(stop)),
+    }
+}
+
+/// The words that name the inputs of a selection.
+fn inputs_of<'a>(selection: &Selection<'a>) -> [&'a str; 3] {
+    let file = selection.file.unwrap_or(DASH);
+    [
+        file,
+        selection.works.unwrap_or(file),
+        selection.places.unwrap_or(file),
+    ]
+}
+
+/// Writes what is selected of an input to the output, which comes back, and the lines that say how that ended to standard error.
+fn select_to_output<
+    'a,
+    S: Store,
+    I: Read + Drop,
+    P: Pace + Drop,
+    W: Target + Drop,
+    C: Chooses,
+    E: Write,
+>(
+    store: &mut S,
+    alloc: Global,
+    selection: &Selection<'a>,
+    lists: &Lists,
+    choice: &C,
+    view: &mut SelectView<'_, C>,
+    input: Input<'a, S::Reader, I, P>,
+    output: W,
+    error: &mut E,
+) -> (W, Result<Status, Stop<'a>>)
+    ensures ends { EndsAsSelection selection.now.limits selection.now.wanted.whole selection.now.created (C.choice choice.now)
+        (remaining_of S.Reader.remaining I.remaining input.entry) result.1 }
+    ensures kept { S.held store.new ≡ S.held store.old }
+{
+    let (selected, mut output) = run(
+        store,
+        alloc,
+        selection,
+        lists,
+        choice,
+        &mut *view,
+        input,
+        output,
+        &mut *error,
+    );
+    // What is left is written before that is told, where it can be.
+    let _ = output.flush();
+    // What standard error doesn't take is lost.
+    let mut sink = Sink::new(Counted::new(&mut *error));
+    let _ = put_lines(&selected, lists, &mut *view, &mut sink);
+    tell(error, Name::StandardOutput, &selected, view, true);
+    let ended = ending(selected, selection.wanted, Stop::Output, Stop::Output);
+    (output, ended)
+}
+
+/// Writes what somebody chooses of an input to a file or to the output, which comes back.
+fn select_by<'a, S: Store, I: Read + Drop, P: Pace + Drop, W: Target + Drop, C: Chooses, E: Write>(
+    store: &mut S,
+    alloc: Global,
+    selection: &Selection<'a>,
+    lists: &Lists,
+    choice: &C,
+    numbers: Option<SoughtNumbers<'_>>,
+    places: Option<SoughtPlaces<'_>>,
+    input: Input<'a, S::Reader, I, P>,
+    output: W,
+    error: &mut E,
+) -> (W, Result<Status, Stop<'a>>)
+    ensures ends { EndsAsSelection selection.now.limits selection.now.wanted.whole selection.now.created (C.choice choice.now)
+        (remaining_of S.Reader.remaining I.remaining input.entry) result.1 }
+    ensures files { S.making store.old ≡ None → Turns (S.held store.old) (S.held store.new)
+        (LeavesSelection (option_map (λ name. name.now) selection.now.out) (S.failures store.old) (S.failures store.new)
+        (IsSelectionFrom selection.now.limits selection.now.wanted.whole selection.now.created (C.choice choice.now)
+        (remaining_of S.Reader.remaining I.remaining input.entry)) result.1) }
+{
+    match selection.out {
+        Some(out) => {
+            let mut view = SelectView::new(alloc, choice, selection.created, numbers, places);
+            select_to_file(
+                store, alloc, selection, lists, choice, &mut view, input, out, output, error,
+            )
+        }
+        None => {
+            let mut view = SelectView::new(alloc, choice, None, numbers, places);
+            select_to_output(
+                store, alloc, selection, lists, choice, &mut view, input, output, error,
+            )
+        }
+    }
+}
+
+/// Writes what is selected of an input to a file or to the output, which comes back.
+fn select_input<'a, S: Store, I: Read + Drop, P: Pace + Drop, W: Target + Drop, E: Write>(
+    store: &mut S,
+    alloc: Global,
+    selection: &Selection<'a>,
+    lists: &Lists,
+    party: Option<ByParty<'a>>,
+    input: Input<'a, S::Reader, I, P>,
+    output: W,
+    error: &mut E,
+) -> (W, Result<Status, Stop<'a>>)
+    ensures ends { EndsAsSelection selection.now.limits selection.now.wanted.whole selection.now.created
+        (asked_choice selection.now.others (option_map (λ list. list.values) lists.now.works)
+        (option_map (λ list. list.values) lists.now.places) selection.now.kinds party.entry)
+        (remaining_of S.Reader.remaining I.remaining input.entry) result.1 }
+    ensures files { S.making store.old ≡ None → Turns (S.held store.old) (S.held store.new)
+        (LeavesSelection (option_map (λ name. name.now) selection.now.out) (S.failures store.old) (S.failures store.new)
+        (IsSelectionFrom selection.now.limits selection.now.wanted.whole selection.now.created
+        (asked_choice selection.now.others (option_map (λ list. list.values) lists.now.works)
+        (option_map (λ list. list.values) lists.now.places) selection.now.kinds party.entry)
+        (remaining_of S.Reader.remaining I.remaining input.entry)) result.1) }
+{
+    let Ok((numbers, places)) = sought_in(alloc, lists) else {
+        return (output, Err(Stop::Fault(Fault::Memory)));
+    };
+    let choice = asked_for(selection, lists, party);
+    let answer = select_by(
+        store, alloc, selection, lists, &choice, numbers, places, input, output, error,
+    );
+    let Turned {
+        choice: Both(_, Both(_, Both(_, _))),
+        turned: _,
+    } = choice;
+    answer
+}
+
+/// Who chooses by the party of that number, if one is named. `None` where that is no number.
+fn party_of<'a>(number: Option<&'a str>) -> Option<Option<ByParty<'a>>>
+    ensures { IfSome result (λ party. party ≡ option_map (λ n. significant n.now) number.entry) }
+{
+    match number {
+        Some(number) => match ByParty::new(number.as_bytes()) {
+            Some(party) => Some(Some(party)),
+            None => None,
+        },
+        None => Some(None),
+    }
+}
+
+/// Writes what is selected of the transmission of a file, or of standard input: to a file, or to the output. There the lines that say how
+/// that ended go to standard error. The output comes back.
+pub fn select_file<'a, S: Store, I: Read + Drop, P: Pace + Drop, W: Target + Drop, E: Write>(
+    store: &mut S,
+    alloc: Global,
+    selection: &Selection<'a>,
+    standard: I,
+    pace: P,
+    output: W,
+    error: &mut E,
+) -> (W, Result<Status, Stop<'a>>)
+    // It ends well only where something is selected of what the words name.
+    ensures ends { EndsAsSelectionAt selection.now (S.held store.old) (I.remaining standard) result.1 }
+    // Where it ends well the file holds the canonical text of that, and nothing else changed. So it is, or nothing changed, where it is
+    // refused: something of a list may be missing. Else nothing changed.
+    ensures files { S.making store.old ≡ None → Turns (S.held store.old) (S.held store.new)
+        (LeavesSelection (option_map (λ name. name.now) selection.now.out) (S.failures store.old) (S.failures store.new)
+        (IsSelectionAt selection.now (S.held store.old) (I.remaining standard)) result.1) }
+{
+    let Some(party) = party_of(selection.party) else {
+        return (output, Ok(Status::CommandLine));
+    };
+    let mut standard = Some(standard);
+    let lists = match read_lists(store, alloc, selection, &mut standard) {
+        Ok(lists) => lists,
+        Err(Unlisted::Line(name, line, expected)) => {
+            tell_line(error, name_of(name), line, expected);
+            return (output, Ok(Status::CommandLine));
+        }
+        Err(Unlisted::Fault(fault)) => return (output, Err(Stop::Fault(fault))),
+    };
+    let input = match open_input(store, selection.file, &mut standard, pace) {
+        Ok(input) => input,
+        Err(fault) => return (output, Err(Stop::Fault(fault))),
+    };
+    select_input(store, alloc, selection, &lists, party, input, output, error)
+}
