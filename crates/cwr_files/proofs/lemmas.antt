@@ -4,6 +4,8 @@ pub mod Taken
 pub mod Parts
 -- What lies under names once the part in hand of a split has its name or is dropped.
 pub mod PartsInHand
+-- What is told of the parts of a split that are finished.
+pub mod FinishedParts
 -- A writer that gathers has nothing so far.
 pub mod Gathers
 -- What is read under a word.
@@ -14,5 +16,5 @@ pub mod Outs
 pub mod Marks
 -- One piece of a line more, and how lines go on behind it.
 pub mod Pieces
--- A step that the walks of `taken_texts` share.
+-- Steps that the walks of `taken_texts` and `taken_writers` share.
 pub mod Walks

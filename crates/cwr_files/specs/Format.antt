@@ -5,5 +5,6 @@ pub mod Files
 pub mod Fronts
 pub mod Inputs
 pub mod NewFiles
+pub mod Parts
 pub mod Stamps
 pub mod Written

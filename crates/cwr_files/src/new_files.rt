@@ -40,6 +40,7 @@ fn create_part<S: Store>(
         (λ _. Same texts new)) }
     ensures making { S.making store.old ≡ None → OnErr result (S.making store.new ≡ None) }
     ensures unfailed { OnOk result (S.failures store.new ≡ S.failures store.old) }
+    ensures failures { HasKeptCount (S.failures store.old) (S.failures store.new) }
 {
     for tries in 0..MOST_PARTS {
         let Ok(part) = part_name(alloc, name, tries) else {
@@ -73,6 +74,7 @@ fn finish<S: Store>(store: &mut S, writer: S::Writer, part: &str, name: &str) ->
         (IsDropped part.now (S.failures store.old + 1) (S.failures store.new))) }
     ensures making { S.making store.new ≡ None }
     ensures counted { OnErr result (HasCounted (S.failures store.old) (S.failures store.new)) }
+    ensures failures { HasKeptCount (S.failures store.old) (S.failures store.new) }
 {
     match store.close(writer) {
         Ok(()) => {}
@@ -116,6 +118,7 @@ impl NewFile {
         ensures named { IfOk result (λ made. final_name made.0 ≡ string_bytes name) }
         ensures making { S.making store.old ≡ None → OnErr result (S.making store.new ≡ None) }
         ensures unfailed { OnOk result (S.failures store.new ≡ S.failures store.old) }
+        ensures failures { HasKeptCount (S.failures store.old) (S.failures store.new) }
     {
         match store.look(name.as_str()) {
             Ok(Found::Other) => match store.create(name.as_str()) {
@@ -144,6 +147,7 @@ impl NewFile {
             → OnErr result (EndsDropped self (S.failures store.old + 1) (S.failures store.new) texts (S.held store.new)) }
         ensures making { S.making store.new ≡ None }
         ensures counted { OnErr result (HasCounted (S.failures store.old) (S.failures store.new)) }
+        ensures failures { HasKeptCount (S.failures store.old) (S.failures store.new) }
     {
         match &self.part {
             Some(part) => finish(store, writer, part.as_str(), self.name.as_str()),
@@ -163,6 +167,7 @@ impl NewFile {
         ensures whole { OnOk result (is_whole written ≡ true) }
         ensures making { S.making store.new ≡ None }
         ensures counted { OnErr result (HasCounted (S.failures store.old) (S.failures store.new)) }
+        ensures failures { HasKeptCount (S.failures store.old) (S.failures store.new) }
     {
         let times = written.failures().max(1);
         match written.into_whole() {
@@ -200,6 +205,7 @@ impl NewFile {
         ensures making { S.making store.new ≡ None }
         ensures counted { OnErr result (HasCounted (S.failures store.old) (S.failures store.new)) }
         ensures fault { IfErr result (IsUnkept name.entry) }
+        ensures failures { HasKeptCount (S.failures store.old) (S.failures store.new) }
     {
         let replaces = self.replaces(store);
         match self.keep(store, written) {

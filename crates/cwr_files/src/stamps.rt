@@ -25,7 +25,10 @@ pub struct Stamped<F> {
 
 impl<F> Stamped<F> {
     /// Nothing was written. Without a moment the transmission keeps its own.
-    pub(crate) fn new(file: F, moment: Option<Moment>) -> Stamped<F> {
+    pub(crate) fn new(file: F, moment: Option<Moment>) -> Stamped<F>
+        ensures file { stamped_file result ≡ file }
+        ensures moment { result.moment ≡ moment }
+    {
         Stamped {
             file,
             moment,

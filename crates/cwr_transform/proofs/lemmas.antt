@@ -1,5 +1,7 @@
 -- A split ends as its text does.
 pub mod SplitsEnd
+-- What is left of a split.
+pub mod SplitFiles
 -- An import ends as its text does.
 pub mod ImportsEnd
 -- A join ends as what it is made of answers.

@@ -1,11 +1,13 @@
 //! Transmissions that are cut into files.
 
-ghost use Rattle.cwr_transform.specs.Format.Splits.{EndsAsSplit};
+ghost use Rattle.cwr_transform.specs.Format.Splits.{EndsAsSplit, LeavesCut};
+ghost use Rattle.cwr_files.specs.Format.Files.{Turns};
+ghost use Rattle.cwr_files.specs.Steps.NumberedFiles.{StartsAs};
 ghost use Rattle.cwr_files.specs.Steps.Inputs.{remaining_of};
 ghost use Rattle.cwr_endings.specs.Steps.Looks.{good_status};
 ghost use Rattle.cwr_tools.specs.Format.Watching.{CountsAccepted};
-ghost use Rattle.std.specs.Prelude.{OnOk};
-ghost use Rattle.cwr_transform.specs.Steps.Splits.{JudgesCut, SplitEndsAs};
+ghost use Rattle.std.specs.Prelude.{◌≡◌, None, OnOk};
+ghost use Rattle.cwr_transform.specs.Steps.Splits.{HandsOver, JudgesCut, LeavesTold, SplitEndsAs};
 
 use cwr_devices::{Outputs, ReadAhead, Sink, SinkFault, Source, Target};
 use cwr_endings::{
@@ -13,7 +15,8 @@ use cwr_endings::{
     tell_findings, tell_following,
 };
 use cwr_files::{
-    Fault, Input, Name, NumberedFiles, Pace, Store, Told, end_input, part_number, path_of_input,
+    Fault, Input, MadeFiles, MadeParts, Name, NumberedFiles, Pace, Store, Told, Unsplit, end_input,
+    part_number, path_of_input,
 };
 use cwr_moments::Moment;
 use cwr_parts::{put_split_outcome, split_viewed};
@@ -21,6 +24,7 @@ use cwr_shape::Limits;
 use cwr_tools::{FindingCount, FindingView, SplitReport, ToolFault};
 use std::alloc::{AllocError, Global};
 use std::io::{Read, Write};
+use std::marker::Brand;
 use std::num::NonZeroU32;
 
 /// How a transmission is cut into files.
@@ -46,7 +50,11 @@ fn part_of_input<S: Store>(
     store: &mut S,
     alloc: Global,
     cut: &Cut<'_>,
-) -> Result<Option<u32>, AllocError> {
+) -> Result<Option<u32>, AllocError>
+    ensures kept { S.held store.new ≡ S.held store.old }
+    ensures making { S.making store.new ≡ S.making store.old }
+    ensures failures { S.failures store.new ≡ S.failures store.old }
+{
     match part_number(cut.file, cut.prefix) {
         Some(number) => Ok(Some(number)),
         None => store.part_that_is(alloc, path_of_input(cut.file), cut.prefix),
@@ -63,6 +71,9 @@ fn cut_source<R: Source, O: Outputs>(
     ensures judged { JudgesCut cut.now.limits (R.remaining reader.old) result.0 result.1 }
     ensures counted { OnOk result.0
         (CountsAccepted cut.now.limits (R.remaining reader.old) result.2) }
+    ensures handed { HandsOver cut.now.limits cut.now.transactions.value (R.remaining reader.old) (O.texts outputs.old)
+        (O.texts outputs.new) result.0 }
+    ensures lent { O.lent outputs.new ≡ O.lent outputs.old }
 {
     let mut view = FindingView::new(alloc);
     let size = cut.transactions.get();
@@ -77,6 +88,33 @@ fn cut_source<R: Source, O: Outputs>(
     }
 }
 
+/// Cuts the transmission of a reader into files, as `cut_source` does, and tells what is told of these.
+fn cut_into_files<'a, B: Unsplit, S: Store, R: Source>(
+    store: &mut S,
+    alloc: Global,
+    cut: &Cut<'a>,
+    reader: &mut R,
+) -> (
+    Result<SplitReport, ToolFault>,
+    Look,
+    FindingCount,
+    MadeFiles<'a>,
+)
+    requires { StartsAs B.texts B.prefix B.failures (S.making store.old) (S.held store.old) (S.failures store.old) cut.now.prefix.now
+        cut.now.created }
+    ensures judged { JudgesCut cut.now.limits (R.remaining reader.old) result.0 result.1 }
+    ensures counted { OnOk result.0
+        (CountsAccepted cut.now.limits (R.remaining reader.old) result.2) }
+    ensures files { Turns B.texts (S.held store.new) (LeavesTold cut.now.limits cut.now.transactions.value B.prefix (R.remaining reader.old)
+        B.failures (S.failures store.new) result.0) }
+{
+    let mut parts = MadeParts::new(alloc, cut.prefix, cut.file, cut.only_new, cut.created);
+    let mut files: NumberedFiles<'_, 'a, B, S> = NumberedFiles::new(store, &mut parts);
+    let (outcome, look, count) = cut_source(alloc, cut, reader, &mut files);
+    let made = files.end();
+    (outcome, look, count, made)
+}
+
 /// Cuts the transmission of an input into files of so many transactions, and writes the line that says how that ended. The writer comes
 /// back.
 pub fn split_file<'a, S: Store, I: Read + Drop, P: Pace + Drop, W: Target + Drop, E: Write>(
@@ -87,8 +125,11 @@ pub fn split_file<'a, S: Store, I: Read + Drop, P: Pace + Drop, W: Target + Drop
     lines: W,
     error: &mut E,
 ) -> (W, Result<Status, Stop<'a>>)
-    ensures { EndsAsSplit cut.now.limits cut.now.wanted
+    ensures ends { EndsAsSplit cut.now.limits cut.now.wanted
         (remaining_of S.Reader.remaining I.remaining input.entry) result.1 }
+    ensures files { S.making store.old ≡ None → cut.now.created ≡ None → Turns (S.held store.old) (S.held store.new)
+        (LeavesCut cut.now.limits cut.now.transactions.value cut.now.prefix.now
+        (remaining_of S.Reader.remaining I.remaining input.entry) (S.failures store.old) (S.failures store.new) result.1) }
 {
     match part_of_input(store, alloc, cut) {
         Ok(None) => {}
@@ -99,16 +140,11 @@ pub fn split_file<'a, S: Store, I: Read + Drop, P: Pace + Drop, W: Target + Drop
         Err(_) => return (lines, Err(Stop::Fault(Fault::Memory))),
     }
     let mut reader = ReadAhead::new(input);
-    let mut files = NumberedFiles::new(
-        store,
-        alloc,
-        cut.prefix,
-        cut.file,
-        cut.only_new,
-        cut.created,
-    );
-    let (outcome, look, count) = cut_source(alloc, cut, &mut reader, &mut files);
-    let made = files.end();
+    let (outcome, look, count, made) = cut_into_files::<
+        Brand,
+        S,
+        ReadAhead<Input<'a, S::Reader, I, P>>,
+    >(store, alloc, cut, &mut reader);
     let told = end_input(store, reader);
     let mut sink = Sink::new(lines);
     let put = put_split_outcome(&outcome, &mut sink);

@@ -1,10 +1,9 @@
 -- What is left of a run that writes a file.
-use Rattle.std.proofs.Common.{◌≡◌, ℕ, ◌+◌, ◌≤◌, ◌<◌, false, List, Option, Some, None, sym, ap, subst, ◌∙◌, refl}
-use Rattle.std.specs.Prelude.{Result, Ok, Err}
+use Rattle.std.proofs.Common.{◌≡◌, ℕ, ◌+◌, List, Option, Some, None, ap, subst, ◌∙◌}
+use Rattle.std.specs.Prelude.{Ok, Err}
 use Rattle.std.specs.Str.{bytes_eq}
-use Rattle.cwr_devices.specs.Format.Failures.{most_failures}
-use Rattle.cwr_files.specs.Format.Files.{Same, SameBut, Texts, Turns}
-use Rattle.cwr_files.specs.Format.NewFiles.{HoldsNew, IsNoPart, LeavesAll, LeavesNothing, unfinished_name}
+use Rattle.cwr_files.specs.Format.Files.{Same, Texts, Turns}
+use Rattle.cwr_files.specs.Format.NewFiles.{HoldsNew, LeavesAll, LeavesNothing, unfinished_name}
 use Rattle.cwr_files.specs.Steps.NewFiles.{EndsDropped, EndsKept, IsBegun, final_name, name_of_part}
 use Rattle.cwr_files.specs.declared.new_files.NewFile.{NewFile}
 
@@ -16,7 +15,7 @@ holds_new A E made name text is old failures a texts None e h k = absurd k
 holds_new A E made name text is old failures a texts (Some new) e h k =
     subst (λ (n : List ℕ). HoldsNew n is texts new) e (text, h, k)
 
-leaves_all : (made : NewFile) (name : List ℕ) (making : Option (List ℕ)) (most failures : ℕ) (texts on new : Texts) → final_name made ≡ name
+pub leaves_all : (made : NewFile) (name : List ℕ) (making : Option (List ℕ)) (most failures : ℕ) (texts on new : Texts) → final_name made ≡ name
     → IsBegun made making texts on → LeavesNothing (name_of_part made) most failures texts new → LeavesAll name most failures texts new
 leaves_all made name making most failures texts on new e begun left =
     by (subst (λ (o : Option (List ℕ)). LeavesNothing o most failures texts new) begun.called left)

@@ -4,7 +4,7 @@ use Rattle.std.specs.Prelude.{◌⊎◌, IfSome, IsSome}
 use Rattle.std.proofs.lemmas.Option.{none-some}
 use Rattle.std.proofs.lemmas.List.{take_more, get_or-map, length-map}
 use Rattle.cwr_files.specs.Format.Files.{Texts}
-use Rattle.cwr_files.specs.Format.Inputs.{IfHeld, IfRead, IfReadAt, IfThere, is_standard, text_at, text_of}
+use Rattle.cwr_files.specs.Format.Inputs.{IfRead, IfReadAt, IfThere, is_standard, text_at, text_of}
 use Rattle.cwr_files.specs.Steps.Inputs.{IsLeftAt, IsLeftOf, IsThereFor, standard_after, standard_left}
 
 there : (found left : Option (List ℕ)) (is : List ℕ → Type 0) → IsSome found → left ≡ found → IfSome left is → IfThere found is

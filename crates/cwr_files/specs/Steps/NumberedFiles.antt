@@ -1,94 +1,225 @@
--- What the files of a split count, and their names.
-use Rattle.std.specs.Prelude.{◌≡◌, ℕ, ◌-◌, ◌^◌, Bool, true, List, ◌++◌, Option, Some, None, IsSome}
-use Rattle.cwr_files.specs.Format.Files.{Same, Texts, put}
-use Rattle.cwr_files.specs.Steps.NewFiles.{EndsDropped, HasBegun, IsBegun, final_name}
+-- What is kept of the files of a split, and what lies under names while they are made.
+use Rattle.std.specs.Prelude.{◌≡◌, ℕ, ◌+◌, ◌≤◌, ◌<◌, Bool, true, false, List, [], ◌∷◌, length, Option, Some, None, IsSome}
+use Rattle.std.specs.Coded.{Coded-set, Unit-prop, coded_list, coded_option, coded_ℕ, le_prop, Π_prop, ×_prop, →_prop}
+use Rattle.std.specs.Option.{is_some}
+use mathlib.Core.HLevel.{×₃_prop}
+use mathlib.Core.Logic.{∥∥₁_prop}
+use Rattle.cwr_devices.specs.Format.Failures.{most_failures}
+use Rattle.cwr_files.specs.Format.Files.{Same, Texts}
+use Rattle.cwr_files.specs.Format.NewFiles.{IsNoPart}
+use Rattle.cwr_files.specs.Format.Parts.{part_name, put_parts}
+use Rattle.cwr_files.specs.Steps.NewFiles.{HasKeptCount, IsBegun, final_name}
 use Rattle.cwr_files.specs.declared.faults.Fault.{Fault}
 use Rattle.cwr_files.specs.declared.faults.Fault.TheVariants as faults
 use Rattle.cwr_files.specs.declared.faults.Name.{Name}
 use Rattle.cwr_files.specs.declared.faults.Name.TheVariants.{Part}
-use Rattle.cwr_moments.specs.declared.moments.Moment.{Moment}
-use Rattle.std.specs.Fmt.{format_spec, styled_decimal}
-use Rattle.cwr_files.specs.declared.numbered_files.NumberedFiles.{NumberedFiles}
+use Rattle.cwr_files.specs.declared.numberings.Numbering.{Numbering}
 use Rattle.cwr_files.specs.declared.new_files.NewFile.{NewFile}
+use Rattle.cwr_files.specs.declared.outputs.Output.{Output}
+use Rattle.cwr_files.specs.declared.stamps.Stamped.{Stamped}
+use Rattle.cwr_files.specs.Format.Written.{text_of_stamped}
+use Rattle.cwr_files.specs.Steps.Gathering.{written_to}
+use Rattle.cwr_devices.specs.declared.counted.Counted.{Counted}
+use Rattle.std.specs.declared.io.buffered.BufWriter.{BufWriter}
+use Rattle.cwr_moments.specs.declared.moments.Moment.{Moment}
 
 -- how many calls failed
-abbrev pub failed_calls_of : {S R W : Type 0} → NumberedFiles S R W → ℕ
-failed_calls_of files = files.failed_calls
+abbrev pub failed_calls_of : Numbering → ℕ
+failed_calls_of numbering = numbering.failed_calls
 
 -- how many were asked for
-abbrev pub asked_of : {S R W : Type 0} → NumberedFiles S R W → ℕ
-asked_of files = files.asked
+abbrev pub asked_of : Numbering → ℕ
+asked_of numbering = numbering.asked
 
 -- no part may replace a file
-abbrev pub replaces_none : {S R W : Type 0} → NumberedFiles S R W → Bool
-replaces_none files = files.only_new
+abbrev pub replaces_none : Numbering → Bool
+replaces_none numbering = numbering.only_new
 
 -- when the first one is created, if not when the transmission was
-abbrev pub created_of : {S R W : Type 0} → NumberedFiles S R W → Option Moment
-created_of files = files.created
+abbrev pub created_of : Numbering → Option Moment
+created_of numbering = numbering.created
 
--- the name of a part: the prefix, and its number in eight digits
-abbrev pub part_name : List ℕ → ℕ → List ℕ
-part_name prefix number = prefix ++ styled_decimal (format_spec 32 0 4 8 (2 ^ 64 - 1)) number
+-- each part has a moment of its own, so a file doesn't get what is written
+abbrev pub is_dated : Numbering → Bool
+is_dated numbering = is_some numbering.created
 
 -- how many failed writers were given up
-abbrev pub given_up_of : {S R W : Type 0} → NumberedFiles S R W → ℕ
-given_up_of files = files.given_up
+abbrev pub given_up_of : Numbering → ℕ
+given_up_of numbering = numbering.given_up
 
 -- one file is being written, or none
 abbrev pub written_at : Option NewFile → ℕ
 written_at None = 0
 written_at (Some file) = 1
 
-abbrev pub lent_of : {S R W : Type 0} → NumberedFiles S R W → ℕ
-lent_of files = written_at files.open_file
+abbrev pub lent_of : Numbering → ℕ
+lent_of numbering = written_at numbering.open_file
 
--- the files under names, and the one of them that is being written
-abbrev pub store_in : {S R W : Type 0} → NumberedFiles S R W → S
-store_in files = files.store.now
+-- the one that is being written
+abbrev pub made_in : Numbering → Option NewFile
+made_in numbering = numbering.open_file
 
-abbrev pub made_in : {S R W : Type 0} → NumberedFiles S R W → Option NewFile
-made_in files = files.open_file
+-- a file couldn't be made, finished or written
+abbrev pub has_stopped : Numbering → Bool
+has_stopped numbering = is_some numbering.fault
+
+-- what the names of the parts begin with
+abbrev pub prefix_of : Numbering → List ℕ
+prefix_of numbering = numbering.prefix.now
+
+-- what the part in hand is called
+abbrev pub name_of : Numbering → Name
+name_of numbering = Part numbering.prefix numbering.asked
+
+-- The part couldn't be made: it is the input, or it is there where none may be replaced, or the day ends before it is created, or the
+-- system couldn't make it, or there was no memory.
+abbrev pub IsPartUnmade : Numbering → Fault → Type 0
+IsPartUnmade numbering (faults.IsInput of) = of ≡ name_of numbering
+IsPartUnmade numbering (faults.IsThere of) = (of ≡ name_of numbering) × (numbering.only_new ≡ true)
+IsPartUnmade numbering (faults.Output of reason) = of ≡ name_of numbering
+IsPartUnmade numbering (faults.IsLate of) = (of ≡ name_of numbering) × IsSome numbering.created
+IsPartUnmade numbering faults.Memory = Unit {0}
+IsPartUnmade numbering fault = ⊥
+
+-- ---- what lies under names
 
 -- Of the part of that name: it is being written, or, where there is none, nothing changed.
 abbrev pub IsBegunAs : Option NewFile → List ℕ → Option (List ℕ) → Texts → Texts → Type 0
 IsBegunAs None name making texts new = Same texts new × (making ≡ None)
 IsBegunAs (Some made) name making texts new = (final_name made ≡ name) × IsBegun made making texts new
 
--- the part is being written
-abbrev pub IsInHand : Option NewFile → Option (List ℕ) → Texts → Option Texts → Type 0
-IsInHand None making texts now = ⊥
-IsInHand (Some made) making texts now = HasBegun made making texts now
+-- Under each name lies what lay there, but that something may be left under a name of what isn't whole, if calls failed since then.
+abbrev pub LeavesBut : List ℕ → ℕ → ℕ → Texts → Texts → Type 0
+LeavesBut name old failures texts new =
+    ((n : List ℕ) → IsNoPart name n → new n ≡ texts n) × (failures ≤ old → failures < most_failures → Same texts new)
 
--- it has its name, and holds the text; what lies under any other name lay there when it was begun
-abbrev pub HoldsInHand : Option NewFile → List ℕ → Texts → Option Texts → Type 0
-HoldsInHand None text texts now = ⊥
-HoldsInHand (Some made) text texts None = ⊥
-HoldsInHand (Some made) text texts (Some new) = Same (put (final_name made) (Some text) texts) new
+-- the part of that number is being written, and under each other name lies what lay there
+abbrev pub IsWriting : List ℕ → ℕ → NewFile → Option (List ℕ) → Texts → Texts → Type 0
+IsWriting prefix number made making texts new = (final_name made ≡ part_name prefix number) × ∥ IsBegun made making texts new ∥₁
 
--- nothing is left of it, unless more calls failed than these
-abbrev pub EndsGivenUp : Option NewFile → ℕ → ℕ → Texts → Option Texts → Type 0
-EndsGivenUp None most failures texts now = ⊥
-EndsGivenUp (Some made) most failures texts now = EndsDropped made most failures texts now
+-- nothing is being written, and under each name lies what lay there
+abbrev pub IsResting : Option (List ℕ) → Option Texts → ℕ → Texts → ℕ → Type 0
+IsResting making None failures texts old = ⊥
+IsResting making (Some new) failures texts old = Same texts new × (making ≡ None) × HasKeptCount old failures
 
--- what files hold isn't known
-abbrev pub no_texts : Option (List (List ℕ))
-no_texts = None
+-- So many parts are finished, and the texts were these then, where so many failures had been counted at first. No part is asked for any
+-- more; one may be in hand.
+abbrev pub HasEnded : List ℕ → Option NewFile → Option (List ℕ) → Option Texts → ℕ → Texts → ℕ → ℕ → Type 0
+HasEnded prefix made making None failures texts count old = ⊥
+HasEnded prefix None making (Some new) failures texts count old = LeavesBut (part_name prefix (count + 1)) old failures texts new
+HasEnded prefix (Some made) making (Some new) failures texts count old =
+    IsWriting prefix (count + 1) made making texts new × HasKeptCount old failures
 
--- what the names of the parts begin with
-abbrev pub prefix_of : {S R W : Type 0} → NumberedFiles S R W → List ℕ
-prefix_of files = files.prefix.now
+-- the next part may be asked for, or is in hand
+abbrev pub GoesOn : List ℕ → ℕ → Option NewFile → Option (List ℕ) → Option Texts → ℕ → Texts → ℕ → ℕ → Type 0
+GoesOn prefix asked None making held failures texts count old = IsResting making held failures texts old × (asked ≡ count)
+GoesOn prefix asked (Some made) making held failures texts count old =
+    HasEnded prefix (Some made) making held failures texts count old × (asked ≡ count + 1)
 
--- what the part in hand is called
-abbrev pub name_of : {S R W : Type 0} → NumberedFiles S R W → Name
-name_of files = Part files.prefix files.asked
+abbrev pub StandsAt : Bool → List ℕ → ℕ → Option NewFile → Option (List ℕ) → Option Texts → ℕ → Texts → ℕ → ℕ → Type 0
+StandsAt true prefix asked made making held failures texts count old = HasEnded prefix made making held failures texts count old
+StandsAt false prefix asked made making held failures texts count old = GoesOn prefix asked made making held failures texts count old
 
--- The part couldn't be made: it is the input, or it is there where none may be replaced, or the day ends before it is created, or the
--- system couldn't make it, or there was no memory.
-abbrev pub IsPartUnmade : {S R W : Type 0} → NumberedFiles S R W → Fault → Type 0
-IsPartUnmade files (faults.IsInput of) = of ≡ name_of files
-IsPartUnmade files (faults.IsThere of) = (of ≡ name_of files) × (files.only_new ≡ true)
-IsPartUnmade files (faults.Output of reason) = of ≡ name_of files
-IsPartUnmade files (faults.IsLate of) = (of ≡ name_of files) × IsSome files.created
-IsPartUnmade files faults.Memory = Unit {0}
-IsPartUnmade files fault = ⊥
+-- either is so
+abbrev pub Stands : Numbering → Option (List ℕ) → Option Texts → ℕ → Texts → ℕ → ℕ → Type 0
+Stands numbering making held failures texts count old =
+    StandsAt (has_stopped numbering) (prefix_of numbering) numbering.asked numbering.open_file making held failures texts count old
+
+-- the first
+abbrev pub StandsStill : Numbering → Option (List ℕ) → Option Texts → ℕ → Texts → ℕ → ℕ → Type 0
+StandsStill numbering making held failures texts count old =
+    HasEnded (prefix_of numbering) numbering.open_file making held failures texts count old
+
+-- ---- each has one proof at most
+
+pub Same-prop : (texts new : Texts) → IsProp (Same texts new)
+Same-prop texts new = Π_prop (λ n. Coded-set (coded_option (coded_list coded_ℕ)) (new n) (texts n))
+
+HasKeptCount-prop : (old failures : ℕ) → IsProp (HasKeptCount old failures)
+HasKeptCount-prop old failures = →_prop le_prop
+
+pub LeavesBut-prop : (name : List ℕ) (old failures : ℕ) (texts new : Texts) → IsProp (LeavesBut name old failures texts new)
+LeavesBut-prop name old failures texts new =
+    ×_prop (Π_prop (λ n. →_prop (Coded-set (coded_option (coded_list coded_ℕ)) (new n) (texts n))))
+    (→_prop (→_prop (Same-prop texts new)))
+
+IsResting-prop : (making : Option (List ℕ)) (held : Option Texts) (failures : ℕ) (texts : Texts) (old : ℕ)
+    → IsProp (IsResting making held failures texts old)
+IsResting-prop making None failures texts old = λ x y. absurd x
+IsResting-prop making (Some new) failures texts old =
+    ×₃_prop (Same-prop texts new) (Coded-set (coded_option (coded_list coded_ℕ)) making None) (HasKeptCount-prop old failures)
+
+HasEnded-prop : (prefix : List ℕ) (made : Option NewFile) (making : Option (List ℕ)) (held : Option Texts) (failures : ℕ) (texts : Texts)
+    (count old : ℕ) → IsProp (HasEnded prefix made making held failures texts count old)
+HasEnded-prop prefix None making None failures texts count old = λ x y. absurd x
+HasEnded-prop prefix (Some made) making None failures texts count old = λ x y. absurd x
+HasEnded-prop prefix None making (Some new) failures texts count old = LeavesBut-prop (part_name prefix (count + 1)) old failures texts new
+HasEnded-prop prefix (Some made) making (Some new) failures texts count old =
+    ×_prop (×_prop (Coded-set (coded_list coded_ℕ) (final_name made) (part_name prefix (count + 1))) ∥∥₁_prop)
+    (HasKeptCount-prop old failures)
+
+pub StandsAt-prop : (stopped : Bool) (prefix : List ℕ) (asked : ℕ) (made : Option NewFile) (making : Option (List ℕ)) (held : Option Texts)
+    (failures : ℕ) (texts : Texts) (count old : ℕ) → IsProp (StandsAt stopped prefix asked made making held failures texts count old)
+StandsAt-prop true prefix asked made making held failures texts count old =
+    HasEnded-prop prefix made making held failures texts count old
+StandsAt-prop false prefix asked None making held failures texts count old =
+    ×_prop (IsResting-prop making held failures texts old) (Coded-set coded_ℕ asked count)
+StandsAt-prop false prefix asked (Some made) making held failures texts count old =
+    ×_prop (HasEnded-prop prefix (Some made) making held failures texts count old) (Coded-set coded_ℕ asked (count + 1))
+
+-- ---- what is told of those that are finished
+
+-- the text before these, where all are known
+abbrev pub with_first : Option (List ℕ) → Option (List (List ℕ)) → Option (List (List ℕ))
+with_first None rest = None
+with_first (Some text) None = None
+with_first (Some text) (Some rest) = Some (text ∷ rest)
+
+-- the texts of writers, where all are known
+abbrev pub known_texts : {W : Type 0} → (W → Option (List ℕ)) → List W → Option (List (List ℕ))
+known_texts contents [] = Some []
+known_texts contents (w ∷ ws) = with_first (contents w) (known_texts contents ws)
+
+-- the texts of parts, by what their files show
+abbrev pub texts_of_parts : {F A : Type 0} → (F → Option (List ℕ)) → List (Counted (BufWriter (Output (Stamped F)) A))
+    → Option (List (List ℕ))
+texts_of_parts contents writers = known_texts (written_to (text_of_stamped contents)) writers
+
+-- What is told of the parts' texts, where what lay under names at first is known. Before them stands by which name the store is borrowed,
+-- so that it stays known which store it is.
+abbrev pub told_texts : Option Texts → ℕ → Option (List (List ℕ)) → Option (List (List ℕ))
+told_texts None borrow parts = None
+told_texts (Some texts) borrow None = None
+told_texts (Some texts) borrow (Some parts) = Some ((borrow ∷ []) ∷ parts)
+
+-- where both are known, it is so of them
+abbrev pub WhereTold : Option Texts → Option (List (List ℕ)) → (Texts → List (List ℕ) → Type 0) → Type 0
+WhereTold None parts is = Unit {0}
+WhereTold (Some texts) None is = Unit {0}
+WhereTold (Some texts) (Some parts) is = is texts parts
+
+-- what lies under names is that with the parts
+abbrev pub IsTied : List ℕ → ℕ → Numbering → Option (List ℕ) → Option Texts → ℕ → Texts → List (List ℕ) → Type 0
+IsTied prefix old numbering making held failures texts parts =
+    Stands numbering making held failures (put_parts prefix 1 parts texts) (length parts) old
+
+pub IsTied-prop : (before : Option Texts) (known : Option (List (List ℕ))) (prefix : List ℕ) (old : ℕ) (numbering : Numbering)
+    (making : Option (List ℕ)) (held : Option Texts) (failures : ℕ)
+    → IsProp (WhereTold before known (IsTied prefix old numbering making held failures))
+IsTied-prop None known prefix old numbering making held failures = Unit-prop
+IsTied-prop (Some texts) None prefix old numbering making held failures = Unit-prop
+IsTied-prop (Some texts) (Some parts) prefix old numbering making held failures =
+    StandsAt-prop (has_stopped numbering) (prefix_of numbering) numbering.asked numbering.open_file making held failures
+    (put_parts prefix 1 parts texts) (length parts) old
+
+-- What lay under names at first, where that is known: nothing was being written, and what is written is what the files get.
+abbrev pub StartsAs : Option Texts → List ℕ → ℕ → Option (List ℕ) → Option Texts → ℕ → List ℕ → Option Moment → Type 0
+StartsAs None prefix old making held failures given created = Unit {0}
+StartsAs (Some texts) prefix old making held failures given created =
+    (making ≡ None) × (held ≡ Some texts) × (failures ≡ old) × (given ≡ prefix) × (is_some created ≡ false)
+
+-- none was asked for
+abbrev pub AreUnasked : Numbering → List ℕ → Option Moment → Option (List (List ℕ)) → Type 0
+AreUnasked numbering prefix created known =
+    (prefix_of numbering ≡ prefix) × (numbering.created ≡ created) × (numbering.fault ≡ None) × (numbering.open_file ≡ None)
+    × (numbering.asked ≡ 0) × (known ≡ Some [])

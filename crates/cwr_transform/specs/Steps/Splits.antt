@@ -1,12 +1,16 @@
--- How a split comes to its end: what it answered, what was seen after its transmission, and the status of that.
-use Rattle.std.specs.Prelude.{◌≡◌, ℕ, List, drop, Option, Some, None, IfSome, Result, Ok, Err}
+-- How a split comes to its end: what it answered, what was seen after its transmission, the status of that, and what lies under names then.
+use Rattle.std.specs.Prelude.{◌≡◌, ℕ, Bool, true, false, List, drop, Option, Some, None, IfSome, Result, Ok, Err}
 use Rattle.cwr_shape.specs.declared.limits.Limits.{Limits}
 use Rattle.cwr_values.specs.Format.Values.{TransmissionValue}
 use Rattle.cwr_judge.specs.Format.Ends.{IsAccepted}
 use Rattle.cwr_tools.specs.declared.verdicts.SplitReport.{SplitReport}
 use Rattle.cwr_tools.specs.declared.verdicts.ToolFault.{ToolFault}
-use Rattle.cwr_tools.specs.declared.verdicts.ToolFault.TheVariants.{Writer}
+use Rattle.cwr_tools.specs.declared.verdicts.ToolFault.TheVariants.{Memory, Writer}
 use Rattle.cwr_parts.specs.Format.Splitting.{JudgesSplit}
+use Rattle.cwr_parts.specs.Format.Told.{SplitsText}
+use Rattle.cwr_files.specs.Format.Files.{Texts}
+use Rattle.cwr_files.specs.Format.Parts.{LeavesParts}
+use Rattle.cwr_transform.specs.Format.Splits.{SplitsInto}
 use Rattle.cwr_endings.specs.declared.endings.Look.{Look}
 use Rattle.cwr_endings.specs.declared.endings.Status.{Status}
 use Rattle.cwr_endings.specs.declared.stops.Stop.{Stop}
@@ -31,3 +35,29 @@ SplitEndsAs input made (Ok report) (Some status) ending = ending ≡ Ok status
 SplitEndsAs input made (Ok report) None ending = ending ≡ Err (stops.Fault (faults.Read input))
 SplitEndsAs input made (Err (Writer written)) status ending = ending ≡ Err (stops.Fault made)
 SplitEndsAs input made (Err fault) status ending = EndsAfterFault input (stops.Fault made) (stops.Fault made) (Some fault) ending
+
+-- what is told of what the split answered: that, but want of memory where findings couldn't be counted
+abbrev pub IsToldAs : Result SplitReport ToolFault → Result SplitReport ToolFault → Type 0
+IsToldAs (Ok report) (Err Memory) = Unit {0}
+IsToldAs answer told = told ≡ answer
+
+-- what was handed over of the input, where that is told
+abbrev pub HandsOver : Limits → ℕ → Option (List ℕ) → Option (List (List ℕ)) → Option (List (List ℕ)) → Result SplitReport ToolFault → Type 0
+HandsOver limits n before old new told =
+    (answer : Result SplitReport ToolFault) × (after : Option (List ℕ)) × SplitsText limits n before after old new answer
+    × IsToldAs answer told
+
+-- what it leaves
+pub record LeavesTold (limits : Limits) (n : ℕ) (prefix : List ℕ) (input : Option (List ℕ)) (old now : ℕ)
+    (told : Result SplitReport ToolFault) (texts new : Texts) : Type 0 where
+  pub parts : List (List ℕ)
+  pub answer : Result SplitReport ToolFault
+  pub split : SplitsInto limits n input parts answer
+  pub is_told : IsToldAs answer told
+  pub left : LeavesParts prefix parts old now texts new
+
+-- what lay under names at first, where that is known, nothing was being written, and files get what is written
+abbrev pub texts_before : Bool → Option (List ℕ) → Option Texts → Option Texts
+texts_before true making held = None
+texts_before false (Some name) held = None
+texts_before false None held = held

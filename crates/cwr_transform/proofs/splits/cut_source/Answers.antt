@@ -1,6 +1,9 @@
+use Rattle.std.proofs.Common.{ℕ, refl, subst}
 use Rattle.std.specs.Prelude.{Ok, Err}
+use Rattle.cwr_tools.specs.declared.verdicts.ToolFault.TheVariants as tool_faults
 use Rattle.cwr_parts.proofs.lemmas.ToldRuns.{told_judged}
 use Rattle.cwr_endings.specs.declared.endings.Look.TheVariants as looks
+use Rattle.cwr_transform.specs.Steps.Splits.{HandsOver}
 use Rattle.cwr_transform.proofs.lemmas.SplitsEnd.{cut_failed, cut_judged, findings_seen}
 use Rattle.cwr_transform.proofs.splits.cut_source.Goals as goal
 
@@ -25,3 +28,21 @@ returns-in-Err-clause-judged g c =
     (told_judged c.args.cut.now.limits _ (g.R.Source.remaining c.args.reader.now) (g.R.Source.remaining c.split_viewed.new.reader)
     (g.O.Outputs.texts c.args.outputs.now) (g.O.Outputs.texts c.split_viewed.new.outputs) (Err c.in-Err.fault)
     c.in-Err.ensures.told)
+
+pub returns-then-view-clause-handed : goal.returns-then-view-clause-handed
+returns-then-view-clause-handed g c =
+    subst (λ (n : ℕ). HandsOver c.args.cut.now.limits n (g.R.Source.remaining c.args.reader.now) (g.O.Outputs.texts c.args.outputs.now)
+    (g.O.Outputs.texts c.split_viewed.new.outputs) (Err tool_faults.Memory)) c.get-size.ensures.value
+    (Ok c.in-Ok.report, g.R.Source.remaining c.split_viewed.new.reader, c.in-Ok.ensures.told, tt)
+
+pub returns-else-view-clause-handed : goal.returns-else-view-clause-handed
+returns-else-view-clause-handed g c =
+    subst (λ (n : ℕ). HandsOver c.args.cut.now.limits n (g.R.Source.remaining c.args.reader.now) (g.O.Outputs.texts c.args.outputs.now)
+    (g.O.Outputs.texts c.split_viewed.new.outputs) (Ok c.in-Ok.report)) c.get-size.ensures.value
+    (Ok c.in-Ok.report, g.R.Source.remaining c.split_viewed.new.reader, c.in-Ok.ensures.told, refl)
+
+pub returns-in-Err-clause-handed : goal.returns-in-Err-clause-handed
+returns-in-Err-clause-handed g c =
+    subst (λ (n : ℕ). HandsOver c.args.cut.now.limits n (g.R.Source.remaining c.args.reader.now) (g.O.Outputs.texts c.args.outputs.now)
+    (g.O.Outputs.texts c.split_viewed.new.outputs) (Err c.in-Err.fault)) c.get-size.ensures.value
+    (Err c.in-Err.fault, g.R.Source.remaining c.split_viewed.new.reader, c.in-Err.ensures.told, refl)

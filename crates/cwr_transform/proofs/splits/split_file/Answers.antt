@@ -1,15 +1,66 @@
 use Rattle.std.proofs.Common.{List, ℕ, Option}
-use Rattle.cwr_transform.specs.Format.Splits.{EndsAsSplit}
+use Rattle.std.specs.Prelude.{Err}
+use Rattle.cwr_files.specs.Format.Files.{Turns}
 use Rattle.cwr_files.specs.Steps.Inputs.{remaining_of}
 use Rattle.cwr_endings.proofs.lemmas.StatusesOnTexts.{from_source}
+use Rattle.cwr_transform.specs.Format.Splits.{EndsAsSplit, LeavesCut}
+use Rattle.cwr_transform.proofs.lemmas.SplitFiles.{ends_so, files_left, kept_counted, starts, stops_so}
 use Rattle.cwr_transform.proofs.lemmas.SplitsEnd.{split_ends}
 use Rattle.cwr_transform.proofs.splits.split_file.Goals as goal
 
-pub returns : goal.returns
-returns g c =
+pub cut_into_files-outcome-requires : goal.cut_into_files-outcome-requires
+cut_into_files-outcome-requires g c =
+    let store = c.part_of_input.new.store in
+    starts c.args.cut.now.created (g.S.Store.making store) (g.S.Store.held store) (g.S.Store.failures store) c.args.cut.now.prefix.now
+
+pub returns-clause-ends : goal.returns-clause-ends
+returns-clause-ends g c =
     from_source (λ (known : Option (List ℕ)). EndsAsSplit c.args.cut.now.limits c.args.cut.now.wanted known c.split_ending-ended.result)
     (remaining_of g.S.Reader.Read.remaining g.I.Read.remaining) c.args.input c.new-reader.result.inner _
     c.new-reader.ensures.inner c.new-reader.ensures.ahead
-    (split_ends c.args.cut.now.limits c.args.cut.now.wanted _ c.end_input-told.result c.end-made.result.fault c.cut_source-outcome.result.0
-    c.cut_source-outcome.result.1 c.cut_source-outcome.result.2 c.reaches-found.result c.split_ending-ended.result
-    c.cut_source-outcome.ensures.judged c.cut_source-outcome.ensures.counted c.reaches-found.ensures c.split_ending-ended.ensures)
+    (split_ends c.args.cut.now.limits c.args.cut.now.wanted _ c.end_input-told.result c.cut_into_files-outcome.result.3.fault
+    c.cut_into_files-outcome.result.0 c.cut_into_files-outcome.result.1 c.cut_into_files-outcome.result.2 c.reaches-found.result
+    c.split_ending-ended.result c.cut_into_files-outcome.ensures.judged c.cut_into_files-outcome.ensures.counted c.reaches-found.ensures
+    c.split_ending-ended.ensures)
+
+pub returns-clause-files : goal.returns-clause-files
+returns-clause-files g c = λ quiet plain.
+    let cut = c.args.cut.now in
+    let n = cut.transactions.value in
+    let s0 = c.args.store.now in
+    let s1 = c.part_of_input.new.store in
+    let s2 = c.cut_into_files-outcome.new.store in
+    let s3 = c.end_input-told.new.store in
+    let answered = c.cut_into_files-outcome.result.0 in
+    from_source (λ (known : Option (List ℕ)). Turns (g.S.Store.held s0) (g.S.Store.held s3)
+    (LeavesCut cut.limits n cut.prefix.now known (g.S.Store.failures s0) (g.S.Store.failures s3) c.split_ending-ended.result))
+    (remaining_of g.S.Reader.Read.remaining g.I.Read.remaining) c.args.input c.new-reader.result.inner _
+    c.new-reader.ensures.inner c.new-reader.ensures.ahead
+    (files_left cut.limits n cut.prefix.now _ cut.created (g.S.Store.making s0) (g.S.Store.making s1) (g.S.Store.held s0) (g.S.Store.held s1)
+    (g.S.Store.held s2) (g.S.Store.held s3) (g.S.Store.failures s0) (g.S.Store.failures s1) (g.S.Store.failures s2) (g.S.Store.failures s3)
+    answered c.split_ending-ended.result quiet plain c.part_of_input.ensures.making c.part_of_input.ensures.kept
+    c.part_of_input.ensures.failures c.end_input-told.ensures.kept
+    (kept_counted _ (g.S.Store.failures s2) (g.S.Store.failures s3) c.end_input-told.ensures.failures)
+    c.cut_into_files-outcome.ensures.files
+    (λ answer parts s is. ends_so cut.limits n _ parts answer answered c.end_input-told.result
+    c.cut_into_files-outcome.result.3.fault _ c.split_ending-ended.result c.split_ending-ended.ensures s is))
+
+pub returns-in-Err-handed-clause-files : goal.returns-in-Err-handed-clause-files
+returns-in-Err-handed-clause-files g c = λ quiet plain.
+    let cut = c.args.cut.now in
+    let n = cut.transactions.value in
+    let s0 = c.args.store.now in
+    let s1 = c.part_of_input.new.store in
+    let s2 = c.cut_into_files-outcome.new.store in
+    let s3 = c.end_input-told.new.store in
+    let answered = c.cut_into_files-outcome.result.0 in
+    from_source (λ (known : Option (List ℕ)). Turns (g.S.Store.held s0) (g.S.Store.held s3)
+    (LeavesCut cut.limits n cut.prefix.now known (g.S.Store.failures s0) (g.S.Store.failures s3) (Err c.in-Err-handed.stop)))
+    (remaining_of g.S.Reader.Read.remaining g.I.Read.remaining) c.args.input c.new-reader.result.inner _
+    c.new-reader.ensures.inner c.new-reader.ensures.ahead
+    (files_left cut.limits n cut.prefix.now _ cut.created (g.S.Store.making s0) (g.S.Store.making s1) (g.S.Store.held s0) (g.S.Store.held s1)
+    (g.S.Store.held s2) (g.S.Store.held s3) (g.S.Store.failures s0) (g.S.Store.failures s1) (g.S.Store.failures s2) (g.S.Store.failures s3)
+    answered (Err c.in-Err-handed.stop) quiet plain c.part_of_input.ensures.making c.part_of_input.ensures.kept
+    c.part_of_input.ensures.failures c.end_input-told.ensures.kept
+    (kept_counted _ (g.S.Store.failures s2) (g.S.Store.failures s3) c.end_input-told.ensures.failures)
+    c.cut_into_files-outcome.ensures.files (λ answer parts s is. stops_so answer c.in-Err-handed.stop))

@@ -1,13 +1,24 @@
-use Rattle.std.proofs.Common.{ap, sym, ◌∙◌}
-use Rattle.cwr_files.proofs.lemmas.PartsInHand.{kept_bytes, of_file}
+use Rattle.std.proofs.Common.{◌∙◌}
+use Rattle.cwr_files.specs.Format.Written.{text_of_stamped}
+use Rattle.cwr_files.specs.Steps.Gathering.{written_to}
+use Rattle.cwr_files.proofs.lemmas.FinishedParts.{tied_more, told_added}
 use Rattle.cwr_files.proofs.numbered_files.NumberedFilesOutputs.done.Goals as goal
 
-pub returns-in-Ok-clause-named : goal.returns-in-Ok-clause-named
-returns-in-Ok-clause-named g c =
-    λ texts text held has.
-    let contents = g.S.Writer.Write.contents in
-    let taken = c.take_back-written.result.1 in
-    c.in-Ok.ensures.named texts text held
-    (ap contents c.unstamped.ensures.writer
-    ∙ of_file contents taken.writer text
-    (kept_bytes _ _ text (c.take_back-written.ensures.whole (sym c.unstamped.ensures.whole ∙ c.in-Ok.ensures.whole)) has))
+pub invariant_of-self : goal.invariant_of-self
+invariant_of-self g c =
+    let it = c.args.self.now in record {
+      dated = λ some. c.done.ensures.dated ∙ it.dated some;
+      called = λ some. c.done.ensures.prefix ∙ it.called some;
+      tied = rw c.and-finished.ensures
+          (tied_more (written_to (text_of_stamped g.S.Writer.Write.contents)) it.parts.now.finished.writers c.args.writer g.B.Unsplit.texts
+          g.B.Unsplit.prefix g.B.Unsplit.failures it.parts.now.numbering c.done.new.self (g.S.Store.making it.store.now)
+          (g.S.Store.making c.done.new.store) (g.S.Store.held it.store.now) (g.S.Store.held c.done.new.store)
+          (g.S.Store.failures it.store.now) (g.S.Store.failures c.done.new.store) it.tied it.called c.in-Ok.ensures.named);
+    }
+
+pub returns-in-Ok-clause-added : goal.returns-in-Ok-clause-added
+returns-in-Ok-clause-added g c =
+    let it = c.args.self.now in
+    rw c.and-finished.ensures
+    (told_added (written_to (text_of_stamped g.S.Writer.Write.contents)) it.parts.now.finished.writers c.args.writer g.B.Unsplit.texts
+    it.store.ghost_name)

@@ -1,0 +1,16 @@
+use Rattle.cwr_files.specs.Steps.NumberedFiles.{texts_of_parts}
+use Rattle.cwr_files.proofs.lemmas.FinishedParts.{starts_called, starts_dated, tied_first}
+use Rattle.cwr_files.proofs.numbered_files.NumberedFiles.new.Goals as goal
+
+pub invariant_of-result : goal.invariant_of-result
+invariant_of-result g c =
+    let store = c.args.store.now in
+    let numbering = c.args.parts.now.numbering in record {
+      dated = starts_dated g.B.Unsplit.texts g.B.Unsplit.prefix g.B.Unsplit.failures numbering (g.S.Store.making store) (g.S.Store.held store)
+          (g.S.Store.failures store) c.requires.starts;
+      called = starts_called g.B.Unsplit.texts g.B.Unsplit.prefix g.B.Unsplit.failures numbering (g.S.Store.making store) (g.S.Store.held store)
+          (g.S.Store.failures store) c.requires.starts;
+      tied = tied_first g.B.Unsplit.texts (texts_of_parts g.S.Writer.Write.contents c.args.parts.now.finished.writers) g.B.Unsplit.prefix
+          g.B.Unsplit.failures numbering (g.S.Store.making store) (g.S.Store.held store) (g.S.Store.failures store) c.requires.unasked
+          c.requires.starts;
+    }

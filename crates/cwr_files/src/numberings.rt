@@ -1,0 +1,355 @@
+//! How the files of a split are numbered, made and finished.
+
+ghost use Rattle.std.specs.Prelude.{◌≡◌, ◌+◌, ◌-◌, ℕ, List, [], None, Ok, Some, true, false, IfOk, IfSome, IsSome, OnErr, OnOk, string_bytes};
+ghost use Rattle.cwr_files.specs.Format.Faults.{IfErr, IsOfOutput};
+ghost use Rattle.cwr_files.specs.Format.Files.{Texts, Turns, counted_on, put};
+ghost use Rattle.cwr_files.specs.Format.Parts.{part_name};
+ghost use Rattle.cwr_devices.specs.Steps.Counted.{failures_of, has_handed_on};
+ghost use Rattle.cwr_devices.specs.Format.Failures.{CountsFailure, one_more_failure};
+ghost use Rattle.cwr_devices.specs.Format.Outputs.{given_up_with, lent_after};
+ghost use Rattle.cwr_files.specs.Steps.NewFiles.{HasKeptCount};
+ghost use Rattle.cwr_files.specs.Steps.NumberedFiles.{IsBegunAs, IsPartUnmade, IsResting, Stands, StandsStill, asked_of, failed_calls_of, given_up_of, has_stopped, is_dated, lent_of, made_in, name_of, prefix_of, replaces_none};
+ghost use Rattle.cwr_files.specs.Format.Written.{is_whole, text_of_stamped, writer_in};
+ghost use Rattle.cwr_files.specs.Steps.Gathering.{written_to};
+
+use crate::faults::{Fault, Name};
+use crate::new_files::{NewFile, is_there};
+use crate::outputs::{Gathered, Written, gathered, take_back, told_of};
+use crate::same_files::path_of_input;
+use crate::stamps::Stamped;
+use crate::stores::Store;
+use cwr_devices::OutputFault;
+use cwr_moments::Moment;
+use std::alloc::{AllocError, Global};
+
+/// The name of the part of that number: what the names begin with, and eight digits.
+fn numbered_name(alloc: Global, prefix: &str, number: u32) -> Result<String, AllocError>
+    ensures { IfOk result (λ name. string_bytes name ≡ part_name prefix.now number) }
+{
+    format!(in alloc; "{prefix}{number:08}")
+}
+
+/// What is kept of the files of a split, whose names are a prefix and eight digits, from `00000001` on.
+#[derive(Drop)]
+pub struct Numbering<'a> {
+    pub(crate) alloc: Global,
+    pub(crate) prefix: &'a str,
+    /// The word that names the input, which no part may be.
+    pub(crate) input: &'a str,
+    /// No part may replace a file.
+    pub(crate) only_new: bool,
+    /// When the first part is created, and each other one a second later; without it when the transmission was.
+    pub(crate) created: Option<Moment>,
+    /// How many were asked for.
+    pub(crate) asked: u32,
+    /// How many files were replaced, and the number of the part that replaced the first.
+    pub(crate) replaced: u32,
+    pub(crate) first_replaced: u32,
+    /// The one that is being written.
+    pub(crate) open_file: Option<NewFile>,
+    /// What is told of the file that couldn't be made, finished or written. Then no other one is asked for.
+    pub(crate) fault: Option<Fault<'a>>,
+    pub(crate) failed_calls: u64,
+    pub(crate) given_up: u64,
+}
+
+impl<'a> Numbering<'a> {
+    /// What the part in hand is called.
+    pub(crate) fn name(&self) -> Name<'a>
+        ensures { result ≡ name_of self.now }
+    {
+        Name::Part(self.prefix, self.asked)
+    }
+
+    /// When the part in hand is created, where that isn't when the transmission was.
+    fn moment(&self) -> Result<Option<Moment>, Fault<'a>>
+        ensures late { IfErr result (λ fault. (fault ≡ Fault.IsLate (name_of self.now))
+            × IsSome self.now.created) }
+        ensures none { is_dated self.now ≡ false → result ≡ Ok None }
+    {
+        let Some(created) = self.created else {
+            return Ok(None);
+        };
+        match created.later(self.asked.saturating_sub(1)) {
+            Some(moment) => Ok(Some(moment)),
+            None => Err(Fault::IsLate(self.name())),
+        }
+    }
+
+    /// Makes the file of that name, which is the one that was asked for last.
+    fn create<S: Store>(
+        &mut self,
+        store: &mut S,
+        name: String,
+    ) -> Result<Gathered<'a, Stamped<S::Writer>>, Fault<'a>>
+        requires { string_bytes name ≡ part_name (prefix_of self.old) (asked_of self.old) }
+        ensures asked { asked_of self.new ≡ asked_of self.old }
+        ensures guarded { replaces_none self.new ≡ replaces_none self.old }
+        ensures failed_calls { failed_calls_of self.new ≡ failed_calls_of self.old }
+        ensures given_up { given_up_of self.new ≡ given_up_of self.old }
+        ensures prefix { prefix_of self.new ≡ prefix_of self.old }
+        ensures dated { is_dated self.new ≡ is_dated self.old }
+        ensures stopped { has_stopped self.new ≡ has_stopped self.old }
+        ensures unfailed { IfOk result (λ writer. failures_of writer ≡ 0) }
+        ensures lent { IfOk result (λ writer. lent_of self.new ≡ 1) }
+        ensures unmade { IfErr result (IsPartUnmade self.old) }
+        ensures begun { made_in self.old ≡ None → S.making store.old ≡ None
+            → Turns (S.held store.old) (S.held store.new)
+            (IsBegunAs (made_in self.new) (part_name (prefix_of self.old) (asked_of self.old)) (S.making store.new)) }
+        ensures empty { is_dated self.old ≡ false → S.making store.old ≡ None → IfSome (S.held store.old)
+            (λ _. IfOk result (λ writer. written_to (text_of_stamped S.Writer.contents) writer ≡ Some [])) }
+        ensures failures { HasKeptCount (S.failures store.old) (S.failures store.new) }
+    {
+        let input = path_of_input(self.input);
+        if store.are_one(name.as_str(), input) {
+            return Err(Fault::IsInput(self.name()));
+        }
+        if self.only_new && is_there(store, name.as_str()) {
+            return Err(Fault::IsThere(self.name()));
+        }
+        let moment = match self.moment() {
+            Ok(moment) => moment,
+            Err(fault) => return Err(fault),
+        };
+        match NewFile::create(store, self.alloc, name) {
+            Ok((made, file)) => {
+                self.open_file = Some(made);
+                match gathered(self.alloc, Stamped::new(file, moment), self.name()) {
+                    Ok(writer) => Ok(writer),
+                    Err(_) => Err(Fault::Memory),
+                }
+            }
+            Err(reason) => Err(Fault::Output(self.name(), Some(reason))),
+        }
+    }
+
+    /// Makes the next file.
+    fn make<S: Store>(
+        &mut self,
+        store: &mut S,
+    ) -> Result<Gathered<'a, Stamped<S::Writer>>, Fault<'a>>
+        ensures asked { IfOk result (λ writer. asked_of self.new ≡ asked_of self.old + 1) }
+        ensures guarded { replaces_none self.new ≡ replaces_none self.old }
+        ensures failed_calls { failed_calls_of self.new ≡ failed_calls_of self.old }
+        ensures given_up { given_up_of self.new ≡ given_up_of self.old }
+        ensures prefix { prefix_of self.new ≡ prefix_of self.old }
+        ensures dated { is_dated self.new ≡ is_dated self.old }
+        ensures stopped { has_stopped self.new ≡ has_stopped self.old }
+        ensures unfailed { IfOk result (λ writer. failures_of writer ≡ 0) }
+        ensures lent { IfOk result (λ writer. lent_of self.new ≡ 1) }
+        ensures begun { made_in self.old ≡ None → S.making store.old ≡ None
+            → Turns (S.held store.old) (S.held store.new)
+            (IsBegunAs (made_in self.new) (part_name (prefix_of self.old) (asked_of self.old + 1)) (S.making store.new)) }
+        ensures empty { is_dated self.old ≡ false → S.making store.old ≡ None → IfSome (S.held store.old)
+            (λ _. IfOk result (λ writer. written_to (text_of_stamped S.Writer.contents) writer ≡ Some [])) }
+        ensures failures { HasKeptCount (S.failures store.old) (S.failures store.new) }
+    {
+        let Some(number) = self.asked.checked_add(1) else {
+            return Err(Fault::Output(self.name(), None));
+        };
+        self.asked = number;
+        match numbered_name(self.alloc, self.prefix, number) {
+            Ok(name) => self.create(store, name),
+            Err(_) => Err(Fault::Memory),
+        }
+    }
+
+    /// Gives the file that was written its name.
+    fn keep<S: Store>(
+        &mut self,
+        store: &mut S,
+        written: Written<S::Writer>,
+    ) -> Result<(), Fault<'a>>
+        // Where it succeeds the part has its name, and holds what was written. What lies under any other name stays.
+        ensures named { (texts : Texts) (count : ℕ) (failures : ℕ) (text : List ℕ)
+            → StandsStill self.old (S.making store.old) (S.held store.old) (S.failures store.old) texts count failures
+            → S.Writer.contents (writer_in written) ≡ Some text
+            → OnOk result (IsResting (S.making store.new) (S.held store.new) (S.failures store.new)
+            (put (part_name (prefix_of self.old) (count + 1)) (Some text) texts) failures) }
+        ensures unnamed { (texts : Texts) (count : ℕ) (failures : ℕ)
+            → StandsStill self.old (S.making store.old) (S.held store.old) (S.failures store.old) texts count failures
+            → OnErr result (StandsStill self.new (S.making store.new) (S.held store.new) (S.failures store.new) texts count failures) }
+        ensures whole { OnOk result (is_whole written ≡ true) }
+        ensures kept { OnOk result (lent_of self.old ≡ 1) }
+        ensures unkept { IfErr result (IsOfOutput (name_of self.old)) }
+        ensures asked { asked_of self.new ≡ asked_of self.old }
+        ensures guarded { replaces_none self.new ≡ replaces_none self.old }
+        ensures failed_calls { failed_calls_of self.new ≡ failed_calls_of self.old }
+        ensures given_up { given_up_of self.new ≡ given_up_of self.old }
+        ensures prefix { prefix_of self.new ≡ prefix_of self.old }
+        ensures dated { is_dated self.new ≡ is_dated self.old }
+        ensures stopped { has_stopped self.new ≡ has_stopped self.old }
+        ensures closed { made_in self.new ≡ None }
+    {
+        let name = self.name();
+        match self.open_file.take() {
+            Some(made) => match made.keep_named(store, written, name) {
+                Ok(replaced) => {
+                    self.count_replaced(replaced);
+                    Ok(())
+                }
+                Err(fault) => Err(fault),
+            },
+            None => Err(Fault::Output(name, None)),
+        }
+    }
+
+    /// Counts a file that the part in hand replaced, if one was.
+    fn count_replaced(&mut self, replaced: bool)
+        ensures asked { asked_of self.new ≡ asked_of self.old }
+        ensures guarded { replaces_none self.new ≡ replaces_none self.old }
+        ensures failed_calls { failed_calls_of self.new ≡ failed_calls_of self.old }
+        ensures given_up { given_up_of self.new ≡ given_up_of self.old }
+        ensures prefix { prefix_of self.new ≡ prefix_of self.old }
+        ensures dated { is_dated self.new ≡ is_dated self.old }
+        ensures stopped { has_stopped self.new ≡ has_stopped self.old }
+        ensures made { made_in self.new ≡ made_in self.old }
+    {
+        if replaced && self.replaced == 0 {
+            self.first_replaced = self.asked;
+        }
+        self.replaced = self.replaced.saturating_add(u32::from(replaced));
+    }
+
+    /// Removes the file that was being written, if there is one. Its writer failed so often.
+    fn discard<S: Store>(&mut self, store: &mut S, times: u64)
+        ensures drops { (texts : Texts) (count : ℕ) (failures : ℕ)
+            → StandsStill self.old (S.making store.old) (S.held store.old) (S.failures store.old) texts count failures
+            → StandsStill self.new (S.making store.new) (S.held store.new) (S.failures store.new) texts count failures }
+        ensures asked { asked_of self.new ≡ asked_of self.old }
+        ensures guarded { replaces_none self.new ≡ replaces_none self.old }
+        ensures failed_calls { failed_calls_of self.new ≡ failed_calls_of self.old }
+        ensures given_up { given_up_of self.new ≡ given_up_of self.old }
+        ensures prefix { prefix_of self.new ≡ prefix_of self.old }
+        ensures dated { is_dated self.new ≡ is_dated self.old }
+        ensures stopped { has_stopped self.new ≡ has_stopped self.old }
+        ensures closed { made_in self.new ≡ None }
+    {
+        if let Some(made) = self.open_file.take() {
+            made.discard(store, times);
+        }
+    }
+
+    /// Counts a call that failed.
+    fn count_failure(&mut self, fault: Fault<'a>) -> OutputFault
+        ensures asked { asked_of self.new ≡ asked_of self.old }
+        ensures guarded { replaces_none self.new ≡ replaces_none self.old }
+        ensures failed_calls { failed_calls_of self.new
+            ≡ one_more_failure (failed_calls_of self.old) }
+        ensures given_up { given_up_of self.new ≡ given_up_of self.old }
+        ensures prefix { prefix_of self.new ≡ prefix_of self.old }
+        ensures dated { is_dated self.new ≡ is_dated self.old }
+        ensures stopped { has_stopped self.new ≡ true }
+        ensures made { made_in self.new ≡ made_in self.old }
+    {
+        self.fault = Some(fault);
+        self.failed_calls = self.failed_calls.saturating_add(1);
+        OutputFault
+    }
+
+    /// Counts a writer that is given up and failed so often, if it did.
+    fn count_given_up(&mut self, times: u64)
+        ensures asked { asked_of self.new ≡ asked_of self.old }
+        ensures guarded { replaces_none self.new ≡ replaces_none self.old }
+        ensures failed_calls { failed_calls_of self.new ≡ failed_calls_of self.old }
+        ensures given_up { given_up_of self.new ≡ given_up_with times (given_up_of self.old) }
+        ensures prefix { prefix_of self.new ≡ prefix_of self.old }
+        ensures dated { is_dated self.new ≡ is_dated self.old }
+        ensures stopped { has_stopped self.new ≡ has_stopped self.old }
+        ensures made { made_in self.new ≡ made_in self.old }
+    {
+        if times > 0 {
+            self.given_up = self.given_up.saturating_add(1);
+        }
+    }
+
+    /// The writer of the next file. After a fault there is none.
+    pub(crate) fn next<S: Store>(
+        &mut self,
+        store: &mut S,
+    ) -> Result<Gathered<'a, Stamped<S::Writer>>, OutputFault>
+        ensures unfailed { IfOk result (λ writer. failures_of writer ≡ 0) }
+        ensures failures { CountsFailure result (failed_calls_of self.old) (failed_calls_of self.new) }
+        ensures given_up { given_up_of self.new ≡ given_up_of self.old }
+        ensures lent { lent_of self.new ≡ lent_after result (lent_of self.old) }
+        ensures prefix { prefix_of self.new ≡ prefix_of self.old }
+        ensures dated { is_dated self.new ≡ is_dated self.old }
+        // Where it succeeds the next part is being written. Else nothing changed, but for what may be left of that.
+        ensures stands { (texts : Texts) (count : ℕ) (failures : ℕ)
+            → Stands self.old (S.making store.old) (S.held store.old) (S.failures store.old) texts count failures
+            → Stands self.new (S.making store.new) (S.held store.new) (S.failures store.new) texts count failures }
+        ensures empty { (texts : Texts) (count : ℕ) (failures : ℕ)
+            → Stands self.old (S.making store.old) (S.held store.old) (S.failures store.old) texts count failures
+            → is_dated self.old ≡ false
+            → IfOk result (λ writer. written_to (text_of_stamped S.Writer.contents) writer ≡ Some []) }
+    {
+        if self.open_file.is_some() || self.fault.is_some() || self.failed_calls == u64::MAX {
+            let fault = Fault::Output(self.name(), None);
+            return Err(self.count_failure(fault));
+        }
+        match self.make(store) {
+            Ok(writer) => Ok(writer),
+            Err(fault) => {
+                self.discard(store, 0);
+                Err(self.count_failure(fault))
+            }
+        }
+    }
+
+    /// Finishes the file that was written.
+    pub(crate) fn done<S: Store>(
+        &mut self,
+        store: &mut S,
+        writer: Gathered<'a, Stamped<S::Writer>>,
+    ) -> Result<(), OutputFault>
+        requires unfailed { failures_of writer ≡ 0 }
+        requires handed_on { has_handed_on writer ≡ true }
+        ensures failures { CountsFailure result (failed_calls_of self.old) (failed_calls_of self.new) }
+        ensures given_up { given_up_of self.new ≡ given_up_of self.old }
+        ensures lent { lent_of self.new ≡ lent_of self.old - 1 }
+        ensures prefix { prefix_of self.new ≡ prefix_of self.old }
+        ensures dated { is_dated self.new ≡ is_dated self.old }
+        // Where it succeeds the part has its name, and holds what was written. What lies under any other name stays.
+        ensures named { (texts : Texts) (count : ℕ) (failures : ℕ) (text : List ℕ)
+            → Stands self.old (S.making store.old) (S.held store.old) (S.failures store.old) texts count failures
+            → written_to (text_of_stamped S.Writer.contents) writer.entry ≡ Some text
+            → OnOk result (Stands self.new (S.making store.new) (S.held store.new) (S.failures store.new)
+            (put (part_name (prefix_of self.old) (count + 1)) (Some text) texts) (count + 1) failures) }
+        ensures unnamed { (texts : Texts) (count : ℕ) (failures : ℕ)
+            → Stands self.old (S.making store.old) (S.held store.old) (S.failures store.old) texts count failures
+            → OnErr result (Stands self.new (S.making store.new) (S.held store.new) (S.failures store.new) texts count failures) }
+    {
+        if self.failed_calls == u64::MAX {
+            drop(writer);
+            self.discard(store, 0);
+            let fault = Fault::Output(self.name(), None);
+            return Err(self.count_failure(fault));
+        }
+        let (_told, written) = take_back(writer);
+        match self.keep(store, written.unstamped()) {
+            Ok(()) => Ok(()),
+            Err(fault) => Err(self.count_failure(fault)),
+        }
+    }
+
+    /// Drops the file that was written, which won't be whole.
+    pub(crate) fn give_up<S: Store>(
+        &mut self,
+        store: &mut S,
+        writer: Gathered<'a, Stamped<S::Writer>>,
+    )
+        ensures failures { failed_calls_of self.new ≡ failed_calls_of self.old }
+        ensures given_up { given_up_of self.new ≡ given_up_with (failures_of writer.entry) (given_up_of self.old) }
+        ensures lent { lent_of self.new ≡ lent_of self.old - 1 }
+        ensures prefix { prefix_of self.new ≡ prefix_of self.old }
+        ensures dated { is_dated self.new ≡ is_dated self.old }
+        ensures stands { (texts : Texts) (count : ℕ) (failures : ℕ)
+            → Stands self.old (S.making store.old) (S.held store.old) (S.failures store.old) texts count failures
+            → Stands self.new (S.making store.new) (S.held store.new) (S.failures store.new) texts count failures }
+    {
+        let times = writer.failures();
+        self.count_given_up(times);
+        self.fault = Some(Fault::Write(told_of(writer)));
+        self.discard(store, times);
+    }
+}
