@@ -1,5 +1,6 @@
 -- What is promised, in the words of the format.
 pub mod Endings
+pub mod Failures
 pub mod Files
 pub mod Styles
 pub mod Tables

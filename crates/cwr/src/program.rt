@@ -1,13 +1,15 @@
 //! The program between its words and its devices.
 
-ghost use Rattle.std.specs.Prelude.{◌≡◌, ◌≢◌, ◌≤◌, map, option_map, true, false, None, OnOk};
+ghost use Rattle.std.specs.Prelude.{◌≡◌, ◌≢◌, ◌<◌, ◌≤◌, map, option_map, true, false, None, OnOk};
 ghost use Rattle.std.specs.Option.{is_some};
 ghost use Rattle.std.specs.IoError.{error_kind};
 ghost use Rattle.std.specs.declared.io.ErrorKind.TheVariants.{OutOfMemory as lacks_memory};
 ghost use Rattle.clap.specs.Values.{kind_of};
 ghost use Rattle.cwr.specs.Format.Endings.{AreStandardTwice, EndsAsAnswers, EndsAsData, EndsAsManual, EndsOnFiles, EndsOnWork, fault_status, status_code};
+ghost use Rattle.cwr.specs.Format.Failures.{FailsAsData, FailsOnFiles, FailsSo, FailsWork};
 ghost use Rattle.cwr.specs.Format.Files.{LeavesOut, LeavesWork, RunsRenumbering, RunsTask, RunsWords};
-ghost use Rattle.cwr.specs.Steps.Tells.{TellsAsked, TellsData, TellsFiles, TellsJudged, TellsRead, TellsWork};
+ghost use Rattle.cwr.specs.Steps.Tells.{CountsData, CountsWork, HandsOnData, HandsOnWork, TellsAsked, TellsData, TellsFiles, TellsJudged, TellsQuietRead, TellsQuietly, TellsRead, TellsWork};
+ghost use Rattle.cwr_devices.specs.Format.Failures.{most_failures};
 ghost use Rattle.cwr_files.specs.Format.Faults.{IfErr};
 ghost use Rattle.cwr_files.specs.Format.Files.{Turns};
 ghost use Rattle.cwr_files.specs.Steps.NewFiles.{HasKeptCount};
@@ -16,6 +18,7 @@ ghost use Rattle.cwr_reports.specs.Format.Endings.{EndsOnRead, advice_asked, adv
 ghost use Rattle.cwr_reports.specs.Format.Exports.{IsExportAt, is_data};
 ghost use Rattle.cwr.specs.Format.Tables.{encoding_of, form_of, kinds_by, selection_of, table_of};
 ghost use Rattle.cwr_reports.specs.Steps.Looks.{tells_findings};
+ghost use Rattle.cwr_reports.specs.Steps.Marked.{CountsOutput};
 
 use crate::manual::MANUAL;
 use crate::styles::{help_style, style_of};
@@ -455,6 +458,10 @@ fn report_file<'a, S: Store, I: Read + Drop, P: Pace, W: Target + Drop, E: Write
         (I.remaining standard) (option_map (λ n. n.now) name.entry) result.1 }
     ensures told { asked.now.quiet ≡ false → TellsRead telling.entry asked.now.limits (S.held store.old)
         (I.remaining standard) (option_map (λ n. n.now) name.entry) W.contents lines result.0 result.1 }
+    ensures quiet { asked.now.quiet ≡ true → W.failures lines < most_failures → TellsQuietRead asked.now telling.entry (S.held store.old)
+        (I.remaining standard) (option_map (λ n. n.now) name.entry) W.contents lines result.0 result.1 }
+    ensures failed { FailsSo result.1 (S.failures store.old) (S.failures store.new) }
+    ensures output { CountsOutput result.1 (W.failures lines) (W.failures result.0) }
     ensures handed_on { OnOk result.1 (W.handed_on result.0 ≡ true) }
     ensures kept { S.held store.new ≡ S.held store.old }
 {
@@ -482,6 +489,9 @@ fn write_data<'a, S: Store, I: Read + Drop, P: Pace, W: Target + Drop, E: Write>
         (I.remaining standard) (option_map (λ n. n.now) name.entry) (is_some out.entry) result.1 }
     ensures told { TellsData (is_some out.entry) telling.entry asked.now.limits (S.held store.old)
         (I.remaining standard) (option_map (λ n. n.now) name.entry) W.contents lines result.0 result.1 }
+    ensures failed { FailsAsData (is_some out.entry) result.1 (S.failures store.old) (S.failures store.new) }
+    ensures output { CountsData (is_some out.entry) result.1 (W.failures lines) (W.failures result.0) }
+    ensures handed_on { HandsOnData (is_some out.entry) result.1 (W.handed_on result.0) }
     ensures files { is_data telling.entry ≡ true → S.making store.old ≡ None → Turns (S.held store.old) (S.held store.new)
         (LeavesOut (option_map (λ n. n.now) out.entry) (S.failures store.old) (S.failures store.new)
         (IsExportAt telling.entry asked.now.limits (S.held store.old) (I.remaining standard) (option_map (λ n. n.now) name.entry))
@@ -534,6 +544,11 @@ fn judge_alone<'a, S: Store, I: Read + Drop, P: Pace, W: Target + Drop, E: Write
         (I.remaining standard) (option_map (λ n. n.now) name.entry) result.1 }
     ensures told { asked.now.quiet ≡ false → TellsJudged asked.now explained (S.held store.old)
         (I.remaining standard) (option_map (λ n. n.now) name.entry) W.contents lines result.0 result.1 }
+    ensures quiet { asked.now.quiet ≡ true → W.failures lines < most_failures → TellsQuietly asked.now explained (S.held store.old)
+        (I.remaining standard) (option_map (λ n. n.now) name.entry) W.contents lines result.0 result.1 }
+    ensures failed { FailsSo result.1 (S.failures store.old) (S.failures store.new) }
+    ensures output { CountsOutput result.1 (W.failures lines) (W.failures result.0) }
+    ensures handed_on { OnOk result.1 (W.handed_on result.0 ≡ true) }
     ensures kept { S.held store.new ≡ S.held store.old }
 {
     let Ok(shown) = shown_name(asked.alloc, name.unwrap_or(DASH)) else {
@@ -558,7 +573,10 @@ fn judge<'a, S: Store, I: Read + Drop, P: Pace, W: Target + Drop, E: Write>(
     ensures ends { EndsOnFiles (advice_asked asked.now) asked.now.limits asked.now.wanted (S.held store.old)
         (I.remaining standard) (map (λ name. name.now) names.now) result.1 }
     ensures told { TellsFiles asked.now explained asked.now.quiet (S.held store.old) (I.remaining standard)
-        (map (λ name. name.now) names.now) W.contents lines result.0 result.1 }
+        (map (λ name. name.now) names.now) W.contents W.failures lines result.0 (S.failures store.old) (S.failures store.new) result.1 }
+    ensures failed { FailsOnFiles (map (λ name. name.now) names.now) result.1 (S.failures store.old) (S.failures store.new) }
+    ensures output { CountsOutput result.1 (W.failures lines) (W.failures result.0) }
+    ensures handed_on { OnOk result.1 (W.handed_on result.0 ≡ true) }
     ensures kept { S.held store.new ≡ S.held store.old }
 {
     match names {
@@ -650,8 +668,11 @@ fn show_records<'a, S: Store, I: Read + Drop, P: Pace, W: Target + Drop, E: Writ
 ) -> (W, Result<Status, Stop<'a>>)
     ensures ends { EndsOnWork task.now.limits task.now.whole (Work.Show words.now) (S.held store.old)
         (I.remaining standard) result.1 }
-    ensures told { TellsWork task.now.limits (Work.Show words.now) (S.held store.old) (I.remaining standard)
-        W.contents lines result.0 result.1 }
+    ensures told { TellsWork task.now.limits task.now.whole (Work.Show words.now) (S.held store.old) (I.remaining standard)
+        W.contents W.failures lines result.0 (S.failures store.old) (S.failures store.new) result.1 }
+    ensures failed { FailsWork (Work.Show words.now) result.1 (S.failures store.old) (S.failures store.new) }
+    ensures output { CountsOutput result.1 (W.failures lines) (W.failures result.0) }
+    ensures handed_on { OnOk result.1 (W.handed_on result.0 ≡ true) }
     ensures kept { S.held store.new ≡ S.held store.old }
 {
     let asked = asked_by(alloc, task, words.fail_on);
@@ -674,8 +695,11 @@ fn tell_faults<'a, S: Store, I: Read + Drop, P: Pace, W: Target + Drop, E: Write
 ) -> (W, Result<Status, Stop<'a>>)
     ensures ends { EndsOnWork task.now.limits task.now.whole (Work.Lint words.now) (S.held store.old)
         (I.remaining standard) result.1 }
-    ensures told { TellsWork task.now.limits (Work.Lint words.now) (S.held store.old) (I.remaining standard)
-        W.contents lines result.0 result.1 }
+    ensures told { TellsWork task.now.limits task.now.whole (Work.Lint words.now) (S.held store.old) (I.remaining standard)
+        W.contents W.failures lines result.0 (S.failures store.old) (S.failures store.new) result.1 }
+    ensures failed { FailsWork (Work.Lint words.now) result.1 (S.failures store.old) (S.failures store.new) }
+    ensures output { CountsOutput result.1 (W.failures lines) (W.failures result.0) }
+    ensures handed_on { OnOk result.1 (W.handed_on result.0 ≡ true) }
     ensures kept { S.held store.new ≡ S.held store.old }
 {
     let asked = Asked {
@@ -711,8 +735,11 @@ fn advise<'a, S: Store, I: Read + Drop, P: Pace, W: Target + Drop, E: Write>(
 ) -> (W, Result<Status, Stop<'a>>)
     ensures ends { EndsOnWork task.now.limits task.now.whole (Work.Advise words.now) (S.held store.old)
         (I.remaining standard) result.1 }
-    ensures told { TellsWork task.now.limits (Work.Advise words.now) (S.held store.old) (I.remaining standard)
-        W.contents lines result.0 result.1 }
+    ensures told { TellsWork task.now.limits task.now.whole (Work.Advise words.now) (S.held store.old) (I.remaining standard)
+        W.contents W.failures lines result.0 (S.failures store.old) (S.failures store.new) result.1 }
+    ensures failed { FailsWork (Work.Advise words.now) result.1 (S.failures store.old) (S.failures store.new) }
+    ensures output { CountsOutput result.1 (W.failures lines) (W.failures result.0) }
+    ensures handed_on { OnOk result.1 (W.handed_on result.0 ≡ true) }
     ensures kept { S.held store.new ≡ S.held store.old }
 {
     let judging = &words.judging;
@@ -740,8 +767,11 @@ fn write_json<'a, S: Store, I: Read + Drop, P: Pace, W: Target + Drop, E: Write>
 ) -> (W, Result<Status, Stop<'a>>)
     ensures ends { EndsOnWork task.now.limits task.now.whole (Work.Json words.now) (S.held store.old)
         (I.remaining standard) result.1 }
-    ensures told { TellsWork task.now.limits (Work.Json words.now) (S.held store.old) (I.remaining standard)
-        W.contents lines result.0 result.1 }
+    ensures told { TellsWork task.now.limits task.now.whole (Work.Json words.now) (S.held store.old) (I.remaining standard)
+        W.contents W.failures lines result.0 (S.failures store.old) (S.failures store.new) result.1 }
+    ensures failed { FailsWork (Work.Json words.now) result.1 (S.failures store.old) (S.failures store.new) }
+    ensures output { CountsWork (Work.Json words.now) result.1 (W.failures lines) (W.failures result.0) }
+    ensures handed_on { HandsOnWork (Work.Json words.now) result.1 (W.handed_on result.0) }
     ensures files { S.making store.old ≡ None → LeavesWork task.now.limits task.now.whole (Work.Json words.now)
         (S.held store.old) (I.remaining standard) (S.failures store.old) (S.failures store.new) result.1 (S.held store.new) }
 {
@@ -769,8 +799,11 @@ fn write_table<'a, S: Store, I: Read + Drop, P: Pace, W: Target + Drop, E: Write
 ) -> (W, Result<Status, Stop<'a>>)
     ensures ends { EndsOnWork task.now.limits task.now.whole (Work.Csv words.now) (S.held store.old)
         (I.remaining standard) result.1 }
-    ensures told { TellsWork task.now.limits (Work.Csv words.now) (S.held store.old) (I.remaining standard)
-        W.contents lines result.0 result.1 }
+    ensures told { TellsWork task.now.limits task.now.whole (Work.Csv words.now) (S.held store.old) (I.remaining standard)
+        W.contents W.failures lines result.0 (S.failures store.old) (S.failures store.new) result.1 }
+    ensures failed { FailsWork (Work.Csv words.now) result.1 (S.failures store.old) (S.failures store.new) }
+    ensures output { CountsWork (Work.Csv words.now) result.1 (W.failures lines) (W.failures result.0) }
+    ensures handed_on { HandsOnWork (Work.Csv words.now) result.1 (W.handed_on result.0) }
     ensures files { S.making store.old ≡ None → LeavesWork task.now.limits task.now.whole (Work.Csv words.now)
         (S.held store.old) (I.remaining standard) (S.failures store.old) (S.failures store.new) result.1 (S.held store.new) }
 {
@@ -831,8 +864,12 @@ fn judge_by<'a, S: Store, I: Read + Drop, P: Pace, W: Target + Drop, E: Write>(
 ) -> (W, Result<Status, Stop<'a>>)
     ensures ends { EndsOnFiles None task.now.limits (record { whole = task.now.whole; fail_on = judging.now.fail_on })
         (S.held store.old) (I.remaining standard) (map (λ name. name.now) judging.now.files.items) result.1 }
-    ensures told { TellsAsked task.now.limits explained judging.now.quiet false false false 0 (S.held store.old)
-        (I.remaining standard) (map (λ name. name.now) judging.now.files.items) W.contents lines result.0 result.1 }
+    ensures told { TellsAsked task.now.limits (record { whole = task.now.whole; fail_on = judging.now.fail_on }) explained judging.now.quiet
+        false false false 0 (S.held store.old) (I.remaining standard) (map (λ name. name.now) judging.now.files.items) W.contents W.failures
+        lines result.0 (S.failures store.old) (S.failures store.new) result.1 }
+    ensures failed { FailsOnFiles (map (λ name. name.now) judging.now.files.items) result.1 (S.failures store.old) (S.failures store.new) }
+    ensures output { CountsOutput result.1 (W.failures lines) (W.failures result.0) }
+    ensures handed_on { OnOk result.1 (W.handed_on result.0 ≡ true) }
     ensures kept { S.held store.new ≡ S.held store.old }
 {
     let asked = Asked {
@@ -887,8 +924,12 @@ fn perform<'a, S: Store, I: Read + Drop, P: Pace, W: Target + Drop, E: Write>(
 ) -> (W, Result<Status, Stop<'a>>)
     ensures ends { EndsOnWork task.now.limits task.now.whole task.now.work (S.held store.old) (I.remaining standard)
         result.1 }
-    ensures told { TellsWork task.now.limits task.now.work (S.held store.old) (I.remaining standard)
-        W.contents lines result.0 result.1 }
+    ensures told { TellsWork task.now.limits task.now.whole task.now.work (S.held store.old) (I.remaining standard)
+        W.contents W.failures lines result.0 (S.failures store.old) (S.failures store.new) result.1 }
+    // It stops only where a file failed, or there was no memory.
+    ensures failed { FailsWork task.now.work result.1 (S.failures store.old) (S.failures store.new) }
+    ensures output { CountsWork task.now.work result.1 (W.failures lines) (W.failures result.0) }
+    ensures handed_on { HandsOnWork task.now.work result.1 (W.handed_on result.0) }
     ensures files { S.making store.old ≡ None → LeavesWork task.now.limits task.now.whole task.now.work
         (S.held store.old) (I.remaining standard) (S.failures store.old) (S.failures store.new) result.1 (S.held store.new) }
     ensures renumbers { RunsRenumbering renumbered_text task.now.limits task.now.whole task.now.work (I.remaining standard)

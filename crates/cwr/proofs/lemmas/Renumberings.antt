@@ -6,9 +6,8 @@ use Rattle.cwr_words.specs.declared.words.RenumberWords.{RenumberWords}
 use Rattle.cwr_words.specs.declared.words.Work.{Work}
 use Rattle.cwr_words.specs.declared.words.Work.TheVariants.{Check, Show, Explain, Lint, Advise, Json, Csv, Acks, Write, Split}
 use Rattle.cwr_words.specs.declared.words.Work.TheVariants.{Join, Renumber, Select, Manual}
-use Rattle.cwr_files.specs.declared.faults.Fault.{Fault}
 use Rattle.cwr_files.specs.declared.faults.Fault.TheVariants as faults
-use Rattle.cwr_files.specs.Format.Files.{Same, Texts, Turns}
+use Rattle.cwr_files.specs.Format.Files.{Texts, Turns}
 use Rattle.cwr_files.specs.Format.Inputs.{IfRead}
 use Rattle.cwr_files.specs.Steps.Inputs.{IsLeftOf}
 use Rattle.cwr_files.proofs.lemmas.Reads.{if_read}

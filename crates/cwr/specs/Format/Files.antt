@@ -20,6 +20,7 @@ use Rattle.cwr_transform.specs.Format.Joins.{IsTextOfJoin}
 use Rattle.cwr_transform.specs.Format.Repairs.{IsRepairOf, IsRepairStatus, WritesRepair}
 use Rattle.cwr_transform.specs.Format.Selections.{IsSelectionAt, LeavesSelection}
 use Rattle.cwr.specs.Format.Endings.{EndsOnWork, ending_status, import_of, status_code}
+use Rattle.cwr.specs.Format.Failures.{FailsWork}
 use Rattle.cwr.specs.Format.Tables.{encoding_of, selection_of, table_of}
 
 -- a run that writes a file leaves it or nothing, and one that writes to standard output changes nothing
@@ -79,12 +80,13 @@ RunsRenumbering renumbered limits whole (Renumber words) standard before after m
 RunsRenumbering renumbered limits whole work standard before after making old now ending = Unit {0}
 
 -- What a run of the task comes to, where what is on standard input and lies under names is this: an end that the task may have, its status,
--- and what lies under names then.
+-- what failed where it stopped, and what lies under names then.
 pub record RunsTask (renumbered : List ℕ → List ℕ) (task : Task) (standard : Option (List ℕ)) (before after : Option Texts) (making : Option (List ℕ))
     (old now : ℕ) (status : Status) : Type 0 where
   pub ending : Result Status Stop
   pub ends : EndsOnWork task.limits task.whole task.work before standard ending
   pub status_is : status ≡ ending_status ending
+  pub fails : FailsWork task.work ending old now
   pub files : making ≡ None → LeavesWork task.limits task.whole task.work before standard old now ending after
   pub renumbers : RunsRenumbering renumbered task.limits task.whole task.work standard before after making old now ending
 

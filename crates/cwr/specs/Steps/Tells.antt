@@ -1,7 +1,8 @@
 -- Which lines a run has written to standard output.
 use denote.Ref.{Bor}
-use Rattle.std.specs.Prelude.{◌≡◌, ℕ, Bool, true, false, List, [], ◌∷◌, map, Option, Some, None, option_map, Result, Ok, Err, codes}
+use Rattle.std.specs.Prelude.{◌≡◌, ◌<◌, ℕ, Bool, true, false, List, [], ◌∷◌, map, Option, Some, None, option_map, Result, Ok, Err, OnOk, codes}
 use Rattle.std.specs.Option.{is_some}
+use Rattle.cwr_devices.specs.Format.Failures.{most_failures}
 use Rattle.cwr_shape.specs.declared.limits.Limits.{Limits}
 use Rattle.cwr_words.specs.declared.words.Work.{Work}
 use Rattle.cwr_words.specs.declared.words.Work.TheVariants.{Check, Show, Explain, Lint, Advise, Json, Csv}
@@ -9,11 +10,14 @@ use Rattle.cwr_files.specs.Format.Files.{Texts}
 use Rattle.cwr_files.specs.Format.Inputs.{shown_name}
 use Rattle.cwr_files.specs.Steps.Inputs.{IsLeftOf}
 use Rattle.cwr_endings.specs.declared.endings.Status.{Status}
+use Rattle.cwr_endings.specs.declared.endings.Wanted.{Wanted}
+use Rattle.cwr_endings.specs.declared.judgements.Judgement.{Judgement}
 use Rattle.cwr_endings.specs.declared.stops.Stop.{Stop}
 use Rattle.cwr_reports.specs.declared.tellings.Asked.{Asked}
 use Rattle.cwr_reports.specs.declared.tellings.Telling.{Telling}
 use Rattle.cwr_reports.specs.declared.tellings.Telling.TheVariants as tellings
 use Rattle.cwr_reports.specs.Format.Endings.{telling_by}
+use Rattle.cwr_reports.specs.Steps.Marked.{CountsOutput, TellsEach, WritesLines}
 use Rattle.cwr_reports.specs.Steps.Tellings.{TellsLines}
 use Rattle.cwr.specs.Format.Tables.{encoding_of, table_of}
 
@@ -37,29 +41,56 @@ TellsJudged asked explained held standard name contents old new (Ok status) =
     × TellsRead (telling_by asked explained shown) asked.limits held standard name contents old new (Ok status)
 TellsJudged asked explained held standard name contents old new (Err stop) = Unit {0}
 
--- so were those on the one input that is named, or on standard input; of several nothing is said here, nor of quiet lines
-abbrev pub TellsFiles : {W : Type 0} → Asked → Bool → Bool → Option Texts → Option (List ℕ) → List (List ℕ) → (W → Option (List ℕ)) → W → W
+-- so were the quiet lines on it, where it was judged with that status
+abbrev pub TellsQuietRead : {W : Type 0} → Asked → Telling → Option Texts → Option (List ℕ) → Option (List ℕ) → (W → Option (List ℕ))
+    → W → W → Result Status Stop → Type 0
+TellsQuietRead asked telling held standard name contents old new (Ok status) =
+    (left : Option (List ℕ)) × IsLeftOf held standard name left × (judgement : Judgement) × (judgement.status ≡ status)
+    × WritesLines asked telling None left (Ok judgement) contents old new
+TellsQuietRead asked telling held standard name contents old new (Err stop) = Unit {0}
+
+abbrev pub TellsQuietly : {W : Type 0} → Asked → Bool → Option Texts → Option (List ℕ) → Option (List ℕ) → (W → Option (List ℕ)) → W → W
     → Result Status Stop → Type 0
-TellsFiles asked explained false held standard [] contents old new ending = TellsJudged asked explained held standard None contents old new ending
-TellsFiles asked explained false held standard (name ∷ []) contents old new ending =
-    TellsJudged asked explained held standard (Some name) contents old new ending
-TellsFiles asked explained quiet held standard names contents old new ending = Unit {0}
+TellsQuietly asked explained held standard name contents old new (Ok status) =
+    (shown : Bor (List ℕ)) × (shown.now ≡ shown_name (word_of name))
+    × TellsQuietRead asked (telling_by asked explained shown) held standard name contents old new (Ok status)
+TellsQuietly asked explained held standard name contents old new (Err stop) = Unit {0}
+
+-- so were all lines on the one input, or quiet ones, where the failures of the writer are counted
+abbrev pub TellsAlone : {W : Type 0} → Asked → Bool → Bool → Option Texts → Option (List ℕ) → Option (List ℕ) → (W → Option (List ℕ))
+    → (W → ℕ) → W → W → Result Status Stop → Type 0
+TellsAlone asked explained false held standard name contents failures old new ending =
+    TellsJudged asked explained held standard name contents old new ending
+TellsAlone asked explained true held standard name contents failures old new ending =
+    failures old < most_failures → TellsQuietly asked explained held standard name contents old new ending
+
+-- So were those on the one input that is named, or on standard input; or on each that is named, in order, with its name before them, and last
+-- their sums. Of each that failed one more failure was counted, where so many were before and after.
+abbrev pub TellsFiles : {W : Type 0} → Asked → Bool → Bool → Option Texts → Option (List ℕ) → List (List ℕ) → (W → Option (List ℕ))
+    → (W → ℕ) → W → W → ℕ → ℕ → Result Status Stop → Type 0
+TellsFiles asked explained quiet held standard [] contents failures old new count count_now ending =
+    TellsAlone asked explained quiet held standard None contents failures old new ending
+TellsFiles asked explained quiet held standard (name ∷ []) contents failures old new count count_now ending =
+    TellsAlone asked explained quiet held standard (Some name) contents failures old new ending
+TellsFiles asked explained quiet held standard (name ∷ other ∷ names) contents failures old new count count_now ending =
+    TellsEach asked explained held standard (name ∷ other ∷ names) contents old new count count_now ending
 
 -- it is asked for so
-pub record IsAskedSo (asked : Asked) (limits : Limits) (quiet faults advised all : Bool) (repeated : ℕ) : Type 0 where
+pub record IsAskedSo (asked : Asked) (limits : Limits) (wanted : Wanted) (quiet faults advised all : Bool) (repeated : ℕ) : Type 0 where
   pub within : asked.limits ≡ limits
+  pub wants : asked.wanted ≡ wanted
   pub lines : asked.quiet ≡ quiet
   pub every : asked.faults ≡ faults
   pub advice : asked.advised ≡ advised
   pub whole : asked.all ≡ all
   pub kept : asked.repeated ≡ repeated
 
--- the lines on the one input that is named, or on standard input, were written as is asked for so
-abbrev pub TellsAsked : {W : Type 0} → Limits → Bool → Bool → Bool → Bool → Bool → ℕ → Option Texts → Option (List ℕ) → List (List ℕ)
-    → (W → Option (List ℕ)) → W → W → Result Status Stop → Type 0
-TellsAsked limits explained quiet faults advised all repeated held standard names contents old new ending =
-    (asked : Asked) × IsAskedSo asked limits quiet faults advised all repeated
-    × TellsFiles asked explained quiet held standard names contents old new ending
+-- the lines on what is named, or on standard input, were written as is asked for so
+abbrev pub TellsAsked : {W : Type 0} → Limits → Wanted → Bool → Bool → Bool → Bool → Bool → ℕ → Option Texts → Option (List ℕ)
+    → List (List ℕ) → (W → Option (List ℕ)) → (W → ℕ) → W → W → ℕ → ℕ → Result Status Stop → Type 0
+TellsAsked limits wanted explained quiet faults advised all repeated held standard names contents failures old new count count_now ending =
+    (asked : Asked) × IsAskedSo asked limits wanted quiet faults advised all repeated
+    × TellsFiles asked explained quiet held standard names contents failures old new count count_now ending
 
 -- data and tables are written to standard output where no file is named
 abbrev pub TellsData : {W : Type 0} → Bool → Telling → Limits → Option Texts → Option (List ℕ) → Option (List ℕ) → (W → Option (List ℕ))
@@ -67,25 +98,62 @@ abbrev pub TellsData : {W : Type 0} → Bool → Telling → Limits → Option T
 TellsData false telling limits held standard name contents old new ending = TellsRead telling limits held standard name contents old new ending
 TellsData true telling limits held standard name contents old new ending = Unit {0}
 
--- What a run of the work has written, within these limits. Of acknowledgements, and of runs that write files, nothing is said here.
-abbrev pub TellsWork : {W : Type 0} → Limits → Work → Option Texts → Option (List ℕ) → (W → Option (List ℕ)) → W → W → Result Status Stop
-    → Type 0
-TellsWork limits (Check judging) held standard contents old new ending =
-    TellsAsked limits false judging.quiet false false false 0 held standard (map (λ name. name.now) judging.files.items) contents old new ending
-TellsWork limits (Explain judging) held standard contents old new ending =
-    TellsAsked limits true judging.quiet false false false 0 held standard (map (λ name. name.now) judging.files.items) contents old new ending
-TellsWork limits (Show words) held standard contents old new ending =
+-- What a run of the work has written, within these limits, and where nothing may follow a transmission or something may; and how many failures
+-- of files were counted meanwhile. Of acknowledgements, and of runs that write files, nothing is said here.
+abbrev pub TellsWork : {W : Type 0} → Limits → Bool → Work → Option Texts → Option (List ℕ) → (W → Option (List ℕ)) → (W → ℕ) → W → W
+    → ℕ → ℕ → Result Status Stop → Type 0
+TellsWork limits whole (Check judging) held standard contents failures old new count count_now ending =
+    TellsAsked limits (record { whole = whole; fail_on = judging.fail_on }) false judging.quiet false false false 0 held standard
+    (map (λ name. name.now) judging.files.items) contents failures old new count count_now ending
+TellsWork limits whole (Explain judging) held standard contents failures old new count count_now ending =
+    TellsAsked limits (record { whole = whole; fail_on = judging.fail_on }) true judging.quiet false false false 0 held standard
+    (map (λ name. name.now) judging.files.items) contents failures old new count count_now ending
+TellsWork limits whole (Show words) held standard contents failures old new count count_now ending =
     TellsRead tellings.Records limits held standard (option_map (λ name. name.now) words.file) contents old new ending
-TellsWork limits (Lint words) held standard contents old new ending =
-    TellsAsked limits words.explained words.quiet true words.advised words.all 0 held standard (map (λ name. name.now) words.files.items)
-    contents old new ending
-TellsWork limits (Advise words) held standard contents old new ending =
-    TellsAsked limits false words.judging.quiet false true words.all words.repeated held standard
-    (map (λ name. name.now) words.judging.files.items) contents old new ending
-TellsWork limits (Json words) held standard contents old new ending =
+TellsWork limits whole (Lint words) held standard contents failures old new count count_now ending =
+    TellsAsked limits (record { whole = whole; fail_on = None }) words.explained words.quiet true words.advised words.all 0 held standard
+    (map (λ name. name.now) words.files.items) contents failures old new count count_now ending
+TellsWork limits whole (Advise words) held standard contents failures old new count count_now ending =
+    TellsAsked limits (record { whole = whole; fail_on = words.judging.fail_on }) false words.judging.quiet false true words.all
+    words.repeated held standard (map (λ name. name.now) words.judging.files.items) contents failures old new count count_now ending
+TellsWork limits whole (Json words) held standard contents failures old new count count_now ending =
     TellsData (is_some words.out) (tellings.Data (encoding_of words.utf8) words.numbers) limits held standard
     (option_map (λ name. name.now) words.file) contents old new ending
-TellsWork limits (Csv words) held standard contents old new ending =
+TellsWork limits whole (Csv words) held standard contents failures old new count count_now ending =
     TellsData (is_some words.out) (tellings.Rows (encoding_of words.utf8) (table_of words.rows)) limits held standard
     (option_map (λ name. name.now) words.file) contents old new ending
-TellsWork limits work held standard contents old new ending = Unit {0}
+TellsWork limits whole work held standard contents failures old new count count_now ending = Unit {0}
+
+-- ---- what is handed on
+
+-- the lines of a report are handed on where it comes to its end; those of data are where they aren't written to a file
+abbrev pub HandsOnData : Bool → Result Status Stop → Bool → Type 0
+HandsOnData false ending handed_on = OnOk ending (handed_on ≡ true)
+HandsOnData true ending handed_on = Unit {0}
+
+abbrev pub HandsOnWork : Work → Result Status Stop → Bool → Type 0
+HandsOnWork (Check judging) ending handed_on = OnOk ending (handed_on ≡ true)
+HandsOnWork (Explain judging) ending handed_on = OnOk ending (handed_on ≡ true)
+HandsOnWork (Show words) ending handed_on = OnOk ending (handed_on ≡ true)
+HandsOnWork (Lint words) ending handed_on = OnOk ending (handed_on ≡ true)
+HandsOnWork (Advise words) ending handed_on = OnOk ending (handed_on ≡ true)
+HandsOnWork (Json words) ending handed_on = HandsOnData (is_some words.out) ending handed_on
+HandsOnWork (Csv words) ending handed_on = HandsOnData (is_some words.out) ending handed_on
+HandsOnWork work ending handed_on = Unit {0}
+
+-- ---- what failed
+
+-- standard output's fault ends a report only where its writer counted one more failure
+abbrev pub CountsData : Bool → Result Status Stop → ℕ → ℕ → Type 0
+CountsData false ending out out_now = CountsOutput ending out out_now
+CountsData true ending out out_now = Unit {0}
+
+abbrev pub CountsWork : Work → Result Status Stop → ℕ → ℕ → Type 0
+CountsWork (Check judging) ending out out_now = CountsOutput ending out out_now
+CountsWork (Explain judging) ending out out_now = CountsOutput ending out out_now
+CountsWork (Show words) ending out out_now = CountsOutput ending out out_now
+CountsWork (Lint words) ending out out_now = CountsOutput ending out out_now
+CountsWork (Advise words) ending out out_now = CountsOutput ending out out_now
+CountsWork (Json words) ending out out_now = CountsData (is_some words.out) ending out out_now
+CountsWork (Csv words) ending out out_now = CountsData (is_some words.out) ending out out_now
+CountsWork work ending out out_now = Unit {0}

@@ -4,6 +4,7 @@ use Rattle.cwr_endings.specs.declared.stops.Stop.TheVariants as stops
 use Rattle.cwr.proofs.lemmas.Leaves.{unbegun_leaves}
 use Rattle.cwr_renumber.specs.Steps.Renumbered.{renumbered_text}
 use Rattle.cwr.proofs.lemmas.Renumberings.{unbegun_renumbers}
+use Rattle.cwr.proofs.lemmas.Failing.{unbegun_fails}
 use Rattle.cwr.proofs.lemmas.Unbegun.{unbegun}
 use Rattle.cwr.proofs.program.carry_out.Goals as goal
 
@@ -14,6 +15,7 @@ returns-in_default g c = record {
   ends = unbegun c.args.task.now.limits c.args.task.now.whole c.args.task.now.work (g.S.Store.held c.args.store.now)
       (g.I.Read.remaining c.args.standard);
   status_is = c.report.ensures;
+  fails = unbegun_fails c.args.task.now.work (g.S.Store.failures c.args.store.now) (g.S.Store.failures c.args.store.now);
   files = λ none. unbegun_leaves c.args.task.now.limits c.args.task.now.whole c.args.task.now.work (g.S.Store.held c.args.store.now)
       (g.I.Read.remaining c.args.standard) (g.S.Store.failures c.args.store.now) (g.S.Store.failures c.args.store.now);
   renumbers = unbegun_renumbers renumbered_text c.args.task.now.limits c.args.task.now.whole c.args.task.now.work
