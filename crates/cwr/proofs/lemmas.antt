@@ -8,5 +8,5 @@ pub mod WorkEnds
 pub mod Leaves
 -- A run that puts numbers right ends as it may, and leaves what it may.
 pub mod Renumberings
--- A run stops only where something failed.
+-- A run has the status of a fault only where something failed.
 pub mod Failing

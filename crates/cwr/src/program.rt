@@ -926,7 +926,7 @@ fn perform<'a, S: Store, I: Read + Drop, P: Pace, W: Target + Drop, E: Write>(
         result.1 }
     ensures told { TellsWork task.now.limits task.now.whole task.now.work (S.held store.old) (I.remaining standard)
         W.contents W.failures lines result.0 (S.failures store.old) (S.failures store.new) result.1 }
-    // It stops only where a file failed, or there was no memory.
+    // The status of a fault comes only where a file failed, or there was no memory.
     ensures failed { FailsWork task.now.work result.1 (S.failures store.old) (S.failures store.new) }
     ensures output { CountsWork task.now.work result.1 (W.failures lines) (W.failures result.0) }
     ensures handed_on { HandsOnWork task.now.work result.1 (W.handed_on result.0) }

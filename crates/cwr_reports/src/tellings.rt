@@ -16,7 +16,7 @@ ghost use Rattle.cwr_reports.specs.Format.Endings.{EndsOnInput, advice_asked, ad
 ghost use Rattle.cwr_files.specs.Format.Faults.{IfErr};
 ghost use Rattle.cwr_files.specs.Steps.Inputs.{remaining_of};
 ghost use Rattle.cwr_reports.specs.Steps.Tellings.{CountsFindings, CountsInput, CountsReading, CountsStop, CountsWriting, IsStopOf, ReportsUpTo, StopsTold, TellsLines, TellsOf, TellsText, telling_alone};
-ghost use Rattle.cwr_reports.specs.Steps.Looks.{JudgesOn, JudgesRead, LooksAfter, SeesFound, look_of, tells_findings};
+ghost use Rattle.cwr_reports.specs.Steps.Looks.{IsJudged, IsRead, JudgesOn, JudgesRead, LooksAfter, SeesFound, look_of, tells_findings};
 
 use crate::exports::tell_cut;
 use cwr_acks::{Form, Manner, acks};
@@ -376,6 +376,7 @@ fn judge_source<R: Source, W: Target + Drop>(
     requires { tells_findings telling ≡ false → asked.now.wanted.fail_on ≡ None }
     ensures judges { JudgesOn (advice_in telling.entry) asked.now.limits asked.now.wanted
         (R.remaining reader.old) result.1 }
+    ensures read { IfOk result.1 IsJudged }
     ensures counted { OnOk result.1
         (CountsFindings telling.entry asked.now.limits (R.remaining reader.old) result.2.findings) }
     ensures told { IfOk result.1 (λ judgement. TellsText telling.entry asked.now.limits
@@ -405,6 +406,7 @@ pub(crate) fn judge_input<'a, S: Store, I: Read + Drop, P: Pace + Drop, W: Targe
     requires { tells_findings telling ≡ false → asked.now.wanted.fail_on ≡ None }
     ensures judges { JudgesOn (advice_in telling.entry) asked.now.limits asked.now.wanted
         (remaining_of S.Reader.remaining I.remaining input.entry) result.1 }
+    ensures read { IfOk result.1 IsJudged }
     ensures counted { OnOk result.1 (CountsFindings telling.entry asked.now.limits
         (remaining_of S.Reader.remaining I.remaining input.entry) result.3.findings) }
     ensures told { IfOk result.1 (λ judgement. TellsText telling.entry asked.now.limits
@@ -541,6 +543,7 @@ fn all_lines_on<'a, S: Store, I: Read + Drop, P: Pace + Drop, W: Target + Drop>(
     requires { tells_findings telling ≡ false → asked.now.wanted.fail_on ≡ None }
     ensures judges { JudgesRead (advice_in telling.entry) asked.now.limits asked.now.wanted
         (remaining_of S.Reader.remaining I.remaining input.entry) result.1 }
+    ensures read { IfOk result.1 (λ read. IsJudged read.0) }
     ensures told { TellsLines telling.entry asked.now.limits
         (remaining_of S.Reader.remaining I.remaining input.entry) W.contents lines result.0 result.1 }
     ensures handed_on { OnOk result.1 (W.handed_on result.0 ≡ true) }
@@ -581,6 +584,7 @@ fn write_marked<'a, B: Unmarked, S: Store, I: Read + Drop, P: Pace + Drop, W: Ta
     requires passing { B.passing ≡ marks.passing }
     ensures judges { JudgesRead (advice_in telling.entry) asked.now.limits asked.now.wanted
         (remaining_of S.Reader.remaining I.remaining input.entry) result.1 }
+    ensures read { IfOk result.1 (λ read. IsJudged read.0) }
     ensures told { W.failures lines < most_failures → PassesRead asked.now.limits telling.entry (option_map (λ n. n.now) marks.entry.name)
         marks.entry.passing (remaining_of S.Reader.remaining I.remaining input.entry) W.contents lines result.0 result.1 }
     ensures handed_on { OnOk result.1 (W.handed_on result.0 ≡ true) }
@@ -631,6 +635,7 @@ pub(crate) fn marked_lines_on<'a, S: Store, I: Read + Drop, P: Pace + Drop, W: T
     requires { tells_findings telling ≡ false → asked.now.wanted.fail_on ≡ None }
     ensures judges { JudgesRead (advice_in telling.entry) asked.now.limits asked.now.wanted
         (remaining_of S.Reader.remaining I.remaining input.entry) result.1 }
+    ensures read { IfOk result.1 (λ read. IsJudged read.0) }
     ensures told { W.failures lines < most_failures → MarksRead asked.now telling.entry (option_map (λ n. n.now) name.entry)
         (remaining_of S.Reader.remaining I.remaining input.entry) W.contents lines result.0 result.1 }
     ensures handed_on { OnOk result.1 (W.handed_on result.0 ≡ true) }
@@ -690,6 +695,7 @@ fn lines_on<'a, S: Store, I: Read + Drop, P: Pace + Drop, W: Target + Drop>(
     requires { tells_findings telling ≡ false → asked.now.wanted.fail_on ≡ None }
     ensures judges { JudgesRead (advice_in telling.entry) asked.now.limits asked.now.wanted
         (remaining_of S.Reader.remaining I.remaining input.entry) result.1 }
+    ensures read { IfOk result.1 (λ read. IsJudged read.0) }
     ensures told { asked.now.quiet ≡ false → TellsLines telling.entry asked.now.limits
         (remaining_of S.Reader.remaining I.remaining input.entry) W.contents lines result.0 result.1 }
     ensures quiet { asked.now.quiet ≡ true → W.failures lines < most_failures → MarksRead asked.now telling.entry None
@@ -719,6 +725,8 @@ pub fn report_input<'a, S: Store, I: Read + Drop, P: Pace + Drop, W: Target + Dr
     requires { tells_findings telling ≡ false → asked.now.wanted.fail_on ≡ None }
     ensures ends { EndsOnInput (advice_in telling.entry) asked.now.limits asked.now.wanted
         (remaining_of S.Reader.remaining I.remaining input.entry) result.1 }
+    // It is never that of a fault.
+    ensures read { IfOk result.1 IsRead }
     // Where lines aren't quiet, those that are asked for were written.
     ensures told { asked.now.quiet ≡ false → TellsOf telling.entry asked.now.limits S.Reader.remaining I.remaining
         input.entry W.contents lines result.0 result.1 }

@@ -1,9 +1,10 @@
--- A run stops only where something failed.
-use Rattle.std.proofs.Common.{◌≡◌, ℕ, ◌<◌, Bool, true, false, List, [], ◌∷◌, length, map, Option, Some, Bor, sym, subst, arith}
-use Rattle.std.specs.Prelude.{◌≤◌, Result, Ok, Err}
+-- A run has the status of a fault only where something failed.
+use Rattle.std.proofs.Common.{◌≡◌, ◌≢◌, ℕ, ◌<◌, ◌≤◌, Bool, true, false, List, [], ◌∷◌, length, map, Option, Some, Bor, refl, sym, subst, arith, inl, inr}
+use Rattle.std.specs.Prelude.{IfOk, Result, Ok, Err}
+use Rattle.std.specs.List.{AllZip}
 use Rattle.std.specs.Option.{is_some}
 use Rattle.std.proofs.lemmas.Option.{none-some}
-use Rattle.cwr_devices.specs.Format.Failures.{one_more_failure}
+use Rattle.cwr_devices.specs.Format.Failures.{most_failures, one_more_failure}
 use Rattle.cwr_shape.specs.declared.limits.Limits.{Limits}
 use Rattle.cwr_words.specs.declared.words.Work.{Work}
 use Rattle.cwr_words.specs.declared.words.Work.TheVariants.{Check, Show, Explain, Lint, Advise, Json, Csv, Acks, Write, Split}
@@ -13,17 +14,206 @@ use Rattle.cwr_files.specs.declared.faults.Fault.TheVariants as faults
 use Rattle.cwr_files.specs.declared.faults.Name.TheVariants as names
 use Rattle.cwr_files.specs.Format.Files.{Texts}
 use Rattle.cwr_files.specs.Format.Inputs.{IsUnopenedBy}
+use Rattle.cwr_endings.specs.declared.endings.Look.{Look}
+use Rattle.cwr_endings.specs.declared.endings.Look.TheVariants as looks
 use Rattle.cwr_endings.specs.declared.endings.Status.{Status}
+use Rattle.cwr_endings.specs.declared.endings.Status.TheVariants as statuses
 use Rattle.cwr_endings.specs.declared.endings.Wanted.{Wanted}
+use Rattle.cwr_endings.specs.declared.judgements.Judgement.{Judgement}
 use Rattle.cwr_endings.specs.declared.stops.Stop.{Stop}
 use Rattle.cwr_endings.specs.declared.stops.Stop.TheVariants as stops
+use Rattle.cwr_endings.specs.Format.Endings.{worse_status}
+use Rattle.cwr_endings.specs.Steps.Looks.{CountsLook}
+use Rattle.cwr_reports.specs.declared.tellings.Asked.{Asked}
 use Rattle.cwr_reports.specs.Format.Endings.{EndsOnEach, EndsOnInput}
-use Rattle.cwr_reports.specs.Steps.Marked.{CountsOutput}
+use Rattle.cwr_reports.specs.Steps.Looks.{IsJudged, IsRead}
+use Rattle.cwr_reports.specs.Steps.Marked.{CountsEnd, CountsEnds, CountsOutput, HasStatus, IsPiece, IsUnopened, Piece, TellsEach, status_in, worst_from}
 use Rattle.cwr_reports.specs.Steps.Tellings.{CountsStop}
-use Rattle.cwr.specs.Format.Failures.{FailsAsData, FailsEach, FailsMore, FailsOnFiles, FailsSo, FailsWork}
+use Rattle.cwr.specs.Format.Failures.{FailsAsData, FailsEach, FailsMore, FailsOnFiles, FailsSo, FailsWork, IsFaultOfOne}
 
-one_fails : (old now : ℕ) → now ≡ one_more_failure old → FailsMore old now
+-- ---- counts
+
+-- no fewer calls failed, where the count isn't the highest
+abbrev FailsNoFewer : ℕ → ℕ → Type 0
+FailsNoFewer old now = now < most_failures → old ≤ now
+
+same_fails : (old now : ℕ) → now ≡ old → FailsNoFewer old now
+same_fails old now e = λ lt. omega (arith, e)
+
+pub one_fails : (old now : ℕ) → now ≡ one_more_failure old → FailsMore old now
 one_fails old now e = λ lt. omega (arith, e, lt)
+
+more_fails : (old now : ℕ) → FailsMore old now → FailsNoFewer old now
+more_fails old now h = λ lt. let more : old < now = h lt in omega (arith, more)
+
+then_more : (old mid now : ℕ) → FailsNoFewer old mid → FailsMore mid now → FailsMore old now
+then_more old mid now h k = λ lt.
+    let later : mid < now = k lt in
+    let before : old ≤ mid = h (omega (arith, lt, later)) in
+    omega (arith, later, before)
+
+more_then : (old mid now : ℕ) → FailsMore old mid → FailsNoFewer mid now → FailsMore old now
+more_then old mid now h k = λ lt.
+    let later : mid ≤ now = k lt in
+    let before : old < mid = h (omega (arith, lt, later)) in
+    omega (arith, later, before)
+
+then_no_fewer : (old mid now : ℕ) → FailsNoFewer old mid → FailsNoFewer mid now → FailsNoFewer old now
+then_no_fewer old mid now h k = λ lt.
+    let later : mid ≤ now = k lt in
+    let before : old ≤ mid = h (omega (arith, lt, later)) in
+    omega (arith, later, before)
+
+looked_fails : (look : Look) (old now : ℕ) → CountsLook look old now → FailsNoFewer old now
+looked_fails (looks.Found trailing) old now h = same_fails old now h
+looked_fails looks.Failed old now h = more_fails old now (one_fails old now h)
+looked_fails looks.Unasked old now h = same_fails old now h
+
+-- ---- a fault that is counted
+
+-- it is, where others fail before it
+fault_then : (fault : Fault) (old mid now : ℕ) → FailsNoFewer old mid → IsFaultOfOne fault mid now → IsFaultOfOne fault old now
+fault_then (faults.Open names.StandardInput reason) old mid now h k = tt
+fault_then (faults.Open names.StandardOutput reason) old mid now h k = then_more old mid now h k
+fault_then (faults.Open (names.File name) reason) old mid now h k = then_more old mid now h k
+fault_then (faults.Open (names.Part prefix number) reason) old mid now h k = then_more old mid now h k
+fault_then (faults.Read told) old mid now h k = then_more old mid now h k
+fault_then faults.Memory old mid now h k = tt
+fault_then (faults.Write told) old mid now h k = absurd k
+fault_then (faults.Output of reason) old mid now h k = absurd k
+fault_then (faults.IsInput of) old mid now h k = absurd k
+fault_then (faults.IsThere of) old mid now h k = absurd k
+fault_then (faults.IsTwice of) old mid now h k = absurd k
+fault_then (faults.IsOther of) old mid now h k = absurd k
+fault_then (faults.IsLate of) old mid now h k = absurd k
+
+-- and where others fail after it
+then_fault : (fault : Fault) (old mid now : ℕ) → IsFaultOfOne fault old mid → FailsNoFewer mid now → IsFaultOfOne fault old now
+then_fault (faults.Open names.StandardInput reason) old mid now k h = tt
+then_fault (faults.Open names.StandardOutput reason) old mid now k h = more_then old mid now k h
+then_fault (faults.Open (names.File name) reason) old mid now k h = more_then old mid now k h
+then_fault (faults.Open (names.Part prefix number) reason) old mid now k h = more_then old mid now k h
+then_fault (faults.Read told) old mid now k h = more_then old mid now k h
+then_fault faults.Memory old mid now k h = tt
+then_fault (faults.Write told) old mid now k h = absurd k
+then_fault (faults.Output of reason) old mid now k h = absurd k
+then_fault (faults.IsInput of) old mid now k h = absurd k
+then_fault (faults.IsThere of) old mid now k h = absurd k
+then_fault (faults.IsTwice of) old mid now k h = absurd k
+then_fault (faults.IsOther of) old mid now k h = absurd k
+then_fault (faults.IsLate of) old mid now k h = absurd k
+
+-- of one file
+end_fault : (fault : Fault) (old now : ℕ) → CountsEnd (Err fault) old now → IsFaultOfOne fault old now
+end_fault (faults.Open names.StandardInput reason) old now h = tt
+end_fault (faults.Open names.StandardOutput reason) old now h = one_fails old now h
+end_fault (faults.Open (names.File name) reason) old now h = one_fails old now h
+end_fault (faults.Open (names.Part prefix number) reason) old now h = one_fails old now h
+end_fault (faults.Read told) old now h = one_fails old now h
+end_fault faults.Memory old now h = tt
+end_fault (faults.Write told) old now h = absurd h
+end_fault (faults.Output of reason) old now h = absurd h
+end_fault (faults.IsInput of) old now h = absurd h
+end_fault (faults.IsThere of) old now h = absurd h
+end_fault (faults.IsTwice of) old now h = absurd h
+end_fault (faults.IsOther of) old now h = absurd h
+end_fault (faults.IsLate of) old now h = absurd h
+
+end_fails : (end : Result Judgement Fault) (old now : ℕ) → CountsEnd end old now → FailsNoFewer old now
+end_fails (Ok judgement) old now h = looked_fails judgement.look old now h
+end_fails (Err (faults.Open names.StandardInput reason)) old now h = same_fails old now h
+end_fails (Err (faults.Open names.StandardOutput reason)) old now h = more_fails old now (one_fails old now h)
+end_fails (Err (faults.Open (names.File name) reason)) old now h = more_fails old now (one_fails old now h)
+end_fails (Err (faults.Open (names.Part prefix number) reason)) old now h = more_fails old now (one_fails old now h)
+end_fails (Err (faults.Read told)) old now h = more_fails old now (one_fails old now h)
+end_fails (Err faults.Memory) old now h = same_fails old now h
+end_fails (Err (faults.Write told)) old now h = absurd h
+end_fails (Err (faults.Output of reason)) old now h = absurd h
+end_fails (Err (faults.IsInput of)) old now h = absurd h
+end_fails (Err (faults.IsThere of)) old now h = absurd h
+end_fails (Err (faults.IsTwice of)) old now h = absurd h
+end_fails (Err (faults.IsOther of)) old now h = absurd h
+end_fails (Err (faults.IsLate of)) old now h = absurd h
+
+ends_fail : (pieces : List Piece) (old now : ℕ) → CountsEnds pieces old now → FailsNoFewer old now
+ends_fail [] old now h = same_fails old now h
+ends_fail (piece ∷ pieces) old now h =
+    then_no_fewer old h.0 now (end_fails piece.end old h.0 h.1) (ends_fail pieces h.0 now h.2)
+
+-- ---- of several files
+
+-- no file that could be read makes the status that of a fault
+no_worse : (status other : Status) → status ≢ statuses.Fault → IsRead other → worse_status status other ≢ statuses.Fault
+no_worse statuses.Fault other not read = λ e. not refl
+no_worse statuses.CommandLine statuses.Fault not read = absurd read
+no_worse statuses.CommandLine statuses.CommandLine not read = absurd read
+no_worse statuses.CommandLine statuses.Refused not read = not
+no_worse statuses.CommandLine statuses.Good not read = not
+no_worse statuses.Refused statuses.Fault not read = absurd read
+no_worse statuses.Refused statuses.CommandLine not read = absurd read
+no_worse statuses.Refused statuses.Refused not read = not
+no_worse statuses.Refused statuses.Good not read = not
+no_worse statuses.Good statuses.Fault not read = absurd read
+no_worse statuses.Good statuses.CommandLine not read = absurd read
+no_worse statuses.Good statuses.Refused not read = λ e. cc e
+no_worse statuses.Good statuses.Good not read = not
+
+-- a file failed, or one after it
+next_failed : (end : Result Judgement Fault) (status : Status) (old mid now : ℕ) → CountsEnd end old mid → FailsNoFewer mid now
+    → status ≢ statuses.Fault → IfOk end IsJudged
+    → (worse_status status (status_in end) ≢ statuses.Fault → (fault : Fault) × IsFaultOfOne fault mid now)
+    → (fault : Fault) × IsFaultOfOne fault old now
+next_failed (Err fault) status old mid now counted after not read later =
+    (fault, then_fault fault old mid now (end_fault fault old mid counted) after)
+next_failed (Ok judgement) status old mid now counted after not read later =
+    let it = later (no_worse status judgement.status not read) in
+    (it.0, fault_then it.0 old mid now (looked_fails judgement.look old mid counted) it.1)
+
+unopened_read : (end : Result Judgement Fault) → IsUnopened end → IfOk end IsJudged
+unopened_read (Ok judgement) h = absurd h
+unopened_read (Err fault) h = tt
+
+status_read : (asked : Asked) (left : Option (List ℕ)) (end : Result Judgement Fault) → HasStatus asked left end → IfOk end IsJudged
+status_read asked left (Ok judgement) h = h.0
+status_read asked left (Err fault) h = tt
+
+module _ (asked : Asked) (explained : Bool) (held : Option Texts) (standard : Option (List ℕ)) where
+  piece_read : (name : List ℕ) (piece : Piece) → IsPiece asked explained held standard name piece → IfOk piece.end IsJudged
+  piece_read name piece h =
+      elim h [
+        | inl unopened ↦ unopened_read piece.end unopened.0
+        | inr on ↦ status_read asked on.0 piece.end on.2
+      ]
+
+  one_failed : (names : List (List ℕ)) (pieces : List Piece) (status : Status) (old now : ℕ)
+      → AllZip (IsPiece asked explained held standard) names pieces → CountsEnds pieces old now → status ≢ statuses.Fault
+      → worst_from status pieces ≡ statuses.Fault → (fault : Fault) × IsFaultOfOne fault old now
+  one_failed names [] status old now each counted not e = absurd (not e)
+  one_failed [] (piece ∷ pieces) status old now each counted not e = absurd each
+  one_failed (name ∷ names) (piece ∷ pieces) status old now each counted not e =
+      next_failed piece.end status old counted.0 now counted.1 (ends_fail pieces counted.0 now counted.2) not (piece_read name piece each.0)
+      (λ still. one_failed names pieces (worse_status status (status_in piece.end)) counted.0 now each.1 counted.2 still e)
+
+  pub several_failed : {W : Type 0} (advice : Option (Bool × ℕ)) (limits : Limits) (wanted : Wanted) (names : List (List ℕ))
+      (contents : W → Option (List ℕ)) (old new : W) (failures now : ℕ) (ending : Result Status Stop)
+      → EndsOnEach advice limits wanted held standard names ending
+      → TellsEach asked explained held standard names contents old new failures now ending → FailsEach ending failures now
+  several_failed advice limits wanted names contents old new failures now (Ok statuses.Good) ends h = tt
+  several_failed advice limits wanted names contents old new failures now (Ok statuses.Refused) ends h = tt
+  several_failed advice limits wanted names contents old new failures now (Ok statuses.CommandLine) ends h = tt
+  several_failed advice limits wanted names contents old new failures now (Ok statuses.Fault) ends h =
+      one_failed names h.0 statuses.Good failures now h.1 h.3 (λ e. cc e) (sym h.4)
+  several_failed advice limits wanted names contents old new failures now (Err stops.Output) ends h = tt
+  several_failed advice limits wanted names contents old new failures now (Err (stops.Fault faults.Memory)) ends h = tt
+  several_failed advice limits wanted names contents old new failures now (Err (stops.Fault (faults.Open of reason))) ends h = absurd ends
+  several_failed advice limits wanted names contents old new failures now (Err (stops.Fault (faults.Read told))) ends h = absurd ends
+  several_failed advice limits wanted names contents old new failures now (Err (stops.Fault (faults.Write told))) ends h = absurd ends
+  several_failed advice limits wanted names contents old new failures now (Err (stops.Fault (faults.Output of reason))) ends h = absurd ends
+  several_failed advice limits wanted names contents old new failures now (Err (stops.Fault (faults.IsInput of))) ends h = absurd ends
+  several_failed advice limits wanted names contents old new failures now (Err (stops.Fault (faults.IsThere of))) ends h = absurd ends
+  several_failed advice limits wanted names contents old new failures now (Err (stops.Fault (faults.IsTwice of))) ends h = absurd ends
+  several_failed advice limits wanted names contents old new failures now (Err (stops.Fault (faults.IsOther of))) ends h = absurd ends
+  several_failed advice limits wanted names contents old new failures now (Err (stops.Fault (faults.IsLate of))) ends h = absurd ends
 
 -- ---- one input
 
@@ -45,27 +235,30 @@ unopened_fails input old now (faults.IsLate name) h = absurd h
 unopened_fails input old now faults.Memory h = absurd h
 
 stopped_fails : (advice : Option (Bool × ℕ)) (limits : Limits) (wanted : Wanted) (left : Option (List ℕ)) (ending : Result Status Stop)
-    (old now out out_now : ℕ) → EndsOnInput advice limits wanted left ending → CountsStop ending old now out out_now
+    (old now out out_now : ℕ) → IfOk ending IsRead → EndsOnInput advice limits wanted left ending → CountsStop ending old now out out_now
     → FailsSo ending old now
-stopped_fails advice limits wanted left (Ok status) old now out out_now ends h = tt
-stopped_fails advice limits wanted left (Err stops.Output) old now out out_now ends h = tt
-stopped_fails advice limits wanted left (Err (stops.Fault (faults.Read told))) old now out out_now ends h = one_fails old now h.0
-stopped_fails advice limits wanted left (Err (stops.Fault faults.Memory)) old now out out_now ends h = tt
-stopped_fails advice limits wanted left (Err (stops.Fault (faults.Open of reason))) old now out out_now ends h = absurd ends
-stopped_fails advice limits wanted left (Err (stops.Fault (faults.Write told))) old now out out_now ends h = absurd ends
-stopped_fails advice limits wanted left (Err (stops.Fault (faults.Output of reason))) old now out out_now ends h = absurd ends
-stopped_fails advice limits wanted left (Err (stops.Fault (faults.IsInput of))) old now out out_now ends h = absurd ends
-stopped_fails advice limits wanted left (Err (stops.Fault (faults.IsThere of))) old now out out_now ends h = absurd ends
-stopped_fails advice limits wanted left (Err (stops.Fault (faults.IsTwice of))) old now out out_now ends h = absurd ends
-stopped_fails advice limits wanted left (Err (stops.Fault (faults.IsOther of))) old now out out_now ends h = absurd ends
-stopped_fails advice limits wanted left (Err (stops.Fault (faults.IsLate of))) old now out out_now ends h = absurd ends
+stopped_fails advice limits wanted left (Ok statuses.Good) old now out out_now read ends h = tt
+stopped_fails advice limits wanted left (Ok statuses.Refused) old now out out_now read ends h = tt
+stopped_fails advice limits wanted left (Ok statuses.CommandLine) old now out out_now read ends h = tt
+stopped_fails advice limits wanted left (Ok statuses.Fault) old now out out_now read ends h = absurd read
+stopped_fails advice limits wanted left (Err stops.Output) old now out out_now read ends h = tt
+stopped_fails advice limits wanted left (Err (stops.Fault (faults.Read told))) old now out out_now read ends h = one_fails old now h.0
+stopped_fails advice limits wanted left (Err (stops.Fault faults.Memory)) old now out out_now read ends h = tt
+stopped_fails advice limits wanted left (Err (stops.Fault (faults.Open of reason))) old now out out_now read ends h = absurd ends
+stopped_fails advice limits wanted left (Err (stops.Fault (faults.Write told))) old now out out_now read ends h = absurd ends
+stopped_fails advice limits wanted left (Err (stops.Fault (faults.Output of reason))) old now out out_now read ends h = absurd ends
+stopped_fails advice limits wanted left (Err (stops.Fault (faults.IsInput of))) old now out out_now read ends h = absurd ends
+stopped_fails advice limits wanted left (Err (stops.Fault (faults.IsThere of))) old now out out_now read ends h = absurd ends
+stopped_fails advice limits wanted left (Err (stops.Fault (faults.IsTwice of))) old now out out_now read ends h = absurd ends
+stopped_fails advice limits wanted left (Err (stops.Fault (faults.IsOther of))) old now out out_now read ends h = absurd ends
+stopped_fails advice limits wanted left (Err (stops.Fault (faults.IsLate of))) old now out out_now read ends h = absurd ends
 
 -- what was read
 pub alone_fails : (advice : Option (Bool × ℕ)) (limits : Limits) (wanted : Wanted) (left : Option (List ℕ)) (ending : Result Status Stop)
-    (old mid now out out_now : ℕ) → mid ≡ old → EndsOnInput advice limits wanted left ending → CountsStop ending mid now out out_now
-    → FailsSo ending old now
-alone_fails advice limits wanted left ending old mid now out out_now same ends h =
-    stopped_fails advice limits wanted left ending old now out out_now ends
+    (old mid now out out_now : ℕ) → mid ≡ old → IfOk ending IsRead → EndsOnInput advice limits wanted left ending
+    → CountsStop ending mid now out out_now → FailsSo ending old now
+alone_fails advice limits wanted left ending old mid now out out_now same read ends h =
+    stopped_fails advice limits wanted left ending old now out out_now read ends
     (subst (λ (n : ℕ). CountsStop ending n now out out_now) same h)
 
 -- standard output
@@ -75,7 +268,7 @@ pub output_counted : (advice : Option (Bool × ℕ)) (limits : Limits) (wanted :
 output_counted advice limits wanted left (Ok status) old now out out_now ends h = h
 output_counted advice limits wanted left (Err stops.Output) old now out out_now ends h = h
 output_counted advice limits wanted left (Err (stops.Fault (faults.Read told))) old now out out_now ends h = h.1
-output_counted advice limits wanted left (Err (stops.Fault faults.Memory)) old now out out_now ends h = h
+output_counted advice limits wanted left (Err (stops.Fault faults.Memory)) old now out out_now ends h = h.1
 output_counted advice limits wanted left (Err (stops.Fault (faults.Open of reason))) old now out out_now ends h = absurd ends
 output_counted advice limits wanted left (Err (stops.Fault (faults.Write told))) old now out out_now ends h = absurd ends
 output_counted advice limits wanted left (Err (stops.Fault (faults.Output of reason))) old now out out_now ends h = absurd ends
@@ -94,30 +287,11 @@ none_fails [] ending old now none h = h
 none_fails (name ∷ names) ending old now none h = absurd (omega (arith, none))
 
 -- several
-each_stopped : (advice : Option (Bool × ℕ)) (limits : Limits) (wanted : Wanted) (held : Option Texts) (standard : Option (List ℕ))
-    (them : List (List ℕ)) (ending : Result Status Stop) (old now : ℕ) → EndsOnEach advice limits wanted held standard them ending
-    → FailsEach ending old now
-each_stopped advice limits wanted held standard them (Ok status) old now ends = tt
-each_stopped advice limits wanted held standard them (Err stops.Output) old now ends = tt
-each_stopped advice limits wanted held standard them (Err (stops.Fault faults.Memory)) old now ends = tt
-each_stopped advice limits wanted held standard them (Err (stops.Fault (faults.Open of reason))) old now ends = absurd ends
-each_stopped advice limits wanted held standard them (Err (stops.Fault (faults.Read told))) old now ends = absurd ends
-each_stopped advice limits wanted held standard them (Err (stops.Fault (faults.Write told))) old now ends = absurd ends
-each_stopped advice limits wanted held standard them (Err (stops.Fault (faults.Output of reason))) old now ends = absurd ends
-each_stopped advice limits wanted held standard them (Err (stops.Fault (faults.IsInput of))) old now ends = absurd ends
-each_stopped advice limits wanted held standard them (Err (stops.Fault (faults.IsThere of))) old now ends = absurd ends
-each_stopped advice limits wanted held standard them (Err (stops.Fault (faults.IsTwice of))) old now ends = absurd ends
-each_stopped advice limits wanted held standard them (Err (stops.Fault (faults.IsOther of))) old now ends = absurd ends
-each_stopped advice limits wanted held standard them (Err (stops.Fault (faults.IsLate of))) old now ends = absurd ends
-
-pub each_fails : (advice : Option (Bool × ℕ)) (limits : Limits) (wanted : Wanted) (held : Option Texts) (standard : Option (List ℕ))
-    (names : List (Bor (List ℕ))) (ending : Result Status Stop) (old now : ℕ) → 2 ≤ length names
-    → EndsOnEach advice limits wanted held standard (map (λ name. name.now) names) ending
+pub each_fails : (names : List (Bor (List ℕ))) (ending : Result Status Stop) (old now : ℕ) → 2 ≤ length names → FailsEach ending old now
     → FailsOnFiles (map (λ name. name.now) names) ending old now
-each_fails advice limits wanted held standard [] ending old now enough ends = absurd (omega (arith, enough))
-each_fails advice limits wanted held standard (name ∷ []) ending old now enough ends = absurd (omega (arith, enough))
-each_fails advice limits wanted held standard (name ∷ other ∷ names) ending old now enough ends =
-    each_stopped advice limits wanted held standard (name.now ∷ other.now ∷ map (λ it. it.now) names) ending old now ends
+each_fails [] ending old now enough h = absurd (omega (arith, enough))
+each_fails (name ∷ []) ending old now enough h = absurd (omega (arith, enough))
+each_fails (name ∷ other ∷ names) ending old now enough h = h
 
 -- ---- no memory to begin
 

@@ -1,4 +1,4 @@
--- What failed where a run of a work stopped.
+-- What failed where a run of a work ends as one that did.
 use Rattle.std.specs.Prelude.{◌<◌, ℕ, Bool, true, false, List, [], ◌∷◌, map, Result, Ok, Err}
 use Rattle.std.specs.Option.{is_some}
 use Rattle.cwr_devices.specs.Format.Failures.{most_failures}
@@ -8,6 +8,7 @@ use Rattle.cwr_files.specs.declared.faults.Fault.{Fault}
 use Rattle.cwr_files.specs.declared.faults.Fault.TheVariants as faults
 use Rattle.cwr_files.specs.declared.faults.Name.TheVariants.{StandardInput}
 use Rattle.cwr_endings.specs.declared.endings.Status.{Status}
+use Rattle.cwr_endings.specs.declared.endings.Status.TheVariants as statuses
 use Rattle.cwr_endings.specs.declared.stops.Stop.{Stop}
 use Rattle.cwr_endings.specs.declared.stops.Stop.TheVariants as stops
 
@@ -23,17 +24,26 @@ IsFaultOfRead (faults.Read told) old now = FailsMore old now
 IsFaultOfRead faults.Memory old now = Unit {0}
 IsFaultOfRead fault old now = ⊥
 
--- So it is where a report on one input stopped, where so many failures were counted before it and after it. Of standard output nothing is said
--- here.
+-- So it is where a report on one input ends as what failed does, where so many failures were counted before it and after it. Of standard output
+-- nothing is said here.
 abbrev pub FailsSo : Result Status Stop → ℕ → ℕ → Type 0
+FailsSo (Ok statuses.Fault) old now = ⊥
 FailsSo (Ok status) old now = Unit {0}
 FailsSo (Err stops.Output) old now = Unit {0}
 FailsSo (Err (stops.Fault fault)) old now = IsFaultOfRead fault old now
 
--- so it is of several, or standard input was named twice
+-- so it is of one of several inputs, or standard input, which is there once, was read already
+abbrev pub IsFaultOfOne : Fault → ℕ → ℕ → Type 0
+IsFaultOfOne (faults.Open StandardInput reason) old now = Unit {0}
+IsFaultOfOne fault old now = IsFaultOfRead fault old now
+
+-- and where a report on several ends as what failed does, or standard input was named twice
 abbrev pub FailsEach : Result Status Stop → ℕ → ℕ → Type 0
+FailsEach (Ok statuses.Fault) old now = (fault : Fault) × IsFaultOfOne fault old now
+FailsEach (Ok status) old now = Unit {0}
+FailsEach (Err stops.Output) old now = Unit {0}
 FailsEach (Err (stops.Fault (faults.IsTwice of))) old now = Unit {0}
-FailsEach ending old now = FailsSo ending old now
+FailsEach (Err (stops.Fault fault)) old now = IsFaultOfRead fault old now
 
 abbrev pub FailsOnFiles : List (List ℕ) → Result Status Stop → ℕ → ℕ → Type 0
 FailsOnFiles [] ending old now = FailsSo ending old now
@@ -45,8 +55,8 @@ abbrev pub FailsAsData : Bool → Result Status Stop → ℕ → ℕ → Type 0
 FailsAsData false ending old now = FailsSo ending old now
 FailsAsData true ending old now = Unit {0}
 
--- A run of the work that stopped had a fault which is counted, where so many failures of files were counted before it and after it, or there was
--- no memory. Of acknowledgements, and of runs that write files, nothing is said here.
+-- A run of the work that ends as what failed does had a fault which is counted, where so many failures of files were counted before it and after
+-- it, or there was no memory. Of acknowledgements, and of runs that write files, nothing is said here.
 abbrev pub FailsWork : Work → Result Status Stop → ℕ → ℕ → Type 0
 FailsWork (Check judging) ending old now = FailsOnFiles (map (λ name. name.now) judging.files.items) ending old now
 FailsWork (Explain judging) ending old now = FailsOnFiles (map (λ name. name.now) judging.files.items) ending old now

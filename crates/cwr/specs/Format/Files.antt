@@ -80,7 +80,7 @@ RunsRenumbering renumbered limits whole (Renumber words) standard before after m
 RunsRenumbering renumbered limits whole work standard before after making old now ending = Unit {0}
 
 -- What a run of the task comes to, where what is on standard input and lies under names is this: an end that the task may have, its status,
--- what failed where it stopped, and what lies under names then.
+-- what failed where that is the status of a fault, and what lies under names then.
 pub record RunsTask (renumbered : List ℕ → List ℕ) (task : Task) (standard : Option (List ℕ)) (before after : Option Texts) (making : Option (List ℕ))
     (old now : ℕ) (status : Status) : Type 0 where
   pub ending : Result Status Stop

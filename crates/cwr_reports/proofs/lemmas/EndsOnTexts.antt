@@ -36,13 +36,13 @@ use Rattle.cwr_endings.specs.declared.endings.Wanted.{Wanted}
 use Rattle.cwr_advise.specs.Format.AdviceLevels.{IsWorstTold}
 use Rattle.cwr_advise.specs.Format.AdviceLines.{lines_of_advice}
 use Rattle.cwr_endings.specs.Format.Endings.{IsStatusBy}
-use Rattle.cwr_endings.specs.Steps.Looks.{CountsLook, IsLook, LooksOnce, follows, good_status, judged_with, judgement_in, status_after, status_in}
+use Rattle.cwr_endings.specs.Steps.Looks.{CountsLook, IsLook, LooksOnce, follows, good_status, judged_with, judgement_in, status_after, status_in, whole_status}
 use Rattle.cwr_endings.proofs.lemmas.StatusesOnTexts.{none_from, status_good}
 use Rattle.cwr_endings.specs.declared.judgements.Judgement.{Judgement}
 use Rattle.cwr_reports.specs.declared.tellings.Telling.{Telling}
 use Rattle.cwr_reports.specs.Format.Endings.{Counts, EndsAsExport, EndsAsExportOf, EndsOnInput, EndsOnRead}
 use Rattle.cwr_reports.specs.Steps.Tellings.{CountsFindings, CountsInput, CountsReading, CountsStop, CountsWriting, IsStopOf, TellsLines, TellsText, TellsUpTo}
-use Rattle.cwr_reports.specs.Steps.Looks.{JudgesOn, JudgesRead, LooksAfter, SeesFound, look_of}
+use Rattle.cwr_reports.specs.Steps.Looks.{IsJudged, IsRead, JudgesOn, JudgesRead, LooksAfter, SeesFound, look_of}
 
 -- ---- the status of a verdict
 
@@ -148,6 +148,37 @@ looks_found limits (Some text) after (Ok verdict) found h = λ v n a. (after, by
   by : (left : Option (List ℕ)) (it : Option Trailing) → IsSomeAnd it (IsTrailing left after) → IsLook left after (look_of it)
   by left None s = absurd s
   by left (Some t) s = s
+
+-- what is made of an input that could be read is good or refused
+after_read : (look : Look) → IfSome (status_after look) IsRead
+after_read (looks.Found trailing) = by (follows trailing)
+  where
+    by : (b : Bool) → IfSome (if b then Some statuses.Refused else Some statuses.Good) IsRead
+    by true = tt
+    by false = tt
+after_read looks.Failed = tt
+after_read looks.Unasked = tt
+
+whole_read : (whole : Bool) (look : Look) → IfSome (whole_status whole look) IsRead
+whole_read true look = after_read look
+whole_read false look = tt
+
+good_read : (wanted : Wanted) (look : Look) (found : Bool) → IfSome (good_status wanted look found) IsRead
+good_read wanted look true = tt
+good_read wanted look false = whole_read wanted.whole look
+
+status_read : (wanted : Wanted) (verdict : Verdict) (look : Look) (found : Bool) → IfSome (status_in wanted verdict look found) IsRead
+status_read wanted (verdicts.Good groups transactions records) look found = good_read wanted look found
+status_read wanted (verdicts.Refused refusal) look found = tt
+status_read wanted (verdicts.Truncated records) look found = tt
+
+pub judgement_read : (wanted : Wanted) (outcome : Result Verdict ToolFault) (look : Look) (found : Bool)
+    → IfOk (judgement_in wanted outcome look found) IsJudged
+judgement_read wanted (Err fault) look found = tt
+judgement_read wanted (Ok verdict) look found = by (status_in wanted verdict look found) (status_read wanted verdict look found) where
+  by : (o : Option Status) → IfSome o IsRead → IfOk (judged_with verdict look o) IsJudged
+  by None h = tt
+  by (Some status) h = h
 
 -- what is made of an input is right of its bytes
 pub judges_on : (advice : Option (Bool × ℕ)) (limits : Limits) (wanted : Wanted) (before : Option (List ℕ))
@@ -307,6 +338,11 @@ pub read_judged : {A B : Type 0} (advice : Option (Bool × ℕ)) (limits : Limit
     → JudgesOn advice limits wanted before judged → JudgesRead {A = A} {B = B} advice limits wanted before (Ok (judgement, a, b))
 read_judged advice limits wanted before judged judgement a b e h = subst (JudgesOn advice limits wanted before) e h
 
+-- and it is good or refused
+pub was_judged : (judged : Result Judgement ToolFault) (judgement : Judgement) → judged ≡ Ok judgement → IfOk judged IsJudged
+    → IsJudged judgement
+was_judged judged judgement e h = subst (λ (r : Result Judgement ToolFault). IfOk r IsJudged) e h
+
 stops_so : (A B : Type 0) (advice : Option (Bool × ℕ)) (limits : Limits) (wanted : Wanted) (before : Option (List ℕ)) (told : Told)
     (fault : ToolFault) (stop : Stop) → JudgesOn advice limits wanted before (Err fault) → IsStopOf told fault stop
     → JudgesRead {A = A} {B = B} advice limits wanted before (Err stop)
@@ -336,7 +372,7 @@ counts_so A advice limits wanted before told tool_faults.Reader stop old new out
 counts_so A advice limits wanted before told (tool_faults.Writer n) stop old new out out_now h e read written =
     subst (λ (s : Stop). CountsStop {A = A} (Err s) old new out out_now) (sym e) written
 counts_so A advice limits wanted before told tool_faults.Memory stop old new out out_now h e read written =
-    subst (λ (s : Stop). CountsStop {A = A} (Err s) old new out out_now) (sym e) written
+    subst (λ (s : Stop). CountsStop {A = A} (Err s) old new out out_now) (sym e) (read, written)
 counts_so A advice limits wanted before told (tool_faults.Refused r) stop old new out out_now h e read written = absurd h
 counts_so A advice limits wanted before told (tool_faults.Truncated n) stop old new out out_now h e read written = absurd h
 counts_so A advice limits wanted before told (tool_faults.Limit l) stop old new out out_now h e read written = absurd h

@@ -32,7 +32,7 @@ use Rattle.cwr_reports.specs.declared.tellings.Asked.{Asked}
 use Rattle.cwr_reports.specs.declared.tellings.Telling.{Telling}
 use Rattle.cwr_reports.specs.Format.Endings.{telling_by}
 use Rattle.cwr_reports.specs.Steps.Looks.{JudgesRead}
-use Rattle.cwr_reports.specs.Steps.Marked.{AreLines, AreLinesOn, ArePieces, CountsEnd, CountsEnds, CountsOutput, IsPiece, IsUnopened, MarksRead, Piece, TellsEach, TellsNext, lines_of, status_in, verdict_of, worst_from}
+use Rattle.cwr_reports.specs.Steps.Marked.{AreLines, AreLinesOn, ArePieces, CountsEnd, CountsEnds, CountsOutput, HasStatus, IsPiece, IsUnopened, MarksRead, Piece, TellsEach, TellsNext, lines_of, status_in, verdict_of, worst_from}
 use Rattle.cwr_reports.specs.Steps.Several.{IsFirst}
 use Rattle.cwr_reports.specs.Steps.Tellings.{CountsStop}
 
@@ -80,17 +80,18 @@ module _ {W : Type 0} (asked : Asked) (explained : Bool) (held : Option Texts) (
 
   -- one that was judged
   pub read_next : {A B : Type 0} (left : Option (List ℕ)) (shown : Bor (List ℕ)) (other : List ℕ) (telling : Telling) (old new : W) (mid failures now : ℕ)
-      (sums sums_now : Sums) (judgement : Judgement) (a : A) (b : B) → IsLeftOf held standard (Some name) left → shown.now ≡ shown_name name → other ≡ shown_name name
+      (sums sums_now : Sums) (judgement : Judgement) (a : A) (b : B) → IsLeftOf held standard (Some name) left → HasStatus asked left (Ok judgement) → shown.now ≡ shown_name name → other ≡ shown_name name
       → telling ≡ telling_by asked explained shown → mid ≡ failures → CountsLook judgement.look mid now
       → MarksRead {A = A} {B = B} asked telling (Some other) left contents old new (Ok (judgement, a, b))
       → ((ends : List (Option Verdict)) → AreSums sums ends → AreSums sums_now (ends ++ Some judgement.verdict ∷ []))
       → sums_now.status ≡ worse_status sums.status judgement.status
       → TellsNext asked explained held standard name contents old new failures now sums sums_now (Ok tt)
-  read_next left shown other telling old new mid failures now sums sums_now judgement a b is called marked_so by opened looked h counted worst = (
+  read_next left shown other telling old new mid failures now sums sums_now judgement a b is rated called marked_so by opened looked h counted worst = (
     record { lines = h.0; end = Ok judgement },
     inr (
       left,
       is,
+      rated,
       shown,
       called,
       subst (λ (n : List ℕ). AreLines asked (telling_by asked explained shown) (Some n) left (Ok judgement) h.0) marked_so
@@ -119,6 +120,7 @@ module _ {W : Type 0} (asked : Asked) (explained : Bool) (held : Option Texts) (
         inr (
           left,
           is,
+          tt,
           shown,
           called,
           subst (λ (n : List ℕ). AreLines asked (telling_by asked explained shown) (Some n) left (Err fault) h.0) marked_so
@@ -133,7 +135,7 @@ module _ {W : Type 0} (asked : Asked) (explained : Bool) (held : Option Texts) (
       ended : (it : Fault) → JudgesRead {A = A} {B = B} advice asked.limits wanted left (Err (stops.Fault it))
           → CountsStop {A = Judgement × A × B} (Err (stops.Fault it)) mid now out out_now → CountsEnd (Err it) mid now
       ended (faults.Read told) j c = c.0
-      ended faults.Memory j c = tt
+      ended faults.Memory j c = c.0
       ended (faults.Open of reason) j c = absurd j
       ended (faults.Write told) j c = absurd j
       ended (faults.Output of reason) j c = absurd j

@@ -10,6 +10,8 @@ use Rattle.cwr_tools.specs.Format.Watching.{StandsAccepted}
 use Rattle.cwr_causes.specs.declared.trailing.Trailing.{Trailing}
 use Rattle.cwr_endings.specs.declared.endings.Look.{Look}
 use Rattle.cwr_endings.specs.declared.endings.Look.TheVariants as looks
+use Rattle.cwr_endings.specs.declared.endings.Status.{Status}
+use Rattle.cwr_endings.specs.declared.endings.Status.TheVariants as statuses
 use Rattle.cwr_endings.specs.declared.endings.Wanted.{Wanted}
 use Rattle.cwr_endings.specs.declared.stops.Stop.{Stop}
 use Rattle.cwr_endings.specs.Format.Endings.{IsStatusBy}
@@ -50,6 +52,17 @@ JudgesOn advice limits wanted before (Err tool_faults.Reader) = Unit {0}
 JudgesOn advice limits wanted before (Err (tool_faults.Writer written)) = Unit {0}
 JudgesOn advice limits wanted before (Err tool_faults.Memory) = Unit {0}
 JudgesOn advice limits wanted before (Err fault) = ⊥
+
+-- an input that could be read is good or refused
+abbrev pub IsRead : Status → Type 0
+IsRead statuses.Good = Unit {0}
+IsRead statuses.Refused = Unit {0}
+IsRead statuses.CommandLine = ⊥
+IsRead statuses.Fault = ⊥
+
+-- so it is where it was judged
+abbrev pub IsJudged : Judgement → Type 0
+IsJudged judgement = IsRead judgement.status
 
 -- what was read of an input, with its status, is as a run that ends so
 abbrev pub JudgesRead : {A B : Type 0} → Option (Bool × ℕ) → Limits → Wanted → Option (List ℕ) → Result (Judgement × A × B) Stop → Type 0

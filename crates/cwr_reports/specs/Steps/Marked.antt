@@ -1,6 +1,6 @@
 -- The lines on files as they are written: with the names before them, all or quiet ones, and the sums last.
 use denote.Ref.{Bor}
-use Rattle.std.specs.Prelude.{◌≡◌, ◌⊎◌, ℕ, Bool, true, false, List, [], ◌∷◌, ◌++◌, map, length, Option, Some, None, Result, Ok, Err, if◌then◌else◌}
+use Rattle.std.specs.Prelude.{◌≡◌, ◌⊎◌, ℕ, Bool, true, false, List, [], ◌∷◌, ◌++◌, map, length, Option, Some, None, IfSome, Result, Ok, Err, if◌then◌else◌}
 use Rattle.std.specs.List.{AllZip, concat}
 use Rattle.std.specs.Io.KnownBytes.{Appends}
 use Rattle.cwr_devices.specs.Format.Failures.{one_more_failure}
@@ -24,13 +24,14 @@ use Rattle.cwr_endings.specs.declared.endings.Status.TheVariants as statuses
 use Rattle.cwr_endings.specs.declared.judgements.Judgement.{Judgement}
 use Rattle.cwr_endings.specs.declared.stops.Stop.{Stop}
 use Rattle.cwr_endings.specs.declared.stops.Stop.TheVariants as stops
-use Rattle.cwr_endings.specs.Format.Endings.{worse_status}
+use Rattle.cwr_endings.specs.Format.Endings.{IsStatusBy, worse_status}
 use Rattle.cwr_endings.specs.Format.Sums.{AreSums, sums_line}
 use Rattle.cwr_endings.specs.declared.sums.Sums.{Sums}
 use Rattle.cwr_endings.specs.Steps.Looks.{CountsLook}
 use Rattle.cwr_reports.specs.declared.tellings.Asked.{Asked}
 use Rattle.cwr_reports.specs.declared.tellings.Telling.{Telling}
-use Rattle.cwr_reports.specs.Format.Endings.{telling_by}
+use Rattle.cwr_reports.specs.Format.Endings.{Counts, advice_asked, telling_by}
+use Rattle.cwr_reports.specs.Steps.Looks.{IsJudged}
 use Rattle.cwr_reports.specs.Steps.Tellings.{IsTold}
 
 -- which of the lines that are told are written: all, or where they are quiet, those that aren't on what is good; where advice is asked for,
@@ -114,10 +115,18 @@ lines_of piece = piece.lines
 abbrev pub verdict_of : Piece → Option Verdict
 verdict_of piece = verdict_in piece.end
 
--- of what lies under the name, or is on standard input, the lines that are asked for, with the name before each
+-- a file that was judged is good or refused, as its bytes are where these are known
+abbrev pub HasStatus : Asked → Option (List ℕ) → Result Judgement Fault → Type 0
+HasStatus asked left (Ok judgement) =
+    IsJudged judgement
+    × IfSome left (λ text. IsStatusBy (Counts (advice_asked asked)) asked.limits asked.wanted text judgement.status)
+HasStatus asked left (Err fault) = Unit {0}
+
+-- of what lies under the name, or is on standard input, the status, and the lines that are asked for, with the name before each
 abbrev pub AreLinesOn : Asked → Bool → Option Texts → Option (List ℕ) → List ℕ → Piece → Type 0
 AreLinesOn asked explained held standard name piece =
-    (left : Option (List ℕ)) × IsLeftOf held standard (Some name) left × (shown : Bor (List ℕ)) × (shown.now ≡ shown_name name)
+    (left : Option (List ℕ)) × IsLeftOf held standard (Some name) left × HasStatus asked left piece.end
+    × (shown : Bor (List ℕ)) × (shown.now ≡ shown_name name)
     × AreLines asked (telling_by asked explained shown) (Some (shown_name name)) left piece.end piece.lines
 
 -- the file that failed couldn't be opened, or standard input was read already
@@ -130,14 +139,14 @@ abbrev pub IsPiece : Asked → Bool → Option Texts → Option (List ℕ) → L
 IsPiece asked explained held standard name piece =
     (IsUnopened piece.end × (piece.lines ≡ [])) ⊎ AreLinesOn asked explained held standard name piece
 
--- What was counted of one file: a look at what follows that failed; where it failed, one failure more, unless it is standard input and that was
--- read already, or there was no memory.
+-- What was counted of one file: a look at what follows that failed; where it failed, one failure more, but none where it is standard input
+-- and that was read already, or there was no memory.
 abbrev pub CountsEnd : Result Judgement Fault → ℕ → ℕ → Type 0
 CountsEnd (Ok judgement) old new = CountsLook judgement.look old new
 CountsEnd (Err (faults.Open StandardInput reason)) old new = new ≡ old
 CountsEnd (Err (faults.Open name reason)) old new = new ≡ one_more_failure old
 CountsEnd (Err (faults.Read told)) old new = new ≡ one_more_failure old
-CountsEnd (Err faults.Memory) old new = Unit {0}
+CountsEnd (Err faults.Memory) old new = new ≡ old
 CountsEnd (Err fault) old new = ⊥
 
 -- what was counted of all, one after another

@@ -119,13 +119,12 @@ IsStopOf told (Writer written) stop = stop ≡ stops.Output
 IsStopOf told fault stop = stop ≡ stops.Fault faults.Memory
 
 -- A fault of the input is answered only where one failure more was counted of it, and one of standard output only where that failed once
--- more.
+-- more. Where there was no memory neither failed.
 abbrev pub CountsStop : {A : Type 0} → Result A Stop → ℕ → ℕ → ℕ → ℕ → Type 0
 CountsStop (Ok read) old new out out_now = out_now ≡ out
 CountsStop (Err stops.Output) old new out out_now = out_now ≡ one_more_failure out
 CountsStop (Err (stops.Fault (faults.Read told))) old new out out_now = (new ≡ one_more_failure old) × (out_now ≡ out)
-CountsStop (Err (stops.Fault (faults.Open name reason))) old new out out_now = (new ≡ one_more_failure old) × (out_now ≡ out)
-CountsStop (Err (stops.Fault faults.Memory)) old new out out_now = out_now ≡ out
+CountsStop (Err (stops.Fault faults.Memory)) old new out out_now = (new ≡ old) × (out_now ≡ out)
 CountsStop (Err (stops.Fault fault)) old new out out_now = ⊥
 
 -- where the run came to its end, the lines that are asked for were written, on some verdict

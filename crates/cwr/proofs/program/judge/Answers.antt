@@ -1,5 +1,6 @@
+use Rattle.std.proofs.Common.{map}
 use Rattle.cwr_reports.specs.Format.Endings.{advice_asked}
-use Rattle.cwr.proofs.lemmas.Failing.{each_fails, none_fails}
+use Rattle.cwr.proofs.lemmas.Failing.{each_fails, none_fails, several_failed}
 use Rattle.cwr.proofs.lemmas.Several.{none_tells, several_end, several_tell}
 use Rattle.cwr.proofs.program.judge.Goals as goal
 
@@ -23,9 +24,12 @@ returns-in-Ok-clause-ends g c =
 
 pub returns-in-Ok-clause-failed : goal.returns-in-Ok-clause-failed
 returns-in-Ok-clause-failed g c =
-    each_fails (advice_asked c.args.asked.now) c.args.asked.now.limits c.args.asked.now.wanted (g.S.Store.held c.args.store.now)
-    (g.I.Read.remaining c.args.standard) c.args.names.now c.report_several.result.1 (g.S.Store.failures c.args.store.now)
-    (g.S.Store.failures c.report_several.new.store) c.in_default.len_at_least c.report_several.ensures.ends
+    each_fails c.args.names.now c.report_several.result.1 (g.S.Store.failures c.args.store.now) (g.S.Store.failures c.report_several.new.store)
+    c.in_default.len_at_least
+    (several_failed c.args.asked.now c.args.explained (g.S.Store.held c.args.store.now) (g.I.Read.remaining c.args.standard)
+    (advice_asked c.args.asked.now) c.args.asked.now.limits c.args.asked.now.wanted (map (λ n. n.now) c.args.names.now) g.W.Target.contents
+    c.args.lines c.report_several.result.0 (g.S.Store.failures c.args.store.now) (g.S.Store.failures c.report_several.new.store)
+    c.report_several.result.1 c.report_several.ensures.ends c.report_several.ensures.told)
 
 pub returns-in-empty-clause-failed : goal.returns-in-empty-clause-failed
 returns-in-empty-clause-failed g c =

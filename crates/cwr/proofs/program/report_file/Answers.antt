@@ -16,7 +16,8 @@ returns-in-Ok-clause-failed g c =
     alone_fails (advice_in c.args.telling) c.args.asked.now.limits c.args.asked.now.wanted
     (remaining_of g.S.Reader.Read.remaining g.I.Read.remaining c.in-Ok.input) c.report_input.result.1 (g.S.Store.failures c.args.store.now)
     (g.S.Store.failures c.open_input.new.store) (g.S.Store.failures c.report_input.new.store) (g.W.Target.failures c.args.lines)
-    (g.W.Target.failures c.report_input.result.0) c.in-Ok.ensures.opened c.report_input.ensures.ends c.report_input.ensures.failures
+    (g.W.Target.failures c.report_input.result.0) c.in-Ok.ensures.opened c.report_input.ensures.read
+    c.report_input.ensures.ends c.report_input.ensures.failures
 
 pub returns-in-Ok-clause-output : goal.returns-in-Ok-clause-output
 returns-in-Ok-clause-output g c =

@@ -8,10 +8,10 @@ use Rattle.cwr_endings.specs.declared.stops.Stop.{Stop}
 use Rattle.cwr_endings.specs.Format.Endings.{IsStatusBy}
 use Rattle.cwr_reports.specs.declared.tellings.Count.{Count}
 use Rattle.cwr_reports.specs.Format.Endings.{Counts, advice_asked, advice_in}
-use Rattle.cwr_reports.specs.Steps.Looks.{JudgesRead}
+use Rattle.cwr_reports.specs.Steps.Looks.{IsJudged, JudgesRead}
 use Rattle.cwr_reports.proofs.lemmas.MarkedLines.{appends_none}
 use Rattle.cwr_reports.proofs.lemmas.Pieces.{failed_next, left_first, read_next, unopened_next}
-use Rattle.cwr_reports.specs.Steps.Marked.{MarksRead}
+use Rattle.cwr_reports.specs.Steps.Marked.{HasStatus, MarksRead}
 use Rattle.cwr_reports.specs.Steps.Tellings.{CountsStop}
 use Rattle.cwr_endings.specs.declared.stops.Stop.TheVariants as stops
 use Rattle.cwr_endings.specs.Steps.Looks.{CountsLook}
@@ -50,12 +50,19 @@ returns-in-Ok-read-clause-told g c = λ first is few.
     let called : c.as_str.result.now ≡ shown_name c.args.name.now = search (rules, c.as_str.ensures, c.in-Ok-shown_name.ensures) in
     let marked_so : c.as_str-2.result.now ≡ shown_name c.args.name.now =
     search (rules, c.as_str-2.ensures, c.in-Ok-shown_name.ensures) in
+    let rated : HasStatus asked left (Ok read.judgement) = (
+      subst (λ (r : Result (Judgement × Told × Count) Stop). IfOk r (λ it. IsJudged it.0)) read.is on.ensures.read,
+      subst (λ (advice : Option (Bool × ℕ)). JudgesRead {A = Told} {B = Count} advice asked.limits asked.wanted left
+          (Ok (read.judgement, read.told, read.count))) c.telling_of-telling.ensures.advice
+          (subst (λ (r : Result (Judgement × Told × Count) Stop). JudgesRead {A = Told} {B = Count} (advice_in c.telling_of-telling.result)
+          asked.limits asked.wanted left r) read.is on.ensures.judges),
+    ) in
     read_next asked c.args.explained (g.S.Store.held c.args.store.now) first c.args.name.now g.W.Target.contents left
     c.as_str.result c.as_str-2.result.now c.telling_of-telling.result c.args.lines on.result.0
     (g.S.Store.failures c.open_input.new.store) (g.S.Store.failures c.args.store.now) (g.S.Store.failures on.new.store)
     c.args.tally.now.sums c.count.new.self read.judgement read.told read.count
     (left_first (g.S.Store.held c.args.store.now) g.I.Read.remaining c.args.standard.now first c.args.name.now left c.in-Ok.ensures.left
-    c.in-Ok.ensures.there is) called marked_so c.telling_of-telling.ensures.telling c.in-Ok.ensures.opened
+    c.in-Ok.ensures.there is) rated called marked_so c.telling_of-telling.ensures.telling c.in-Ok.ensures.opened
     (subst (λ (r : Result (Judgement × Told × Count) Stop). IfOk r (λ it. CountsLook it.0.look (g.S.Store.failures c.open_input.new.store)
     (g.S.Store.failures on.new.store))) read.is on.ensures.looks)
     (subst (λ (r : Result (Judgement × Told × Count) Stop). MarksRead {A = Told} {B = Count} asked c.telling_of-telling.result

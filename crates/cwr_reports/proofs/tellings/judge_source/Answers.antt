@@ -2,12 +2,12 @@ use Rattle.std.proofs.Common.{◌≡◌, Bool, true, sym, subst}
 use Rattle.std.specs.Prelude.{IfOk, Ok, OnOk, Result}
 use Rattle.cwr_tools.specs.declared.verdicts.ToolFault.{ToolFault}
 use Rattle.cwr_endings.specs.declared.judgements.Judgement.{Judgement}
-use Rattle.cwr_reports.specs.Steps.Looks.{JudgesOn, SeesFound}
+use Rattle.cwr_reports.specs.Steps.Looks.{IsJudged, JudgesOn, SeesFound}
 use Rattle.cwr_reports.specs.Format.Endings.{advice_in}
 use Rattle.cwr_files.specs.Format.Faults.{IfErr}
 use Rattle.cwr_reports.specs.Steps.Tellings.{CountsFindings, CountsInput, CountsWriting, StopsTold, TellsText}
 use Rattle.cwr_reports.proofs.lemmas.Told.{told_stopped}
-use Rattle.cwr_reports.proofs.lemmas.EndsOnTexts.{counts_input, judged_counts, judged_on, judges_on, told_verdict}
+use Rattle.cwr_reports.proofs.lemmas.EndsOnTexts.{counts_input, judged_counts, judged_on, judgement_read, judges_on, told_verdict}
 use Rattle.cwr_reports.proofs.tellings.judge_source.Goals as goal
 
 pub returns-clause-judges : goal.returns-clause-judges
@@ -67,3 +67,8 @@ returns-clause-stopped g c =
     (told_stopped c.args.telling c.args.asked.now.limits (g.R.Source.remaining c.args.reader.now) g.W.Target.contents c.args.writer
     c.tell-writer.result.0 c.args.asked.now.wanted c.tell-writer.result.1 c.tell-writer.result.2 c.reaches-found.result
     c.tell-writer.ensures.told)
+
+pub returns-clause-read : goal.returns-clause-read
+returns-clause-read g c =
+    subst (λ (r : Result Judgement ToolFault). IfOk r IsJudged) (sym c.judgement_of-judged.ensures)
+    (judgement_read c.args.asked.now.wanted c.tell-writer.result.1 c.tell-writer.result.2 c.reaches-found.result)
