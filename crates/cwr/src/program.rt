@@ -299,8 +299,10 @@ fn split_input<'a, S: Store, I: Read + Drop, P: Pace, W: Target + Drop, E: Write
     lines: W,
     error: &mut E,
 ) -> (W, Result<Status, Stop<'a>>)
-    ensures { EndsOnWork task.now.limits task.now.whole (Work.Split words.now) (S.held store.old)
+    ensures ends { EndsOnWork task.now.limits task.now.whole (Work.Split words.now) (S.held store.old)
         (I.remaining standard) result.1 }
+    ensures files { S.making store.old ≡ None → LeavesWork task.now.limits task.now.whole (Work.Split words.now)
+        (S.held store.old) (I.remaining standard) (S.failures store.old) (S.failures store.new) result.1 (S.held store.new) }
 {
     let cut = Cut {
         limits: task.limits,

@@ -1,6 +1,6 @@
 -- What a run leaves under names.
 use Rattle.std.proofs.Common.{◌≡◌, ◌≢◌, ℕ, Bool, List, Option, Some, None, refl, ap, subst, inl, inr}
-use Rattle.std.specs.Prelude.{◌⊎◌, Err, IfSome, option_map}
+use Rattle.std.specs.Prelude.{◌⊎◌, Result, Ok, Err, IfSome, option_map}
 use Rattle.clap.specs.declared.error.kind.ErrorKind.{ErrorKind}
 use Rattle.clap.specs.declared.error.kind.ErrorKind.TheVariants as kinds
 use Rattle.cwr_shape.specs.declared.limits.Limits.{Limits}
@@ -18,13 +18,15 @@ use Rattle.cwr_files.proofs.lemmas.Outs.{leaves_same}
 use Rattle.cwr_files.proofs.lemmas.Reads.{if_read}
 use Rattle.cwr_endings.specs.declared.endings.Status.{Status}
 use Rattle.cwr_endings.specs.declared.endings.Status.TheVariants as statuses
+use Rattle.cwr_endings.specs.declared.stops.Stop.{Stop}
 use Rattle.cwr_endings.specs.declared.stops.Stop.TheVariants as stops
 use Rattle.cwr_endings.proofs.lemmas.Outs.{stays, turns_so}
 use Rattle.cwr_transform.specs.declared.imports.Import.{Import}
 use Rattle.cwr_transform.specs.Format.Imports.{IsImportOf}
 use Rattle.cwr_transform.proofs.lemmas.SelectionsNamed.{stopped_same}
 use Rattle.cwr.specs.Format.Endings.{import_of, status_code}
-use Rattle.cwr.specs.Format.Files.{IsImportAt, LeavesOut, LeavesWork}
+use Rattle.cwr_transform.specs.Format.Splits.{LeavesCut}
+use Rattle.cwr.specs.Format.Files.{IsImportAt, LeavesCutOf, LeavesOut, LeavesWork}
 use Rattle.cwr.specs.Format.Tables.{encoding_of}
 
 -- ---- where there is no memory to begin it
@@ -54,7 +56,8 @@ unbegun_leaves limits whole (Csv words) held standard old now =
 unbegun_leaves limits whole (Acks words) held standard old now = stays held held refl
 unbegun_leaves limits whole (Write words) held standard old now =
     out_turns (option_map (λ name. name.now) words.out) old now _ held
-unbegun_leaves limits whole (Split words) held standard old now = tt
+unbegun_leaves limits whole (Split words) held standard old now =
+    λ created. turns_so held held Same _ (λ texts new same. inl same) (stays held held refl)
 unbegun_leaves limits whole (Join words) held standard old now =
     turns_so held held Same _ (λ texts new same. leaves_same words.out.now old now texts new same) (stays held held refl)
 unbegun_leaves limits whole (Renumber words) held standard old now = tt
@@ -77,6 +80,25 @@ import_at limits words encoding held standard name left text is opened h =
     if_read held standard name left (λ known. IsImportOf (import_of limits words) (Some known) text) opened
     (import_some (import_of limits words) left text
     (subst (λ (e : Encoding). IsImportOf (record { limits = limits; encoding = e; most = words.line }) left text) is h))
+
+-- ---- a split of what was opened
+
+cut_some : (limits : Limits) (n : ℕ) (prefix : List ℕ) (left : Option (List ℕ)) (old now : ℕ) (ending : Result Status Stop) (texts new : Texts)
+    → LeavesCut limits n prefix left old now ending texts new
+    → IfSome left (λ known. LeavesCut limits n prefix (Some known) old now ending texts new)
+cut_some limits n prefix None old now ending texts new h = tt
+cut_some limits n prefix (Some known) old now ending texts new h = h
+
+pub cut_at : (limits : Limits) (n : ℕ) (prefix : List ℕ) (held : Option Texts) (standard : Option (List ℕ)) (name : List ℕ)
+    (left : Option (List ℕ)) (old now : ℕ) (ending : Result Status Stop) (texts new : Texts) → IsLeftOf held standard (Some name) left
+    → LeavesCut limits n prefix left old now ending texts new
+    → LeavesCutOf limits n prefix held standard name old now ending texts new
+cut_at limits n prefix held standard name left old now (Ok status) texts new opened h =
+    if_read held standard (Some name) left (λ known. LeavesCut limits n prefix (Some known) old now (Ok status) texts new) opened
+    (cut_some limits n prefix left old now (Ok status) texts new h)
+cut_at limits n prefix held standard name left old now (Err stop) texts new opened h =
+    inr (if_read held standard (Some name) left (λ known. LeavesCut limits n prefix (Some known) old now (Err stop) texts new) opened
+    (cut_some limits n prefix left old now (Err stop) texts new h))
 
 -- ---- words that are refused
 

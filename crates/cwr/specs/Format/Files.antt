@@ -1,5 +1,5 @@
 -- What lies under names after a run of each work, by how it ended.
-use Rattle.std.specs.Prelude.{◌≡◌, ◌⊎◌, ℕ, Bool, List, map, None, Option, Some, option_map, Result, IfOk}
+use Rattle.std.specs.Prelude.{◌≡◌, ◌⊎◌, ℕ, Bool, List, map, None, Option, Some, option_map, Result, Ok, Err, IfOk}
 use Rattle.cwr_shape.specs.declared.limits.Limits.{Limits}
 use Rattle.cwr_words.specs.declared.words.Task.{Task}
 use Rattle.cwr_words.specs.declared.words.Work.{Work}
@@ -18,6 +18,7 @@ use Rattle.cwr_transform.specs.declared.imports.Import.{Import}
 use Rattle.cwr_transform.specs.Format.Imports.{IsImportOf}
 use Rattle.cwr_transform.specs.Format.Joins.{IsTextOfJoin}
 use Rattle.cwr_transform.specs.Format.Repairs.{IsRepairOf, IsRepairStatus, WritesRepair}
+use Rattle.cwr_transform.specs.Format.Splits.{LeavesCut}
 use Rattle.cwr_transform.specs.Format.Selections.{IsSelectionAt, LeavesSelection}
 use Rattle.cwr.specs.Format.Endings.{EndsOnWork, ending_status, import_of, status_code}
 use Rattle.cwr.specs.Format.Failures.{FailsWork}
@@ -32,8 +33,16 @@ LeavesOut (Some out) old now is ending texts new = WritesOut out old now is endi
 abbrev pub IsImportAt : Import → Option Texts → Option (List ℕ) → Option (List ℕ) → List ℕ → Type 0
 IsImportAt import held standard name text = IfRead held standard name (λ known. IsImportOf import (Some known) text)
 
+-- What a run leaves that splits what a word names, by its text: one that fails may have changed nothing.
+abbrev pub LeavesCutOf : Limits → ℕ → List ℕ → Option Texts → Option (List ℕ) → List ℕ → ℕ → ℕ → Result Status Stop → Texts → Texts → Type 0
+LeavesCutOf limits n prefix held standard name old now (Ok status) texts new =
+    IfRead held standard (Some name) (λ known. LeavesCut limits n prefix (Some known) old now (Ok status) texts new)
+LeavesCutOf limits n prefix held standard name old now (Err stop) texts new =
+    Same texts new ⊎ IfRead held standard (Some name) (λ known. LeavesCut limits n prefix (Some known) old now (Err stop) texts new)
+
 -- What lies under names after a run of the work, within these limits, where so many calls had failed before it and had after it. Works that
--- only tell something change nothing. Of parts nothing is said here, and of numbers that are put right below.
+-- only tell something change nothing. Of parts it is said where the first one is created when the transmission was, and of numbers that are
+-- put right below.
 abbrev pub LeavesWork : Limits → Bool → Work → Option Texts → Option (List ℕ) → ℕ → ℕ → Result Status Stop → Option Texts → Type 0
 LeavesWork limits whole (Json words) held standard old now ending after =
     Turns held after (LeavesOut (option_map (λ name. name.now) words.out) old now
@@ -49,7 +58,9 @@ LeavesWork limits whole (Write words) held standard old now ending after =
 LeavesWork limits whole (Join words) held standard old now ending after =
     Turns held after (WritesOut words.out.now old now (IsTextOfJoin limits (record { whole = whole; fail_on = words.fail_on }) held standard
     (map (λ name. name.now) words.files.items)) ending)
-LeavesWork limits whole (Split words) held standard old now ending after = Unit {0}
+LeavesWork limits whole (Split words) held standard old now ending after =
+    words.created ≡ None → Turns held after
+    (LeavesCutOf limits words.transactions.value words.prefix.now held standard words.file.now old now ending)
 LeavesWork limits whole (Renumber words) held standard old now ending after = Unit {0}
 LeavesWork limits whole (Select words) held standard old now ending after =
     Turns held after (LeavesSelection (option_map (λ name. name.now) words.out) old now

@@ -25,3 +25,10 @@ returns-in-Csv-clause-files g c =
     (λ (w : Work). LeavesWork c.args.task.now.limits c.args.task.now.whole w (g.S.Store.held c.args.store.now) (g.I.Read.remaining c.args.standard)
     (g.S.Store.failures c.args.store.now) (g.S.Store.failures c.write_table.new.store) c.write_table.result.1
     (g.S.Store.held c.write_table.new.store)) (sym c.in-Csv.is) (c.write_table.ensures.files none)
+
+pub returns-in-Split-clause-files : goal.returns-in-Split-clause-files
+returns-in-Split-clause-files g c =
+    λ none. subst
+    (λ (w : Work). LeavesWork c.args.task.now.limits c.args.task.now.whole w (g.S.Store.held c.args.store.now) (g.I.Read.remaining c.args.standard)
+    (g.S.Store.failures c.args.store.now) (g.S.Store.failures c.split_input.new.store) c.split_input.result.1
+    (g.S.Store.held c.split_input.new.store)) (sym c.in-Split.is) (c.split_input.ensures.files none)
