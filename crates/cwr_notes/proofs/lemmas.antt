@@ -8,5 +8,5 @@ pub mod OthersListed
 pub mod OwnedShares
 -- What is written of records that may be there.
 pub mod RecordsThere
--- The line of a cell, part by part, and the numbers of fields digit by digit.
-pub mod CellLines
+-- The cells of a record under their labels are the lines of its cells, but for the line feed at the end.
+pub mod LabelledCells

@@ -1,3 +1,4 @@
 -- What the code keeps, and what its calls do to that.
 pub mod FieldLines
+pub mod Labels
 pub mod OtherRecords

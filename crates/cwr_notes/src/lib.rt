@@ -2,6 +2,7 @@
 #![tactic(auto)]
 
 mod finding_notes;
+mod labels;
 mod note_lines;
 mod other_records;
 mod passed;

@@ -41,17 +41,6 @@ carried_field r j p cell e place =
     let at : field_at r.kind j ≡ Some there.0 = (open_some (field_at r.kind j) there.0 there.1).0 in
     there.1 ∙ sym at ∙ sym (field_at-start r.kind j) ∙ ap (option_map (λ (q : ℕ × FieldLayout). q.1)) (sym place)
 
-pub field_line-some : (r : RecordValue) (j : ℕ) (p : ℕ × FieldLayout) (cell : List ℕ) → Some cell ≡ record_cell r j
-    → Some p ≡ field_with_start r.kind j → field_line r j ≡ cell_line j p.1 cell
-field_line-some r j p cell e place =
-    ap₂ (λ (o : Option FieldLayout) (found : Option (List ℕ)). line_of j o found) (carried_field r j p cell e place) (sym e)
-
-pub field_line-none : (r : RecordValue) (j : ℕ) → None ≡ field_with_start r.kind j → field_line r j ≡ []
-field_line-none r j place =
-    let none : field_at r.kind j ≡ None =
-    sym (field_at-start r.kind j) ∙ ap (option_map (λ (q : ℕ × FieldLayout). q.1)) (sym place) in
-    ap (λ (o : Option FieldLayout). line_of j (option_and_then (λ f. cond f.derived None (Some f)) o) (record_cell r j)) none
-
 -- ---- the lines of the first fields
 
 -- the fields that are carried, each with its number

@@ -1,5 +1,5 @@
 use Rattle.std.proofs.Common.{length, ap, arith}
-use Rattle.cwr_notes.proofs.lemmas.CellLines.{length-trimmed-le}
+use Rattle.cwr_notes.proofs.lemmas.LabelledCells.{length-trimmed-le}
 use Rattle.cwr_notes.proofs.work_lines.push_trimmed.Goals as goal
 
 pub push-requires : goal.push-requires
