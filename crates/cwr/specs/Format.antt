@@ -2,5 +2,6 @@
 pub mod Endings
 pub mod Failures
 pub mod Files
+pub mod Selected
 pub mod Styles
 pub mod Tables

@@ -398,10 +398,11 @@ COMMANDS
        it is whole, or to standard output. What is told of it stands under
        Output.
 
-       What each of `--works`, `--places`, `--kind` and `--party` asks for has
-       to be so of a transaction, and one of them is asked for at least. A
-       line of a list ends in a line feed. Spaces and a CR at its end don't
-       count, nor do blank lines, nor a UTF-8 mark at the front of the list.
+       What each of `--works`, `--places`, `--kind`, `--party` and `--state`
+       asks for has to be so of a transaction, and one of them is asked for at
+       least. A line of a list ends in a line feed. Spaces and a CR at its end
+       don't count, nor do blank lines, nor a UTF-8 mark at the front of the
+       list.
 
        An acknowledgement names the creation date and time of what it answers.
        So a file asks for `--created` or `--same-created`. A rejected NWR is
@@ -434,6 +435,26 @@ COMMANDS
               Those in which an IPI name number is that one, whatever zeros
               lead: of 1 to 11 digits, not all of them zeros. That of a writer
               in EWT, VER and COM counts, and so does one in a copy.
+
+       --state STATES
+              Those of which a row of `cwr acks --state --sent FILE
+              ANSWERS...` has one of these states, with commas between them:
+              accepted, pending, rejected, conflict, duplicate,
+              claim-rejected, no-participation, unanswered. FILE is then read
+              twice, and isn't standard input. Memory holds less than 64 bytes
+              of each of its transactions, and 40 for each sender that answers
+              it.
+
+       --answers ANSWERS
+              Acknowledgements for `--state`, a transmission in the file
+              ANSWERS. It may stand more than once. Where FILE or one of them
+              is refused or cut off, its verdict goes to standard error,
+              nothing is written, and the status is 1. So it is with `--whole`
+              where bytes follow it.
+
+       --by-place
+              With `--state`, as in `cwr acks`: the acknowledgements may
+              answer FILE whatever creation date and time they name.
 
        --not  All others.
 
@@ -875,6 +896,11 @@ EXAMPLES
            SELECTED 2 of 3
            MISSING W0099
            1
+
+       What was rejected or is in conflict, sent again:
+
+           $ cwr select --state rejected,conflict --answers acks_2_991.cwr --created 20260302T090000 sent_january.cwr -o rejected.cwr
+           SELECTED 2 of 6
 
        Parts of one work each, and the whole again:
 

@@ -1,6 +1,6 @@
 //! The program between its words and its devices.
 
-ghost use Rattle.std.specs.Prelude.{◌≡◌, ◌≢◌, ◌<◌, ◌≤◌, map, option_map, true, false, None, OnOk};
+ghost use Rattle.std.specs.Prelude.{IfOk, codes, count_by, unwrap_or, ◌≡◌, ◌≢◌, ◌<◌, ◌≤◌, length, map, option_map, true, false, None, OnOk};
 ghost use Rattle.std.specs.Option.{is_some};
 ghost use Rattle.std.specs.IoError.{error_kind};
 ghost use Rattle.std.specs.declared.io.ErrorKind.TheVariants.{OutOfMemory as lacks_memory};
@@ -11,11 +11,14 @@ ghost use Rattle.cwr.specs.Format.Files.{LeavesOut, LeavesWork, RunsRenumbering,
 ghost use Rattle.cwr.specs.Steps.Tells.{CountsData, CountsWork, HandsOnData, HandsOnWork, TellsAsked, TellsData, TellsFiles, TellsJudged, TellsQuietRead, TellsQuietly, TellsRead, TellsWork};
 ghost use Rattle.cwr_devices.specs.Format.Failures.{most_failures};
 ghost use Rattle.cwr_files.specs.Format.Faults.{IfErr};
+ghost use Rattle.cwr_answers.specs.Format.Answered.{IsThereOrRead};
 ghost use Rattle.cwr_files.specs.Format.Files.{Turns};
+ghost use Rattle.cwr_files.specs.Format.Inputs.{is_standard};
 ghost use Rattle.cwr_files.specs.Steps.NewFiles.{HasKeptCount};
 ghost use Rattle.cwr_renumber.specs.Steps.Renumbered.{renumbered_text};
 ghost use Rattle.cwr_reports.specs.Format.Endings.{EndsOnRead, advice_asked, advice_in};
 ghost use Rattle.cwr_reports.specs.Format.Exports.{IsExportAt, is_data};
+ghost use Rattle.cwr.specs.Format.Selected.{AreAnsweredBy};
 ghost use Rattle.cwr.specs.Format.Tables.{encoding_of, form_of, kinds_by, selection_of, table_of};
 ghost use Rattle.cwr_reports.specs.Steps.Looks.{tells_findings};
 ghost use Rattle.cwr_reports.specs.Steps.Marked.{CountsOutput};
@@ -25,7 +28,7 @@ use crate::styles::{help_style, style_of};
 use crate::terminal::{Cleared, Shown, Terminals};
 use clap::error::ErrorKind;
 use cwr_acks::{Cells, Form};
-use cwr_answers::{Answering, match_answers};
+use cwr_answers::{Answered, Answering, Unsought, answered_places, match_answers};
 use cwr_devices::{Sink, Target};
 use cwr_endings::{Status, Stop, Wanted, hand_on, refuse_out};
 use cwr_files::{
@@ -34,7 +37,7 @@ use cwr_files::{
 };
 use cwr_json::Encoding;
 use cwr_reports::{Asked, Telling, export, report_input, report_several, telling_of};
-use cwr_select::ByKind;
+use cwr_select::{ByKind, ByPlace, Listed};
 use cwr_shape::Level;
 use cwr_tables::Table;
 use cwr_terminal::{Style, Styled};
@@ -190,16 +193,22 @@ fn report<E: Write>(error: &mut E, fault: &Fault<'_>) -> Status
     }
 }
 
+/// How many of the names are standard input.
+fn standard_among(names: &[&str]) -> usize
+    ensures { result ≡ count_by (λ name. is_standard (Some name)) (map (λ name. name.now) names.now) }
+{
+    names
+        .iter()
+        .filter(|name| is_standard(Some(**name)))
+        .count()
+}
+
 /// Refuses names of which two are standard input, which is there once.
 fn refuse_twice<'a>(names: &[&str]) -> Result<(), Fault<'a>>
     ensures { IfErr result (λ fault. (fault ≡ Fault.IsTwice Name.StandardInput)
         × AreStandardTwice (map (λ name. name.now) names.now)) }
 {
-    let standard = names
-        .iter()
-        .filter(|name| is_standard(Some(**name)))
-        .count();
-    if standard > 1 {
+    if standard_among(names) > 1 {
         Err(Fault::IsTwice(Name::StandardInput))
     } else {
         Ok(())
@@ -416,6 +425,84 @@ fn selection_by<'a>(task: &Task<'a>, words: &SelectWords<'a>) -> Selection<'a>
     }
 }
 
+/// Refuses standard input where the acknowledgements and the others that the words name have it more than once, which is there once, and
+/// a file to write that is one of the acknowledgements.
+fn refuse_answers<'a, S: Store>(
+    store: &mut S,
+    words: &SelectWords<'a>,
+    others: &[&str],
+) -> Result<(), Fault<'a>>
+    ensures kept { S.held store.new ≡ S.held store.old }
+    ensures making { S.making store.new ≡ S.making store.old }
+    ensures failures { HasKeptCount (S.failures store.old) (S.failures store.new) }
+{
+    let Some(answered) = &words.answered else {
+        return refuse_twice(others);
+    };
+    if standard_among(others) + standard_among(answered.files.as_slice()) > 1 {
+        return Err(Fault::IsTwice(Name::StandardInput));
+    }
+    match words.out {
+        Some(out) => refuse_out(store, out, false, answered.files.as_slice()),
+        None => Ok(()),
+    }
+}
+
+/// The name of the transmission of which some is selected.
+fn file_named<'a>(words: &SelectWords<'a>) -> &'a str
+    ensures { result.now ≡ unwrap_or (option_map (λ name. name.now) words.now.file) (codes "-") }
+{
+    match words.file {
+        Some(name) => name,
+        None => DASH,
+    }
+}
+
+/// The places of the transactions of which the words ask what became of them, in order, if they do.
+fn answered_by<'a, S: Store, I: Read + Drop, P: Pace, E: Write>(
+    store: &mut S,
+    alloc: Global,
+    task: &Task<'a>,
+    words: &SelectWords<'a>,
+    standard: &mut Option<I>,
+    pace: &mut P,
+    error: &mut E,
+) -> Result<Option<Listed<(u32, u32)>>, Unsought<'a>>
+    ensures answered { (input : I) → IsThereOrRead input standard.old → IfOk result (λ places. AreAnsweredBy task.now.limits
+        (option_map (λ name. name.now) words.now.file) words.now.answered (S.held store.old) (I.remaining input) places) }
+    ensures kept { S.held store.new ≡ S.held store.old }
+    ensures making { S.making store.new ≡ S.making store.old }
+    ensures failures { OnOk result (S.failures store.new ≡ S.failures store.old) }
+    ensures standard { (input : I) → IsThereOrRead input standard.old → IsThereOrRead input standard.new }
+{
+    let Some(answered) = &words.answered else {
+        return Ok(None);
+    };
+    let asked = Answered {
+        alloc,
+        limits: task.limits,
+        whole: task.whole,
+        sent: file_named(words),
+        files: answered.files.as_slice(),
+        by_place: answered.by_place,
+        states: answered.states,
+    };
+    match answered_places(store, &asked, standard, pace, error) {
+        Ok(places) => Ok(Some(Listed::new(places))),
+        Err(unsought) => Err(unsought),
+    }
+}
+
+/// Who chooses by these places, if any are asked for.
+fn by_places(places: &Option<Listed<(u32, u32)>>) -> Option<ByPlace<'_>>
+    ensures { option_map (λ by. by.0.now) result ≡ places.now }
+{
+    match places {
+        Some(places) => Some(ByPlace(places)),
+        None => None,
+    }
+}
+
 /// Selects transactions of a transmission.
 fn select<'a, S: Store, I: Read + Drop, P: Pace, W: Target + Drop, E: Write>(
     store: &mut S,
@@ -438,10 +525,33 @@ fn select<'a, S: Store, I: Read + Drop, P: Pace, W: Target + Drop, E: Write>(
         words.works.unwrap_or(""),
         words.places.unwrap_or(""),
     ];
-    if let Err(fault) = refuse_twice(&inputs) {
+    if let Err(fault) = refuse_answers(store, words, &inputs) {
         return (output, Err(Stop::Fault(fault)));
     }
-    select_file(store, alloc, &selection, standard, pace, output, error)
+    let mut standard = Some(standard);
+    let answered = match answered_by(
+        store,
+        alloc,
+        task,
+        words,
+        &mut standard,
+        &mut *pace,
+        &mut *error,
+    ) {
+        Ok(answered) => answered,
+        Err(Unsought::Refused) => return (output, Ok(Status::Refused)),
+        Err(Unsought::Fault(fault)) => return (output, Err(Stop::Fault(fault))),
+    };
+    select_file(
+        store,
+        alloc,
+        &selection,
+        by_places(&answered),
+        &mut standard,
+        pace,
+        output,
+        error,
+    )
 }
 
 /// Reports on the transmission of the file of that name, or on that on standard input.
@@ -610,8 +720,32 @@ fn tell_answers<'a, S: Store, I: Read + Drop, P: Pace, W: Target + Drop, E: Writ
     lines: W,
     error: &mut E,
 ) -> (W, Result<Status, Stop<'a>>)
-    requires { asked.now.wanted.fail_on ≡ None }
-    ensures ends { EndsAsAnswers asked.now.limits asked.now.wanted (S.held store.old) (I.remaining standard)
+    requires limits { asked.now.limits ≡ answering.now.limits }
+    requires wanted { asked.now.wanted ≡ record { whole = answering.now.whole; fail_on = None } }
+    ensures ends { EndsAsAnswers answering.now.limits answering.now.whole answering.now.fail_on (S.held store.old) (I.remaining standard)
+        (map (λ name. name.now) answering.now.files.now) (map (λ name. name.now) answering.now.sent.now) result.1 }
+    ensures kept { S.held store.new ≡ S.held store.old }
+{
+    match answering.sent {
+        [] => tell_unmatched(store, asked, answering, standard, pace, lines, error),
+        _ => match_answers(store, answering, standard, pace, lines, error),
+    }
+}
+
+/// Tells what the acknowledgements of files say, or those on standard input, where they are matched with nothing.
+fn tell_unmatched<'a, S: Store, I: Read + Drop, P: Pace, W: Target + Drop, E: Write>(
+    store: &mut S,
+    asked: &Asked,
+    answering: &Answering<'_, 'a>,
+    standard: I,
+    pace: &mut P,
+    lines: W,
+    error: &mut E,
+) -> (W, Result<Status, Stop<'a>>)
+    requires limits { asked.now.limits ≡ answering.now.limits }
+    requires wanted { asked.now.wanted ≡ record { whole = answering.now.whole; fail_on = None } }
+    requires unsent { length answering.now.sent.now < 1 }
+    ensures ends { EndsAsAnswers answering.now.limits answering.now.whole answering.now.fail_on (S.held store.old) (I.remaining standard)
         (map (λ name. name.now) answering.now.files.now) (map (λ name. name.now) answering.now.sent.now) result.1 }
     ensures kept { S.held store.new ≡ S.held store.old }
 {
@@ -619,9 +753,9 @@ fn tell_answers<'a, S: Store, I: Read + Drop, P: Pace, W: Target + Drop, E: Writ
         form: answering.form,
         statuses: answering.statuses,
     };
-    match (answering.files, answering.sent) {
-        ([], []) => report_file(store, asked, told, None, standard, pace, lines, error),
-        ([file], []) => report_file(
+    match answering.files {
+        [] => report_file(store, asked, told, None, standard, pace, lines, error),
+        [file] => report_file(
             store,
             asked,
             told,

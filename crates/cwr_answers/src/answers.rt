@@ -1,11 +1,20 @@
 //! Acknowledgements of one or several transmissions, matched with what was sent.
 
-ghost use Rattle.std.specs.Prelude.{◌≡◌, IfOk};
+ghost use Rattle.std.specs.Prelude.{◌≡◌, ◌≢◌, List, ℕ, Option, None, map, option_map, true, IfOk, IfSome, OnOk};
 ghost use Rattle.cwr_sent.specs.Format.SentRows.{IsFresh};
+ghost use Rattle.cwr_states.specs.Format.StateSets.{no_states};
+ghost use Rattle.cwr_files.specs.Format.Faults.{IfErr};
+ghost use Rattle.cwr_files.specs.Steps.Inputs.{remaining_of};
+ghost use Rattle.cwr_endings.specs.Format.Endings.{IsStatusBy};
+ghost use Rattle.cwr_reports.specs.Format.Endings.{Counts, EndsOnEach, EndsOnRead};
+ghost use Rattle.cwr_reports.specs.Steps.Looks.{IsJudged};
+ghost use Rattle.cwr_reports.specs.Steps.Several.{IsFirst};
+ghost use Rattle.cwr_answers.specs.Format.Endings.{EndsOnAnswers, IsStatusByStates, standard_inputs, wanted_of};
+ghost use Rattle.cwr_answers.specs.Steps.Reading.{AreShown, CountsOne, EndsAllSent, EndsByStates, EndsOnFiles, EndsOnSums, EndsSent, IsMemory, IsShown, IsStanding, IsUnreadOrUntold, IsUntold, StandsAfterRead, TellsSo};
 
 use cwr_acks::{Answers, Form, Manner, acks, put_rest};
 use cwr_delivery::Delivery;
-use cwr_devices::{Counted, ReadAhead, Sink, Target};
+use cwr_devices::{Counted, ReadAhead, Sink, Source, Target};
 use cwr_endings::{
     Judgement, Status, Stop, Sums, Wanted, hand_on, judgement_of, look_after, tell_characters,
     tell_following, tell_unanswering, tell_verdict,
@@ -72,7 +81,7 @@ fn tell_misread<E: Write>(error: &mut E, answering: &Answering<'_, '_>, told: &T
 }
 
 /// Tells on standard error with what verdict a transmission was read, with its name before it. What standard error doesn't take is lost.
-fn tell_named<E: Write>(error: &mut E, name: Name<'_>, verdict: &Verdict) {
+pub(crate) fn tell_named<E: Write>(error: &mut E, name: Name<'_>, verdict: &Verdict) {
     let _ = write!(error, "{name}: ");
     let _ = put_verdict_line(verdict, &mut Sink::new(Counted::new(error)));
 }
@@ -86,10 +95,17 @@ fn sent_of<'a, S: Store, I: Read + Drop, P: Pace, E: Write>(
     pace: &mut P,
     error: &mut E,
 ) -> Result<Result<Sent, Status>, Fault<'a>>
+    // It is accepted, or it is refused.
+    ensures ends { (first : Option (List ℕ)) → IsFirst I.remaining standard.old first → EndsSent answering.now.limits (S.held store.old) first
+        name.entry.now result }
+    ensures first { (first : Option (List ℕ)) → IsFirst I.remaining standard.old first → IsFirst I.remaining standard.new first }
     ensures fresh { IfOk result (λ read. IfOk read IsFresh) }
     ensures kept { S.held store.new ≡ S.held store.old }
 {
-    let input = open_input(store, Some(name), standard, &mut *pace)?;
+    let input = match open_input(store, Some(name), standard, &mut *pace) {
+        Ok(input) => input,
+        Err(fault) => return Err(fault),
+    };
     let mut reader = ReadAhead::new(input);
     let read = read_sent(answering.alloc, answering.limits, &mut reader);
     let told: Told<'a> = end_input(store, reader);
@@ -117,39 +133,65 @@ fn delivery_of<'a, S: Store, I: Read + Drop, P: Pace, E: Write>(
     pace: &mut P,
     error: &mut E,
 ) -> Result<Result<Option<Delivery>, Status>, Fault<'a>>
+    ensures ends { (first : Option (List ℕ)) → IsFirst I.remaining standard.old first → EndsAllSent answering.now.limits (S.held store.old)
+        first (map (λ name. name.now) answering.now.sent.now) result }
+    ensures first { (first : Option (List ℕ)) → IsFirst I.remaining standard.old first → IsFirst I.remaining standard.new first }
+    ensures stands { IfOk result (λ read. IfOk read IsStanding) }
     ensures kept { S.held store.new ≡ S.held store.old }
 {
     if answering.sent.is_empty() {
         return Ok(Ok(None));
     }
-    let mut delivery = Delivery::new(answering.alloc, answering.by_place).map_err(
-        |_| Fault::Memory,
-    )?;
+    let Ok(mut delivery) = Delivery::new(answering.alloc, answering.by_place) else {
+        return Err(Fault::Memory);
+    };
     for name in answering.sent {
-        match sent_of(store, answering, name, standard, &mut *pace, error)? {
-            Ok(sent) => delivery.add(sent).map_err(|_| Fault::Memory)?,
-            Err(status) => return Ok(Err(status)),
+        let sent = match sent_of(store, answering, name, standard, &mut *pace, error) {
+            Ok(Ok(sent)) => sent,
+            Ok(Err(status)) => return Ok(Err(status)),
+            Err(fault) => return Err(fault),
+        };
+        match delivery.add(sent) {
+            Ok(()) => {}
+            Err(_) => return Err(Fault::Memory),
         }
     }
     Ok(Ok(Some(delivery)))
 }
 
 /// The name of an input as it is told in that form: as a line shows it, or as it is in JSON.
-fn told_name(alloc: Global, form: Form, word: &str) -> Result<Vec<u8>, Fault<'static>> {
-    let told = match form {
-        Form::Words(_) => shown_name(alloc, word).map(|shown| shown.into_bytes()),
-        Form::Json(_) => cwr_acks::shown_name(alloc, form, input_name(word)),
-    };
-    told.map_err(|_| Fault::Memory)
+fn told_name(alloc: Global, form: Form, word: &str) -> Result<Vec<u8>, Fault<'static>>
+    ensures shown { IfOk result (λ told. IsShown form told.items) }
+    ensures memory { IfErr result IsMemory }
+{
+    match form {
+        Form::Words(_) => match shown_name(alloc, word) {
+            Ok(shown) => Ok(shown.into_bytes()),
+            Err(_) => Err(Fault::Memory),
+        },
+        Form::Json(_) => match cwr_acks::shown_name(alloc, form, input_name(word)) {
+            Ok(shown) => Ok(shown),
+            Err(_) => Err(Fault::Memory),
+        },
+    }
 }
 
 /// The names of what was sent as they are told, where there are several; else none.
-fn names_told(answering: &Answering<'_, '_>) -> Result<Vec<Vec<u8>>, Fault<'static>> {
+fn names_told(answering: &Answering<'_, '_>) -> Result<Vec<Vec<u8>>, Fault<'static>>
+    ensures shown { IfOk result (λ names. AreShown answering.now.form (map (λ name. name.items) names.items)) }
+    ensures memory { IfErr result IsMemory }
+{
     let mut names = Vec::new(answering.alloc);
     if answering.sent.len() > 1 {
         for name in answering.sent {
-            let told = told_name(answering.alloc, answering.form, name)?;
-            names.push(told).map_err(|_| Fault::Memory)?;
+            let told = match told_name(answering.alloc, answering.form, name) {
+                Ok(told) => told,
+                Err(fault) => return Err(fault),
+            };
+            match names.push(told) {
+                Ok(()) => {}
+                Err(_) => return Err(Fault::Memory),
+            }
         }
     }
     Ok(names)
@@ -166,7 +208,11 @@ struct Subjects {
 
 impl Subjects {
     /// How it is told of them what the transmission of the file of that name says, or without it the one transmission.
-    fn manner<'n>(&'n self, form: Form, file: Option<&'n [u8]>) -> Manner<'n> {
+    fn manner<'n>(&'n self, form: Form, file: Option<&'n [u8]>) -> Manner<'n>
+        ensures form { result.form ≡ form }
+        ensures file { result.file ≡ file.entry }
+        ensures names { result.names.now ≡ self.now.names.items }
+    {
         Manner {
             form,
             statuses: self.statuses.as_slice(),
@@ -177,14 +223,17 @@ impl Subjects {
 }
 
 /// Of what lines are told, by what is asked for.
-fn subjects_of(answering: &Answering<'_, '_>) -> Result<Subjects, Fault<'static>> {
+fn subjects_of(answering: &Answering<'_, '_>) -> Result<Subjects, Fault<'static>>
+    ensures shown { IfOk result (λ subjects. AreShown answering.now.form (map (λ name. name.items) subjects.names.items)) }
+    ensures memory { IfErr result IsMemory }
+{
     let Ok(statuses) = answering.statuses.to_vec(answering.alloc) else {
         return Err(Fault::Memory);
     };
-    Ok(Subjects {
-        statuses,
-        names: names_told(answering)?,
-    })
+    match names_told(answering) {
+        Ok(names) => Ok(Subjects { statuses, names }),
+        Err(fault) => Err(fault),
+    }
 }
 
 /// What is there while transmissions of acknowledgements are read: where their lines go, what was sent with what answers it, and how
@@ -197,12 +246,48 @@ struct Reading<W: Target> {
 }
 
 /// Why the run ends where an input failed so.
-fn stop_of<'a>(fault: ToolFault, told: Told<'a>) -> Stop<'a> {
+fn stop_of<'a>(fault: ToolFault, told: Told<'a>) -> Stop<'a>
+    ensures { IsUnreadOrUntold result }
+{
     match fault {
         ToolFault::Reader => Stop::Fault(Fault::Read(told)),
         ToolFault::Writer { .. } => Stop::Output,
         _ => Stop::Fault(Fault::Memory),
     }
+}
+
+/// Reads a transmission of acknowledgements after others from a reader, and writes its lines. The writer comes back, and what was sent, with what
+/// answers it; how many acknowledgements there are in it; and its verdict with its status.
+fn read_source<R: Source, W: Target + Drop>(
+    answering: &Answering<'_, '_>,
+    manner: Manner<'_>,
+    delivery: Option<Delivery>,
+    reader: &mut R,
+    lines: W,
+) -> (W, Option<Delivery>, Answers, Result<Judgement, ToolFault>)
+    requires told { TellsSo manner }
+    requires stands { IsStanding delivery }
+    // Its status is that on its bytes.
+    ensures judges { IfOk result.3 (λ judgement. IfSome (R.remaining reader.old) (λ text. IsStatusBy (Counts None) answering.now.limits
+        (wanted_of answering.now.whole) text judgement.status)) }
+    ensures read { IfOk result.3 IsJudged }
+    ensures stands { StandsAfterRead result.3 result.1 }
+{
+    let (lines, delivery, more, outcome) = acks(
+        answering.alloc,
+        answering.limits,
+        manner,
+        delivery,
+        reader,
+        lines,
+    );
+    let look = look_after(reader, &outcome);
+    let wanted = Wanted {
+        whole: answering.whole,
+        fail_on: None,
+    };
+    let judged = judgement_of(wanted, outcome, look, false);
+    (lines, delivery, more, judged)
 }
 
 /// Reads a transmission of acknowledgements after others, and writes its lines, with that before each. The last answer is how many there
@@ -215,6 +300,13 @@ fn read_input<'a, S: Store, I: Read + Drop, P: Pace + Drop, W: Target + Drop>(
     input: Input<'a, S::Reader, I, P>,
     reading: Reading<W>,
 ) -> (Reading<W>, Result<Judgement, ToolFault>, Told<'a>, u64)
+    requires told { TellsSo manner }
+    requires stands { IsStanding reading.delivery }
+    // Its status is that on its bytes.
+    ensures judges { IfOk result.1 (λ judgement. IfSome (remaining_of S.Reader.remaining I.remaining input.entry)
+        (λ text. IsStatusBy (Counts None) answering.now.limits (wanted_of answering.now.whole) text judgement.status)) }
+    ensures read { IfOk result.1 IsJudged }
+    ensures stands { StandsAfterRead result.1 result.0.delivery }
     ensures kept { S.held store.new ≡ S.held store.old }
 {
     let Reading {
@@ -224,20 +316,13 @@ fn read_input<'a, S: Store, I: Read + Drop, P: Pace + Drop, W: Target + Drop>(
     } = reading;
     let mut reader = ReadAhead::new(input);
     let lines: FileLines<'_, Brand, W> = FileLines::new(lines, before_each, Passing::All);
-    let (lines, delivery, more, outcome) = acks(
-        answering.alloc,
-        answering.limits,
+    let (lines, delivery, more, judged) = read_source(
+        answering,
         manner,
         delivery,
         &mut reader,
         lines,
     );
-    let look = look_after(&mut reader, &outcome);
-    let wanted = Wanted {
-        whole: answering.whole,
-        fail_on: None,
-    };
-    let judged = judgement_of(wanted, outcome, look, false);
     let reading = Reading {
         lines: lines.into_inner(),
         delivery,
@@ -251,14 +336,18 @@ fn read_alone<'a, S: Store, I: Read + Drop, P: Pace, W: Target + Drop, E: Write>
     store: &mut S,
     answering: &Answering<'_, 'a>,
     subjects: &Subjects,
+    name: Option<&'a str>,
     standard: &mut Option<I>,
     pace: &mut P,
     reading: Reading<W>,
     error: &mut E,
 ) -> (Reading<W>, Result<Status, Stop<'a>>)
+    requires shown { AreShown answering.now.form (map (λ name. name.items) subjects.now.names.items) }
+    requires stands { IsStanding reading.delivery }
+    ensures ends { (first : Option (List ℕ)) → IsFirst I.remaining standard.old first → EndsOnRead None answering.now.limits
+        (wanted_of answering.now.whole) (S.held store.old) first (option_map (λ n. n.now) name.entry) result.1 }
     ensures kept { S.held store.new ≡ S.held store.old }
 {
-    let name = answering.files.first().copied();
     let input = match open_input(store, name, standard, &mut *pace) {
         Ok(input) => input,
         Err(fault) => return (reading, Err(Stop::Fault(fault))),
@@ -282,6 +371,78 @@ fn read_alone<'a, S: Store, I: Read + Drop, P: Pace, W: Target + Drop, E: Write>
     }
 }
 
+/// Reads the transmission of the file of that name after others, and writes its lines. A file that fails is told of on standard error.
+fn read_next<'a, S: Store, I: Read + Drop, P: Pace, W: Target + Drop, E: Write>(
+    store: &mut S,
+    answering: &Answering<'_, 'a>,
+    subjects: &Subjects,
+    name: &'a str,
+    standard: &mut Option<I>,
+    pace: &mut P,
+    reading: Reading<W>,
+    sums: &mut Sums,
+    error: &mut E,
+) -> (Reading<W>, Result<(), Stop<'a>>)
+    requires shown { AreShown answering.now.form (map (λ name. name.items) subjects.now.names.items) }
+    requires stands { IsStanding reading.delivery }
+    // Its status was counted, or that of a fault.
+    ensures counted { (first : Option (List ℕ)) → IsFirst I.remaining standard.old first → CountsOne answering.now.limits answering.now.whole
+        (S.held store.old) first name.entry.now sums.old.status sums.new.status result.1 }
+    ensures first { (first : Option (List ℕ)) → IsFirst I.remaining standard.old first → IsFirst I.remaining standard.new first }
+    ensures stands { OnOk result.1 (IsStanding result.0.delivery) }
+    ensures kept { S.held store.new ≡ S.held store.old }
+{
+    let input = match open_input(store, Some(name), standard, &mut *pace) {
+        Ok(input) => input,
+        Err(fault) => {
+            tell_fault(error, &fault);
+            sums.count_failed();
+            return (reading, Ok(()));
+        }
+    };
+    let Ok(shown) = shown_name(answering.alloc, name) else {
+        return (reading, Err(Stop::Fault(Fault::Memory)));
+    };
+    let Ok(file) = told_name(answering.alloc, answering.form, name) else {
+        return (reading, Err(Stop::Fault(Fault::Memory)));
+    };
+    let manner = subjects.manner(answering.form, Some(file.as_slice()));
+    let before_each = mark_of(answering.form, shown.as_str());
+    let (reading, judged, told, count) = read_input(
+        store,
+        answering,
+        manner,
+        before_each,
+        input,
+        reading,
+    );
+    match judged {
+        Ok(judgement) => {
+            tell_named(error, told.name, &judgement.verdict);
+            tell_following(error, told.name, &judgement.look);
+            tell_unanswering(error, told.name, &judgement, count, answering.is_matched());
+            tell_misread(error, answering, &told);
+            sums.count(&judgement);
+            (reading, Ok(()))
+        }
+        Err(ToolFault::Reader) => {
+            tell_fault(error, &Fault::Read(told));
+            sums.count_failed();
+            (reading, Ok(()))
+        }
+        Err(ToolFault::Writer { .. }) => (reading, Err(Stop::Output)),
+        Err(_) => (reading, Err(Stop::Fault(Fault::Memory))),
+    }
+}
+
+/// What stands before each line on a file that is called so: its name, where that isn't told within the line.
+fn mark_of<'n>(form: Form, shown: &'n str) -> Option<&'n str> {
+    match form {
+        Form::Words(_) => Some(shown),
+        Form::Json(_) => None,
+    }
+}
+
 /// Reads the transmissions of several files one after another. A file that fails is told of on standard error, and the next one follows.
 fn read_several<'a, S: Store, I: Read + Drop, P: Pace, W: Target + Drop, E: Write>(
     store: &mut S,
@@ -292,52 +453,22 @@ fn read_several<'a, S: Store, I: Read + Drop, P: Pace, W: Target + Drop, E: Writ
     reading: Reading<W>,
     error: &mut E,
 ) -> (Reading<W>, Result<Sums, Stop<'a>>)
+    requires shown { AreShown answering.now.form (map (λ name. name.items) subjects.now.names.items) }
+    requires stands { IsStanding reading.delivery }
+    ensures ends { (first : Option (List ℕ)) → IsFirst I.remaining standard.old first → EndsOnSums answering.now.limits answering.now.whole
+        (S.held store.old) first (map (λ name. name.now) answering.now.files.now) result.1 }
     ensures kept { S.held store.new ≡ S.held store.old }
 {
     let mut reading = reading;
     let mut sums = Sums::new();
     for name in answering.files {
-        let input = match open_input(store, Some(*name), standard, &mut *pace) {
-            Ok(input) => input,
-            Err(fault) => {
-                tell_fault(error, &fault);
-                sums.count_failed();
-                continue;
-            }
-        };
-        let (Ok(shown), Ok(file)) = (
-            shown_name(answering.alloc, name),
-            told_name(answering.alloc, answering.form, name),
-        ) else {
-            return (reading, Err(Stop::Fault(Fault::Memory)));
-        };
-        let manner = subjects.manner(answering.form, Some(file.as_slice()));
-        let before_each = match answering.form {
-            Form::Words(_) => Some(shown.as_str()),
-            Form::Json(_) => None,
-        };
-        let (after, judged, told, count) = read_input(
-            store,
-            answering,
-            manner,
-            before_each,
-            input,
-            reading,
+        let (after, read) = read_next(
+            store, answering, subjects, name, standard, &mut *pace, reading, &mut sums, error,
         );
         reading = after;
-        match judged {
-            Ok(judgement) => {
-                tell_named(error, told.name, &judgement.verdict);
-                tell_following(error, told.name, &judgement.look);
-                tell_unanswering(error, told.name, &judgement, count, answering.is_matched());
-                tell_misread(error, answering, &told);
-                sums.count(&judgement);
-            }
-            Err(ToolFault::Reader) => {
-                tell_fault(error, &Fault::Read(told));
-                sums.count_failed();
-            }
-            Err(fault) => return (reading, Err(stop_of(fault, told))),
+        match read {
+            Ok(()) => {}
+            Err(stop) => return (reading, Err(stop)),
         }
     }
     (reading, Ok(sums))
@@ -348,7 +479,9 @@ fn end_lines<'a, W: Target + Drop>(
     form: Form,
     subjects: &Subjects,
     reading: Reading<W>,
-) -> (Reading<W>, Result<(), Stop<'a>>) {
+) -> (Reading<W>, Result<(), Stop<'a>>)
+    ensures { IfErr result.1 IsUntold }
+{
     let Reading {
         lines,
         delivery,
@@ -366,8 +499,8 @@ fn end_lines<'a, W: Target + Drop>(
     (reading, handed)
 }
 
-/// Reads the transmissions of all files, and writes their lines. On standard error stands what verdict each has.
-fn read_all<'a, S: Store, I: Read + Drop, P: Pace, W: Target + Drop, E: Write>(
+/// Reads the transmissions of several files, and writes their lines. On standard error stands what verdict each has, and last the sums.
+fn read_each<'a, S: Store, I: Read + Drop, P: Pace, W: Target + Drop, E: Write>(
     store: &mut S,
     answering: &Answering<'_, 'a>,
     subjects: &Subjects,
@@ -376,19 +509,21 @@ fn read_all<'a, S: Store, I: Read + Drop, P: Pace, W: Target + Drop, E: Write>(
     reading: Reading<W>,
     error: &mut E,
 ) -> (Reading<W>, Result<Status, Stop<'a>>)
+    requires shown { AreShown answering.now.form (map (λ name. name.items) subjects.now.names.items) }
+    requires stands { IsStanding reading.delivery }
+    ensures ends { (first : Option (List ℕ)) → IsFirst I.remaining standard.old first → EndsOnEach None answering.now.limits
+        (wanted_of answering.now.whole) (S.held store.old) first (map (λ name. name.now) answering.now.files.now) result.1 }
     ensures kept { S.held store.new ≡ S.held store.old }
 {
-    if answering.files.len() < 2 {
-        return read_alone(store, answering, subjects, standard, pace, reading, error);
-    }
     let (reading, read) = read_several(store, answering, subjects, standard, pace, reading, error);
     let sums = match read {
         Ok(sums) => sums,
         Err(stop) => return (reading, Err(stop)),
     };
     let (reading, handed) = end_lines(answering.form, subjects, reading);
-    if let Err(stop) = handed {
-        return (reading, Err(stop));
+    match handed {
+        Ok(()) => {}
+        Err(stop) => return (reading, Err(stop)),
     }
     match sums.line(answering.alloc, answering.files.len()) {
         Ok(line) => {
@@ -400,12 +535,49 @@ fn read_all<'a, S: Store, I: Read + Drop, P: Pace, W: Target + Drop, E: Write>(
     }
 }
 
+/// Reads the transmissions of all files, or the one on standard input, and writes their lines. On standard error stands what verdict each has.
+fn read_all<'a, S: Store, I: Read + Drop, P: Pace, W: Target + Drop, E: Write>(
+    store: &mut S,
+    answering: &Answering<'_, 'a>,
+    subjects: &Subjects,
+    standard: &mut Option<I>,
+    pace: &mut P,
+    reading: Reading<W>,
+    error: &mut E,
+) -> (Reading<W>, Result<Status, Stop<'a>>)
+    requires shown { AreShown answering.now.form (map (λ name. name.items) subjects.now.names.items) }
+    requires stands { IsStanding reading.delivery }
+    ensures ends { (first : Option (List ℕ)) → IsFirst I.remaining standard.old first → EndsOnFiles answering.now.limits answering.now.whole
+        (S.held store.old) first (map (λ name. name.now) answering.now.files.now) result.1 }
+    ensures kept { S.held store.new ≡ S.held store.old }
+{
+    match answering.files {
+        [] => read_alone(
+            store, answering, subjects, None, standard, pace, reading, error,
+        ),
+        [file] => read_alone(
+            store,
+            answering,
+            subjects,
+            Some(*file),
+            standard,
+            pace,
+            reading,
+            error,
+        ),
+        _ => read_each(store, answering, subjects, standard, pace, reading, error),
+    }
+}
+
 /// How a run ends that read all with that status: as with a refusal where a transaction has one of the states that fail it.
 fn status_by(
     answering: &Answering<'_, '_>,
     delivery: &Option<Delivery>,
     status: Status,
-) -> Result<Status, Fault<'static>> {
+) -> Result<Status, Fault<'static>>
+    ensures states { IfOk result (IsStatusByStates answering.now.fail_on status) }
+    ensures memory { IfErr result IsMemory }
+{
     let Some(delivery) = delivery else {
         return Ok(status);
     };
@@ -413,7 +585,9 @@ fn status_by(
     if answering.fail_on == States::none() {
         return Ok(status);
     }
-    let counts = count_rows(answering.alloc, delivery).map_err(|_| Fault::Memory)?;
+    let Ok(counts) = count_rows(answering.alloc, delivery) else {
+        return Err(Fault::Memory);
+    };
     if counts.has_any(&answering.fail_on) {
         Ok(status.or_worse(Status::Refused))
     } else {
@@ -431,6 +605,9 @@ fn tell_lines<'a, S: Store, I: Read + Drop, P: Pace, W: Target + Drop, E: Write>
     lines: W,
     error: &mut E,
 ) -> (W, Result<Status, Stop<'a>>)
+    requires stands { IsStanding delivery }
+    ensures ends { (first : Option (List ℕ)) → IsFirst I.remaining standard.old first → EndsByStates answering.now.limits answering.now.whole
+        answering.now.fail_on (S.held store.old) first (map (λ name. name.now) answering.now.files.now) result.1 }
     ensures kept { S.held store.new ≡ S.held store.old }
 {
     let subjects = match subjects_of(answering) {
@@ -462,13 +639,18 @@ fn names_of_rows(
     alloc: Global,
     form: cwr_state_rows::Form,
     sent: &[&str],
-) -> Result<Vec<Vec<u8>>, Fault<'static>> {
+) -> Result<Vec<Vec<u8>>, Fault<'static>>
+    ensures { IfErr result IsMemory }
+{
     let mut names = Vec::new(alloc);
     for name in sent {
-        let told = cwr_state_rows::shown_name(alloc, form, input_name(name)).map_err(
-            |_| Fault::Memory,
-        )?;
-        names.push(told).map_err(|_| Fault::Memory)?;
+        let Ok(told) = cwr_state_rows::shown_name(alloc, form, input_name(name)) else {
+            return Err(Fault::Memory);
+        };
+        match names.push(told) {
+            Ok(()) => {}
+            Err(_) => return Err(Fault::Memory),
+        }
     }
     Ok(names)
 }
@@ -480,7 +662,9 @@ fn put_table<'a, W: Target>(
     names: &[Vec<u8>],
     delivery: &Delivery,
     lines: W,
-) -> (W, Result<(), Stop<'a>>) {
+) -> (W, Result<(), Stop<'a>>)
+    ensures { IfErr result.1 IsUntold }
+{
     let mut sink = Sink::new(lines);
     match put_rows(answering.alloc, form, names, delivery, &mut sink) {
         Ok(()) => hand_on(Ok(()), sink),
@@ -504,7 +688,10 @@ fn write_table<'a, W: Target, E: Write>(
     delivery: &Delivery,
     lines: W,
     error: &mut E,
-) -> (W, Result<bool, Stop<'a>>) {
+) -> (W, Result<bool, Stop<'a>>)
+    ensures states { IfOk result.1 (λ fails. fails ≡ true → answering.now.fail_on ≢ no_states) }
+    ensures untold { IfErr result.1 IsUntold }
+{
     let form = form_of_rows(answering);
     let names = match names_of_rows(answering.alloc, form, answering.sent) {
         Ok(names) => names,
@@ -536,6 +723,9 @@ fn tell_table<'a, S: Store, I: Read + Drop, P: Pace, W: Target, E: Write>(
     lines: W,
     error: &mut E,
 ) -> (W, Result<Status, Stop<'a>>)
+    requires stands { IsStanding delivery }
+    ensures ends { (first : Option (List ℕ)) → IsFirst I.remaining standard.old first → EndsByStates answering.now.limits answering.now.whole
+        answering.now.fail_on (S.held store.old) first (map (λ name. name.now) answering.now.files.now) result.1 }
     ensures kept { S.held store.new ≡ S.held store.old }
 {
     let reading = Reading {
@@ -565,7 +755,9 @@ fn tell_table<'a, S: Store, I: Read + Drop, P: Pace, W: Target, E: Write>(
 }
 
 /// How many of the inputs are on standard input.
-fn standard_inputs(answering: &Answering<'_, '_>) -> usize {
+fn standard_inputs(answering: &Answering<'_, '_>) -> usize
+    ensures { result ≡ standard_inputs (map (λ name. name.now) answering.now.files.now) (map (λ name. name.now) answering.now.sent.now) }
+{
     let files = answering
         .files
         .iter()
@@ -590,6 +782,8 @@ pub fn match_answers<'a, S: Store, I: Read + Drop, P: Pace, W: Target + Drop, E:
     lines: W,
     error: &mut E,
 ) -> (W, Result<Status, Stop<'a>>)
+    ensures ends { EndsOnAnswers answering.now.limits answering.now.whole answering.now.fail_on (S.held store.old) (I.remaining standard)
+        (map (λ name. name.now) answering.now.files.now) (map (λ name. name.now) answering.now.sent.now) result.1 }
     ensures kept { S.held store.new ≡ S.held store.old }
 {
     if standard_inputs(answering) > 1 {

@@ -3,7 +3,7 @@
 ghost use Rattle.std.specs.Prelude.{◌≡◌, IfOk, Some, false, pos, true};
 ghost use Rattle.clap.specs.Words.{app_of, rule_of};
 ghost use Rattle.clap.specs.declared.builder.Command.TheViews.{out-Command as fields_of};
-ghost use Rattle.cwr_grammar.specs.Format.CommandLine.{ends, flag, grammar, letter, limits, needed, option, option_or, options, places, shows, subcommands};
+ghost use Rattle.cwr_grammar.specs.Format.CommandLine.{ends, flag, grammar, letter, limits, needed, option, option_or, options, places, readings, shows, subcommands, writings};
 ghost use Rattle.cwr_grammar.specs.Steps.Tables.{app_of_subcommand, bare, between, common_rules, rule_of_form, rule_of_word, with_rules, with_shapes, with_subcommands, with_words};
 
 use clap::builder::ValueParser;
@@ -37,10 +37,13 @@ pub const ACKS: &str = "acks";
 /// The id of the files of the transmissions that acknowledgements answer.
 pub const SENT: &str = "sent";
 
+/// The id of the files of the acknowledgements by which transactions are selected.
+pub const ANSWERS: &str = "answers";
+
 /// The id of the flag by which an acknowledgement may answer any of them.
 pub const BY_PLACE: &str = "by-place";
 
-/// The id of the flag that asks for a table of what became of each transaction.
+/// The id of the flag that asks for a table of what became of each transaction, or of the states that select one.
 pub const STATE: &str = "state";
 
 /// The id of the statuses of the acknowledgements that are told.
@@ -198,6 +201,11 @@ enum Form {
     Level,
     /// `--ID NAME`, where NAME is this, any number of times.
     Names(&'static str),
+    /// The same, only beside the option of that id.
+    NamesBeside {
+        name: &'static str,
+        other: &'static str,
+    },
     /// `--ID STATUS`, statuses with commas between them, any number of times, but not beside the option of that id.
     StatusesWithout(&'static str),
     /// `--ID`, only beside the option of that id.
@@ -242,7 +250,9 @@ impl Form {
     /// The id of the option that has to stand beside it.
     fn beside(self) -> Option<&'static str> {
         match self {
-            Form::FlagBeside(other) | Form::NameBeside { other, .. } => Some(other),
+            Form::FlagBeside(other)
+            | Form::NameBeside { other, .. }
+            | Form::NamesBeside { other, .. } => Some(other),
             _ => None,
         }
     }
@@ -635,7 +645,7 @@ const RENUMBERED: [Word; 6] = [
 ];
 
 /// The words of a selection.
-const SELECTED: [Word; 11] = [
+const SELECTED: [Word; 14] = [
     Word {
         id: LISTED,
         form: Form::Named("LIST"),
@@ -655,6 +665,28 @@ const SELECTED: [Word; 11] = [
         id: PARTY,
         form: Form::Named("NUMBER"),
         help: "Selects the transactions that have that IPI name number, without or with leading zeros",
+    },
+    Word {
+        id: STATE,
+        form: Form::NameBeside {
+            name: "STATES",
+            other: ANSWERS,
+        },
+        help: "Selects the transactions that became so by the acknowledgements of ANSWERS, with commas between states \
+            [possible values: accepted, pending, rejected, conflict, duplicate, claim-rejected, no-participation, unanswered]",
+    },
+    Word {
+        id: ANSWERS,
+        form: Form::NamesBeside {
+            name: "ANSWERS",
+            other: STATE,
+        },
+        help: "A transmission of acknowledgements of FILE, once or more",
+    },
+    Word {
+        id: BY_PLACE,
+        form: Form::FlagBeside(ANSWERS),
+        help: "They may answer FILE whatever creation date and time they name",
     },
     Word {
         id: OTHERS,
@@ -677,8 +709,8 @@ const SELECTED: [Word; 11] = [
     WRITTEN,
 ];
 
-/// The subcommands, in the order of the help.
-const SUBCOMMANDS: &[Subcommand] = &[
+/// The subcommands that read transmissions and tell of them, in the order of the help.
+const READINGS: &[Subcommand] = &[
     Subcommand {
         name: CHECK,
         about: "Judges transmissions",
@@ -727,6 +759,10 @@ const SUBCOMMANDS: &[Subcommand] = &[
         common: Common::Reading,
         own: &ANSWERED,
     },
+];
+
+/// Those that write transmissions, and the last one.
+const WRITINGS: &[Subcommand] = &[
     Subcommand {
         name: WRITE,
         about: "Writes the transmission that lines of JSON are, and to standard error how that ended",
@@ -884,7 +920,7 @@ fn formed<'a>(alloc: Global, id: &'static str, form: Form) -> Arg<'a>
         } => limit(alloc, id, least, most, default),
         Form::Level => option(alloc, id, "LEVEL"),
         Form::StatusesWithout(_) => options(alloc, id, "STATUS"),
-        Form::Names(name) => options(alloc, id, name),
+        Form::Names(name) | Form::NamesBeside { name, .. } => options(alloc, id, name),
         Form::NameBeside { name, .. } | Form::Named(name) => option(alloc, id, name),
         Form::Letter(short) => letter(alloc, id, short, id),
         Form::Short {
@@ -1143,6 +1179,30 @@ fn with_subcommands<'a>(
     Ok(command)
 }
 
+/// Adds the program's subcommands that read transmissions and tell of them.
+fn with_readings<'a>(
+    alloc: Global,
+    command: Command<'a>,
+    purpose: Purpose,
+) -> Result<Command<'a>, AllocError>
+    ensures { purpose ≡ Purpose.Reading
+        → IfOk result (λ made. app_of made ≡ with_shapes (app_of command.entry) readings) }
+{
+    with_subcommands(alloc, command, READINGS, purpose)
+}
+
+/// Adds those that write transmissions, and the last one.
+fn with_writings<'a>(
+    alloc: Global,
+    command: Command<'a>,
+    purpose: Purpose,
+) -> Result<Command<'a>, AllocError>
+    ensures { purpose ≡ Purpose.Reading
+        → IfOk result (λ made. app_of made ≡ with_shapes (app_of command.entry) writings) }
+{
+    with_subcommands(alloc, command, WRITINGS, purpose)
+}
+
 /// Adds the program's subcommands.
 fn with_tables<'a>(
     alloc: Global,
@@ -1152,7 +1212,8 @@ fn with_tables<'a>(
     ensures { purpose ≡ Purpose.Reading
         → IfOk result (λ made. app_of made ≡ with_shapes (app_of command.entry) subcommands) }
 {
-    with_subcommands(alloc, command, SUBCOMMANDS, purpose)
+    let command = with_readings(alloc, command, purpose)?;
+    with_writings(alloc, command, purpose)
 }
 
 /// The program's words.

@@ -10,6 +10,8 @@ pub mod MemberTexts
 pub mod Members
 -- Things that are numbered, with one more.
 pub mod NumberedMore
+-- The places of what is kept are those of the rows.
+pub mod PlacesKept
 -- What is added and put in turn, where memory can be refused too.
 pub mod PutInTurn
 -- A transaction has a row for each sender that answers it, or one, and the rows don't hang on the order of what was read.

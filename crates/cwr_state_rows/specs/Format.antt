@@ -4,3 +4,4 @@ pub mod Laws
 pub mod StateRows
 pub mod RowTexts
 pub mod StateCounts
+pub mod StatePlaces

@@ -1,3 +1,4 @@
 -- What the code keeps, and what its calls do to that.
+pub mod HeldPlaces
 pub mod HeldRows
 pub mod PutRows

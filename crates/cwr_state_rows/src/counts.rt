@@ -10,7 +10,7 @@ ghost use Rattle.cwr_state_rows.specs.Format.StateCounts.{first_counts, has_any,
 ghost use Rattle.cwr_state_rows.specs.Steps.HeldRows.{counts_by, counts_with, counts_with_answers, counts_with_group, counts_with_one, counts_with_sent, no_counts, one_more};
 ghost use Rattle.cwr_state_rows.specs.Steps.PutRows.{CountsHeld, CountsTold};
 
-use crate::senders::sort_to;
+use crate::senders::{Collected, sort_to};
 use cwr_delivery::{Delivery, Tally, wants_answer};
 use cwr_devices::{Pen, Sink, SinkFault, Target};
 use cwr_sent::{AnsweringFile, KeptAnswer, Sent, SentFacts, SentGroup};
@@ -162,20 +162,13 @@ impl Counts {
     }
 }
 
-/// The answers to one transaction, and the same by their senders.
-#[derive(Drop)]
-struct Answers {
-    collected: Vec<KeptAnswer>,
-    sorted: Vec<KeptAnswer>,
-}
-
 /// Counts transaction `t` of a group, with its rows.
 fn count_transaction(
     files: &[AnsweringFile],
     group: &SentGroup,
     t: usize,
     facts: &SentFacts,
-    answers: &mut Answers,
+    answers: &mut Collected,
     counts: Counts,
 ) -> Result<Counts, AllocError>
     requires { t < length group.now.facts }
@@ -192,7 +185,7 @@ fn count_transaction(
 fn count_group(
     files: &[AnsweringFile],
     group: &SentGroup,
-    answers: &mut Answers,
+    answers: &mut Collected,
     counts: Counts,
 ) -> Result<Counts, AllocError>
     ensures { IfOk result (λ c. c ≡ counts_with_group files.now counts group.now) }
@@ -212,7 +205,7 @@ fn count_group(
 fn count_sent(
     files: &[AnsweringFile],
     sent: &Sent,
-    answers: &mut Answers,
+    answers: &mut Collected,
     counts: Counts,
 ) -> Result<Counts, AllocError>
     ensures { IfOk result (λ c. c ≡ counts_with_sent files.now counts (shown_in sent.now)) }
@@ -231,10 +224,7 @@ pub fn count_rows(alloc: Global, delivery: &Delivery) -> Result<Counts, AllocErr
     // Of any delivery, by what that keeps.
     ensures held { IfOk result (CountsHeld delivery.now) }
 {
-    let mut answers = Answers {
-        collected: Vec::new(alloc),
-        sorted: Vec::new(alloc),
-    };
+    let mut answers = Collected::new(alloc);
     let mut so_far = Counts::none();
     for sent in delivery.sent() {
         so_far = count_sent(delivery.files(), sent, &mut answers, so_far)?;

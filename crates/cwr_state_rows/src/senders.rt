@@ -5,7 +5,24 @@ ghost use Rattle.cwr_state_rows.specs.Format.StateRows.{bytes_before};
 ghost use Rattle.cwr_state_rows.specs.Steps.HeldRows.{kept_before, place_of, sorted_from, sorted_to};
 
 use cwr_sent::{AnsweringFile, KeptAnswer, SentGroup, file_of};
-use std::alloc::AllocError;
+use std::alloc::{AllocError, Global};
+
+/// The answers to one transaction, and the same by their senders.
+#[derive(Drop)]
+pub(crate) struct Collected {
+    pub(crate) collected: Vec<KeptAnswer>,
+    pub(crate) sorted: Vec<KeptAnswer>,
+}
+
+impl Collected {
+    /// None.
+    pub(crate) fn new(alloc: Global) -> Collected {
+        Collected {
+            collected: Vec::new(alloc),
+            sorted: Vec::new(alloc),
+        }
+    }
+}
 
 /// Whether one text stands before another as bytes.
 fn bytes_before(one: &[u8], other: &[u8]) -> bool

@@ -6,7 +6,7 @@ ghost use Rattle.cwr_files.specs.Format.Faults.{IfErr};
 ghost use Rattle.cwr_files.specs.Format.Files.{Turns};
 ghost use Rattle.cwr_files.specs.Steps.Inputs.{remaining_of, standard_left};
 ghost use Rattle.cwr_select.specs.Format.Criteria.{significant};
-ghost use Rattle.cwr_transform.specs.Format.Selections.{EndsAsSelection, EndsAsSelectionAt, IsSelectionAt, IsSelectionFrom, LeavesSelection, WritesSelection, asked_choice};
+ghost use Rattle.cwr_transform.specs.Format.Selections.{EndsAsSelection, EndsAsSelectionAt, IsSelectionAt, IsSelectionFrom, IsThereOrRead, LeavesSelection, WritesSelection, asked_choice};
 ghost use Rattle.cwr_transform.specs.Format.Lists.{number_in, place_in};
 ghost use Rattle.cwr_transform.specs.Steps.Lists.{IsThereForList, ReadsList, SaysText, standard_after_list};
 ghost use Rattle.cwr_transform.specs.Steps.Selections.{CountsLookAfter, CountsSelecting, EndsSelected, JudgesSelected, JudgesSelection, LeavesSelected, LooksAfterSelecting, is_empty, keeps_selected, selected_status, status_where, with_memory};
@@ -146,6 +146,7 @@ fn read_lists<'a, S: Store, I: Read + Drop>(
     ensures places { IfOk result (λ lists. ReadsList place_in (S.held store.old)
         (standard_left I.remaining (standard_after_list (option_map (λ n. n.now) selection.now.works) standard.old))
         (option_map (λ n. n.now) selection.now.places) (option_map (λ l. l.values) lists.places)) }
+    ensures first { OnOk result (IsThereForList (option_map (λ n. n.now) selection.now.works) standard.old) }
     ensures there { OnOk result (IsThereForList (option_map (λ n. n.now) selection.now.places)
         (standard_after_list (option_map (λ n. n.now) selection.now.works) standard.old)) }
     ensures standard { OnOk result (standard.new ≡ standard_after_list (option_map (λ n. n.now) selection.now.places)
@@ -168,7 +169,10 @@ fn read_lists<'a, S: Store, I: Read + Drop>(
 type Asked<'l, 'a> = Turned<
     Both<
         Option<ByNumber<'l>>,
-        Both<Option<ByPlace<'l>>, Both<Option<ByKind>, Option<ByParty<'a>>>>,
+        Both<
+            Option<ByPlace<'l>>,
+            Both<Option<ByPlace<'l>>, Both<Option<ByKind>, Option<ByParty<'a>>>>,
+        >,
     >,
 >;
 
@@ -192,22 +196,27 @@ fn by_places(places: &Option<ReadList<Place>>) -> Option<ByPlace<'_>>
     }
 }
 
-/// Who chooses by all that the selection asks for, where the party has that number.
+/// Who chooses by all that the selection asks for, where these are answered so, and the party has that number.
 fn asked_for<'l, 'a>(
     selection: &Selection<'a>,
     lists: &'l Lists,
+    answered: Option<ByPlace<'l>>,
     party: Option<ByParty<'a>>,
 ) -> Asked<'l, 'a>
     ensures works { option_map (λ by. by.0.now) result.choice.0 ≡ option_map (λ list. list.values) lists.entry.now.works }
     ensures places { option_map (λ by. by.0.now) result.choice.1.0 ≡ option_map (λ list. list.values) lists.entry.now.places }
-    ensures kinds { result.choice.1.1.0 ≡ selection.now.kinds }
-    ensures party { result.choice.1.1.1 ≡ party.entry }
+    ensures answered { option_map (λ by. by.0.now) result.choice.1.1.0 ≡ option_map (λ by. by.0.now) answered.entry }
+    ensures kinds { result.choice.1.1.1.0 ≡ selection.now.kinds }
+    ensures party { result.choice.1.1.1.1 ≡ party.entry }
     ensures others { result.turned ≡ selection.now.others }
 {
     let works = by_numbers(&lists.works);
     let places = by_places(&lists.places);
     Turned {
-        choice: Both(works, Both(places, Both(selection.kinds, party))),
+        choice: Both(
+            works,
+            Both(places, Both(answered, Both(selection.kinds, party))),
+        ),
         turned: selection.others,
     }
 }
@@ -669,6 +678,7 @@ fn select_input<'a, S: Store, I: Read + Drop, P: Pace + Drop, W: Target + Drop, 
     alloc: Global,
     selection: &Selection<'a>,
     lists: &Lists,
+    answered: Option<ByPlace<'_>>,
     party: Option<ByParty<'a>>,
     input: Input<'a, S::Reader, I, P>,
     output: W,
@@ -676,24 +686,24 @@ fn select_input<'a, S: Store, I: Read + Drop, P: Pace + Drop, W: Target + Drop, 
 ) -> (W, Result<Status, Stop<'a>>)
     ensures ends { EndsAsSelection selection.now.limits selection.now.wanted.whole selection.now.created
         (asked_choice selection.now.others (option_map (λ list. list.values) lists.now.works)
-        (option_map (λ list. list.values) lists.now.places) selection.now.kinds party.entry)
+        (option_map (λ list. list.values) lists.now.places) (option_map (λ by. by.0.now) answered.entry) selection.now.kinds party.entry)
         (remaining_of S.Reader.remaining I.remaining input.entry) result.1 }
     ensures files { S.making store.old ≡ None → Turns (S.held store.old) (S.held store.new)
         (LeavesSelection (option_map (λ name. name.now) selection.now.out) (S.failures store.old) (S.failures store.new)
         (IsSelectionFrom selection.now.limits selection.now.wanted.whole selection.now.created
         (asked_choice selection.now.others (option_map (λ list. list.values) lists.now.works)
-        (option_map (λ list. list.values) lists.now.places) selection.now.kinds party.entry)
+        (option_map (λ list. list.values) lists.now.places) (option_map (λ by. by.0.now) answered.entry) selection.now.kinds party.entry)
         (remaining_of S.Reader.remaining I.remaining input.entry)) result.1) }
 {
     let Ok((numbers, places)) = sought_in(alloc, lists) else {
         return (output, Err(Stop::Fault(Fault::Memory)));
     };
-    let choice = asked_for(selection, lists, party);
+    let choice = asked_for(selection, lists, answered, party);
     let answer = select_by(
         store, alloc, selection, lists, &choice, numbers, places, input, output, error,
     );
     let Turned {
-        choice: Both(_, Both(_, Both(_, _))),
+        choice: Both(_, Both(_, Both(_, Both(_, _)))),
         turned: _,
     } = choice;
     answer
@@ -712,30 +722,32 @@ fn party_of<'a>(number: Option<&'a str>) -> Option<Option<ByParty<'a>>>
     }
 }
 
-/// Writes what is selected of the transmission of a file, or of standard input: to a file, or to the output. There the lines that say how
-/// that ended go to standard error. The output comes back.
+/// Writes what is selected of the transmission of a file, or of standard input, which is there once: to a file, or to the output. There the
+/// lines that say how that ended go to standard error. Where answers ask for places, those alone are chosen. The output comes back.
 pub fn select_file<'a, S: Store, I: Read + Drop, P: Pace + Drop, W: Target + Drop, E: Write>(
     store: &mut S,
     alloc: Global,
     selection: &Selection<'a>,
-    standard: I,
+    answered: Option<ByPlace<'_>>,
+    standard: &mut Option<I>,
     pace: P,
     output: W,
     error: &mut E,
 ) -> (W, Result<Status, Stop<'a>>)
     // It ends well only where something is selected of what the words name.
-    ensures ends { EndsAsSelectionAt selection.now (S.held store.old) (I.remaining standard) result.1 }
+    ensures ends { (input : I) → IsThereOrRead input standard.old
+        → EndsAsSelectionAt selection.now (option_map (λ by. by.0.now) answered.entry) (S.held store.old) (I.remaining input) result.1 }
     // Where it ends well the file holds the canonical text of that, and nothing else changed. So it is, or nothing changed, where it is
     // refused: something of a list may be missing. Else nothing changed.
-    ensures files { S.making store.old ≡ None → Turns (S.held store.old) (S.held store.new)
+    ensures files { S.making store.old ≡ None → (input : I) → IsThereOrRead input standard.old
+        → Turns (S.held store.old) (S.held store.new)
         (LeavesSelection (option_map (λ name. name.now) selection.now.out) (S.failures store.old) (S.failures store.new)
-        (IsSelectionAt selection.now (S.held store.old) (I.remaining standard)) result.1) }
+        (IsSelectionAt selection.now (option_map (λ by. by.0.now) answered.entry) (S.held store.old) (I.remaining input)) result.1) }
 {
     let Some(party) = party_of(selection.party) else {
         return (output, Ok(Status::CommandLine));
     };
-    let mut standard = Some(standard);
-    let lists = match read_lists(store, alloc, selection, &mut standard) {
+    let lists = match read_lists(store, alloc, selection, standard) {
         Ok(lists) => lists,
         Err(Unlisted::Line(name, line, expected)) => {
             tell_line(error, name_of(name), line, expected);
@@ -743,9 +755,11 @@ pub fn select_file<'a, S: Store, I: Read + Drop, P: Pace + Drop, W: Target + Dro
         }
         Err(Unlisted::Fault(fault)) => return (output, Err(Stop::Fault(fault))),
     };
-    let input = match open_input(store, selection.file, &mut standard, pace) {
+    let input = match open_input(store, selection.file, standard, pace) {
         Ok(input) => input,
         Err(fault) => return (output, Err(Stop::Fault(fault))),
     };
-    select_input(store, alloc, selection, &lists, party, input, output, error)
+    select_input(
+        store, alloc, selection, &lists, answered, party, input, output, error,
+    )
 }

@@ -4,6 +4,7 @@
 mod words;
 
 pub use words::{
-    AcksWords, AdviseWords, Colouring, CsvWords, JoinWords, JsonWords, Judging, Kinds, LintWords,
-    RenumberWords, Rows, SelectWords, ShowWords, SplitWords, Task, Work, WriteWords, task_of,
+    AcksWords, AdviseWords, AnsweredWords, Colouring, CsvWords, JoinWords, JsonWords, Judging,
+    Kinds, LintWords, RenumberWords, Rows, SelectWords, ShowWords, SplitWords, Task, Work,
+    WriteWords, task_of,
 };

@@ -10,7 +10,7 @@ ghost use Rattle.cwr_shape.specs.Format.Ranges.{limit_values};
 ghost use Rattle.cwr_moments.specs.Format.Moments.{moment_text};
 ghost use Rattle.cwr_grammar.specs.Format.CommandLine.{grammar};
 ghost use Rattle.cwr_words.specs.Format.Words.{AskFor, Asks, IsAnswer, IsLevelOf, IsPlainCheck, IsProgressOf, IsRenumberingOf, IsShowOf, IsSplitOf, IsTableOf, IsTaskOf};
-ghost use Rattle.cwr_words.specs.Format.Words.{AreBeside, AreLimitsOf, AreNamesOf, AreNamesOfJoin, AreStatusesOf, AreValuesOf, IsAcksOf, IsAdviceOf, IsCreatedBy, IsExportOf, IsImportOf, IsLintOf, IsJoinOf, IsJoinOfNames, IsJudgingOf, IsNumber, IsSelectionOf, IsWorkOf, asks_for_some, colouring_given, colouring_named, is_dated, is_given, is_party, kinds_given, kinds_in, level_given, level_named, named_out, party_given, rows_named, states_given, with_kind, written_in, written_once};
+ghost use Rattle.cwr_words.specs.Format.Words.{AreBeside, AreLimitsOf, AreNamesOf, AreNamesOfJoin, AreStatusesOf, AreValuesOf, IsAcksOf, IsAdviceOf, IsCreatedBy, IsExportOf, IsImportOf, IsLintOf, IsJoinOf, IsJoinOfNames, IsJudgingOf, IsNumber, IsAnsweredBy, IsSelectionOf, IsWorkOf, are_answers_whole, asks_for_some, colouring_given, colouring_named, is_dated, is_file_named, is_given, is_party, kinds_given, kinds_in, level_given, level_named, named_out, party_given, rows_named, states_given, with_kind, written_in, written_once};
 ghost use Rattle.cwr_words.specs.Steps.Matches.{given_by};
 
 use clap::error::ErrorKind;
@@ -201,6 +201,17 @@ pub struct Kinds {
     pub acknowledgements: bool,
 }
 
+/// The acknowledgements by which transactions are selected.
+#[derive(Debug, PartialEq, Eq, Drop)]
+pub struct AnsweredWords<'a> {
+    /// The states of which a transaction has one.
+    pub states: States,
+    /// The names of the files of the acknowledgements, one at least.
+    pub files: Vec<&'a str>,
+    /// They are matched by the place that they name alone.
+    pub by_place: bool,
+}
+
 /// What the words of `cwr select` ask for.
 #[derive(Debug, PartialEq, Eq, Drop)]
 pub struct SelectWords<'a> {
@@ -220,6 +231,8 @@ pub struct SelectWords<'a> {
     pub kinds: Option<Kinds>,
     /// The IPI name number of a party, as digits that aren't all zeros.
     pub party: Option<&'a str>,
+    /// What became of transactions.
+    pub answered: Option<AnsweredWords<'a>>,
     /// All others are selected.
     pub others: bool,
     /// When the result is created; without it when the transmission was.
@@ -819,6 +832,54 @@ fn asks_for_some(given: &ArgMatches<'_>) -> bool
         || given.get_str(grammar::PLACES).is_some()
         || given.get_str(grammar::KINDS).is_some()
         || given.get_str(grammar::PARTY).is_some()
+        || given.get_str(grammar::STATE).is_some()
+}
+
+/// Whether a word names a file, and not standard input.
+fn is_file_named(given: &ArgMatches<'_>) -> bool
+    ensures { result ≡ is_file_named (given_by (found_of given.now)) }
+{
+    match given.get_str(grammar::FILE) {
+        Some(name) => name != DASH,
+        None => false,
+    }
+}
+
+/// Whether states stand beside files of acknowledgements and a transmission that can be read twice, or no word speaks of any.
+fn are_answers_whole(given: &ArgMatches<'_>, files: &[&str]) -> bool
+    requires { AreValuesOf (given_by (found_of given.now)) (codes "answers") (map (λ file. file.now) files.now) }
+    ensures { result ≡ are_answers_whole (given_by (found_of given.now)) }
+{
+    if given.get_str(grammar::STATE).is_some() {
+        !files.is_empty() && is_file_named(given)
+    } else {
+        files.is_empty() && !flag_in(given, grammar::BY_PLACE)
+    }
+}
+
+/// The acknowledgements by which transactions are selected, where words say so. `None` where a word stands without one that it needs, or
+/// the name of a state is none.
+fn answered_in<'a>(
+    alloc: Global,
+    given: &ArgMatches<'a>,
+) -> Result<Option<Option<AnsweredWords<'a>>>, AllocError>
+    ensures { IfOk result (IsAnswer (IsAnsweredBy (given_by (found_of given.now)))) }
+{
+    let files = values_of(alloc, given, grammar::ANSWERS)?;
+    if !are_answers_whole(given, files.as_slice()) {
+        return Ok(None);
+    }
+    let Some(names) = given.get_str(grammar::STATE) else {
+        return Ok(Some(None));
+    };
+    let Some(states) = States::read(names) else {
+        return Ok(None);
+    };
+    Ok(Some(Some(AnsweredWords {
+        states,
+        files,
+        by_place: flag_in(given, grammar::BY_PLACE),
+    })))
 }
 
 /// Whether it is said when the result is created, where that has to be, and once.
@@ -835,7 +896,24 @@ fn is_dated(given: &ArgMatches<'_>) -> bool
 
 /// The work of a selection. `None` where no word says which transactions are selected, or when the result is created, or a word is none of
 /// those that it may be.
-fn select_in<'a>(given: &ArgMatches<'a>) -> Option<SelectWords<'a>>
+fn select_in<'a>(
+    alloc: Global,
+    given: &ArgMatches<'a>,
+) -> Result<Option<SelectWords<'a>>, AllocError>
+    ensures { IfOk result (IsAnswer (IsSelectionOf (given_by (found_of given.now)))) }
+{
+    match answered_in(alloc, given)? {
+        Some(answered) => Ok(selected_in(given, answered)),
+        None => Ok(None),
+    }
+}
+
+/// The same, by these acknowledgements.
+fn selected_in<'a>(
+    given: &ArgMatches<'a>,
+    answered: Option<AnsweredWords<'a>>,
+) -> Option<SelectWords<'a>>
+    requires { IsAnsweredBy (given_by (found_of given.now)) answered }
     ensures { IsAnswer (IsSelectionOf (given_by (found_of given.now))) result }
 {
     if !asks_for_some(given) || !is_dated(given) {
@@ -850,6 +928,7 @@ fn select_in<'a>(given: &ArgMatches<'a>) -> Option<SelectWords<'a>>
         places: given.get_str(grammar::PLACES),
         kinds: kinds_in(given)?,
         party: party_in(given)?,
+        answered,
         others: flag_in(given, grammar::OTHERS),
         created: created_in(given)?,
     })
@@ -882,7 +961,7 @@ fn work_in<'a>(
     } else if name == grammar::RENUMBER {
         Ok(renumber_in(given).map(Work::Renumber))
     } else if name == grammar::SELECT {
-        Ok(select_in(given).map(Work::Select))
+        Ok(select_in(alloc, given)?.map(Work::Select))
     } else if name == grammar::MANUAL {
         Ok(Some(Work::Manual))
     } else if name == grammar::SHOW {
@@ -985,9 +1064,13 @@ fn task_in<'a>(alloc: Global, matches: &ArgMatches<'a>) -> Result<Option<Task<'a
     }
 }
 
-/// What is told where a name is no state's. It lists the names of all states.
+/// What is told where the name of a state that ends a run is none, and where that of one that selects is. They list the names of all states.
 const NO_STATE: &str = "\
 a word for '--fail-on <STATES>' is no state
+  [possible values: accepted, pending, rejected, conflict, duplicate, claim-rejected, no-participation, unanswered]";
+
+const NO_SELECTED_STATE: &str = "\
+a word for '--state <STATES>' is no state
   [possible values: accepted, pending, rejected, conflict, duplicate, claim-rejected, no-participation, unanswered]";
 
 /// What is told where a word is no moment.
@@ -1012,14 +1095,26 @@ fn join_refusal(given: &ArgMatches<'_>) -> &'static str {
     }
 }
 
+/// Whether the name of a state that selects is none.
+fn has_no_state(given: &ArgMatches<'_>) -> bool {
+    match given.get_str(grammar::STATE) {
+        Some(names) => States::read(names).is_none(),
+        None => false,
+    }
+}
+
 /// What is told where a selection lacks a word, or has one too many, or one that is none of those that it may be.
 fn select_refusal(given: &ArgMatches<'_>) -> &'static str {
     if !asks_for_some(given) {
-        "no word says which transactions: --works <LIST>, --places <LIST>, --kind <KINDS> or --party <NUMBER>"
+        "no word says which transactions: --works <LIST>, --places <LIST>, --kind <KINDS>, --party <NUMBER>, or --state <STATES> with --answers <ANSWERS>"
     } else if flag_in(given, grammar::SAME_CREATED) && !is_dated(given) {
         "the argument '--created <MOMENT>' cannot be used with '--same-created'"
     } else if !is_dated(given) {
         "a file asks for '--created <MOMENT>', or '--same-created': with the same creation date and time an answer to it can't be told from one to the transmission"
+    } else if given.get_str(grammar::STATE).is_some() && !is_file_named(given) {
+        "with '--state <STATES>' the transmission is read twice: it is a file, and not standard input"
+    } else if has_no_state(given) {
+        NO_SELECTED_STATE
     } else if kinds_in(given).is_none() {
         "a word for '--kind <KINDS>' is no type of a transaction\n  [possible values: AGR, NWR, REV, ACK]"
     } else if party_in(given).is_none() {

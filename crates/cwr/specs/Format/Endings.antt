@@ -3,6 +3,7 @@ use Rattle.std.specs.Prelude.{◌≡◌, ◌<◌, Bool, true, false, List, [], �
 use Rattle.std.specs.Prelude.{Result, Ok, Err}
 use Rattle.std.specs.Option.{is_some}
 use Rattle.cwr_shape.specs.declared.limits.Limits.{Limits}
+use Rattle.cwr_states.specs.declared.state_sets.States.{States}
 use Rattle.cwr_words.specs.declared.words.Work.{Work}
 use Rattle.cwr_words.specs.declared.words.Work.TheVariants.{Check, Show, Explain, Lint, Advise, Json, Csv, Acks, Write, Split}
 use Rattle.cwr_words.specs.declared.words.Work.TheVariants.{Join, Renumber, Select, Manual}
@@ -18,11 +19,12 @@ use Rattle.cwr_endings.specs.declared.stops.Stop.{Stop}
 use Rattle.cwr_endings.specs.declared.stops.Stop.TheVariants as stops
 use Rattle.cwr_endings.specs.Format.Endings.{IsStatusOn}
 use Rattle.cwr_reports.specs.Format.Endings.{EndsAsExportOf, EndsOnEach, EndsOnRead}
+use Rattle.cwr_answers.specs.Format.Endings.{EndsOnAnswers}
 use Rattle.cwr_transform.specs.declared.imports.Import.{Import}
 use Rattle.cwr_transform.specs.Format.Imports.{IsImportStatus}
 use Rattle.cwr_transform.specs.Format.Joins.{IsStatusOfJoin}
-use Rattle.cwr_transform.specs.Format.Selections.{EndsAsSelectionAt}
-use Rattle.cwr.specs.Format.Tables.{encoding_of, selection_of}
+use Rattle.cwr.specs.Format.Selected.{IsSelectedBy}
+use Rattle.cwr.specs.Format.Tables.{encoding_of}
 
 -- two of the words name standard input, which is there once
 abbrev pub AreStandardTwice : List (List ℕ) → Type 0
@@ -48,13 +50,15 @@ abbrev pub EndsAsData : Option (Bool × ℕ) → Limits → Wanted → Option Te
 EndsAsData advice limits wanted held standard name false ending = EndsOnRead advice limits wanted held standard name ending
 EndsAsData advice limits wanted held standard name true ending = EndsAsExportOf advice limits wanted held standard name ending
 
--- What the acknowledgements of one input say is told, and its status is that of its text. Of several inputs, and where they are matched
--- with what was sent, nothing is said here.
-abbrev pub EndsAsAnswers : Limits → Wanted → Option Texts → Option (List ℕ) → List (List ℕ) → List (List ℕ) → Result Status Stop
+-- The status of acknowledgements is that of the one text, or the worst of several. Where they are matched with what was sent it is that of a
+-- refusal where one of that isn't accepted, and may be so where a state of what was sent ends a run; whether one does isn't said here.
+abbrev pub EndsAsAnswers : Limits → Bool → States → Option Texts → Option (List ℕ) → List (List ℕ) → List (List ℕ) → Result Status Stop
     → Type 0
-EndsAsAnswers limits wanted held standard [] [] ending = EndsOnRead None limits wanted held standard None ending
-EndsAsAnswers limits wanted held standard (name ∷ []) [] ending = EndsOnRead None limits wanted held standard (Some name) ending
-EndsAsAnswers limits wanted held standard names sent ending = Unit {0}
+EndsAsAnswers limits whole fail_on held standard [] [] ending =
+    EndsOnRead None limits (record { whole = whole; fail_on = None }) held standard None ending
+EndsAsAnswers limits whole fail_on held standard (name ∷ []) [] ending =
+    EndsOnRead None limits (record { whole = whole; fail_on = None }) held standard (Some name) ending
+EndsAsAnswers limits whole fail_on held standard names sent ending = EndsOnAnswers limits whole fail_on held standard names sent ending
 
 -- the manual is printed, or not taken, or there was no memory
 abbrev pub EndsAsManual : Result Status Stop → Type 0
@@ -86,6 +90,14 @@ EndsAsUnion limits wanted held standard names (Ok status) = IsStatusOfJoin limit
 EndsAsUnion limits wanted held standard names (Err (stops.Fault (faults.IsTwice of))) = AreStandardTwice names
 EndsAsUnion limits wanted held standard names (Err stop) = Unit {0}
 
+-- a run ends well only where there is such a text
+abbrev pub EndsWellAs : (List ℕ → Type 0) → Result Status Stop → Type 0
+EndsWellAs is (Ok statuses.Good) = (text : List ℕ) × is text
+EndsWellAs is (Ok statuses.Refused) = Unit {0}
+EndsWellAs is (Ok statuses.CommandLine) = Unit {0}
+EndsWellAs is (Ok statuses.Fault) = ⊥
+EndsWellAs is (Err stop) = Unit {0}
+
 -- How a run of the work ends, within these limits, and where nothing may follow a transmission or something may. Of numbers that are put
 -- right nothing is said here.
 abbrev pub EndsOnWork : Limits → Bool → Work → Option Texts → Option (List ℕ) → Result Status Stop → Type 0
@@ -109,7 +121,7 @@ EndsOnWork limits whole (Csv words) held standard ending =
     EndsAsData None limits (record { whole = whole; fail_on = None }) held standard (option_map (λ name. name.now) words.file)
     (is_some words.out) ending
 EndsOnWork limits whole (Acks words) held standard ending =
-    EndsAsAnswers limits (record { whole = whole; fail_on = None }) held standard (map (λ name. name.now) words.files.items)
+    EndsAsAnswers limits whole words.fail_on held standard (map (λ name. name.now) words.files.items)
     (map (λ name. name.now) words.sent.items) ending
 EndsOnWork limits whole (Write words) held standard ending = EndsAsWriting limits words held standard ending
 EndsOnWork limits whole (Split words) held standard ending =
@@ -117,7 +129,7 @@ EndsOnWork limits whole (Split words) held standard ending =
 EndsOnWork limits whole (Join words) held standard ending =
     EndsAsUnion limits (record { whole = whole; fail_on = words.fail_on }) held standard (map (λ name. name.now) words.files.items) ending
 EndsOnWork limits whole (Renumber words) held standard ending = Unit {0}
-EndsOnWork limits whole (Select words) held standard ending = EndsAsSelectionAt (selection_of limits whole words) held standard ending
+EndsOnWork limits whole (Select words) held standard ending = EndsWellAs (IsSelectedBy limits whole words held standard) ending
 EndsOnWork limits whole Manual held standard ending = EndsAsManual ending
 
 -- the status of a fault: what was to be written may not be, or what was to be read can't be, or a file, a device or memory failed

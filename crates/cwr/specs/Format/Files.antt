@@ -19,10 +19,11 @@ use Rattle.cwr_transform.specs.Format.Imports.{IsImportOf}
 use Rattle.cwr_transform.specs.Format.Joins.{IsTextOfJoin}
 use Rattle.cwr_transform.specs.Format.Repairs.{IsRepairOf, IsRepairStatus, WritesRepair}
 use Rattle.cwr_transform.specs.Format.Splits.{LeavesCut}
-use Rattle.cwr_transform.specs.Format.Selections.{IsSelectionAt, LeavesSelection}
+use Rattle.cwr_transform.specs.Format.Selections.{LeavesSelection}
 use Rattle.cwr.specs.Format.Endings.{EndsOnWork, ending_status, import_of, status_code}
 use Rattle.cwr.specs.Format.Failures.{FailsWork}
-use Rattle.cwr.specs.Format.Tables.{encoding_of, selection_of, table_of}
+use Rattle.cwr.specs.Format.Selected.{IsSelectedBy}
+use Rattle.cwr.specs.Format.Tables.{encoding_of, table_of}
 
 -- a run that writes a file leaves it or nothing, and one that writes to standard output changes nothing
 abbrev pub LeavesOut : Option (List ℕ) → ℕ → ℕ → (List ℕ → Type 0) → Result Status Stop → Texts → Texts → Type 0
@@ -64,7 +65,7 @@ LeavesWork limits whole (Split words) held standard old now ending after =
 LeavesWork limits whole (Renumber words) held standard old now ending after = Unit {0}
 LeavesWork limits whole (Select words) held standard old now ending after =
     Turns held after (LeavesSelection (option_map (λ name. name.now) words.out) old now
-    (IsSelectionAt (selection_of limits whole words) held standard) ending)
+    (IsSelectedBy limits whole words held standard) ending)
 LeavesWork limits whole work held standard old now ending after = Turns held after Same
 
 -- so a run that puts numbers right does

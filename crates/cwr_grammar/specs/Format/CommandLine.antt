@@ -131,15 +131,23 @@ renumber = subcommand (codes "renumber")
 
 abbrev pub select : Shape
 select = subcommand (codes "select")
-    (reads ++ option (codes "works") ∷ option (codes "places") ∷ option (codes "kind") ∷ option (codes "party") ∷ flag (codes "not")
-    ∷ option (codes "created") ∷ flag (codes "same-created") ∷ flag (codes "new") ∷ fail_on ∷ file ∷ written (codes "OUT") ∷ [])
+    (reads ++ option (codes "works") ∷ option (codes "places") ∷ option (codes "kind") ∷ option (codes "party") ∷ option (codes "state")
+    ∷ options (codes "answers") ∷ flag (codes "by-place") ∷ flag (codes "not") ∷ option (codes "created") ∷ flag (codes "same-created")
+    ∷ flag (codes "new") ∷ fail_on ∷ file ∷ written (codes "OUT") ∷ [])
 
 abbrev pub manual : Shape
 manual = subcommand (codes "manual") []
 
+-- those that read transmissions and tell of them
+unfoldable pub readings : List Shape
+readings = check ∷ show ∷ explain ∷ lint ∷ advise ∷ json ∷ csv ∷ acks ∷ []
+
+-- those that write transmissions, and the last one
+unfoldable pub writings : List Shape
+writings = write ∷ split ∷ join ∷ renumber ∷ select ∷ manual ∷ []
+
 unfoldable pub subcommands : List Shape
-subcommands =
-    check ∷ show ∷ explain ∷ lint ∷ advise ∷ json ∷ csv ∷ acks ∷ write ∷ split ∷ join ∷ renumber ∷ select ∷ manual ∷ []
+subcommands = readings ++ writings
 
 -- The words of the program: one of these subcommands, or none. It has a version.
 unfoldable pub grammar : App

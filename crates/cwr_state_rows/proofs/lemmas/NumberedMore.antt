@@ -1,8 +1,8 @@
 -- Things that are numbered, with one more.
-use Rattle.std.proofs.Common.{◌≡◌, ℕ, zero, suc, ◌+◌, ◌≤◌, List, [], ◌∷◌, ◌++◌, length, take, fold, Some, None, ap, ap₂, ◌∙◌, arith}
+use Rattle.std.proofs.Common.{◌≡◌, ℕ, zero, suc, ◌+◌, ◌≤◌, List, [], ◌∷◌, ◌++◌, length, take, fold, Some, None, sym, ap, ap₂, ◌∙◌, append-nil, append_assoc, arith}
 use Rattle.std.specs.Prelude.{slice_get}
-use Rattle.std.specs.List.{enumerate_from}
-use Rattle.std.proofs.lemmas.Grind.{fold-append}
+use Rattle.std.specs.List.{enumerate_from, flat_map}
+use Rattle.std.proofs.lemmas.Grind.{flat_map-append, fold-append}
 
 pub enumerate-more : {A : Type 0} (k : ℕ) (xs : List A) (i : ℕ) (x : A) → Some x ≡ slice_get xs i
     → enumerate_from k (take (suc i) xs) ≡ enumerate_from k (take i xs) ++ (k + i, x) ∷ []
@@ -37,6 +37,29 @@ pub fold_take : {A B : Type 0} (h : B → A → B) (b : B) (xs : List A) (i : �
 fold_take {A = A} h b xs i x e =
     ap (λ (n : ℕ). fold h b (take n xs)) (suc_is i) ∙ ap (fold h b) (take-more xs i x e)
     ∙ fold-append h b (take i xs) (x ∷ [])
+
+-- and where each has a list
+pub flat_more : {A B : Type 0} (f : ℕ × A → List B) (k : ℕ) (xs : List A) (i n : ℕ) (x : A) → Some x ≡ slice_get xs i → k + i ≡ n
+    → flat_map f (enumerate_from k (take (i + 1) xs)) ≡ flat_map f (enumerate_from k (take i xs)) ++ f (n, x)
+flat_more {A = A} {B = B} f k xs i n x e is =
+    ap (λ (m : ℕ). flat_map f (enumerate_from k (take m xs))) (suc_is i)
+    ∙ ap (λ (l : List (ℕ × A)). flat_map f l) (enumerate-more k xs i x e)
+    ∙ flat_map-append f (enumerate_from k (take i xs)) ((k + i, x) ∷ [])
+    ∙ ap (λ (l : List B). flat_map f (enumerate_from k (take i xs)) ++ l) (append-nil (f (k + i, x)))
+    ∙ ap (λ (m : ℕ). flat_map f (enumerate_from k (take i xs)) ++ f (m, x)) is
+
+pub flat_take : {A B : Type 0} (f : A → List B) (xs : List A) (i : ℕ) (x : A) → Some x ≡ slice_get xs i
+    → flat_map f (take (i + 1) xs) ≡ flat_map f (take i xs) ++ f x
+flat_take {A = A} {B = B} f xs i x e =
+    ap (λ (n : ℕ). flat_map f (take n xs)) (suc_is i) ∙ ap (λ (l : List A). flat_map f l) (take-more xs i x e)
+    ∙ flat_map-append f (take i xs) (x ∷ [])
+    ∙ ap (λ (l : List B). flat_map f (take i xs) ++ l) (append-nil (f x))
+
+-- what is added after what was added before
+pub added_on : {B : Type 0} (start mid new front more back : List B) → mid ≡ start ++ front → new ≡ mid ++ more
+    → back ≡ front ++ more → new ≡ start ++ back
+added_on {B = B} start mid new front more back before after is =
+    after ∙ ap (λ (l : List B). l ++ more) before ∙ append_assoc start front more ∙ ap (λ (l : List B). start ++ l) (sym is)
 
 -- where nothing is read any more, the list was walked whole
 pub none_past : {X : Type 0} (xs : List X) (i : ℕ) → slice_get xs i ≡ None → length xs ≤ i

@@ -35,22 +35,23 @@ mapped f p None = refl
 mapped f p (Some a) = refl
 
 -- who chooses by all that is asked for chooses as is promised
-pub asked_same : {A B : Type 0} (of_number : A → List (List ℕ)) (of_place : B → List (ℕ × ℕ)) (a : Option A) (b : Option B)
+pub asked_same : {A B : Type 0} (of_number : A → List (List ℕ)) (of_place : B → List (ℕ × ℕ)) (a : Option A) (b c : Option B)
     (k kinds : Option ByKind) (p party : Option (List ℕ)) (turned others : Bool) (numbers : Option (List (List ℕ)))
-    (places : Option (List (ℕ × ℕ))) → option_map of_number a ≡ numbers → option_map of_place b ≡ places → k ≡ kinds → p ≡ party
-    → turned ≡ others
+    (places answered : Option (List (ℕ × ℕ))) → option_map of_number a ≡ numbers → option_map of_place b ≡ places
+    → option_map of_place c ≡ answered → k ≡ kinds → p ≡ party → turned ≡ others
     → (λ (group place : ℕ) (t : List RecordValue). if turned then
     not
-    (option_map_or (λ by. has_number (of_number by) t) a true && (option_map_or (λ by. has_place (of_place by) group place) b true && (option_map_or (λ by. has_kind by t) k true && option_map_or (λ number. has_party number t) p true)))
-    else option_map_or (λ by. has_number (of_number by) t) a true && (option_map_or (λ by. has_place (of_place by) group place) b true && (option_map_or (λ by. has_kind by t) k true && option_map_or (λ number. has_party number t) p true)))
-    ≡ asked_choice others numbers places kinds party
-asked_same of_number of_place a b k kinds p party turned others numbers places ea eb ek ep et =
+    (option_map_or (λ by. has_number (of_number by) t) a true && (option_map_or (λ by. has_place (of_place by) group place) b true && (option_map_or (λ by. has_place (of_place by) group place) c true && (option_map_or (λ by. has_kind by t) k true && option_map_or (λ number. has_party number t) p true))))
+    else option_map_or (λ by. has_number (of_number by) t) a true && (option_map_or (λ by. has_place (of_place by) group place) b true && (option_map_or (λ by. has_place (of_place by) group place) c true && (option_map_or (λ by. has_kind by t) k true && option_map_or (λ number. has_party number t) p true))))
+    ≡ asked_choice others numbers places answered kinds party
+asked_same of_number of_place a b c k kinds p party turned others numbers places answered ea eb ec ek ep et =
     fun_ext λ group. fun_ext λ place. fun_ext λ t.
     ap₂ (λ (b : Bool) (x : Bool). if b then not x else x) et
     (ap₂ ◌&&◌ (mapped of_number (λ list. has_number list t) a ∙ ap (λ (o : Option (List (List ℕ))). option_map_or (λ list. has_number list t) o true) ea)
     (ap₂ ◌&&◌ (mapped of_place (λ list. has_place list group place) b ∙ ap (λ (o : Option (List (ℕ × ℕ))). option_map_or (λ list. has_place list group place) o true) eb)
+    (ap₂ ◌&&◌ (mapped of_place (λ list. has_place list group place) c ∙ ap (λ (o : Option (List (ℕ × ℕ))). option_map_or (λ list. has_place list group place) o true) ec)
     (ap₂ ◌&&◌ (ap (λ (o : Option ByKind). option_map_or (λ by. has_kind by t) o true) ek)
-    (ap (λ (o : Option (List ℕ)). option_map_or (λ number. has_party number t) o true) ep))))
+    (ap (λ (o : Option (List ℕ)). option_map_or (λ number. has_party number t) o true) ep)))))
 
 -- ---- what the words name
 
@@ -60,10 +61,10 @@ pub after_lent : {I : Type 0} (name : Option (List ℕ)) (input : I) (standard :
 after_lent None input standard lent = lent
 after_lent (Some name) input standard lent = lent_on (is_standard (Some name)) input standard _ lent refl
 
-pub lists_lent : {I : Type 0} (works places : Option (List ℕ)) (input : I)
-    → IsLent input (standard_after_list places (standard_after_list works (Some input)))
-lists_lent works places input =
-    after_lent places input (standard_after_list works (Some input)) (after_lent works input (Some input) (inl refl))
+pub lists_lent : {I : Type 0} (works places : Option (List ℕ)) (input : I) (standard : Option I) → IsLent input standard
+    → IsLent input (standard_after_list places (standard_after_list works standard))
+lists_lent works places input standard lent =
+    after_lent places input (standard_after_list works standard) (after_lent works input standard lent)
 
 read_lent : {I : Type 0} (b : Bool) (held : Option Texts) (of_standard : I → Option (List ℕ)) (input : I) (standard : Option I)
     (name : List ℕ) (is : List ℕ → Type 0) → IsLent input standard → IsThereFor b standard
@@ -104,14 +105,14 @@ listed_lent reads held of_standard input standard (Some name) values lent there 
 )
 
 -- so it has what it had, where it is read
-pub left_named : {I : Type 0} (of_standard : I → Option (List ℕ)) (standard : I) (works places : Option (List ℕ)) (now : Option I)
-    (held : Option Texts) (name left : Option (List ℕ)) → now ≡ standard_after_list places (standard_after_list works (Some standard))
-    → IsThereFor (is_standard name) now → IsLeftOf held (standard_left of_standard now) name left
+pub left_named : {I : Type 0} (of_standard : I → Option (List ℕ)) (standard : I) (first : Option I) (works places : Option (List ℕ))
+    (now : Option I) (held : Option Texts) (name left : Option (List ℕ)) → IsLent standard first
+    → now ≡ standard_after_list places (standard_after_list works first) → IsThereFor (is_standard name) now → IsLeftOf held (standard_left of_standard now) name left
     → IsLeftOf held (of_standard standard) name left
-left_named {I} of_standard standard works places now held name left is there h =
+left_named {I} of_standard standard first works places now held name left begun is there h =
     by name there h where
       lent : IsLent standard now
-      lent = subst (λ (o : Option I). IsLent standard o) (sym is) (lists_lent works places standard)
+      lent = subst (λ (o : Option I). IsLent standard o) (sym is) (lists_lent works places standard first begun)
 
       alone : (o : Option I) → IsLent standard o → IsSome o → left ≡ standard_left of_standard o → left ≡ of_standard standard
       alone None l t e = absurd (true≢false (sym t))
@@ -142,14 +143,14 @@ place_same group place None (Some ys) h = absurd h
 place_same group place (Some xs) None h = absurd h
 place_same group place (Some xs) (Some ys) h = sym (list_any-IsPermutation (λ p. p.0 == group && p.1 == place) xs ys h)
 
-listed_same : (others : Bool) (numbers of_works : Option (List (List ℕ))) (places of_places : Option (List (ℕ × ℕ))) (kinds : Option ByKind)
-    (party : Option (List ℕ)) → ArePermuted numbers of_works → ArePermuted places of_places
-    → asked_choice others of_works of_places kinds party ≡ asked_choice others numbers places kinds party
-listed_same others numbers of_works places of_places kinds party h k =
+listed_same : (others : Bool) (numbers of_works : Option (List (List ℕ))) (places of_places answered : Option (List (ℕ × ℕ)))
+    (kinds : Option ByKind) (party : Option (List ℕ)) → ArePermuted numbers of_works → ArePermuted places of_places
+    → asked_choice others of_works of_places answered kinds party ≡ asked_choice others numbers places answered kinds party
+listed_same others numbers of_works places of_places answered kinds party h k =
     fun_ext λ group. fun_ext λ place. fun_ext λ t.
     ap (λ (x : Bool). if others then not x else x)
     (ap₂ ◌&&◌ (number_same t numbers of_works h)
-    (ap (λ (x : Bool). x && (option_map_or (λ by. has_kind by t) kinds true && option_map_or (λ number. has_party number t) party true))
+    (ap (λ (x : Bool). x && (option_map_or (λ list. has_place list group place) answered true && (option_map_or (λ by. has_kind by t) kinds true && option_map_or (λ number. has_party number t) party true)))
     (place_same group place places of_places k)))
 
 from_some : (limits : Limits) (whole : Bool) (created : Option Moment) (choice : Choice) (left : Option (List ℕ)) (text : List ℕ)
@@ -158,19 +159,19 @@ from_some : (limits : Limits) (whole : Bool) (created : Option Moment) (choice :
 from_some limits whole created choice None text h = tt
 from_some limits whole created choice (Some known) text h = h
 
-pub at_names : (s : Selection) (held : Option Texts) (standard : Option (List ℕ)) (works : Option (List (List ℕ)))
-    (places : Option (List (ℕ × ℕ))) (party : Option (List ℕ)) (left : Option (List ℕ)) (text : List ℕ)
+pub at_names : (s : Selection) (answered : Option (List (ℕ × ℕ))) (held : Option Texts) (standard : Option (List ℕ))
+    (works : Option (List (List ℕ))) (places : Option (List (ℕ × ℕ))) (party : Option (List ℕ)) (left : Option (List ℕ)) (text : List ℕ)
     → ReadsList number_in held standard (option_map (λ name. name.now) s.works) works
     → ReadsList place_in held standard (option_map (λ name. name.now) s.places) places
     → party ≡ option_map (λ number. significant number.now) s.party → IsLeftOf held standard (option_map (λ name. name.now) s.file) left
-    → IsSelectionFrom s.limits s.wanted.whole s.created (asked_choice s.others works places s.kinds party) left text
-    → IsSelectionAt s held standard text
-at_names s held standard works places party left text numbered placed who opened h =
+    → IsSelectionFrom s.limits s.wanted.whole s.created (asked_choice s.others works places answered s.kinds party) left text
+    → IsSelectionAt s answered held standard text
+at_names s answered held standard works places party left text numbered placed who opened h =
     let asked : Option (List ℕ) = option_map (λ number. significant number.now) s.party in
-    let choice : Choice = asked_choice s.others numbered.0 placed.0 s.kinds asked in
-    let same : asked_choice s.others works places s.kinds party ≡ choice
-    = listed_same s.others numbered.0 works placed.0 places s.kinds party numbered.2 placed.2
-    ∙ ap (λ (p : Option (List ℕ)). asked_choice s.others numbered.0 placed.0 s.kinds p) who in
+    let choice : Choice = asked_choice s.others numbered.0 placed.0 answered s.kinds asked in
+    let same : asked_choice s.others works places answered s.kinds party ≡ choice
+    = listed_same s.others numbered.0 works placed.0 places answered s.kinds party numbered.2 placed.2
+    ∙ ap (λ (p : Option (List ℕ)). asked_choice s.others numbered.0 placed.0 answered s.kinds p) who in
     record {
       numbers = numbered.0;
       places = placed.0;
@@ -179,7 +180,7 @@ at_names s held standard works places party left text numbered placed who opened
       of = if_read held standard (option_map (λ name. name.now) s.file) left
           (λ known. IsSelectionFrom s.limits s.wanted.whole s.created choice (Some known) text) opened
           (subst (λ (c : Choice). IfSome left (λ known. IsSelectionFrom s.limits s.wanted.whole s.created c (Some known) text)) same
-          (from_some s.limits s.wanted.whole s.created (asked_choice s.others works places s.kinds party) left text h));
+          (from_some s.limits s.wanted.whole s.created (asked_choice s.others works places answered s.kinds party) left text h));
     }
 
 -- ---- where nothing changed
@@ -208,12 +209,12 @@ selected_as (Some out) old failures is other ending texts new so h =
       | inr k ↦ inr (k.0, (k.1.0, so k.1.0 k.1.1, k.1.2))
     ]
 
-pub ends_as : (s : Selection) (held : Option Texts) (standard : Option (List ℕ)) (choice : Choice) (left : Option (List ℕ))
-    (ending : Result Status Stop)
-    → ((text : List ℕ) → IsSelectionFrom s.limits s.wanted.whole s.created choice left text → IsSelectionAt s held standard text)
-    → EndsAsSelection s.limits s.wanted.whole s.created choice left ending → EndsAsSelectionAt s held standard ending
-ends_as s held standard choice left (Ok statuses.Good) so h = (h.0, so h.0 h.1)
-ends_as s held standard choice left (Ok statuses.Refused) so h = tt
-ends_as s held standard choice left (Ok statuses.CommandLine) so h = tt
-ends_as s held standard choice left (Ok statuses.Fault) so h = h
-ends_as s held standard choice left (Err stop) so h = tt
+pub ends_as : (s : Selection) (answered : Option (List (ℕ × ℕ))) (held : Option Texts) (standard : Option (List ℕ)) (choice : Choice)
+    (left : Option (List ℕ)) (ending : Result Status Stop)
+    → ((text : List ℕ) → IsSelectionFrom s.limits s.wanted.whole s.created choice left text → IsSelectionAt s answered held standard text)
+    → EndsAsSelection s.limits s.wanted.whole s.created choice left ending → EndsAsSelectionAt s answered held standard ending
+ends_as s answered held standard choice left (Ok statuses.Good) so h = (h.0, so h.0 h.1)
+ends_as s answered held standard choice left (Ok statuses.Refused) so h = tt
+ends_as s answered held standard choice left (Ok statuses.CommandLine) so h = tt
+ends_as s answered held standard choice left (Ok statuses.Fault) so h = h
+ends_as s answered held standard choice left (Err stop) so h = tt

@@ -21,18 +21,21 @@ use Rattle.cwr_transform.specs.Format.Lists.{IsListed, number_in, place_in}
 
 -- ---- which transactions
 
--- those that have one of these numbers, one of these places, one of these kinds, and that name the party of that number, each where it is asked
--- for
-abbrev pub all_of : Option (List (List ℕ)) → Option (List (ℕ × ℕ)) → Option ByKind → Option (List ℕ) → Choice
-all_of numbers places kinds party group place t =
+-- those that have one of these numbers, one of these places, one of the places that are answered so, one of these kinds, and that name the
+-- party of that number, each where it is asked for
+abbrev pub all_of : Option (List (List ℕ)) → Option (List (ℕ × ℕ)) → Option (List (ℕ × ℕ)) → Option ByKind → Option (List ℕ) → Choice
+all_of numbers places answered kinds party group place t =
     option_map_or (λ list. has_number list t) numbers true
     && (option_map_or (λ list. has_place list group place) places true
-    && (option_map_or (λ by. has_kind by t) kinds true && option_map_or (λ number. has_party number t) party true))
+    && (option_map_or (λ list. has_place list group place) answered true
+    && (option_map_or (λ by. has_kind by t) kinds true && option_map_or (λ number. has_party number t) party true)))
 
 -- or all others
-abbrev pub asked_choice : Bool → Option (List (List ℕ)) → Option (List (ℕ × ℕ)) → Option ByKind → Option (List ℕ) → Choice
-asked_choice others numbers places kinds party group place t =
-    if others then not (all_of numbers places kinds party group place t) else all_of numbers places kinds party group place t
+abbrev pub asked_choice : Bool → Option (List (List ℕ)) → Option (List (ℕ × ℕ)) → Option (List (ℕ × ℕ)) → Option ByKind
+    → Option (List ℕ) → Choice
+asked_choice others numbers places answered kinds party group place t =
+    if others then not (all_of numbers places answered kinds party group place t)
+    else all_of numbers places answered kinds party group place t
 
 -- ---- what is written
 
@@ -58,24 +61,28 @@ EndsAsSelection limits whole created choice left (Err stop) = Unit {0}
 
 -- ---- by what the words name
 
+-- standard input is there, or was read
+abbrev pub IsThereOrRead : {I : Type 0} → I → Option I → Type 0
+IsThereOrRead input standard = (standard ≡ Some input) ⊎ (standard ≡ None)
+
 -- The text is that of what is selected of the transmission of the file: by the numbers of a list where one is named, by the places of one
--- where one is, by kind and party.
-pub record IsSelectionAt (s : Selection) (held : Option Texts) (standard : Option (List ℕ)) (text : List ℕ) : Type 0 where
+-- where one is, by these places where answers ask for some, by kind and party.
+pub record IsSelectionAt (s : Selection) (answered : Option (List (ℕ × ℕ))) (held : Option Texts) (standard : Option (List ℕ)) (text : List ℕ) : Type 0 where
   pub numbers : Option (List (List ℕ))
   pub places : Option (List (ℕ × ℕ))
   pub by_numbers : IsListed number_in held standard (option_map (λ name. name.now) s.works) numbers
   pub by_places : IsListed place_in held standard (option_map (λ name. name.now) s.places) places
   pub of : IfRead held standard (option_map (λ name. name.now) s.file) (λ known.
       IsSelectionFrom s.limits s.wanted.whole s.created
-      (asked_choice s.others numbers places s.kinds (option_map (λ number. significant number.now) s.party)) (Some known) text)
+      (asked_choice s.others numbers places answered s.kinds (option_map (λ number. significant number.now) s.party)) (Some known) text)
 
 -- it ends well only where there is one
-abbrev pub EndsAsSelectionAt : Selection → Option Texts → Option (List ℕ) → Result Status Stop → Type 0
-EndsAsSelectionAt s held standard (Ok statuses.Good) = (text : List ℕ) × IsSelectionAt s held standard text
-EndsAsSelectionAt s held standard (Ok statuses.Refused) = Unit {0}
-EndsAsSelectionAt s held standard (Ok statuses.CommandLine) = Unit {0}
-EndsAsSelectionAt s held standard (Ok statuses.Fault) = ⊥
-EndsAsSelectionAt s held standard (Err stop) = Unit {0}
+abbrev pub EndsAsSelectionAt : Selection → Option (List (ℕ × ℕ)) → Option Texts → Option (List ℕ) → Result Status Stop → Type 0
+EndsAsSelectionAt s answered held standard (Ok statuses.Good) = (text : List ℕ) × IsSelectionAt s answered held standard text
+EndsAsSelectionAt s answered held standard (Ok statuses.Refused) = Unit {0}
+EndsAsSelectionAt s answered held standard (Ok statuses.CommandLine) = Unit {0}
+EndsAsSelectionAt s answered held standard (Ok statuses.Fault) = ⊥
+EndsAsSelectionAt s answered held standard (Err stop) = Unit {0}
 
 -- What a run leaves that selects to the file of that name: what one does that writes it; or, where it is refused since something of the lists
 -- is missing, the file holds a text that is so, and nothing else changed.

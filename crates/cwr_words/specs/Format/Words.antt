@@ -2,7 +2,7 @@
 use Rattle.std.specs.Prelude.{◌≡◌, ◌⊎◌, ◌<◌, ◌^◌, ◌++◌, ◌==◌, ◌&&◌, ◌||◌, ℕ, nat_le, Bool, true, false, not, List, [], ◌∷◌, map, Option, Some, None, IsSome, IsSomeAnd, is_none, is_some, fold, length, option_map, codes, if◌then◌else◌}
 use Rattle.std.specs.Char.{is_ascii_digit}
 use Rattle.std.specs.List.{list_all, list_any}
-use Rattle.std.specs.Option.{option_and_then, option_or}
+use Rattle.std.specs.Option.{option_and_then, option_map_or, option_or}
 use Rattle.std.specs.Str.{bytes_eq}
 use Rattle.std.specs.Int.NonZero.{non_zero_u32_get}
 use Rattle.std.specs.Str.Parse.{IsNumeral, digits_value, without_leading_plus}
@@ -30,6 +30,7 @@ use Rattle.cwr_words.specs.declared.words.JsonWords.{JsonWords}
 use Rattle.cwr_words.specs.declared.words.Kinds.{Kinds}
 use Rattle.cwr_words.specs.declared.words.LintWords.{LintWords}
 use Rattle.cwr_words.specs.declared.words.RenumberWords.{RenumberWords}
+use Rattle.cwr_words.specs.declared.words.AnsweredWords.{AnsweredWords}
 use Rattle.cwr_words.specs.declared.words.SelectWords.{SelectWords}
 use Rattle.cwr_words.specs.declared.words.ShowWords.{ShowWords}
 use Rattle.cwr_words.specs.declared.words.SplitWords.{SplitWords}
@@ -309,7 +310,28 @@ party_given (Some text) = if is_party text then Some (Some text) else None
 abbrev pub asks_for_some : Given → Bool
 asks_for_some given =
     is_some (given.first (codes "works")) || is_some (given.first (codes "places")) || is_some (given.first (codes "kind"))
-    || is_some (given.first (codes "party"))
+    || is_some (given.first (codes "party")) || is_some (given.first (codes "state"))
+
+-- a word names a file, and not standard input
+abbrev pub is_file_named : Given → Bool
+is_file_named given = option_map_or (λ name. not (bytes_eq name (codes "-"))) (given.first (codes "FILE")) false
+
+-- States stand beside files of acknowledgements, and a transmission that can be read twice; or none of the words that go with them is there.
+abbrev pub are_answers_whole : Given → Bool
+are_answers_whole given =
+    if is_some (given.first (codes "state")) then not (length (values_of (given.all (codes "answers"))) == 0) && is_file_named given
+    else length (values_of (given.all (codes "answers"))) == 0 && not (is_given given (codes "by-place"))
+
+-- transactions have one of these states by the acknowledgements of the files ANSWERS, by place alone where that flag is given; or no state is asked for
+abbrev pub AreStatesOf : Given → Option AnsweredWords → Type 0
+AreStatesOf given None = given.first (codes "state") ≡ None
+AreStatesOf given (Some words) =
+    (option_and_then states_in (given.first (codes "state")) ≡ Some words.states)
+    × AreValuesOf given (codes "answers") (map (λ file. file.now) words.files.items) × IsFlagOf given (codes "by-place") words.by_place
+
+pub record IsAnsweredBy (given : Given) (answered : Option AnsweredWords) : Type 0 where
+  pub whole : are_answers_whole given ≡ true
+  pub states : AreStatesOf given answered
 
 -- It is said when the result is created: at a moment of its own, or when the transmission was. Of what goes to standard output nothing has to
 -- be said.
@@ -319,7 +341,7 @@ is_dated given =
     else is_some (given.first (codes "created")) || is_none (named_out (given.first (codes "OUT")))
 
 -- Some transactions of the file FILE to the file OUT: those whose numbers or places stand in the files that these options name, that have one
--- of these kinds, and that name that party; or with that flag all others.
+-- of these kinds, that name that party, and that became so; or with that flag all others.
 pub record IsSelectionOf (given : Given) (words : SelectWords) : Type 0 where
   pub file : option_map (λ f. f.now) words.file ≡ given.first (codes "FILE")
   pub out : option_map (λ f. f.now) words.out ≡ named_out (given.first (codes "OUT"))
@@ -329,6 +351,7 @@ pub record IsSelectionOf (given : Given) (words : SelectWords) : Type 0 where
   pub places : option_map (λ f. f.now) words.places ≡ given.first (codes "places")
   pub kinds : kinds_given (given.first (codes "kind")) ≡ Some words.kinds
   pub party : party_given (given.first (codes "party")) ≡ Some (option_map (λ number. number.now) words.party)
+  pub answered : IsAnsweredBy given words.answered
   pub others : IsFlagOf given (codes "not") words.others
   pub created : IsCreatedBy (given.first (codes "created")) words.created
   pub some : asks_for_some given ≡ true

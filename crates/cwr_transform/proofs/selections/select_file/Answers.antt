@@ -1,6 +1,6 @@
-use Rattle.cwr_transform.specs.Format.Lists.{place_in}
+use Rattle.cwr_transform.specs.Format.Lists.{number_in, place_in}
 use Rattle.cwr_transform.specs.Steps.Lists.{ReadsList, standard_after_list}
-use Rattle.std.proofs.Common.{Some, inl, refl, ◌≡◌, ℕ, List, Option, subst, ◌∙◌}
+use Rattle.std.proofs.Common.{◌≡◌, ℕ, List, Option, subst, ◌∙◌}
 use Rattle.std.specs.Prelude.{option_map}
 use Rattle.cwr_files.specs.Format.Files.{Texts, Turns}
 use Rattle.cwr_files.specs.Steps.Inputs.{IsLeftOf, remaining_of, standard_left}
@@ -10,56 +10,66 @@ use Rattle.cwr_transform.proofs.lemmas.SelectionsNamed.{after_lent, at_names, en
 use Rattle.cwr_transform.proofs.selections.select_file.Goals as goal
 
 pub returns-clause-ends : goal.returns-clause-ends
-returns-clause-ends g c =
+returns-clause-ends g c = λ input lent.
     let s = c.args.selection.now in
+    let answered : Option (List (ℕ × ℕ)) = option_map (λ by. by.0.now) c.args.answered in
     let held : Option Texts = g.S.Store.held c.args.store.now in
-    let standard : Option (List ℕ) = g.I.Read.remaining c.args.standard in
+    let standard : Option (List ℕ) = g.I.Read.remaining input in
     let left : Option (List ℕ) = remaining_of g.S.Reader.Read.remaining g.I.Read.remaining c.in-Ok-open_input.input in
     let file : Option (List ℕ) = option_map (λ name. name.now) s.file in
     let placed : ReadsList place_in held standard (option_map (λ name. name.now) s.places)
     (option_map (λ list. list.values) c.in-Ok.lists.places)
-    = listed_lent place_in held g.I.Read.remaining c.args.standard
-    (standard_after_list (option_map (λ name. name.now) s.works) (Some c.args.standard)) (option_map (λ name. name.now) s.places)
+    = listed_lent place_in held g.I.Read.remaining input
+    (standard_after_list (option_map (λ name. name.now) s.works) c.args.standard.now) (option_map (λ name. name.now) s.places)
     (option_map (λ list. list.values) c.in-Ok.lists.places)
-    (after_lent (option_map (λ name. name.now) s.works) c.args.standard (Some c.args.standard) (inl refl)) c.in-Ok.ensures.there
+    (after_lent (option_map (λ name. name.now) s.works) input c.args.standard.now lent) c.in-Ok.ensures.there
     c.in-Ok.ensures.places in
+    let numbered : ReadsList number_in held standard (option_map (λ name. name.now) s.works)
+    (option_map (λ list. list.values) c.in-Ok.lists.works)
+    = listed_lent number_in held g.I.Read.remaining input c.args.standard.now (option_map (λ name. name.now) s.works)
+    (option_map (λ list. list.values) c.in-Ok.lists.works) lent c.in-Ok.ensures.first c.in-Ok.ensures.works in
     let opened : IsLeftOf held standard file left
-    = left_named g.I.Read.remaining c.args.standard (option_map (λ name. name.now) s.works) (option_map (λ name. name.now) s.places)
-    c.read_lists.new.standard held file left c.in-Ok.ensures.standard c.in-Ok-open_input.ensures.there
+    = left_named g.I.Read.remaining input c.args.standard.now (option_map (λ name. name.now) s.works) (option_map (λ name. name.now) s.places)
+    c.read_lists.new.standard held file left lent c.in-Ok.ensures.standard c.in-Ok-open_input.ensures.there
     (subst (λ (h : Option Texts). IsLeftOf h (standard_left g.I.Read.remaining c.read_lists.new.standard) file left) c.read_lists.ensures.kept
     c.in-Ok-open_input.ensures.left) in
-    ends_as s held standard
+    ends_as s answered held standard
     (asked_choice s.others (option_map (λ list. list.values) c.in-Ok.lists.works) (option_map (λ list. list.values) c.in-Ok.lists.places)
-    s.kinds c.in-Some.party) left c.select_input.result.1
-    (λ text h. at_names s held standard (option_map (λ list. list.values) c.in-Ok.lists.works)
-    (option_map (λ list. list.values) c.in-Ok.lists.places) c.in-Some.party left text c.in-Ok.ensures.works placed c.in-Some.ensures opened h) c.select_input.ensures.ends
+    answered s.kinds c.in-Some.party) left c.select_input.result.1
+    (λ text h. at_names s answered held standard (option_map (λ list. list.values) c.in-Ok.lists.works)
+    (option_map (λ list. list.values) c.in-Ok.lists.places) c.in-Some.party left text numbered placed c.in-Some.ensures opened h) c.select_input.ensures.ends
 
 pub returns-clause-files : goal.returns-clause-files
 returns-clause-files g c =
-    λ none.
+    λ none input lent.
     let s = c.args.selection.now in
+    let answered : Option (List (ℕ × ℕ)) = option_map (λ by. by.0.now) c.args.answered in
     let s0 = c.args.store.now in
     let s2 = c.open_input.new.store in
     let s3 = c.select_input.new.store in
     let held : Option Texts = g.S.Store.held s0 in
-    let standard : Option (List ℕ) = g.I.Read.remaining c.args.standard in
+    let standard : Option (List ℕ) = g.I.Read.remaining input in
     let left : Option (List ℕ) = remaining_of g.S.Reader.Read.remaining g.I.Read.remaining c.in-Ok-open_input.input in
     let file : Option (List ℕ) = option_map (λ name. name.now) s.file in
     let out : Option (List ℕ) = option_map (λ name. name.now) s.out in
     let choice = asked_choice s.others (option_map (λ list. list.values) c.in-Ok.lists.works)
-    (option_map (λ list. list.values) c.in-Ok.lists.places) s.kinds c.in-Some.party in
+    (option_map (λ list. list.values) c.in-Ok.lists.places) answered s.kinds c.in-Some.party in
     let is : List ℕ → Type 0 = IsSelectionFrom s.limits s.wanted.whole s.created choice left in
-    let other : List ℕ → Type 0 = IsSelectionAt s held standard in
+    let other : List ℕ → Type 0 = IsSelectionAt s answered held standard in
     let placed : ReadsList place_in held standard (option_map (λ name. name.now) s.places)
     (option_map (λ list. list.values) c.in-Ok.lists.places)
-    = listed_lent place_in held g.I.Read.remaining c.args.standard
-    (standard_after_list (option_map (λ name. name.now) s.works) (Some c.args.standard)) (option_map (λ name. name.now) s.places)
+    = listed_lent place_in held g.I.Read.remaining input
+    (standard_after_list (option_map (λ name. name.now) s.works) c.args.standard.now) (option_map (λ name. name.now) s.places)
     (option_map (λ list. list.values) c.in-Ok.lists.places)
-    (after_lent (option_map (λ name. name.now) s.works) c.args.standard (Some c.args.standard) (inl refl)) c.in-Ok.ensures.there
+    (after_lent (option_map (λ name. name.now) s.works) input c.args.standard.now lent) c.in-Ok.ensures.there
     c.in-Ok.ensures.places in
+    let numbered : ReadsList number_in held standard (option_map (λ name. name.now) s.works)
+    (option_map (λ list. list.values) c.in-Ok.lists.works)
+    = listed_lent number_in held g.I.Read.remaining input c.args.standard.now (option_map (λ name. name.now) s.works)
+    (option_map (λ list. list.values) c.in-Ok.lists.works) lent c.in-Ok.ensures.first c.in-Ok.ensures.works in
     let opened : IsLeftOf held standard file left
-    = left_named g.I.Read.remaining c.args.standard (option_map (λ name. name.now) s.works) (option_map (λ name. name.now) s.places)
-    c.read_lists.new.standard held file left c.in-Ok.ensures.standard c.in-Ok-open_input.ensures.there
+    = left_named g.I.Read.remaining input c.args.standard.now (option_map (λ name. name.now) s.works) (option_map (λ name. name.now) s.places)
+    c.read_lists.new.standard held file left lent c.in-Ok.ensures.standard c.in-Ok-open_input.ensures.there
     (subst (λ (h : Option Texts). IsLeftOf h (standard_left g.I.Read.remaining c.read_lists.new.standard) file left) c.read_lists.ensures.kept
     c.in-Ok-open_input.ensures.left) in
     let unfailed : g.S.Store.failures s2 ≡ g.S.Store.failures s0 = c.in-Ok-open_input.ensures.opened ∙ c.in-Ok.ensures.failures in
@@ -71,6 +81,6 @@ returns-clause-files g c =
     (LeavesSelection out (g.S.Store.failures s2) (g.S.Store.failures s3) is c.select_input.result.1)
     (LeavesSelection out (g.S.Store.failures s2) (g.S.Store.failures s3) other c.select_input.result.1)
     (λ texts new h. selected_as out (g.S.Store.failures s2) (g.S.Store.failures s3) is other c.select_input.result.1 texts new
-    (λ text k. at_names s held standard (option_map (λ list. list.values) c.in-Ok.lists.works)
-    (option_map (λ list. list.values) c.in-Ok.lists.places) c.in-Some.party left text c.in-Ok.ensures.works placed c.in-Some.ensures opened k) h)
+    (λ text k. at_names s answered held standard (option_map (λ list. list.values) c.in-Ok.lists.works)
+    (option_map (λ list. list.values) c.in-Ok.lists.places) c.in-Some.party left text numbered placed c.in-Some.ensures opened k) h)
     (c.select_input.ensures.files (c.open_input.ensures.making ∙ c.read_lists.ensures.making ∙ none))))

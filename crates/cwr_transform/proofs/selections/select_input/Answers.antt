@@ -12,8 +12,8 @@ returns-clause-ends g c =
     subst
     (λ (choice : Choice). EndsAsSelection c.args.selection.now.limits c.args.selection.now.wanted.whole c.args.selection.now.created choice
     (remaining_of g.S.Reader.Read.remaining g.I.Read.remaining c.args.input) c.select_by-answer.result.1)
-    (asked_same (λ by. by.0.now) (λ by. by.0.now) _ _ _ _ _ _ _ _ _ _ c.asked_for-choice.ensures.works c.asked_for-choice.ensures.places
-    c.asked_for-choice.ensures.kinds c.asked_for-choice.ensures.party c.asked_for-choice.ensures.others) c.select_by-answer.ensures.ends
+    (asked_same (λ by. by.0.now) (λ by. by.0.now) _ _ _ _ _ _ _ _ _ _ _ _ c.asked_for-choice.ensures.works c.asked_for-choice.ensures.places
+    c.asked_for-choice.ensures.answered c.asked_for-choice.ensures.kinds c.asked_for-choice.ensures.party c.asked_for-choice.ensures.others) c.select_by-answer.ensures.ends
 
 pub returns-clause-files : goal.returns-clause-files
 returns-clause-files g c =
@@ -24,6 +24,6 @@ returns-clause-files g c =
     (g.S.Store.failures c.select_by-answer.new.store)
     (IsSelectionFrom c.args.selection.now.limits c.args.selection.now.wanted.whole c.args.selection.now.created choice
     (remaining_of g.S.Reader.Read.remaining g.I.Read.remaining c.args.input)) c.select_by-answer.result.1))
-    (asked_same (λ by. by.0.now) (λ by. by.0.now) _ _ _ _ _ _ _ _ _ _ c.asked_for-choice.ensures.works c.asked_for-choice.ensures.places
-    c.asked_for-choice.ensures.kinds c.asked_for-choice.ensures.party c.asked_for-choice.ensures.others)
+    (asked_same (λ by. by.0.now) (λ by. by.0.now) _ _ _ _ _ _ _ _ _ _ _ _ c.asked_for-choice.ensures.works c.asked_for-choice.ensures.places
+    c.asked_for-choice.ensures.answered c.asked_for-choice.ensures.kinds c.asked_for-choice.ensures.party c.asked_for-choice.ensures.others)
     (c.select_by-answer.ensures.files none)

@@ -1,0 +1,23 @@
+-- What is selected by the words of a selection.
+use Rattle.std.specs.Prelude.{◌≡◌, ℕ, Bool, List, map, Option, Some, None, IsPermutation, codes, option_map, unwrap_or}
+use Rattle.cwr_shape.specs.declared.limits.Limits.{Limits}
+use Rattle.cwr_words.specs.declared.words.AnsweredWords.{AnsweredWords}
+use Rattle.cwr_words.specs.declared.words.SelectWords.{SelectWords}
+use Rattle.cwr_files.specs.Format.Files.{Texts}
+use Rattle.cwr_answers.specs.Format.Answered.{AreAnswered}
+use Rattle.cwr_transform.specs.Format.Selections.{IsSelectionAt}
+use Rattle.cwr.specs.Format.Tables.{selection_of}
+
+-- The places are those of the transactions of the file that became so, in whatever order, or none where no word asks what became of them.
+abbrev pub AreAnsweredBy : Limits → Option (List ℕ) → Option AnsweredWords → Option Texts → Option (List ℕ) → Option (List (ℕ × ℕ)) → Type 0
+AreAnsweredBy limits file None held standard places = places ≡ None
+AreAnsweredBy limits file (Some words) held standard places =
+    (listed : List (ℕ × ℕ)) × (values : List (ℕ × ℕ)) × (places ≡ Some values) × IsPermutation listed values
+    × AreAnswered limits words.by_place words.states held standard (unwrap_or file (codes "-")) (map (λ name. name.now) words.files.items) listed
+
+-- The text is that of what is selected, by these places where words ask for some.
+pub record IsSelectedBy (limits : Limits) (whole : Bool) (words : SelectWords) (held : Option Texts) (standard : Option (List ℕ))
+    (text : List ℕ) : Type 0 where
+  pub places : Option (List (ℕ × ℕ))
+  pub answered : AreAnsweredBy limits (option_map (λ name. name.now) words.file) words.answered held standard places
+  pub of : IsSelectionAt (selection_of limits whole words) places held standard text

@@ -1,0 +1,3 @@
+-- What is promised, in the words of the format.
+pub mod Answered
+pub mod Endings
