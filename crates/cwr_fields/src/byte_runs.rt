@@ -1,6 +1,6 @@
 //! What runs of bytes are made of: spaces, control bytes, digits.
 
-ghost use Rattle.std.specs.Prelude.{◌≡◌, ◌↔◌, ◌≤◌, ◌<◌, ◌^◌, IsSome, IfSome, IsTrue, length, position, take, drop, ◌+◌, ◌++◌};
+ghost use Rattle.std.specs.Prelude.{◌≡◌, ◌↔◌, ◌≤◌, ◌<◌, ◌^◌, IsSome, IfSome, IsTrue, length, position, take, drop, replicate, ◌+◌, ◌++◌};
 ghost use Rattle.cwr_fields.specs.Format.Bytes.{is_spaces, is_control, has_control, are_digits, number_of, trimmed, digits};
 
 use crate::lanes::{LANES, SeenLanes, has_control_in_lanes};
@@ -148,6 +148,41 @@ pub fn first_control(text: &[u8]) -> Option<usize>
     }
 }
 
+/// Whether sixteen bytes are spaces, by two comparisons.
+#[inline(always)]
+fn are_sixteen_spaces(text: &[u8]) -> bool
+    requires { length text.now ≡ 16 }
+    ensures { IsTrue result → text.now ≡ replicate 16 32 }
+{
+    let (front, back) = text.split_at(8);
+    are_same(front, b"        ") && are_same(back, b"        ")
+}
+
+/// Whether as many bytes as fill the lanes are spaces, by four comparisons.
+#[inline(always)]
+fn are_lanes_of_spaces(text: &[u8]) -> bool
+    requires { length text.now ≡ 32 }
+    ensures { IsTrue result → text.now ≡ replicate 32 32 }
+{
+    let (front, back) = text.split_at(16);
+    are_sixteen_spaces(front) && are_sixteen_spaces(back)
+}
+
+/// The text without as many spaces at its end as fill the lanes, as often as they stand there.
+#[inline(always)]
+fn without_lanes(text: &[u8]) -> &[u8]
+    ensures { trimmed result.now ≡ trimmed text.now }
+{
+    let mut rest = text;
+    while let Some((front, last)) = rest.split_last_chunk::<LANES>() {
+        if !are_lanes_of_spaces(last) {
+            break;
+        }
+        rest = front;
+    }
+    rest
+}
+
 /// The text without eight spaces at its end, as often as they stand there.
 #[inline(always)]
 fn without_eights(text: &[u8]) -> &[u8]
@@ -191,11 +226,11 @@ fn without_two(text: &[u8]) -> &[u8]
     front
 }
 
-/// The text without its trailing spaces. They are looked for eight at a time, then four, two and one.
+/// The text without its trailing spaces. They are looked for thirty-two at a time, then eight, four, two and one.
 pub fn trimmed(text: &[u8]) -> &[u8]
     ensures { result.now ≡ trimmed text.now }
 {
-    let mut rest = without_two(without_four(without_eights(text)));
+    let mut rest = without_two(without_four(without_eights(without_lanes(text))));
     while let [front @ .., last] = rest {
         if *last != b' ' {
             break;
