@@ -60,3 +60,5 @@ pub mod ControlMasks
 pub mod CopiedFronts
 -- A line of a known kind that is filled up in a pad.
 pub mod PaddedLines
+-- Behind what a line's trailing spaces leave each cell is blank.
+pub mod BlankFields

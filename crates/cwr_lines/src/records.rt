@@ -1,9 +1,9 @@
 //! Records as values: a kind and the cells that a record of the kind carries, each one of its field.
 
-ghost use Rattle.std.specs.Prelude.{◌≡◌, ◌↔◌, ◌<◌, ◌≤◌, length, option_map, false, Some, IsSome, IsTrue, IfSome};
-ghost use Rattle.cwr_fields.specs.Format.Bytes.{is_plain};
+ghost use Rattle.std.specs.Prelude.{ℕ, ◌≡◌, ◌↔◌, ◌<◌, ◌≤◌, length, option_map, false, Some, IsSome, IsSomeAnd, IsTrue, IfSome};
+ghost use Rattle.cwr_fields.specs.Format.Bytes.{is_plain, is_spaces};
 ghost use Rattle.cwr_fields.specs.Format.Kinds.{is_in_transaction};
-ghost use Rattle.cwr_fields.specs.Format.Layouts.{field_with_start, line_width};
+ghost use Rattle.cwr_fields.specs.Format.Layouts.{field_with_start, layout, line_width};
 ghost use Rattle.cwr_fields.specs.Steps.Views.{field_view};
 ghost use Rattle.cwr_lines.specs.Format.Records.{IsRecord};
 ghost use Rattle.cwr_lines.specs.Format.Carried.{HasCellOf, record_cell};
@@ -13,7 +13,7 @@ use crate::carried_fields::carried_field;
 use crate::drafts::carries;
 use crate::lines::part;
 use arrayvec::ArrayVec;
-use cwr_fields::{Cell, Field, Kind, fields};
+use cwr_fields::{Cell, Field, Kind, field, fields, trimmed};
 use std::fmt::{self, Debug};
 use std::marker::Model;
 
@@ -43,6 +43,17 @@ struct ShownCell<'a>(&'a [u8]);
 impl Debug for ShownCell<'_> {
     fn fmt<W: fmt::Write>(&self, f: &mut fmt::Formatter<W>) -> fmt::Result {
         write!(f, "\"{}\"", self.0.escape_ascii())
+    }
+}
+
+/// Whether the kind's field `j` is one that starts behind so many bytes of a line.
+#[inline(always)]
+fn starts_behind(kind: Kind, j: u8, bytes: usize) -> bool
+    ensures { IsTrue result → IsSomeAnd (field_with_start kind j) (λ p. bytes ≤ p.0) }
+{
+    match field(kind, j) {
+        Some(place) => bytes <= place.start,
+        None => false,
     }
 }
 
@@ -224,6 +235,24 @@ impl<'a> RecordRef<'a> {
         let line = self.line;
         let place = carried_field(kind, j)?;
         Some((place, part(line, place)))
+    }
+
+    /// How many of its kind's first fields have all that is filled: each carried cell behind them is blank. It looks for the line's
+    /// trailing spaces at once. The kind is given, as to `carried_cell`.
+    #[inline(always)]
+    pub fn filled_fields(&self, kind: Kind) -> u8
+        requires { kind ≡ self.now.kind }
+        ensures most { result ≤ length (layout self.now.kind) }
+        ensures blank { (j : ℕ) → result < j → IfSome (record_cell self.now j)
+            (λ cell. IsTrue (is_spaces cell)) }
+        ensures fits { IsRecord self.now }
+    {
+        let end = trimmed(self.line).len();
+        let mut filled = fields(kind);
+        while filled > 0 && starts_behind(kind, filled, end) {
+            filled -= 1;
+        }
+        filled
     }
 
     /// The cell of field `j`, from 1, as a value of a cell type. `None` where the record has no cell of field `j`, and
