@@ -23,5 +23,6 @@ pub use report_lines::{
     refusal_line, split_line, truncated_line,
 };
 pub use rules::{Finding, Rule};
+pub use shares::is_off;
 pub use sums::Sums;
 pub use walk::findings;

@@ -105,9 +105,9 @@ impl Shares {
     }
 }
 
-/// Whether the sum is neither nothing nor about the whole.
+/// Whether a sum of shares, in hundredths of a percent, is neither nothing nor about the whole.
 #[inline(always)]
-pub(crate) fn is_off(total: u64) -> bool
+pub fn is_off(total: u64) -> bool
     ensures { (n : ℕ) → total ≡ capped n → result ≡ is_off n }
 {
     total != 0 && (total < 9994 || 10006 < total)
