@@ -10,7 +10,7 @@ ghost use Rattle.cwr_notes.specs.Steps.Labels.{label_of, labelled_cell, labelled
 
 use crate::labels::labels;
 use cwr_devices::{Pen, Target};
-use cwr_fields::{Kind, fields, letters, trimmed};
+use cwr_fields::{Kind, letters, trimmed};
 use cwr_lines::RecordRef;
 
 /// Adds a cell under its field's label, unless the cell is blank.
@@ -53,7 +53,7 @@ fn labelled_cells<W: Target>(kind: Kind, shown: &RecordRef<'_>, pen: &mut Pen<'_
         pen.old pen.new }
 {
     let labels = labels(kind);
-    for before in 0..fields(kind) {
+    for before in 0..shown.filled_fields(kind) {
         labelled_field(kind, shown, before + 1, labels[usize::from(before)], pen);
     }
 }

@@ -1,8 +1,9 @@
 -- The cells of a record under their labels are the lines of its cells, but for the line feed at the end.
 use Rattle.std.proofs.Common.{◌≡◌, ℕ, zero, suc, ◌+◌, ◌<◌, ◌≤◌, Bool, true, false, List, [], ◌∷◌, ◌++◌, length, codes, decimal, if◌then◌else◌}
-use Rattle.std.proofs.Common.{Option, Some, None, refl, sym, ap, ap₂, subst, ◌∙◌, append_assoc, arith}
+use Rattle.std.proofs.Common.{Option, Some, None, refl, sym, ap, ap₂, subst, ◌∙◌, append-nil, append_assoc, arith}
+use Rattle.std.proofs.lemmas.Bool.{ltb-false, ltb-true}
 use Rattle.std.specs.Borrow.{Bor}
-use Rattle.std.specs.Prelude.{◌==◌, IfSome, get_or, map, option_map, slice_get}
+use Rattle.std.specs.Prelude.{◌==◌, IfSome, IsTrue, nat_lt, get_or, map, option_map, slice_get}
 use Rattle.std.specs.List.{enumerate_from}
 use Rattle.std.proofs.lemmas.List.{length-append, length-map}
 use Rattle.std.proofs.lemmas.List.FromFn.{length-enumerate_from}
@@ -76,14 +77,19 @@ label_there kind i label e = by (carried_at kind (i + 1)) refl where
       let same : label ≡ label_of (1 + i) f = cc there in
       same ∙ ap (λ (n : ℕ). label_of n f) (omega arith)
 
+-- there are as many labels as fields
+pub as_many_labels : (kind : Kind) (labels : List (Bor (List ℕ))) → map (λ label. label.now) labels ≡ labels_of (layout kind)
+    → length labels ≡ length (layout kind)
+as_many_labels kind labels e =
+    sym (length-map labels (λ label. label.now)) ∙ ap length e
+    ∙ length-map (enumerate_from 1 (layout kind)) (λ (p : ℕ × FieldLayout). label_of p.0 p.1) ∙ length-enumerate_from 1 (layout kind)
+
 -- and so it is in the table of labels, where the kind and the place are read elsewhere
 pub label_read : (kind same : Kind) (labels : List (Bor (List ℕ))) (place i : ℕ) (other : Bor (List ℕ))
     → map (λ label. label.now) labels ≡ labels_of (layout kind) → kind ≡ same → place ≡ i → i < length (layout kind)
     → IfSome (carried_at same (i + 1)) (λ f. (get_or labels place other).now ≡ label_of (i + 1) f)
 label_read kind same labels place i other e this here h =
-    let as_many : length labels ≡ length (layout kind) =
-    sym (length-map labels (λ label. label.now)) ∙ ap length e
-    ∙ length-map (enumerate_from 1 (layout kind)) (λ (p : ℕ × FieldLayout). label_of p.0 p.1) ∙ length-enumerate_from 1 (layout kind) in
+    let as_many : length labels ≡ length (layout kind) = as_many_labels kind labels e in
     let there : slice_get (labels_of (layout kind)) i ≡ Some (get_or labels place other).now =
     ap (λ (l : List (List ℕ)). slice_get l i) (sym e) ∙ slice_get-map (λ label. label.now) labels i
     ∙ ap (option_map (λ (label : Bor (List ℕ)). label.now)) (slice_get-get_or labels i other (omega (arith, h, as_many))
@@ -108,6 +114,32 @@ pub labelled_more : (r : RecordValue) (i : ℕ) → labelled_cells r (i + 1) ≡
 labelled_more r i =
     let next : suc i ≡ i + 1 = omega arith in
     subst (λ (n : ℕ). labelled_cells r n ≡ labelled_cells r i ++ labelled_field r n) next refl
+
+-- nothing is written of a field whose cell is blank
+labelled_blank : (r : RecordValue) (j : ℕ) → IfSome (record_cell r j) (λ cell. IsTrue (is_spaces cell)) → labelled_field r j ≡ []
+labelled_blank r j h = by (carried_at r.kind j) (record_cell r j) h where
+  by : (o : Option FieldLayout) (cell : Option (List ℕ)) → IfSome cell (λ cell. IsTrue (is_spaces cell)) → labelled j o cell ≡ []
+  by None cell h = refl
+  by (Some f) None h = refl
+  by (Some f) (Some cell) h = rw h refl
+
+-- so the fields that have all that is filled are as good as all
+pub labelled_filled : (r : RecordValue) (filled all i : ℕ) → i ≡ filled → filled ≤ all
+    → ((j : ℕ) → filled < j → IfSome (record_cell r j) (λ cell. IsTrue (is_spaces cell)))
+    → labelled_cells r i ≡ labelled_cells r all
+labelled_filled r filled all i is h blank = ap (labelled_cells r) is ∙ up all h
+  where
+    next : (n : ℕ) (b : Bool) → nat_lt filled (suc n) ≡ b → filled ≤ suc n → (filled ≤ n → labelled_cells r filled ≡ labelled_cells r n)
+        → labelled_cells r filled ≡ labelled_cells r (suc n)
+    next n true e h before =
+        before (omega (arith, ltb-true filled (suc n) e)) ∙ sym (append-nil (labelled_cells r n))
+        ∙ ap (λ (text : List ℕ). labelled_cells r n ++ text)
+        (sym (labelled_blank r (suc n) (blank (suc n) (ltb-true filled (suc n) e))))
+    next n false e h before =
+        let last : filled ≡ suc n = omega (arith, h, ltb-false filled (suc n) e) in ap (labelled_cells r) last
+    up : (n : ℕ) → filled ≤ n → labelled_cells r filled ≡ labelled_cells r n
+    up zero h = let none : filled ≡ zero = omega (arith, h) in ap (labelled_cells r) none
+    up (suc n) h = next n (nat_lt filled (suc n)) refl h (up n)
 
 as_lines : (r : RecordValue) (i : ℕ) → i ≤ length (layout r.kind) → 10 ∷ lines_before r i ≡ labelled_cells r i ++ 10 ∷ []
 as_lines r zero h = refl
