@@ -9,7 +9,7 @@ ghost use Rattle.cwr_json.specs.Steps.FormTexts.{field_member, head_text, member
 use crate::encodings::Encoding;
 use crate::spelling::escaped_characters;
 use cwr_devices::{Pen, Target};
-use cwr_fields::{Field, Kind, fields, is_spaces, letters, trimmed};
+use cwr_fields::{Field, Kind, is_spaces, letters, trimmed};
 use cwr_lines::RecordRef;
 
 /// A byte of a key.
@@ -64,13 +64,13 @@ fn field_member<W: Target>(
     member_text(encoding, &place, cell, pen);
 }
 
-/// Adds the members of the cells that the record carries.
+/// Adds the members of the cells that the record carries: blank ones have none.
 #[inline(always)]
 fn member_texts<W: Target>(encoding: Encoding, shown: &RecordRef<'_>, pen: &mut Pen<'_, W>)
     ensures { Adds W.contents W.failures (member_texts encoding shown.now) pen.old pen.new }
 {
     let kind = shown.kind();
-    for before in 0..fields(kind) {
+    for before in 0..shown.filled_fields(kind) {
         field_member(encoding, kind, shown, before + 1, pen);
     }
 }

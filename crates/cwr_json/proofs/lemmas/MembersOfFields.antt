@@ -1,11 +1,13 @@
 -- The members of a record's cells, field by field.
 use Rattle.std.proofs.Common.{◌≡◌, ℕ, zero, suc, ◌+◌, ◌-◌, ◌<◌, ◌≤◌, Bool, true, false, not, cond, List, [], ◌∷◌, ◌++◌, length}
 use Rattle.std.proofs.Common.{take, filter, Option, Some, None, refl, sym, ap, ap₂, subst, ◌∙◌, arith, append_assoc, append-nil}
-use Rattle.std.specs.Prelude.{slice_get}
+use Rattle.std.specs.Prelude.{slice_get, IfSome, IsTrue, nat_lt}
+use Rattle.std.proofs.lemmas.Bool.{ltb-false, ltb-true}
 use Rattle.std.specs.Option.{option_and_then}
 use Rattle.std.proofs.lemmas.List.{take_all}
 use Rattle.std.proofs.lemmas.Option.{slice_get-get_or}
 use Rattle.cwr_fields.specs.declared.kinds.Kind.{Kind}
+use Rattle.cwr_fields.specs.Format.Bytes.{is_spaces}
 use Rattle.cwr_fields.specs.Format.Layouts.{FieldLayout, layout, record_type, field_with_start}
 use Rattle.cwr_lines.specs.Format.Records.{RecordValue}
 use Rattle.cwr_lines.specs.Format.Carried.{carried_at, record_cell}
@@ -102,3 +104,37 @@ pub members_whole : (enc : Encoding) (r : RecordValue) (i : ℕ) → length (lay
 unfolding member_texts
 members_whole enc r i h =
     ap (λ (fields : List FieldLayout). members_beside enc (carried fields) r.cells) (take_all i (layout r.kind) h)
+
+-- ---- the fields that are filled
+
+-- a blank cell has no member
+member_blank : (enc : Encoding) (r : RecordValue) (j : ℕ) → IfSome (record_cell r j) (λ cell. IsTrue (is_spaces cell))
+    → field_member enc r j ≡ []
+member_blank enc r j h = by (carried_at r.kind j) (record_cell r j) h where
+  by : (o : Option FieldLayout) (cell : Option (List ℕ)) → IfSome cell (λ cell. IsTrue (is_spaces cell)) → member_of enc o cell ≡ []
+  by None cell h = refl
+  by (Some f) None h = refl
+  by (Some f) (Some cell) h = rw h refl
+
+-- so the fields that have all that is filled are as good as all
+pub members_filled : (enc : Encoding) (r : RecordValue) (filled i : ℕ) → i ≡ filled → filled ≤ length (layout r.kind)
+    → ((j : ℕ) → filled < j → IfSome (record_cell r j) (λ cell. IsTrue (is_spaces cell)))
+    → members_before enc r i ≡ member_texts enc r
+members_filled enc r filled i is h blank =
+    ap (members_before enc r) is ∙ up (length (layout r.kind)) h (omega arith) ∙ members_whole enc r (length (layout r.kind)) (omega arith)
+  where
+    next : (n : ℕ) (b : Bool) → nat_lt filled (suc n) ≡ b → filled ≤ suc n → suc n ≤ length (layout r.kind)
+        → (filled ≤ n → members_before enc r filled ≡ members_before enc r n)
+        → members_before enc r filled ≡ members_before enc r (suc n)
+    next n true e h within before =
+        let number : n + 1 ≡ suc n = omega arith in
+        before (omega (arith, ltb-true filled (suc n) e)) ∙ sym (append-nil (members_before enc r n))
+        ∙ ap (λ (text : List ℕ). members_before enc r n ++ text)
+        (sym (member_blank enc r (n + 1) (blank (n + 1) (omega (arith, ltb-true filled (suc n) e)))))
+        ∙ sym (members_more enc r n (omega (arith, within))) ∙ ap (members_before enc r) number
+    next n false e h within before =
+        let last : filled ≡ suc n = omega (arith, h, ltb-false filled (suc n) e) in ap (members_before enc r) last
+    up : (n : ℕ) → filled ≤ n → n ≤ length (layout r.kind) → members_before enc r filled ≡ members_before enc r n
+    up zero h within = let none : filled ≡ zero = omega (arith, h) in ap (members_before enc r) none
+    up (suc n) h within =
+        next n (nat_lt filled (suc n)) refl h within (λ below. up n below (omega (arith, within)))
