@@ -11,9 +11,8 @@ ghost use Rattle.cwr.specs.Format.Files.{LeavesOut, LeavesWork, RunsRenumbering,
 ghost use Rattle.cwr.specs.Steps.Tells.{CountsData, CountsWork, HandsOnData, HandsOnWork, TellsAsked, TellsData, TellsFiles, TellsJudged, TellsQuietRead, TellsQuietly, TellsRead, TellsWork};
 ghost use Rattle.cwr_devices.specs.Format.Failures.{most_failures};
 ghost use Rattle.cwr_files.specs.Format.Faults.{IfErr};
-ghost use Rattle.cwr_answers.specs.Format.Answered.{IsThereOrRead};
 ghost use Rattle.cwr_files.specs.Format.Files.{Turns};
-ghost use Rattle.cwr_files.specs.Format.Inputs.{is_standard};
+ghost use Rattle.cwr_files.specs.Format.Inputs.{IsThereOrRead, is_standard};
 ghost use Rattle.cwr_files.specs.Steps.NewFiles.{HasKeptCount};
 ghost use Rattle.cwr_renumber.specs.Steps.Renumbered.{renumbered_text};
 ghost use Rattle.cwr_reports.specs.Format.Endings.{EndsOnRead, advice_asked, advice_in};

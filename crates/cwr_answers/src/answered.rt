@@ -6,8 +6,9 @@ ghost use Rattle.cwr_sent.specs.Format.SentFacts.{content_of};
 ghost use Rattle.cwr_sent.specs.Format.SentRows.{IsFresh, content_in};
 ghost use Rattle.cwr_acks.specs.Format.AckLines.{Matched};
 ghost use Rattle.cwr_acks.specs.Steps.AckSteps.{IsKept, held_if};
+ghost use Rattle.cwr_files.specs.Format.Inputs.{IsThereOrRead};
 ghost use Rattle.cwr_files.specs.Steps.Inputs.{remaining_of};
-ghost use Rattle.cwr_answers.specs.Format.Answered.{AreAnswered, IsAcceptedAt, IsThereOrRead};
+ghost use Rattle.cwr_answers.specs.Format.Answered.{AreAnswered, IsAcceptedAt};
 ghost use Rattle.cwr_answers.specs.Steps.Seeking.{ReadsEach, ReadsIfGood, judged_by};
 
 use crate::answers::tell_named;

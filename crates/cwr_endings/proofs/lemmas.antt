@@ -6,3 +6,5 @@ pub mod Apart
 pub mod Outs
 -- A text that was put and handed on.
 pub mod HandedOn
+-- What failed where a run that writes a file ends as one that did.
+pub mod Fails

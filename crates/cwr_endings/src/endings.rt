@@ -2,8 +2,8 @@
 
 ghost use Rattle.std.specs.Prelude.{◌≡◌, ◌+◌, ℕ, List, Some, None, true, false, OnErr, OnOk};
 ghost use Rattle.cwr_files.specs.Format.Faults.{IfErr, IsUnkept};
-ghost use Rattle.cwr_files.specs.Format.Files.{Texts, counted_on};
-ghost use Rattle.cwr_files.specs.Steps.NewFiles.{EndsDropped, EndsKept, HasBegun};
+ghost use Rattle.cwr_files.specs.Format.Files.{HasCounted, Texts, counted_on};
+ghost use Rattle.cwr_files.specs.Steps.NewFiles.{EndsDropped, EndsKept, HasBegun, HasKeptCount};
 ghost use Rattle.cwr_files.specs.Format.Written.{is_whole, times_failed, writer_in};
 ghost use Rattle.cwr_endings.specs.Format.Endings.{EndsAfterFault, worse_status};
 ghost use Rattle.cwr_endings.specs.Steps.Looks.{follows, good_status, status_in, whole_status};
@@ -151,6 +151,9 @@ pub fn settle<'a, S: Store, E: Write>(
         → EndsDropped made (counted_on (times_failed written) (S.failures store.old)) (S.failures store.new) texts (S.held store.new) }
     ensures making { S.making store.new ≡ None }
     ensures fault { IfErr result (λ fault. (is_wanted ≡ true) × IsUnkept (Name.File out.entry) fault) }
+    ensures counted { OnErr result (HasCounted (S.failures store.old) (S.failures store.new)) }
+    ensures failures { HasKeptCount (S.failures store.old) (S.failures store.new) }
+    ensures given_up { is_wanted ≡ false → HasKeptCount (counted_on (times_failed written) (S.failures store.old)) (S.failures store.new) }
 {
     if is_wanted {
         made.keep_as(store, written, Name::File(out), error)

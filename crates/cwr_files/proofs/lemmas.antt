@@ -10,6 +10,8 @@ pub mod FinishedParts
 pub mod Gathers
 -- What is read under a word.
 pub mod Reads
+-- What is so of an input that couldn't be opened, by what its word names.
+pub mod Unopened
 -- What is left of a run that writes a file.
 pub mod Outs
 -- Lines that are marked as they come are those of the whole text.
@@ -18,3 +20,5 @@ pub mod Marks
 pub mod Pieces
 -- Steps that the walks of `taken_texts` and `taken_writers` share.
 pub mod Walks
+-- How often calls failed, and what that says of a part that failed.
+pub mod Counts

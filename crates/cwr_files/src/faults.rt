@@ -1,6 +1,7 @@
 //! Why a run stopped before its end, and what the system says of it.
 
-ghost use Rattle.std.specs.Prelude.{◌≡◌};
+ghost use Rattle.std.specs.Prelude.{◌≡◌, true, false};
+ghost use Rattle.cwr_files.specs.Format.Faults.{IsOfMemory};
 
 use crate::fronts::CHARACTER_SET;
 use crate::shown_names::Shown;
@@ -55,13 +56,18 @@ impl Reason {
     }
 
     /// The reason of that kind.
-    pub fn kind(kind: io::ErrorKind) -> Reason {
+    pub fn kind(kind: io::ErrorKind) -> Reason
+        ensures { result.kind ≡ kind }
+    {
         Reason { kind, code: None }
     }
 
     /// Whether there was no memory.
-    pub(crate) fn is_of_memory(&self) -> bool {
-        self.kind == io::ErrorKind::OutOfMemory
+    pub(crate) fn is_of_memory(&self) -> bool
+        ensures memory { result ≡ true → IsOfMemory self.now }
+        ensures other { result ≡ false → IsOfMemory self.now → ⊥ }
+    {
+        matches!(self.kind, io::ErrorKind::OutOfMemory)
     }
 }
 

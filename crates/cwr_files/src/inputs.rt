@@ -101,7 +101,7 @@ pub fn open_input<'a, S: Store, I: Read, P: Pace + Drop>(
     ensures left { IfOk result (λ input. IsLeftOf (S.held store.old) (standard_left I.remaining standard.old)
         (option_map (λ n. n.now) name.entry) (remaining_of S.Reader.remaining I.remaining input)) }
     ensures unopened { IfErr result
-        (IsUnopenedBy standard.old (S.failures store.old) (S.failures store.new)) }
+        (IsUnopenedBy (option_map (λ n. n.now) name.entry) standard.old (S.failures store.old) (S.failures store.new)) }
     ensures opened { OnOk result (S.failures store.new ≡ S.failures store.old) }
     // Standard input is opened only where it is there.
     ensures there { OnOk result (IsThereFor (is_standard (option_map (λ n. n.now) name.entry)) standard.old) }

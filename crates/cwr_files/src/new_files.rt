@@ -1,10 +1,10 @@
 //! Files that are written, and that have their names only once they are whole.
 
 ghost use Rattle.std.specs.Prelude.{◌≡◌, ◌+◌, ℕ, [], List, None, Some, true, IfOk, IfSome, IsSome, MatchResult, OnErr, OnOk, string_bytes};
-ghost use Rattle.cwr_files.specs.Format.Faults.{IfErr, IsUnkept, IsUnmade};
-ghost use Rattle.cwr_files.specs.Format.Files.{Same, Texts, Turns, counted_on};
+ghost use Rattle.cwr_files.specs.Format.Faults.{IfErr, IsUncreatedBy, IsUnkept, IsUnmade, IsUnmadeBy};
+ghost use Rattle.cwr_files.specs.Format.Files.{HasCounted, Same, Texts, Turns, counted_on};
 ghost use Rattle.cwr_files.specs.Format.NewFiles.{unfinished_name};
-ghost use Rattle.cwr_files.specs.Steps.NewFiles.{EndsDropped, EndsKept, HasBegun, HasCounted, HasKeptCount, IsBegun, IsDropped, IsFinished, IsPartOf, final_name};
+ghost use Rattle.cwr_files.specs.Steps.NewFiles.{EndsDropped, EndsKept, HasBegun, HasKeptCount, IsBegun, IsDropped, IsFinished, IsPartOf, final_name};
 ghost use Rattle.cwr_files.specs.Format.Written.{is_whole, times_failed, writer_in};
 
 use crate::faults::{Fault, Name, Reason};
@@ -39,6 +39,8 @@ fn create_part<S: Store>(
         (λ made. IsPartOf name.now (string_bytes made.0) (S.making store.new) texts new × (S.Writer.contents made.1 ≡ Some []))
         (λ _. Same texts new)) }
     ensures making { S.making store.old ≡ None → OnErr result (S.making store.new ≡ None) }
+    ensures uncreated { IfErr result (IsUncreatedBy name.now (S.making store.old) (S.held store.old) (S.held store.new)
+        (S.failures store.old) (S.failures store.new)) }
     ensures unfailed { OnOk result (S.failures store.new ≡ S.failures store.old) }
     ensures failures { HasKeptCount (S.failures store.old) (S.failures store.new) }
 {
@@ -117,6 +119,8 @@ impl NewFile {
             (λ _. Same texts new)) }
         ensures named { IfOk result (λ made. final_name made.0 ≡ string_bytes name) }
         ensures making { S.making store.old ≡ None → OnErr result (S.making store.new ≡ None) }
+        ensures uncreated { IfErr result (IsUncreatedBy (string_bytes name) (S.making store.old) (S.held store.old)
+            (S.held store.new) (S.failures store.old) (S.failures store.new)) }
         ensures unfailed { OnOk result (S.failures store.new ≡ S.failures store.old) }
         ensures failures { HasKeptCount (S.failures store.old) (S.failures store.new) }
     {
@@ -233,6 +237,7 @@ impl NewFile {
         ensures making { S.making store.new ≡ None }
         ensures counted { OnErr result (HasCounted (S.failures store.old) (S.failures store.new)) }
         ensures fault { IfErr result (IsUnkept name.entry) }
+        ensures failures { HasKeptCount (S.failures store.old) (S.failures store.new) }
     {
         match self.keep_named(store, written, name) {
             Ok(replaced) => {
@@ -251,6 +256,7 @@ impl NewFile {
         ensures dropped { (texts : Texts) → HasBegun self (S.making store.old) texts (S.held store.old)
             → EndsDropped self (counted_on (times_failed written) (S.failures store.old)) (S.failures store.new) texts (S.held store.new) }
         ensures making { S.making store.new ≡ None }
+        ensures failures { HasKeptCount (counted_on (times_failed written) (S.failures store.old)) (S.failures store.new) }
     {
         let times = written.failures();
         drop(written);
@@ -298,6 +304,9 @@ pub fn create_output<'a, S: Store>(
     ensures making { S.making store.old ≡ None → OnErr result (S.making store.new ≡ None) }
     ensures unfailed { OnOk result (S.failures store.new ≡ S.failures store.old) }
     ensures unmade { IfErr result (IsUnmade (Name.File out.entry)) }
+    ensures failed { IfErr result (IsUnmadeBy out.now (S.making store.old) (S.held store.old) (S.held store.new)
+        (S.failures store.old) (S.failures store.new)) }
+    ensures failures { HasKeptCount (S.failures store.old) (S.failures store.new) }
 {
     if out.is_empty() {
         let reason = Reason::kind(io::ErrorKind::NotFound);

@@ -2,10 +2,12 @@
 
 ghost use Rattle.std.specs.Prelude.{◌≡◌, ℕ, [], ◌∷◌, List, None, Option, Some, IsSome, false, option_and_then};
 ghost use Rattle.cwr_files.specs.Format.Files.{Texts, Turns};
-ghost use Rattle.cwr_files.specs.Format.Parts.{LeavesParts};
+ghost use Rattle.cwr_files.specs.Format.Faults.{IsFaultOfPart};
+ghost use Rattle.cwr_files.specs.Format.Parts.{HoldsParts, LeavesParts};
+ghost use Rattle.cwr_files.specs.Steps.NewFiles.{HasKeptCount};
 ghost use Rattle.cwr_files.specs.Format.Written.{text_of_stamped};
 ghost use Rattle.cwr_files.specs.Steps.Gathering.{written_to};
-ghost use Rattle.cwr_files.specs.Steps.NumberedFiles.{AreUnasked, IsTied, IsTied-prop, StartsAs, WhereTold, failed_calls_of, given_up_of, is_dated, lent_of, prefix_of, texts_of_parts, told_texts};
+ghost use Rattle.cwr_files.specs.Steps.NumberedFiles.{AreUnasked, FaultIsOfPart, FaultIsOfPart-prop, IsTied, IsTied-prop, StartsAs, WhereTold, failed_calls_of, fault_of, given_up_of, is_dated, lent_of, prefix_of, texts_of_parts, told_texts};
 
 use crate::faults::{Fault, Name};
 use crate::numberings::Numbering;
@@ -56,6 +58,8 @@ pub struct NumberedFiles<'s, 'a, B: Unsplit, S: Store> {
     store: &'s mut S,
     parts: &'s mut MadeParts<'a, S::Writer>,
     of: PhantomData<B>,
+    ghost counted: { HasKeptCount B.failures (S.failures store.now) },
+    ghost failed: { FaultIsOfPart B.failures (S.failures store.now) (fault_of parts.now.numbering) } by { FaultIsOfPart-prop B.failures (S.failures store.now) (fault_of parts.now.numbering) },
     ghost dated: { IsSome B.texts → is_dated parts.now.numbering ≡ false },
     ghost called: { IsSome B.texts → prefix_of parts.now.numbering ≡ B.prefix },
     ghost tied: { WhereTold B.texts (texts_of_parts S.Writer.contents parts.now.finished.writers) (IsTied B.prefix B.failures parts.now.numbering (S.making store.now) (S.held store.now) (S.failures store.now)) } by { IsTied-prop B.texts (texts_of_parts S.Writer.contents parts.now.finished.writers) B.prefix B.failures parts.now.numbering (S.making store.now) (S.held store.now) (S.failures store.now) },
@@ -78,6 +82,8 @@ impl<B: Unsplit, S: Store> Drop for NumberedFiles<'_, '_, B, S> {
 pub struct MadeFiles<'a> {
     /// Of the file that couldn't be made, finished or written, where there is one.
     pub fault: Fault<'a>,
+    /// Not all were made that were asked for.
+    pub stopped: bool,
     /// How many files were replaced, and what the first of them is called.
     replaced: u32,
     first_replaced: Name<'a>,
@@ -118,6 +124,7 @@ impl<'a, F: Write + Drop> MadeParts<'a, F> {
                 replaced: 0,
                 first_replaced: 0,
                 open_file: None,
+                stopped: false,
                 fault: None,
                 failed_calls: 0,
                 given_up: 0,
@@ -157,11 +164,19 @@ impl<'s, 'a, B: Unsplit, S: Store> NumberedFiles<'s, 'a, B, S> {
             → told_texts B.texts self.now.store.ghost_name (texts_of_parts S.Writer.contents self.now.parts.now.finished.writers)
             ≡ Some (borrow ∷ parts)
             → Turns B.texts (S.held self.now.store.now) (LeavesParts B.prefix parts B.failures (S.failures self.now.store.now)) }
+        // Where all were made that were asked for, nothing else changed.
+        ensures whole { (borrow : List ℕ) (parts : List (List ℕ)) → lent_of self.now.parts.now.numbering ≡ 0
+            → told_texts B.texts self.now.store.ghost_name (texts_of_parts S.Writer.contents self.now.parts.now.finished.writers)
+            ≡ Some (borrow ∷ parts) → result.stopped ≡ false
+            → Turns B.texts (S.held self.now.store.now) (HoldsParts B.prefix parts) }
+        ensures failed { IsFaultOfPart B.failures (S.failures self.now.store.now) result.fault }
+        ensures failures { HasKeptCount B.failures (S.failures self.now.store.now) }
     {
         let parts = &*self.parts;
         let made = &parts.numbering;
         MadeFiles {
-            fault: made.fault.unwrap_or(Fault::Output(made.name(), None)),
+            fault: made.first_fault(),
+            stopped: made.stopped,
             replaced: made.replaced,
             first_replaced: Name::Part(made.prefix, made.first_replaced),
         }

@@ -1,18 +1,18 @@
 //! How the files of a split are numbered, made and finished.
 
-ghost use Rattle.std.specs.Prelude.{◌≡◌, ◌+◌, ◌-◌, ℕ, List, [], None, Ok, Some, true, false, IfOk, IfSome, IsSome, OnErr, OnOk, string_bytes};
-ghost use Rattle.cwr_files.specs.Format.Faults.{IfErr, IsOfOutput};
-ghost use Rattle.cwr_files.specs.Format.Files.{Texts, Turns, counted_on, put};
+ghost use Rattle.std.specs.Prelude.{◌≡◌, ◌≤◌, ◌+◌, ◌-◌, ℕ, List, [], None, Ok, Some, true, false, IfOk, IfSome, IsSome, OnErr, OnOk, string_bytes};
+ghost use Rattle.cwr_files.specs.Format.Faults.{IfErr, IsFaultOfPart, IsOfOutput};
+ghost use Rattle.cwr_files.specs.Format.Files.{HasCounted, Texts, Turns, counted_on, put};
 ghost use Rattle.cwr_files.specs.Format.Parts.{part_name};
 ghost use Rattle.cwr_devices.specs.Steps.Counted.{failures_of, has_handed_on};
 ghost use Rattle.cwr_devices.specs.Format.Failures.{CountsFailure, one_more_failure};
 ghost use Rattle.cwr_devices.specs.Format.Outputs.{given_up_with, lent_after};
 ghost use Rattle.cwr_files.specs.Steps.NewFiles.{HasKeptCount};
-ghost use Rattle.cwr_files.specs.Steps.NumberedFiles.{IsBegunAs, IsPartUnmade, IsResting, Stands, StandsStill, asked_of, failed_calls_of, given_up_of, has_stopped, is_dated, lent_of, made_in, name_of, prefix_of, replaces_none};
+ghost use Rattle.cwr_files.specs.Steps.NumberedFiles.{FaultIsOfPart, IsBegunAs, IsPartUnmade, IsResting, KeepsFault, Stands, StandsStill, asked_of, failed_calls_of, fault_after, fault_of, given_up_of, has_stopped, is_dated, lent_of, made_in, name_of, prefix_of, replaces_none};
 ghost use Rattle.cwr_files.specs.Format.Written.{is_whole, text_of_stamped, writer_in};
 ghost use Rattle.cwr_files.specs.Steps.Gathering.{written_to};
 
-use crate::faults::{Fault, Name};
+use crate::faults::{Fault, Name, Told};
 use crate::new_files::{NewFile, is_there};
 use crate::outputs::{Gathered, Written, gathered, take_back, told_of};
 use crate::same_files::path_of_input;
@@ -47,7 +47,9 @@ pub struct Numbering<'a> {
     pub(crate) first_replaced: u32,
     /// The one that is being written.
     pub(crate) open_file: Option<NewFile>,
-    /// What is told of the file that couldn't be made, finished or written. Then no other one is asked for.
+    /// No other one is asked for: one couldn't be made or finished, or was given up.
+    pub(crate) stopped: bool,
+    /// What is told of the file that couldn't be made, finished or written.
     pub(crate) fault: Option<Fault<'a>>,
     pub(crate) failed_calls: u64,
     pub(crate) given_up: u64,
@@ -59,6 +61,13 @@ impl<'a> Numbering<'a> {
         ensures { result ≡ name_of self.now }
     {
         Name::Part(self.prefix, self.asked)
+    }
+
+    /// What is told of the file that couldn't be made, finished or written: where nothing is known of that, that it couldn't.
+    pub(crate) fn first_fault(&self) -> Fault<'a>
+        ensures { (old : ℕ) (failures : ℕ) → FaultIsOfPart old failures (fault_of self.now) → IsFaultOfPart old failures result }
+    {
+        self.fault.unwrap_or(Fault::Output(self.name(), None))
     }
 
     /// When the part in hand is created, where that isn't when the transmission was.
@@ -93,6 +102,8 @@ impl<'a> Numbering<'a> {
         ensures unfailed { IfOk result (λ writer. failures_of writer ≡ 0) }
         ensures lent { IfOk result (λ writer. lent_of self.new ≡ 1) }
         ensures unmade { IfErr result (IsPartUnmade self.old) }
+        ensures failed { IfErr result (IsFaultOfPart (S.failures store.old) (S.failures store.new)) }
+        ensures fault { fault_of self.new ≡ fault_of self.old }
         ensures begun { made_in self.old ≡ None → S.making store.old ≡ None
             → Turns (S.held store.old) (S.held store.new)
             (IsBegunAs (made_in self.new) (part_name (prefix_of self.old) (asked_of self.old)) (S.making store.new)) }
@@ -119,6 +130,7 @@ impl<'a> Numbering<'a> {
                     Err(_) => Err(Fault::Memory),
                 }
             }
+            Err(reason) if reason.is_of_memory() => Err(Fault::Memory),
             Err(reason) => Err(Fault::Output(self.name(), Some(reason))),
         }
     }
@@ -137,6 +149,8 @@ impl<'a> Numbering<'a> {
         ensures stopped { has_stopped self.new ≡ has_stopped self.old }
         ensures unfailed { IfOk result (λ writer. failures_of writer ≡ 0) }
         ensures lent { IfOk result (λ writer. lent_of self.new ≡ 1) }
+        ensures failed { IfErr result (IsFaultOfPart (S.failures store.old) (S.failures store.new)) }
+        ensures fault { fault_of self.new ≡ fault_of self.old }
         ensures begun { made_in self.old ≡ None → S.making store.old ≡ None
             → Turns (S.held store.old) (S.held store.new)
             (IsBegunAs (made_in self.new) (part_name (prefix_of self.old) (asked_of self.old + 1)) (S.making store.new)) }
@@ -172,6 +186,9 @@ impl<'a> Numbering<'a> {
         ensures whole { OnOk result (is_whole written ≡ true) }
         ensures kept { OnOk result (lent_of self.old ≡ 1) }
         ensures unkept { IfErr result (IsOfOutput (name_of self.old)) }
+        ensures failed { IfErr result (IsFaultOfPart (S.failures store.old) (S.failures store.new)) }
+        ensures failures { HasKeptCount (S.failures store.old) (S.failures store.new) }
+        ensures fault { fault_of self.new ≡ fault_of self.old }
         ensures asked { asked_of self.new ≡ asked_of self.old }
         ensures guarded { replaces_none self.new ≡ replaces_none self.old }
         ensures failed_calls { failed_calls_of self.new ≡ failed_calls_of self.old }
@@ -203,6 +220,7 @@ impl<'a> Numbering<'a> {
         ensures prefix { prefix_of self.new ≡ prefix_of self.old }
         ensures dated { is_dated self.new ≡ is_dated self.old }
         ensures stopped { has_stopped self.new ≡ has_stopped self.old }
+        ensures fault { fault_of self.new ≡ fault_of self.old }
         ensures made { made_in self.new ≡ made_in self.old }
     {
         if replaced && self.replaced == 0 {
@@ -223,7 +241,10 @@ impl<'a> Numbering<'a> {
         ensures prefix { prefix_of self.new ≡ prefix_of self.old }
         ensures dated { is_dated self.new ≡ is_dated self.old }
         ensures stopped { has_stopped self.new ≡ has_stopped self.old }
+        ensures fault { fault_of self.new ≡ fault_of self.old }
         ensures closed { made_in self.new ≡ None }
+        ensures failures { HasKeptCount (S.failures store.old) (S.failures store.new) }
+        ensures failed { lent_of self.old ≡ 1 → 1 ≤ times → HasCounted (S.failures store.old) (S.failures store.new) }
     {
         if let Some(made) = self.open_file.take() {
             made.discard(store, times);
@@ -240,8 +261,10 @@ impl<'a> Numbering<'a> {
         ensures prefix { prefix_of self.new ≡ prefix_of self.old }
         ensures dated { is_dated self.new ≡ is_dated self.old }
         ensures stopped { has_stopped self.new ≡ true }
+        ensures fault { fault_of self.new ≡ Some fault.entry }
         ensures made { made_in self.new ≡ made_in self.old }
     {
+        self.stopped = true;
         self.fault = Some(fault);
         self.failed_calls = self.failed_calls.saturating_add(1);
         OutputFault
@@ -255,11 +278,33 @@ impl<'a> Numbering<'a> {
         ensures given_up { given_up_of self.new ≡ given_up_with times (given_up_of self.old) }
         ensures prefix { prefix_of self.new ≡ prefix_of self.old }
         ensures dated { is_dated self.new ≡ is_dated self.old }
-        ensures stopped { has_stopped self.new ≡ has_stopped self.old }
+        ensures stopped { has_stopped self.new ≡ true }
+        ensures fault { fault_of self.new ≡ fault_of self.old }
         ensures made { made_in self.new ≡ made_in self.old }
     {
+        self.stopped = true;
         if times > 0 {
             self.given_up = self.given_up.saturating_add(1);
+        }
+    }
+
+    /// Tells of the writer of the file in hand, which failed so often, if it did.
+    fn tell_failed(&mut self, times: u64, told: Told<'a>)
+        ensures asked { asked_of self.new ≡ asked_of self.old }
+        ensures guarded { replaces_none self.new ≡ replaces_none self.old }
+        ensures failed_calls { failed_calls_of self.new ≡ failed_calls_of self.old }
+        ensures given_up { given_up_of self.new ≡ given_up_of self.old }
+        ensures prefix { prefix_of self.new ≡ prefix_of self.old }
+        ensures dated { is_dated self.new ≡ is_dated self.old }
+        ensures stopped { has_stopped self.new ≡ has_stopped self.old }
+        ensures fault { fault_of self.new ≡ fault_after times (made_in self.old) told.entry (fault_of self.old) }
+        ensures made { made_in self.new ≡ made_in self.old }
+    {
+        if times == 0 {
+            return;
+        }
+        if self.open_file.is_some() {
+            self.fault = Some(Fault::Write(told));
         }
     }
 
@@ -282,9 +327,11 @@ impl<'a> Numbering<'a> {
             → Stands self.old (S.making store.old) (S.held store.old) (S.failures store.old) texts count failures
             → is_dated self.old ≡ false
             → IfOk result (λ writer. written_to (text_of_stamped S.Writer.contents) writer ≡ Some []) }
+        ensures store_failures { HasKeptCount (S.failures store.old) (S.failures store.new) }
+        ensures fault { KeepsFault (S.failures store.old) (S.failures store.new) (fault_of self.old) (fault_of self.new) }
     {
-        if self.open_file.is_some() || self.fault.is_some() || self.failed_calls == u64::MAX {
-            let fault = Fault::Output(self.name(), None);
+        if self.open_file.is_some() || self.stopped || self.failed_calls == u64::MAX {
+            let fault = self.first_fault();
             return Err(self.count_failure(fault));
         }
         match self.make(store) {
@@ -318,11 +365,13 @@ impl<'a> Numbering<'a> {
         ensures unnamed { (texts : Texts) (count : ℕ) (failures : ℕ)
             → Stands self.old (S.making store.old) (S.held store.old) (S.failures store.old) texts count failures
             → OnErr result (Stands self.new (S.making store.new) (S.held store.new) (S.failures store.new) texts count failures) }
+        ensures store_failures { HasKeptCount (S.failures store.old) (S.failures store.new) }
+        ensures fault { KeepsFault (S.failures store.old) (S.failures store.new) (fault_of self.old) (fault_of self.new) }
     {
         if self.failed_calls == u64::MAX {
             drop(writer);
             self.discard(store, 0);
-            let fault = Fault::Output(self.name(), None);
+            let fault = self.first_fault();
             return Err(self.count_failure(fault));
         }
         let (_told, written) = take_back(writer);
@@ -346,10 +395,12 @@ impl<'a> Numbering<'a> {
         ensures stands { (texts : Texts) (count : ℕ) (failures : ℕ)
             → Stands self.old (S.making store.old) (S.held store.old) (S.failures store.old) texts count failures
             → Stands self.new (S.making store.new) (S.held store.new) (S.failures store.new) texts count failures }
+        ensures store_failures { HasKeptCount (S.failures store.old) (S.failures store.new) }
+        ensures fault { KeepsFault (S.failures store.old) (S.failures store.new) (fault_of self.old) (fault_of self.new) }
     {
         let times = writer.failures();
         self.count_given_up(times);
-        self.fault = Some(Fault::Write(told_of(writer)));
+        self.tell_failed(times, told_of(writer));
         self.discard(store, times);
     }
 }

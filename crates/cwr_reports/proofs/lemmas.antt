@@ -10,3 +10,5 @@ pub mod Told
 pub mod MarkedLines
 -- The pieces on several files, with that of one more.
 pub mod Pieces
+-- What failed where a run that writes data or a table to a file ends as one that did.
+pub mod ExportFails

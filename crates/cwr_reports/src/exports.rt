@@ -4,6 +4,7 @@ ghost use Rattle.std.specs.Prelude.{◌≡◌, false, true, None, option_map};
 ghost use Rattle.cwr_files.specs.Format.Files.{Turns};
 ghost use Rattle.cwr_files.specs.Steps.Inputs.{remaining_of};
 ghost use Rattle.cwr_endings.specs.Format.Endings.{WritesOut};
+ghost use Rattle.cwr_endings.specs.Format.Failures.{FailsToWrite};
 ghost use Rattle.cwr_reports.specs.Format.Endings.{EndsAsExport, EndsAsExportOf, advice_in};
 ghost use Rattle.cwr_reports.specs.Format.Exports.{ExportEndsAs, IsExportAt, IsExportOf, is_data, is_good};
 ghost use Rattle.cwr_reports.specs.Steps.Looks.{tells_findings};
@@ -83,6 +84,8 @@ fn report_to_file<'a, S: Store, I: Read + Drop, P: Pace + Drop, E: Write>(
     ensures files { is_data telling.entry ≡ true → S.making store.old ≡ None → Turns (S.held store.old) (S.held store.new)
         (WritesOut out.now (S.failures store.old) (S.failures store.new) (IsExportOf telling.entry asked.now.limits
         (remaining_of S.Reader.remaining I.remaining input.entry)) result) }
+    ensures failed { FailsToWrite out.entry (S.making store.old) (S.held store.old) (S.held store.new) result (S.failures store.old)
+        (S.failures store.new) }
 {
     let (made, file) = match create_output(store, asked.alloc, out) {
         Ok(made) => made,
@@ -123,6 +126,9 @@ pub fn export<'a, S: Store, I: Read + Drop, P: Pace + Drop, E: Write>(
     ensures files { is_data telling.entry ≡ true → S.making store.old ≡ None → Turns (S.held store.old) (S.held store.new)
         (WritesOut out.now (S.failures store.old) (S.failures store.new) (IsExportAt telling.entry asked.now.limits
         (S.held store.old) (I.remaining standard) (option_map (λ n. n.now) name.entry)) result) }
+    // It ends as what failed does only where a failure was counted, or no such file can be made, or there was no memory.
+    ensures failed { FailsToWrite out.entry (S.making store.old) (S.held store.old) (S.held store.new) result (S.failures store.old)
+        (S.failures store.new) }
 {
     if let Err(fault) = refuse_out(store, out, false, &[name.unwrap_or(DASH)]) {
         return Err(Stop::Fault(fault));

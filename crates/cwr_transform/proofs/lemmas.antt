@@ -28,3 +28,11 @@ pub mod SelectionsJudged
 pub mod SelectionsLeft
 -- What is selected is chosen by what the words name.
 pub mod SelectionsNamed
+-- What failed where an import ends as one that did.
+pub mod ImportFails
+-- What failed where a split ends as one that did.
+pub mod SplitFails
+-- What failed where a join ends as one that did.
+pub mod JoinFails
+-- What failed where putting numbers right ends as one that did.
+pub mod RepairFails

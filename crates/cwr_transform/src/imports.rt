@@ -5,6 +5,7 @@ ghost use Rattle.cwr_write.specs.Format.Imports.{CountsReaderFault, CountsWriter
 ghost use Rattle.cwr_files.specs.Format.Files.{Turns};
 ghost use Rattle.cwr_files.specs.Steps.Inputs.{remaining_of};
 ghost use Rattle.cwr_endings.specs.Format.Endings.{WritesOut};
+ghost use Rattle.cwr_endings.specs.Format.Failures.{FailsSo, FailsToWrite};
 ghost use Rattle.cwr_transform.specs.Format.Imports.{EndsAsFileImport, EndsAsImport, ImportEndsAs, IsImportOf, JudgesImport};
 
 use cwr_devices::{Counted, ReadAhead, Sink, Target};
@@ -97,6 +98,7 @@ pub fn import_input<'a, S: Store, I: Read + Drop, P: Pace + Drop, W: Target, E: 
     error: &mut E,
 ) -> (W, Result<Status, Stop<'a>>)
     ensures ends { EndsAsImport import.now (remaining_of S.Reader.remaining I.remaining input.entry) result.1 }
+    ensures failed { FailsSo result.1 (S.failures store.old) (S.failures store.new) }
     ensures kept { S.held store.new ≡ S.held store.old }
 {
     let (mut output, outcome, read) = import_from(store, alloc, import, input, output);
@@ -120,6 +122,9 @@ pub fn import_file<'a, S: Store, I: Read + Drop, P: Pace + Drop, E: Write>(
     ensures files { S.making store.old ≡ None → Turns (S.held store.old) (S.held store.new)
         (WritesOut out.now (S.failures store.old) (S.failures store.new)
         (IsImportOf import.now (remaining_of S.Reader.remaining I.remaining input.entry)) result) }
+    // It ends as what failed does only where a failure was counted, or no such file can be made, or there was no memory.
+    ensures failed { FailsToWrite out.entry (S.making store.old) (S.held store.old) (S.held store.new) result (S.failures store.old)
+        (S.failures store.new) }
 {
     let (made, file) = match create_output(store, alloc, out) {
         Ok(made) => made,

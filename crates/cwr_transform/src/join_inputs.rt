@@ -3,8 +3,9 @@
 ghost use Rattle.std.specs.Prelude.{◌≡◌, IfOk, OnOk};
 ghost use Rattle.cwr_devices.specs.Steps.Sources.{failures_of};
 ghost use Rattle.cwr_files.specs.Format.Faults.{IfErr};
-ghost use Rattle.cwr_files.specs.Steps.NewFiles.{HasCounted, HasKeptCount};
-ghost use Rattle.cwr_transform.specs.Format.Joins.{IsUnread};
+ghost use Rattle.cwr_files.specs.Format.Files.{HasCounted};
+ghost use Rattle.cwr_files.specs.Steps.NewFiles.{HasKeptCount};
+ghost use Rattle.cwr_transform.specs.Format.Joins.{IsUnread, IsUnreadBy};
 ghost use Rattle.cwr_transform.specs.Steps.Joins.{HasFailed, LooksAfter, ReadEach, left_of, seen_with};
 
 use cwr_devices::{ReadAhead, Source};
@@ -26,6 +27,7 @@ pub(crate) fn open_inputs<'a, S: Store, I: Read + Drop>(
     ensures opened { IfOk result (λ readers. ReadEach (S.held store.old) (I.remaining standard)
         (left_of S.Reader.remaining I.remaining) names.now readers.items) }
     ensures unopened { IfErr result IsUnread }
+    ensures counted { IfErr result (λ fault. IsUnreadBy fault (S.failures store.old) (S.failures store.new)) }
     ensures kept { S.held store.new ≡ S.held store.old }
     ensures making { S.making store.new ≡ S.making store.old }
     ensures failures { OnOk result (S.failures store.new ≡ S.failures store.old) }

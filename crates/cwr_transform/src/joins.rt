@@ -6,8 +6,9 @@ ghost use Rattle.cwr_files.specs.Format.Faults.{IfErr};
 ghost use Rattle.cwr_files.specs.Format.Files.{Turns};
 ghost use Rattle.cwr_files.specs.Format.Written.{is_whole, times_failed, writer_in};
 ghost use Rattle.cwr_endings.specs.Format.Endings.{WritesOut};
+ghost use Rattle.cwr_endings.specs.Format.Failures.{FailsToJoin, IsFaultOfOut, IsFaultOfUnion};
 ghost use Rattle.cwr_transform.specs.Format.Joins.{EndsAfterJoin, EndsAsJoin, EndsJoined, IsJoinFault, IsRefusedSender, IsStatusOfJoin, IsTextOfJoin, IsUnjoined, NamesInputs};
-ghost use Rattle.cwr_transform.specs.Steps.Joins.{FailsAs, FindsIn, HaveTexts, IsTextOfReaders, JoinsReaders, JudgesJoin, JudgesNamed, LeavesJoin, LeavesNamed, LooksOn, StopsAs, WritesJoin, has_seen, judged_faults, keeps_file};
+ghost use Rattle.cwr_transform.specs.Steps.Joins.{CountsJoined, CountsWriter, FailsAs, FindsIn, HaveTexts, IsTextOfReaders, JoinsReaders, JudgesJoin, JudgesNamed, LeavesJoin, LeavesNamed, LooksOn, StopsAs, WritesJoin, has_seen, judged_faults, keeps_file};
 
 use crate::join_inputs::{end_inputs, look_after_each, name_of, open_inputs};
 use crate::join_notes::{other_sender, tell_repeated, tell_senders, word_of};
@@ -222,6 +223,9 @@ fn join_to_file<'a, S: Store, R: Source, P: Pace, E: Write>(
         (LeavesJoin union.now (S.failures store.old) (S.failures store.new)
         (IsTextOfReaders union.now.limits union.now.wanted R.remaining readers.old) result) }
     ensures making { S.making store.old ≡ None → S.making store.new ≡ None }
+    ensures unmade { IfErr result (λ fault. IsFaultOfOut union.now.out (S.making store.old) (S.held store.old) (S.held store.new) fault
+        (S.failures store.old) (S.failures store.new)) }
+    ensures counted { IfOk result (λ joined. CountsWriter joined.outcome (S.failures store.old) (S.failures store.new)) }
 {
     let (made, file) = match create_output(store, alloc, union.out) {
         Ok(made) => made,
@@ -328,6 +332,10 @@ fn join_named<'a, S: Store, I: Read + Drop, P: Pace, E: Write>(
         (LeavesNamed union.now (S.failures store.old) (S.failures store.new)
         (IsTextOfJoin union.now.limits union.now.wanted (S.held store.old) (I.remaining standard) (map (λ name. name.now) names.now))
         result) }
+    ensures failed { IfErr result (λ fault. IsFaultOfUnion union.now.out (S.making store.old) (S.held store.old) (S.held store.new) fault
+        (S.failures store.old) (S.failures store.new)) }
+    ensures counted { IfOk result (λ answer. IfSome answer (λ a. CountsJoined a.0.outcome a.0.after (S.failures store.old)
+        (S.failures store.new))) }
 {
     let mut readers = match open_inputs(store, alloc, names, standard) {
         Ok(readers) => readers,
@@ -377,6 +385,9 @@ pub fn join_files<'a, S: Store, I: Read + Drop, P: Pace, W: Target, E: Write>(
         (WritesOut union.now.out.now (S.failures store.old) (S.failures store.new)
         (IsTextOfJoin union.now.limits union.now.wanted (S.held store.old) (I.remaining standard) (map (λ name. name.now) names.now))
         result.1) }
+    // It ends as what failed does only where a failure was counted, or no such file can be made, or there was no memory.
+    ensures failed { FailsToJoin union.now.out (S.making store.old) (S.held store.old) (S.held store.new) result.1 (S.failures store.old)
+        (S.failures store.new) }
 {
     match join_named(store, alloc, union, names, standard, pace, error) {
         Ok(Some((joined, failed))) => {

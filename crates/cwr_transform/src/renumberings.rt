@@ -5,11 +5,12 @@ ghost use Rattle.std.specs.Result.{is_ok};
 ghost use Rattle.cwr_files.specs.Format.Faults.{IfErr};
 ghost use Rattle.cwr_files.specs.Format.Files.{Turns};
 ghost use Rattle.cwr_files.specs.Steps.Inputs.{remaining_of};
+ghost use Rattle.cwr_endings.specs.Format.Failures.{FailsSo, FailsToWrite, IsFaultOfOut, UnlessRead};
 ghost use Rattle.cwr_renumber.specs.Steps.Renumbered.{renumbered_text};
 ghost use Rattle.cwr_renumber.specs.Steps.Renumberings.{CountsWriter};
 ghost use Rattle.cwr_tools.specs.Format.Watching.{AreFindingsIn, is_reached};
 ghost use Rattle.cwr_transform.specs.Format.Repairs.{IsRepairOf, WritesRepair};
-ghost use Rattle.cwr_transform.specs.Steps.Repairs.{CountsRead, EndsRenumbered, EndsRepaired, HasFailedAs, IsRenumberedOf, IsRightOf, LeavesRepaired, RepairsInput, Rewrites, keeps_repaired, kept_outcome};
+ghost use Rattle.cwr_transform.specs.Steps.Repairs.{CountsFile, CountsRead, EndsRenumbered, EndsRepaired, HasFailedAs, IsRenumberedOf, IsRightOf, LeavesRepaired, RepairsInput, Rewrites, keeps_repaired, kept_outcome};
 
 use cwr_devices::{Counted, ReadAhead, Sink, Source, Target};
 use cwr_endings::{
@@ -343,6 +344,9 @@ fn make_repaired<'a, S: Store, I: Read + Drop, P: Pace + Drop, E: Write>(
         (LeavesRepaired out.now repair.now.wanted.whole (S.failures store.old) (S.failures store.new)
         (IsRepairOf renumbered_text repair.now.limits repair.now.wanted (remaining_of S.Reader.remaining I.remaining input.entry))
         result) }
+    ensures unmade { IfErr result (λ fault. IsFaultOfOut out.entry (S.making store.old) (S.held store.old) (S.held store.new) fault
+        (S.failures store.old) (S.failures store.new)) }
+    ensures counted { IfOk result (λ file. CountsFile file.repaired.outcome (S.failures store.old) (S.failures store.new)) }
 {
     let (made, file) = match create_output(store, alloc, out) {
         Ok(made) => made,
@@ -385,6 +389,9 @@ fn write_repaired<'a, S: Store, I: Read + Drop, P: Pace + Drop, E: Write>(
         (LeavesRepaired out.now repair.now.wanted.whole (S.failures store.old) (S.failures store.new)
         (IsRepairOf renumbered_text repair.now.limits repair.now.wanted (remaining_of S.Reader.remaining I.remaining input.entry))
         result) }
+    ensures unmade { IfErr result (λ fault. IsFaultOfOut out.entry (S.making store.old) (S.held store.old) (S.held store.new) fault
+        (S.failures store.old) (S.failures store.new)) }
+    ensures counted { IfOk result (λ file. CountsFile file.repaired.outcome (S.failures store.old) (S.failures store.new)) }
 {
     let input_word = repair.file.unwrap_or(DASH);
     if let Err(fault) = refuse_out(store, out, repair.only_new, &[input_word]) {
@@ -410,6 +417,10 @@ pub fn repair_file<'a, S: Store, I: Read + Drop, P: Pace + Drop, W: Target, E: W
     ensures files { S.making store.old ≡ None → Turns (S.held store.old) (S.held store.new)
         (WritesRepair out.now (S.failures store.old) (S.failures store.new)
         (IsRenumberedOf S.Reader.remaining I.remaining repair.now.limits repair.now.wanted input.entry) result.1) }
+    // It ends as what failed does only where a failure was counted, or no such file can be made, or there was no memory. Of an input that
+    // fails nothing is said.
+    ensures failed { UnlessRead result.1 (FailsToWrite out.entry (S.making store.old) (S.held store.old) (S.held store.new) result.1
+        (S.failures store.old) (S.failures store.new)) }
 {
     let file = match write_repaired(store, alloc, repair, input, out, error) {
         Ok(file) => file,
@@ -456,6 +467,7 @@ pub fn repair_input<'a, S: Store, I: Read + Drop, P: Pace + Drop, W: Target + Dr
 ) -> (W, Result<Status, Stop<'a>>)
     ensures ends { EndsRenumbered S.Reader.remaining I.remaining repair.now.limits repair.now.wanted repair.now.anyway
         input.entry result.1 }
+    ensures failed { UnlessRead result.1 (FailsSo result.1 (S.failures store.old) (S.failures store.new)) }
     ensures kept { S.held store.new ≡ S.held store.old }
 {
     let (repaired, mut output) = run(store, alloc, repair, input, output, &mut *error);

@@ -4,9 +4,10 @@ ghost use Rattle.std.specs.Prelude.{◌≡◌, None, IfOk, IfSome, OnOk, option_
 ghost use Rattle.cwr_parts.specs.Format.Splitting.{CountsSplitWriter};
 ghost use Rattle.cwr_files.specs.Format.Faults.{IfErr};
 ghost use Rattle.cwr_files.specs.Format.Files.{Turns};
+ghost use Rattle.cwr_files.specs.Format.Inputs.{IsThereOrRead};
 ghost use Rattle.cwr_files.specs.Steps.Inputs.{remaining_of, standard_left};
 ghost use Rattle.cwr_select.specs.Format.Criteria.{significant};
-ghost use Rattle.cwr_transform.specs.Format.Selections.{EndsAsSelection, EndsAsSelectionAt, IsSelectionAt, IsSelectionFrom, IsThereOrRead, LeavesSelection, WritesSelection, asked_choice};
+ghost use Rattle.cwr_transform.specs.Format.Selections.{EndsAsSelection, EndsAsSelectionAt, IsSelectionAt, IsSelectionFrom, LeavesSelection, WritesSelection, asked_choice};
 ghost use Rattle.cwr_transform.specs.Format.Lists.{number_in, place_in};
 ghost use Rattle.cwr_transform.specs.Steps.Lists.{IsThereForList, ReadsList, SaysText, standard_after_list};
 ghost use Rattle.cwr_transform.specs.Steps.Selections.{CountsLookAfter, CountsSelecting, EndsSelected, JudgesSelected, JudgesSelection, LeavesSelected, LooksAfterSelecting, is_empty, keeps_selected, selected_status, status_where, with_memory};

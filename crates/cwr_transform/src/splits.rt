@@ -1,13 +1,15 @@
 //! Transmissions that are cut into files.
 
-ghost use Rattle.cwr_transform.specs.Format.Splits.{EndsAsSplit, LeavesCut};
+ghost use Rattle.cwr_transform.specs.Format.Splits.{EndsAsSplit, FailsToCut, LeavesCut};
+ghost use Rattle.cwr_files.specs.Format.Faults.{IsFaultOfPart};
 ghost use Rattle.cwr_files.specs.Format.Files.{Turns};
+ghost use Rattle.cwr_files.specs.Steps.NewFiles.{HasKeptCount};
 ghost use Rattle.cwr_files.specs.Steps.NumberedFiles.{StartsAs};
 ghost use Rattle.cwr_files.specs.Steps.Inputs.{remaining_of};
 ghost use Rattle.cwr_endings.specs.Steps.Looks.{good_status};
 ghost use Rattle.cwr_tools.specs.Format.Watching.{CountsAccepted};
-ghost use Rattle.std.specs.Prelude.{◌≡◌, None, OnOk};
-ghost use Rattle.cwr_transform.specs.Steps.Splits.{HandsOver, JudgesCut, LeavesTold, SplitEndsAs};
+ghost use Rattle.std.specs.Prelude.{◌≡◌, None, IsSome, OnOk};
+ghost use Rattle.cwr_transform.specs.Steps.Splits.{CountsCut, HandsOver, JudgesCut, LeavesTold, SplitEndsAs, unless_stopped};
 
 use cwr_devices::{Outputs, ReadAhead, Sink, SinkFault, Source, Target};
 use cwr_endings::{
@@ -74,6 +76,7 @@ fn cut_source<R: Source, O: Outputs>(
     ensures handed { HandsOver cut.now.limits cut.now.transactions.value (R.remaining reader.old) (O.texts outputs.old)
         (O.texts outputs.new) result.0 }
     ensures lent { O.lent outputs.new ≡ O.lent outputs.old }
+    ensures reads { CountsCut result.0 result.1 (R.failures reader.old) (R.failures reader.new) }
 {
     let mut view = FindingView::new(alloc);
     let size = cut.transactions.get();
@@ -107,12 +110,28 @@ fn cut_into_files<'a, B: Unsplit, S: Store, R: Source>(
         (CountsAccepted cut.now.limits (R.remaining reader.old) result.2) }
     ensures files { Turns B.texts (S.held store.new) (LeavesTold cut.now.limits cut.now.transactions.value B.prefix (R.remaining reader.old)
         B.failures (S.failures store.new) result.0) }
+    ensures reads { CountsCut result.0 result.1 (R.failures reader.old) (R.failures reader.new) }
+    ensures failed { IsSome B.texts → IsFaultOfPart B.failures (S.failures store.new) result.3.fault }
+    ensures failures { IsSome B.texts → HasKeptCount B.failures (S.failures store.new) }
 {
     let mut parts = MadeParts::new(alloc, cut.prefix, cut.file, cut.only_new, cut.created);
     let mut files: NumberedFiles<'_, 'a, B, S> = NumberedFiles::new(store, &mut parts);
     let (outcome, look, count) = cut_source(alloc, cut, reader, &mut files);
     let made = files.end();
-    (outcome, look, count, made)
+    (unless_stopped(outcome, made.stopped), look, count, made)
+}
+
+/// What came of a split: it is no success where not all parts were made that were asked for.
+fn unless_stopped(
+    outcome: Result<SplitReport, ToolFault>,
+    stopped: bool,
+) -> Result<SplitReport, ToolFault>
+    ensures { result ≡ unless_stopped stopped outcome }
+{
+    match outcome {
+        Ok(_) if stopped => Err(ToolFault::Output),
+        outcome => outcome,
+    }
 }
 
 /// Cuts the transmission of an input into files of so many transactions, and writes the line that says how that ended. The writer comes
@@ -130,6 +149,9 @@ pub fn split_file<'a, S: Store, I: Read + Drop, P: Pace + Drop, W: Target + Drop
     ensures files { S.making store.old ≡ None → cut.now.created ≡ None → Turns (S.held store.old) (S.held store.new)
         (LeavesCut cut.now.limits cut.now.transactions.value cut.now.prefix.now
         (remaining_of S.Reader.remaining I.remaining input.entry) (S.failures store.old) (S.failures store.new) result.1) }
+    // It ends as what failed does only where a failure was counted, or no part could be made, or there was no memory.
+    ensures failed { S.making store.old ≡ None → IsSome (S.held store.old) → cut.now.created ≡ None
+        → FailsToCut result.1 (S.failures store.old) (S.failures store.new) }
 {
     match part_of_input(store, alloc, cut) {
         Ok(None) => {}

@@ -14,6 +14,7 @@ use Rattle.cwr_files.specs.declared.faults.Fault.TheVariants as faults
 use Rattle.cwr_files.specs.declared.faults.Name.TheVariants as names
 use Rattle.cwr_files.specs.Format.Files.{Texts}
 use Rattle.cwr_files.specs.Format.Inputs.{IsUnopenedBy}
+use Rattle.cwr_files.proofs.lemmas.Unopened.{by_unopened}
 use Rattle.cwr_endings.specs.declared.endings.Look.{Look}
 use Rattle.cwr_endings.specs.declared.endings.Look.TheVariants as looks
 use Rattle.cwr_endings.specs.declared.endings.Status.{Status}
@@ -218,21 +219,11 @@ module _ (asked : Asked) (explained : Bool) (held : Option Texts) (standard : Op
 -- ---- one input
 
 -- what couldn't be opened, where standard input is there
-pub unopened_fails : {I : Type 0} → (input : I) (old now : ℕ) (fault : Fault) → IsUnopenedBy (Some input) old now fault
-    → FailsSo (Err (stops.Fault fault)) old now
-unopened_fails input old now (faults.Open names.StandardInput reason) h = absurd (none-some input (sym h.0))
-unopened_fails input old now (faults.Open names.StandardOutput reason) h = one_fails old now h
-unopened_fails input old now (faults.Open (names.File name) reason) h = one_fails old now h
-unopened_fails input old now (faults.Open (names.Part prefix number) reason) h = one_fails old now h
-unopened_fails input old now (faults.Read told) h = absurd h
-unopened_fails input old now (faults.Write told) h = absurd h
-unopened_fails input old now (faults.Output name reason) h = absurd h
-unopened_fails input old now (faults.IsInput name) h = absurd h
-unopened_fails input old now (faults.IsThere name) h = absurd h
-unopened_fails input old now (faults.IsTwice name) h = absurd h
-unopened_fails input old now (faults.IsOther name) h = absurd h
-unopened_fails input old now (faults.IsLate name) h = absurd h
-unopened_fails input old now faults.Memory h = absurd h
+pub unopened_fails : {I : Type 0} → (name : Option (List ℕ)) (input : I) (old now : ℕ) (fault : Fault)
+    → IsUnopenedBy name (Some input) old now fault → FailsSo (Err (stops.Fault fault)) old now
+unopened_fails name input old now fault h =
+    by_unopened name (Some input) old now (λ (f : Fault). FailsSo (Err (stops.Fault f)) old now)
+    (λ is gone same. absurd (none-some input (sym gone))) (λ of reason is word counted. one_fails old now counted) fault h
 
 stopped_fails : (advice : Option (Bool × ℕ)) (limits : Limits) (wanted : Wanted) (left : Option (List ℕ)) (ending : Result Status Stop)
     (old now out out_now : ℕ) → IfOk ending IsRead → EndsOnInput advice limits wanted left ending → CountsStop ending old now out out_now

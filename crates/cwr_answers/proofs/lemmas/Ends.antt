@@ -12,6 +12,7 @@ use Rattle.cwr_files.specs.declared.faults.Fault.TheVariants as faults
 use Rattle.cwr_files.specs.Format.Files.{Texts}
 use Rattle.cwr_files.specs.Format.Inputs.{IfReadAt, IsUnopenedBy, is_standard}
 use Rattle.cwr_files.specs.Steps.Inputs.{IsLeftOf, IsThereFor, standard_after, standard_left}
+use Rattle.cwr_files.proofs.lemmas.Unopened.{by_unopened}
 use Rattle.cwr_endings.specs.declared.endings.Look.{Look}
 use Rattle.cwr_endings.specs.declared.endings.Status.{Status}
 use Rattle.cwr_endings.specs.declared.endings.Status.TheVariants as statuses
@@ -49,17 +50,10 @@ judged_status limits whole before outcome look judged looked =
     (sees_nothing None limits before None None outcome refl refl refl) looked)
 
 -- what couldn't be opened wasn't read
-pub unopened_unread : {I : Type 0} (standard : Option I) (old new : ℕ) (fault : Fault) → IsUnopenedBy standard old new fault → IsUnread fault
-unopened_unread standard old new (faults.Open of reason) h = tt
-unopened_unread standard old new (faults.Read told) h = absurd h
-unopened_unread standard old new faults.Memory h = absurd h
-unopened_unread standard old new (faults.Write told) h = absurd h
-unopened_unread standard old new (faults.Output of reason) h = absurd h
-unopened_unread standard old new (faults.IsInput of) h = absurd h
-unopened_unread standard old new (faults.IsThere of) h = absurd h
-unopened_unread standard old new (faults.IsTwice of) h = absurd h
-unopened_unread standard old new (faults.IsOther of) h = absurd h
-unopened_unread standard old new (faults.IsLate of) h = absurd h
+pub unopened_unread : {I : Type 0} (name : Option (List ℕ)) (standard : Option I) (old new : ℕ) (fault : Fault)
+    → IsUnopenedBy name standard old new fault → IsUnread fault
+unopened_unread name standard old new fault h =
+    by_unopened name standard old new (λ (f : Fault). IsUnread f) (λ is gone same. tt) (λ of reason is word counted. tt) fault h
 
 -- ---- what a word names, where standard input is read once
 

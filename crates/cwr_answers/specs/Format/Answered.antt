@@ -1,5 +1,5 @@
 -- What became of the transactions of a file, by the acknowledgements of others.
-use Rattle.std.specs.Prelude.{◌≡◌, ◌⊎◌, ℕ, Bool, List, [], ◌∷◌, Option, Some, None}
+use Rattle.std.specs.Prelude.{◌≡◌, ℕ, Bool, List, [], ◌∷◌, Option, Some, None}
 use Rattle.std.specs.List.{AllZip, flat_map}
 use Rattle.cwr_shape.specs.declared.limits.Limits.{Limits}
 use Rattle.cwr_values.specs.Format.Values.{TransmissionValue}
@@ -12,10 +12,6 @@ use Rattle.cwr_state_rows.specs.Format.StatePlaces.{state_places}
 use Rattle.cwr_state_rows.specs.Format.StateRows.{rows_of}
 use Rattle.cwr_files.specs.Format.Files.{Texts}
 use Rattle.cwr_files.specs.Format.Inputs.{IfRead}
-
--- standard input is there, or was read
-abbrev pub IsThereOrRead : {I : Type 0} → I → Option I → Type 0
-IsThereOrRead input standard = (standard ≡ Some input) ⊎ (standard ≡ None)
 
 -- the text that a word names is accepted as the transmission, where it is known
 abbrev pub IsAcceptedAt : Limits → Option Texts → Option (List ℕ) → List ℕ → TransmissionValue → Type 0

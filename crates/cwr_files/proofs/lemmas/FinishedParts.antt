@@ -6,7 +6,7 @@ use Rattle.cwr_devices.specs.Format.Outputs.{AddsText}
 use Rattle.cwr_files.specs.Format.Files.{Texts, put}
 use Rattle.cwr_files.specs.Format.Parts.{part_name, put_parts}
 use Rattle.cwr_files.specs.Steps.NumberedFiles.{AreUnasked, IsTied, Stands, StandsAt, StartsAs, WhereTold, is_dated, known_texts, prefix_of, told_texts, with_first}
-use Rattle.cwr_files.specs.declared.faults.Fault.{Fault}
+use Rattle.cwr_moments.specs.declared.moments.Moment.{Moment}
 use Rattle.cwr_files.specs.declared.new_files.NewFile.{NewFile}
 use Rattle.cwr_files.specs.declared.numberings.Numbering.{Numbering}
 
@@ -73,6 +73,18 @@ tied_more contents writers writer before prefix old numbering next making writin
         (sym (length-append parts (text ∷ [])))
         (subst (λ (x : Texts). Stands next writing now after x (length parts + 1) old) put_here (j base (length parts) old text t refl))
 
+-- where no part more was finished
+pub tied_so : (before : Option Texts) (known : Option (List (List ℕ))) (prefix : List ℕ) (old : ℕ) (numbering next : Numbering)
+    (making writing : Option (List ℕ)) (held now : Option Texts) (failures after : ℕ)
+    → WhereTold before known (IsTied prefix old numbering making held failures)
+    → ((texts : Texts) (count start : ℕ) → Stands numbering making held failures texts count start
+    → Stands next writing now after texts count start)
+    → WhereTold before known (IsTied prefix old next writing now after)
+tied_so None known prefix old numbering next making writing held now failures after h k = tt
+tied_so (Some texts) None prefix old numbering next making writing held now failures after h k = tt
+tied_so (Some texts) (Some parts) prefix old numbering next making writing held now failures after h k =
+    k (put_parts prefix 1 parts texts) (length parts) old h
+
 -- ---- what is told
 
 pub told_added : {W : Type 0} (contents : W → Option (List ℕ)) (writers : List W) (writer : W) (before : Option Texts) (borrow : ℕ)
@@ -103,10 +115,15 @@ tied_first None known prefix old numbering making held failures u s = tt
 tied_first (Some texts) known prefix old numbering making held failures u s =
     subst (λ (k : Option (List (List ℕ))). WhereTold (Some texts) k (IsTied prefix old numbering making held failures)) (sym u.5)
     (subst (λ (x : Bool). StandsAt x (prefix_of numbering) numbering.asked numbering.open_file making held failures texts 0 old)
-    (sym (ap (λ (o : Option Fault). is_some o) u.2))
+    (sym u.2)
     (subst (λ (x : Option NewFile). StandsAt false (prefix_of numbering) numbering.asked x making held failures texts 0 old) (sym u.3)
     (subst (λ (h : Option Texts). StandsAt false (prefix_of numbering) numbering.asked None making h failures texts 0 old) (sym s.1)
     (((λ n. refl), s.0, λ lt. omega (arith, s.2)), u.4))))
+
+pub starts_counted : (before : Option Texts) (prefix : List ℕ) (old : ℕ) (making : Option (List ℕ)) (held : Option Texts) (failures : ℕ)
+    (given : List ℕ) (created : Option Moment) → StartsAs before prefix old making held failures given created → failures ≡ old
+starts_counted None prefix old making held failures given created s = s
+starts_counted (Some texts) prefix old making held failures given created s = s.2
 
 pub starts_dated : (before : Option Texts) (prefix : List ℕ) (old : ℕ) (numbering : Numbering) (making : Option (List ℕ))
     (held : Option Texts) (failures : ℕ)

@@ -4,9 +4,9 @@ use Rattle.std.proofs.lemmas.Slice.Eq.{bytes_eq-Decides}
 use Rattle.std.specs.Prelude.{Result, Ok, Err, OnErr, if◌then◌else◌}
 use Rattle.std.specs.Str.{bytes_eq}
 use Rattle.cwr_devices.specs.Format.Failures.{most_failures}
-use Rattle.cwr_files.specs.Format.Files.{IsClosed, IsGivenUp, Same, SameBut, Texts, Turns, counted_on}
+use Rattle.cwr_files.specs.Format.Files.{HasCounted, IsClosed, IsGivenUp, Same, SameBut, Texts, Turns, counted_on}
 use Rattle.cwr_files.specs.Format.NewFiles.{LeavesNothing}
-use Rattle.cwr_files.specs.Steps.NewFiles.{EndsDropped, EndsKept, HasBegun, HasCounted, HasKeptCount, IsDropped, IsFinished, final_name, name_of_part}
+use Rattle.cwr_files.specs.Steps.NewFiles.{EndsDropped, EndsKept, HasBegun, HasKeptCount, IsDropped, IsFinished, final_name, name_of_part}
 use Rattle.cwr_files.specs.declared.new_files.NewFile.{NewFile}
 
 none_at : (texts : Texts) (part n : List ℕ) → texts part ≡ None → bytes_eq n part ≡ true → texts n ≡ None

@@ -4,7 +4,7 @@ use Rattle.std.specs.Prelude.{◌⊎◌, IfSome, IsSome}
 use Rattle.std.proofs.lemmas.Option.{none-some}
 use Rattle.std.proofs.lemmas.List.{take_more, get_or-map, length-map}
 use Rattle.cwr_files.specs.Format.Files.{Texts}
-use Rattle.cwr_files.specs.Format.Inputs.{IfRead, IfReadAt, IfThere, is_standard, text_at, text_of}
+use Rattle.cwr_files.specs.Format.Inputs.{IfRead, IfReadAt, IfThere, IsThereOrRead, is_standard, text_at, text_of}
 use Rattle.cwr_files.specs.Steps.Inputs.{IsLeftAt, IsLeftOf, IsThereFor, standard_after, standard_left}
 
 there : (found left : Option (List ℕ)) (is : List ℕ → Type 0) → IsSome found → left ≡ found → IfSome left is → IfThere found is
@@ -55,18 +55,14 @@ words_more words i d h =
 
 -- ---- standard input, which is there once
 
--- it is still there, or it was read
-abbrev pub IsLent : {I : Type 0} → I → Option I → Type 0
-IsLent input standard = (standard ≡ Some input) ⊎ (standard ≡ None)
-
 -- it is lent on
-pub lent_on : {I : Type 0} (b : Bool) (input : I) (standard after : Option I) → IsLent input standard → after ≡ standard_after b standard
-    → IsLent input after
+pub lent_on : {I : Type 0} (b : Bool) (input : I) (standard after : Option I) → IsThereOrRead input standard → after ≡ standard_after b standard
+    → IsThereOrRead input after
 lent_on true input standard after lent e = inr e
-lent_on false input standard after lent e = subst (λ (o : Option _). IsLent input o) (sym e) lent
+lent_on false input standard after lent e = subst (λ (o : Option _). IsThereOrRead input o) (sym e) lent
 
 standard_lent : {I : Type 0} (of_standard : I → Option (List ℕ)) (input : I) (standard : Option I) (left : Option (List ℕ))
-    → IsLent input standard → IsSome standard → left ≡ standard_left of_standard standard → left ≡ of_standard input
+    → IsThereOrRead input standard → IsSome standard → left ≡ standard_left of_standard standard → left ≡ of_standard input
 standard_lent of_standard input None left lent there e = absurd (true≢false (sym there))
 standard_lent {I = I} of_standard input (Some other) left lent there e =
     elim lent [
@@ -76,7 +72,7 @@ standard_lent {I = I} of_standard input (Some other) left lent there e =
 
 -- what is left of what was opened is what the word names, where standard input is lent
 pub left_lent : {I : Type 0} (b : Bool) (held : Option Texts) (of_standard : I → Option (List ℕ)) (input : I) (standard : Option I)
-    (name : List ℕ) (left : Option (List ℕ)) → IsLent input standard → IsThereFor b standard
+    (name : List ℕ) (left : Option (List ℕ)) → IsThereOrRead input standard → IsThereFor b standard
     → IsLeftAt b held (standard_left of_standard standard) name left → IsLeftAt b held (of_standard input) name left
 left_lent true held of_standard input standard name left lent there h = standard_lent of_standard input standard left lent there h
 left_lent false None of_standard input standard name left lent there h = tt

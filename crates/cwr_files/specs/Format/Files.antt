@@ -1,5 +1,5 @@
 -- What lies under names, and what one call of the system does to that.
-use Rattle.std.specs.Prelude.{◌≡◌, ℕ, zero, suc, ◌+◌, min, Bool, false, ◌&&◌, List, [], Option, Some, None, IsSome, Result, Ok, Err, if◌then◌else◌}
+use Rattle.std.specs.Prelude.{◌≡◌, ◌<◌, ℕ, zero, suc, ◌+◌, min, Bool, false, ◌&&◌, List, [], Option, Some, None, IsSome, Result, Ok, Err, if◌then◌else◌}
 use Rattle.std.specs.Option.{is_some}
 use Rattle.std.specs.Str.{bytes_eq}
 use Rattle.cwr_devices.specs.Format.Failures.{most_failures, one_more_failure}
@@ -41,6 +41,10 @@ counted_on (suc more) before = min (before + suc more) most_failures
 abbrev pub Counts : {A E : Type 0} → Result A E → ℕ → ℕ → Type 0
 Counts (Ok x) old new = new ≡ old
 Counts (Err e) old new = new ≡ one_more_failure old
+
+-- a failure was counted, below the highest count
+abbrev pub HasCounted : ℕ → ℕ → Type 0
+HasCounted old failures = failures < most_failures → old < failures
 
 -- that something has the name is no failure
 abbrev pub CountsMaking : {W : Type 0} → Result W Unmade → ℕ → ℕ → Type 0

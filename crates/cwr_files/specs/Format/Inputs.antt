@@ -1,12 +1,12 @@
 -- Which words name standard input, what is read under a word, and what inputs are called.
-use Rattle.std.specs.Prelude.{◌≡◌, ℕ, Bool, true, false, if◌then◌else◌, List, [], ◌∷◌, All, map, Option, Some, None, IfSome, codes, chars, encode_utf8_all}
+use Rattle.std.specs.Prelude.{◌≡◌, ◌⊎◌, ℕ, Bool, true, false, if◌then◌else◌, List, [], ◌∷◌, All, map, Option, Some, None, IfSome, IsSome, codes, chars, encode_utf8_all}
 use Rattle.std.specs.List.{AllZip}
 use Rattle.std.specs.Str.{bytes_eq}
 use Rattle.std.specs.Char.{is_control}
 use Rattle.cwr_devices.specs.Format.Failures.{one_more_failure}
 use Rattle.cwr_files.specs.declared.faults.Fault.{Fault}
 use Rattle.cwr_files.specs.declared.faults.Fault.TheVariants as faults
-use Rattle.cwr_files.specs.declared.faults.Name.TheVariants.{StandardInput}
+use Rattle.cwr_files.specs.declared.faults.Name.TheVariants.{File, StandardInput}
 use Rattle.cwr_files.specs.Format.Files.{Texts}
 
 -- no word does, and `-`
@@ -21,6 +21,10 @@ are_standard (name ∷ []) = is_standard (Some name)
 are_standard names = false
 
 -- ---- what is read under a word
+
+-- standard input is there, or was read
+abbrev pub IsThereOrRead : {I : Type 0} → I → Option I → Type 0
+IsThereOrRead input standard = (standard ≡ Some input) ⊎ (standard ≡ None)
 
 -- what lies there is this; nothing is read where nothing lies
 abbrev pub IfThere : Option (List ℕ) → (List ℕ → Type 0) → Type 0
@@ -61,11 +65,14 @@ AreThere held standard names = All (λ name. IfRead held standard (Some name) (�
 
 -- ---- an input that couldn't be opened
 
--- a file couldn't, which is counted, or standard input, which is there once
-abbrev pub IsUnopenedBy : {I : Type 0} → Option I → ℕ → ℕ → Fault → Type 0
-IsUnopenedBy standard old new (faults.Open StandardInput reason) = (standard ≡ None) × (new ≡ old)
-IsUnopenedBy standard old new (faults.Open name reason) = new ≡ one_more_failure old
-IsUnopenedBy standard old new fault = ⊥
+-- Where the word names standard input, which is there once, that isn't there; else the file of the word couldn't be opened, the system said why,
+-- and it is counted.
+abbrev pub IsUnopenedBy : {I : Type 0} → Option (List ℕ) → Option I → ℕ → ℕ → Fault → Type 0
+IsUnopenedBy name standard old new (faults.Open StandardInput reason) =
+    (is_standard name ≡ true) × (standard ≡ None) × (reason ≡ None) × (new ≡ old)
+IsUnopenedBy name standard old new (faults.Open (File of) reason) =
+    (is_standard name ≡ false) × (name ≡ Some of.now) × IsSome reason × (new ≡ one_more_failure old)
+IsUnopenedBy name standard old new fault = ⊥
 
 -- the name under which the system has what a word names
 abbrev pub path_of_input : List ℕ → List ℕ

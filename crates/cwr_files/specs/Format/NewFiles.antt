@@ -2,7 +2,7 @@
 use Rattle.std.specs.Prelude.{◌≡◌, ℕ, ◌<◌, ◌≤◌, ◌==◌, false, List, ◌++◌, Option, Some, None, IsSome, codes, decimal, if◌then◌else◌}
 use Rattle.std.specs.Str.{bytes_eq}
 use Rattle.cwr_devices.specs.Format.Failures.{most_failures}
-use Rattle.cwr_files.specs.Format.Files.{Same, SameBut, Texts, put}
+use Rattle.cwr_files.specs.Format.Files.{Same, SameBut, Texts, Turns, put}
 
 -- the name of the whole one and `.part`, and from the second try on its number
 abbrev pub unfinished_name : List ℕ → ℕ → List ℕ
@@ -11,6 +11,10 @@ unfinished_name name tries = if tries == 0 then name ++ codes ".part" else name 
 -- something has each name of these first tries
 abbrev pub AreTaken : List ℕ → ℕ → Texts → Type 0
 AreTaken name tries texts = (j : ℕ) → j < tries → IsSome (texts (unfinished_name name j))
+
+-- something has each of the hundred names, where nothing was being written, and it is known what lay under names
+abbrev pub AllTaken : List ℕ → Option (List ℕ) → Option Texts → Option Texts → Type 0
+AllTaken name making held now = making ≡ None → Turns held now (λ texts new. AreTaken name 100 new)
 
 -- the part has the first of its hundred names that nothing had
 pub record IsFirstFree (name part : List ℕ) (texts : Texts) : Type 0 where

@@ -54,10 +54,6 @@ abbrev pub EndsDropped : NewFile → ℕ → ℕ → Texts → Option Texts → 
 EndsDropped made most failures texts None = ⊥
 EndsDropped made most failures texts (Some new) = LeavesNothing (name_of_part made) most failures texts new
 
--- a failure was counted, below the highest count
-abbrev pub HasCounted : ℕ → ℕ → Type 0
-HasCounted old failures = failures < most_failures → old < failures
-
 -- none was taken away
 abbrev pub HasKeptCount : ℕ → ℕ → Type 0
 HasKeptCount old failures = failures < most_failures → old ≤ failures

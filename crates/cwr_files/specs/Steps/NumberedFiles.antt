@@ -1,17 +1,19 @@
 -- What is kept of the files of a split, and what lies under names while they are made.
-use Rattle.std.specs.Prelude.{◌≡◌, ℕ, ◌+◌, ◌≤◌, ◌<◌, Bool, true, false, List, [], ◌∷◌, length, Option, Some, None, IsSome}
+use Rattle.std.specs.Prelude.{◌≡◌, ℕ, zero, suc, ◌+◌, ◌≤◌, ◌<◌, Bool, true, false, List, [], ◌∷◌, length, Option, Some, None, IsSome}
 use Rattle.std.specs.Coded.{Coded-set, Unit-prop, coded_list, coded_option, coded_ℕ, le_prop, Π_prop, ×_prop, →_prop}
 use Rattle.std.specs.Option.{is_some}
 use mathlib.Core.HLevel.{×₃_prop}
 use mathlib.Core.Logic.{∥∥₁_prop}
 use Rattle.cwr_devices.specs.Format.Failures.{most_failures}
-use Rattle.cwr_files.specs.Format.Files.{Same, Texts}
+use Rattle.cwr_files.specs.Format.Faults.{IsFaultOfPart}
+use Rattle.cwr_files.specs.Format.Files.{HasCounted, Same, Texts}
 use Rattle.cwr_files.specs.Format.NewFiles.{IsNoPart}
 use Rattle.cwr_files.specs.Format.Parts.{part_name, put_parts}
 use Rattle.cwr_files.specs.Steps.NewFiles.{HasKeptCount, IsBegun, final_name}
 use Rattle.cwr_files.specs.declared.faults.Fault.{Fault}
 use Rattle.cwr_files.specs.declared.faults.Fault.TheVariants as faults
 use Rattle.cwr_files.specs.declared.faults.Name.{Name}
+use Rattle.cwr_files.specs.declared.faults.Told.{Told}
 use Rattle.cwr_files.specs.declared.faults.Name.TheVariants.{Part}
 use Rattle.cwr_files.specs.declared.numberings.Numbering.{Numbering}
 use Rattle.cwr_files.specs.declared.new_files.NewFile.{NewFile}
@@ -59,9 +61,13 @@ lent_of numbering = written_at numbering.open_file
 abbrev pub made_in : Numbering → Option NewFile
 made_in numbering = numbering.open_file
 
--- a file couldn't be made, finished or written
+-- no part is asked for any more: one couldn't be made or finished, or was given up
 abbrev pub has_stopped : Numbering → Bool
-has_stopped numbering = is_some numbering.fault
+has_stopped numbering = numbering.stopped
+
+-- why a part couldn't be made, finished or written, where that is so
+abbrev pub fault_of : Numbering → Option Fault
+fault_of numbering = numbering.fault
 
 -- what the names of the parts begin with
 abbrev pub prefix_of : Numbering → List ℕ
@@ -167,6 +173,42 @@ StandsAt-prop false prefix asked None making held failures texts count old =
 StandsAt-prop false prefix asked (Some made) making held failures texts count old =
     ×_prop (HasEnded-prop prefix (Some made) making held failures texts count old) (Coded-set coded_ℕ asked (count + 1))
 
+-- the fault is one that a part of a split may have
+abbrev pub FaultIsOfPart : ℕ → ℕ → Option Fault → Type 0
+FaultIsOfPart old failures None = Unit {0}
+FaultIsOfPart old failures (Some fault) = IsFaultOfPart old failures fault
+
+HasCounted-prop : (old failures : ℕ) → IsProp (HasCounted old failures)
+HasCounted-prop old failures = →_prop le_prop
+
+IsFaultOfPart-prop : (old failures : ℕ) (fault : Fault) → IsProp (IsFaultOfPart old failures fault)
+IsFaultOfPart-prop old failures (faults.Open of reason) = λ x y. absurd x
+IsFaultOfPart-prop old failures (faults.Read told) = λ x y. absurd x
+IsFaultOfPart-prop old failures (faults.Write told) = HasCounted-prop old failures
+IsFaultOfPart-prop old failures (faults.Output of None) = Unit-prop
+IsFaultOfPart-prop old failures (faults.Output of (Some reason)) = →_prop (HasCounted-prop old failures)
+IsFaultOfPart-prop old failures (faults.IsInput of) = Unit-prop
+IsFaultOfPart-prop old failures (faults.IsThere of) = Unit-prop
+IsFaultOfPart-prop old failures (faults.IsTwice of) = λ x y. absurd x
+IsFaultOfPart-prop old failures (faults.IsOther of) = λ x y. absurd x
+IsFaultOfPart-prop old failures (faults.IsLate of) = Unit-prop
+IsFaultOfPart-prop old failures faults.Memory = Unit-prop
+
+pub FaultIsOfPart-prop : (old failures : ℕ) (fault : Option Fault) → IsProp (FaultIsOfPart old failures fault)
+FaultIsOfPart-prop old failures None = Unit-prop
+FaultIsOfPart-prop old failures (Some fault) = IsFaultOfPart-prop old failures fault
+
+-- the fault once the writer of the part in hand was given up, if there is one, which failed so often
+abbrev pub fault_after : ℕ → Option NewFile → Told → Option Fault → Option Fault
+fault_after zero made told fault = fault
+fault_after (suc times) None told fault = fault
+fault_after (suc times) (Some made) told fault = Some (faults.Write told)
+
+-- a fault of a part that was known stays one, or another one takes its place
+abbrev pub KeepsFault : ℕ → ℕ → Option Fault → Option Fault → Type 0
+KeepsFault failures after was now =
+    (first : ℕ) → HasKeptCount first failures → FaultIsOfPart first failures was → FaultIsOfPart first after now
+
 -- ---- what is told of those that are finished
 
 -- the text before these, where all are known
@@ -212,14 +254,15 @@ IsTied-prop (Some texts) (Some parts) prefix old numbering making held failures 
     StandsAt-prop (has_stopped numbering) (prefix_of numbering) numbering.asked numbering.open_file making held failures
     (put_parts prefix 1 parts texts) (length parts) old
 
--- What lay under names at first, where that is known: nothing was being written, and what is written is what the files get.
+-- So many calls had failed at first. Where it is known what lay under names then, nothing was being written, and what is written is what the
+-- files get.
 abbrev pub StartsAs : Option Texts → List ℕ → ℕ → Option (List ℕ) → Option Texts → ℕ → List ℕ → Option Moment → Type 0
-StartsAs None prefix old making held failures given created = Unit {0}
+StartsAs None prefix old making held failures given created = failures ≡ old
 StartsAs (Some texts) prefix old making held failures given created =
     (making ≡ None) × (held ≡ Some texts) × (failures ≡ old) × (given ≡ prefix) × (is_some created ≡ false)
 
 -- none was asked for
 abbrev pub AreUnasked : Numbering → List ℕ → Option Moment → Option (List (List ℕ)) → Type 0
 AreUnasked numbering prefix created known =
-    (prefix_of numbering ≡ prefix) × (numbering.created ≡ created) × (numbering.fault ≡ None) × (numbering.open_file ≡ None)
-    × (numbering.asked ≡ 0) × (known ≡ Some [])
+    (prefix_of numbering ≡ prefix) × (numbering.created ≡ created) × (numbering.stopped ≡ false) × (numbering.open_file ≡ None)
+    × (numbering.asked ≡ 0) × (known ≡ Some []) × (numbering.fault ≡ None)

@@ -26,6 +26,7 @@ use Rattle.cwr_files.specs.Format.Files.{Texts, counted_on}
 use Rattle.cwr_files.specs.Format.Inputs.{IsUnopenedBy}
 use Rattle.cwr_files.specs.Steps.Inputs.{IsLeftOf}
 use Rattle.cwr_files.proofs.lemmas.Reads.{if_read}
+use Rattle.cwr_files.proofs.lemmas.Unopened.{by_unopened}
 use Rattle.cwr_endings.specs.declared.stops.Stop.{Stop}
 use Rattle.cwr_endings.specs.declared.stops.Stop.TheVariants as stops
 use Rattle.cwr_endings.specs.declared.endings.Look.{Look}
@@ -424,18 +425,11 @@ ends_on_read advice limits wanted held standard name left (Err (stops.Fault (fau
 
 -- where it can't be opened
 pub unopened_ends : {I : Type 0} (advice : Option (Bool × ℕ)) (limits : Limits) (wanted : Wanted) (held : Option Texts)
-    (standard name : Option (List ℕ)) (input : Option I) (old new : ℕ) (fault : Fault) → IsUnopenedBy input old new fault
+    (standard name : Option (List ℕ)) (input : Option I) (old new : ℕ) (fault : Fault) → IsUnopenedBy name input old new fault
     → EndsOnRead advice limits wanted held standard name (Err (stops.Fault fault))
-unopened_ends advice limits wanted held standard name input old new (faults.Open of reason) h = tt
-unopened_ends advice limits wanted held standard name input old new (faults.Read told) h = tt
-unopened_ends advice limits wanted held standard name input old new (faults.Write told) h = absurd h
-unopened_ends advice limits wanted held standard name input old new (faults.Output of reason) h = absurd h
-unopened_ends advice limits wanted held standard name input old new (faults.IsInput of) h = absurd h
-unopened_ends advice limits wanted held standard name input old new (faults.IsThere of) h = absurd h
-unopened_ends advice limits wanted held standard name input old new (faults.IsTwice of) h = absurd h
-unopened_ends advice limits wanted held standard name input old new (faults.IsOther of) h = absurd h
-unopened_ends advice limits wanted held standard name input old new (faults.IsLate of) h = absurd h
-unopened_ends advice limits wanted held standard name input old new faults.Memory h = tt
+unopened_ends advice limits wanted held standard name input old new fault h =
+    by_unopened name input old new (λ (f : Fault). EndsOnRead advice limits wanted held standard name (Err (stops.Fault f)))
+    (λ is gone same. tt) (λ of reason is word counted. tt) fault h
 
 pub export_of_read : (advice : Option (Bool × ℕ)) (limits : Limits) (wanted : Wanted) (held : Option Texts)
     (standard name left : Option (List ℕ)) (ending : Result Status Stop) → IsLeftOf held standard name left

@@ -5,18 +5,14 @@ use Rattle.std.specs.Prelude.{OnOk, Result, Ok, Err}
 use Rattle.std.specs.Option.{is_some}
 use Rattle.std.specs.List.{AllZip, concat}
 use Rattle.std.specs.Io.KnownBytes.{Appends}
-use Rattle.cwr_devices.specs.Format.Failures.{most_failures, one_more_failure}
-use Rattle.cwr_shape.specs.declared.limits.Limits.{Limits}
+use Rattle.cwr_devices.specs.Format.Failures.{most_failures}
 use Rattle.cwr_tools.specs.declared.verdicts.Verdict.{Verdict}
 use Rattle.cwr_files.specs.declared.faults.Fault.{Fault}
 use Rattle.cwr_files.specs.declared.faults.Fault.TheVariants as faults
-use Rattle.cwr_files.specs.declared.faults.Name.{Name}
-use Rattle.cwr_files.specs.declared.faults.Name.TheVariants as names
-use Rattle.cwr_files.specs.declared.faults.Reason.{Reason}
 use Rattle.cwr_files.specs.Format.Files.{Texts}
-use Rattle.cwr_files.specs.Format.Inputs.{IsUnopenedBy, is_standard, shown_name}
+use Rattle.cwr_files.specs.Format.Inputs.{IsThereOrRead, IsUnopenedBy, is_standard, shown_name}
 use Rattle.cwr_files.specs.Steps.Inputs.{IsLeftAt, IsLeftOf, IsThereFor, standard_left}
-use Rattle.cwr_files.proofs.lemmas.Reads.{IsLent}
+use Rattle.cwr_files.proofs.lemmas.Unopened.{by_unopened}
 use Rattle.cwr_endings.specs.declared.endings.Status.{Status}
 use Rattle.cwr_endings.specs.declared.endings.Status.TheVariants as statuses
 use Rattle.cwr_endings.specs.declared.endings.Wanted.{Wanted}
@@ -32,28 +28,18 @@ use Rattle.cwr_reports.specs.declared.tellings.Asked.{Asked}
 use Rattle.cwr_reports.specs.declared.tellings.Telling.{Telling}
 use Rattle.cwr_reports.specs.Format.Endings.{telling_by}
 use Rattle.cwr_reports.specs.Steps.Looks.{JudgesRead}
-use Rattle.cwr_reports.specs.Steps.Marked.{AreLines, AreLinesOn, ArePieces, CountsEnd, CountsEnds, CountsOutput, HasStatus, IsPiece, IsUnopened, MarksRead, Piece, TellsEach, TellsNext, lines_of, status_in, verdict_of, worst_from}
+use Rattle.cwr_reports.specs.Steps.Marked.{AreLines, ArePieces, CountsEnd, CountsEnds, HasStatus, IsPiece, IsUnopened, MarksRead, Piece, TellsEach, TellsNext, lines_of, status_in, verdict_of, worst_from}
 use Rattle.cwr_reports.specs.Steps.Several.{IsFirst}
 use Rattle.cwr_reports.specs.Steps.Tellings.{CountsStop}
 
 -- ---- one file
 
 -- one that couldn't be opened
-unopened_counted : {I : Type 0} (standard : Option I) (old new : ℕ) (fault : Fault) → IsUnopenedBy standard old new fault
-    → IsUnopened (Err fault) × CountsEnd (Err fault) old new
-unopened_counted standard old new (faults.Open names.StandardInput reason) h = (tt, h.1)
-unopened_counted standard old new (faults.Open names.StandardOutput reason) h = (tt, h)
-unopened_counted standard old new (faults.Open (names.File file) reason) h = (tt, h)
-unopened_counted standard old new (faults.Open (names.Part prefix number) reason) h = (tt, h)
-unopened_counted standard old new (faults.Read told) h = absurd h
-unopened_counted standard old new (faults.Write told) h = absurd h
-unopened_counted standard old new (faults.Output of reason) h = absurd h
-unopened_counted standard old new (faults.IsInput of) h = absurd h
-unopened_counted standard old new (faults.IsThere of) h = absurd h
-unopened_counted standard old new (faults.IsTwice of) h = absurd h
-unopened_counted standard old new (faults.IsOther of) h = absurd h
-unopened_counted standard old new (faults.IsLate of) h = absurd h
-unopened_counted standard old new faults.Memory h = absurd h
+unopened_counted : {I : Type 0} (name : Option (List ℕ)) (standard : Option I) (old new : ℕ) (fault : Fault)
+    → IsUnopenedBy name standard old new fault → IsUnopened (Err fault) × CountsEnd (Err fault) old new
+unopened_counted name standard old new fault h =
+    by_unopened name standard old new (λ (f : Fault). IsUnopened (Err f) × CountsEnd (Err f) old new) (λ is gone same. (tt, same))
+    (λ of reason is word counted. (tt, counted)) fault h
 
 worse_fault : (status : Status) → worse_status status statuses.Fault ≡ statuses.Fault
 worse_fault statuses.Fault = refl
@@ -64,12 +50,12 @@ worse_fault statuses.Good = refl
 module _ {W : Type 0} (asked : Asked) (explained : Bool) (held : Option Texts) (standard : Option (List ℕ)) (name : List ℕ)
     (contents : W → Option (List ℕ)) where
   pub unopened_next : {I : Type 0} (input : Option I) (lines : W) (old new : ℕ) (sums sums_now : Sums) (fault : Fault)
-      → IsUnopenedBy input old new fault → Appends (contents lines) (contents lines) []
+      → IsUnopenedBy (Some name) input old new fault → Appends (contents lines) (contents lines) []
       → ((ends : List (Option Verdict)) → AreSums sums ends → AreSums sums_now (ends ++ None ∷ []))
       → sums_now.status ≡ statuses.Fault
       → TellsNext asked explained held standard name contents lines lines old new sums sums_now (Ok tt)
   unopened_next input lines old new sums sums_now fault h none counted failed =
-      let it = unopened_counted input old new fault h in (
+      let it = unopened_counted (Some name) input old new fault h in (
         record { lines = []; end = Err fault },
         inl (it.0, refl),
         none,
@@ -187,7 +173,7 @@ appends_on (Some x) (Some y) None xs ys h k = absurd k
 appends_on (Some x) (Some y) (Some z) xs ys h k = k ∙ ap (λ (l : List ℕ). l ++ ys) h ∙ append_assoc x xs ys
 
 -- what is left of standard input, which is there once
-pub first_of : {I : Type 0} (of_standard : I → Option (List ℕ)) (input : I) (standard : Option I) → IsLent input standard
+pub first_of : {I : Type 0} (of_standard : I → Option (List ℕ)) (input : I) (standard : Option I) → IsThereOrRead input standard
     → IsFirst of_standard standard (of_standard input)
 first_of {I = I} of_standard input standard lent =
     elim lent [

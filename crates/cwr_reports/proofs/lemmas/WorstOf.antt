@@ -6,12 +6,12 @@ use Rattle.std.proofs.lemmas.List.Elements.{All-push}
 use Rattle.std.proofs.lemmas.List.Quantifiers.{Any-push}
 use Rattle.cwr_shape.specs.declared.limits.Limits.{Limits}
 use Rattle.cwr_files.specs.Format.Files.{Texts}
-use Rattle.cwr_files.specs.Format.Inputs.{IfRead, IfReadAt, IfThere, is_standard}
+use Rattle.cwr_files.specs.Format.Inputs.{IfRead, IfReadAt, IfThere, IsThereOrRead, is_standard}
 use Rattle.cwr_files.specs.Steps.Inputs.{IsLeftAt, IsThereFor, standard_left}
 use Rattle.cwr_files.specs.declared.faults.Fault.TheVariants as faults
 use Rattle.cwr_endings.specs.declared.stops.Stop.{Stop}
 use Rattle.cwr_endings.specs.declared.stops.Stop.TheVariants as stops
-use Rattle.cwr_files.proofs.lemmas.Reads.{IsLent, read_so}
+use Rattle.cwr_files.proofs.lemmas.Reads.{read_so}
 use Rattle.cwr_endings.specs.declared.endings.Status.{Status}
 use Rattle.cwr_endings.specs.declared.endings.Status.TheVariants as statuses
 use Rattle.cwr_endings.specs.declared.endings.Wanted.{Wanted}
@@ -20,7 +20,7 @@ use Rattle.cwr_reports.specs.Format.Endings.{Counts, EndsOnEach, IsWorstOf}
 use Rattle.cwr_reports.specs.Steps.Several.{CountsNext, IfNextAt, IfStandard, IsNext, IsUnsummed}
 
 standard_so : {I : Type 0} (of_standard : I → Option (List ℕ)) (input : I) (standard : Option I) (is : List ℕ → Type 0)
-    → IsLent input standard → IfStandard of_standard standard is → IfSome (of_standard input) is
+    → IsThereOrRead input standard → IfStandard of_standard standard is → IfSome (of_standard input) is
 standard_so {I = I} of_standard input standard is lent h =
     elim lent [
       | inl e ↦ subst (λ (o : Option I). IfStandard of_standard o is) e h
@@ -28,7 +28,7 @@ standard_so {I = I} of_standard input standard is lent h =
     ]
 
 next_read : {I : Type 0} (b : Bool) (held : Option Texts) (of_standard : I → Option (List ℕ)) (input : I) (standard : Option I)
-    (name : List ℕ) (is : List ℕ → Type 0) → IsLent input standard → IfNextAt b held of_standard standard name is
+    (name : List ℕ) (is : List ℕ → Type 0) → IsThereOrRead input standard → IfNextAt b held of_standard standard name is
     → IfReadAt b held (of_standard input) name is
 next_read true held of_standard input standard name is lent h = standard_so of_standard input standard is lent h
 next_read false held of_standard input standard name is lent h = h
@@ -92,7 +92,7 @@ module _ (advice : Option (Bool × ℕ)) (limits : Limits) (wanted : Wanted) (he
 
 pub worst_more : {I : Type 0} (advice : Option (Bool × ℕ)) (limits : Limits) (wanted : Wanted) (held : Option Texts)
     (of_standard : I → Option (List ℕ)) (input : I) (standard : Option I) (names : List (List ℕ)) (name : List ℕ) (before now : Status)
-    → IsLent input standard → IsWorstOf advice limits wanted held (of_standard input) names before
+    → IsThereOrRead input standard → IsWorstOf advice limits wanted held (of_standard input) names before
     → IsNext advice limits wanted held of_standard standard name before now
     → IsWorstOf advice limits wanted held (of_standard input) (names ++ name ∷ []) now
 worst_more advice limits wanted held of_standard input standard names name before now lent worst next =

@@ -12,9 +12,9 @@ use Rattle.cwr_files.specs.declared.faults.Fault.{Fault}
 use Rattle.cwr_files.specs.declared.faults.Fault.TheVariants as faults
 use Rattle.cwr_files.specs.declared.faults.Name.TheVariants.{File}
 use Rattle.cwr_files.specs.declared.faults.Told.{Told}
-use Rattle.cwr_files.specs.Format.Files.{Texts, counted_on}
+use Rattle.cwr_files.specs.Format.Files.{HasCounted, Texts, counted_on}
 use Rattle.cwr_files.specs.Format.NewFiles.{LeavesAll}
-use Rattle.cwr_files.specs.Steps.NewFiles.{HasCounted, HasKeptCount}
+use Rattle.cwr_files.specs.Steps.NewFiles.{HasKeptCount}
 use Rattle.cwr_endings.specs.declared.endings.Status.{Status}
 use Rattle.cwr_endings.specs.declared.endings.Status.TheVariants as statuses
 use Rattle.cwr_endings.specs.declared.stops.Stop.{Stop}

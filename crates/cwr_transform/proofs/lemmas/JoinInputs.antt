@@ -16,10 +16,10 @@ use Rattle.cwr_devices.specs.Format.Failures.{most_failures, one_more_failure}
 use Rattle.cwr_devices.specs.declared.sources.ReadAhead.{ReadAhead}
 use Rattle.cwr_devices.specs.Steps.Sources.{ahead_of, inner_of}
 use Rattle.cwr_files.specs.declared.inputs.Input.{Input}
-use Rattle.cwr_files.specs.Format.Files.{Texts, counted_on}
+use Rattle.cwr_files.specs.Format.Files.{HasCounted, Texts, counted_on}
 use Rattle.cwr_files.specs.Format.Inputs.{AreTexts, AreThere}
 use Rattle.cwr_files.specs.Steps.Inputs.{IsLeftOf, remaining_of}
-use Rattle.cwr_files.specs.Steps.NewFiles.{HasCounted, HasKeptCount}
+use Rattle.cwr_files.specs.Steps.NewFiles.{HasKeptCount}
 use Rattle.cwr_files.proofs.lemmas.Reads.{is_there, text_left}
 use Rattle.cwr_endings.specs.declared.endings.Look.{Look}
 use Rattle.cwr_endings.specs.declared.endings.Look.TheVariants as looks

@@ -1,5 +1,5 @@
 -- A join ends as what it is made of answers.
-use Rattle.std.proofs.Common.{◌≡◌, ℕ, ◌<◌, Bool, true, false, ◌&&◌, Option, Some, None, sym, subst}
+use Rattle.std.proofs.Common.{◌≡◌, ℕ, ◌<◌, Bool, true, false, ◌&&◌, List, Option, Some, None, sym, subst}
 use Rattle.std.specs.Prelude.{Result, Ok, Err}
 use Rattle.cwr_tools.specs.declared.verdicts.JoinFault.{JoinFault}
 use Rattle.cwr_tools.specs.declared.verdicts.JoinReport.{JoinReport}
@@ -11,6 +11,7 @@ use Rattle.cwr_files.specs.declared.faults.Name.TheVariants.{File}
 use Rattle.cwr_files.specs.declared.faults.Told.{Told}
 use Rattle.cwr_files.specs.Format.Faults.{IsUnkept, IsUnmade}
 use Rattle.cwr_files.specs.Format.Inputs.{IsUnopenedBy}
+use Rattle.cwr_files.proofs.lemmas.Unopened.{by_unopened}
 use Rattle.cwr_endings.specs.declared.endings.Status.{Status}
 use Rattle.cwr_endings.specs.declared.endings.Status.TheVariants as statuses
 use Rattle.cwr_transform.specs.declared.joins.Union.{Union}
@@ -135,14 +136,7 @@ pub join_ends : (union : Union) (n : ℕ) (outcome : Result JoinReport JoinFault
 join_ends union n (Ok report) found looked ending some h = found_or_after union n found union.wanted.whole looked ending some h
 join_ends union n (Err stopped) found looked ending some h = failed union n h.0 h.1 stopped.fault ending some h.2
 
-pub unopened : {I : Type 0} (standard : Option I) (old new : ℕ) (fault : Fault) → IsUnopenedBy standard old new fault → IsUnread fault
-unopened standard old new (faults.Open name reason) h = tt
-unopened standard old new (faults.Read told) h = absurd h
-unopened standard old new (faults.Write told) h = absurd h
-unopened standard old new (faults.Output name reason) h = absurd h
-unopened standard old new (faults.IsInput name) h = absurd h
-unopened standard old new (faults.IsThere name) h = absurd h
-unopened standard old new (faults.IsTwice name) h = absurd h
-unopened standard old new (faults.IsOther name) h = absurd h
-unopened standard old new (faults.IsLate name) h = absurd h
-unopened standard old new faults.Memory h = absurd h
+pub unopened : {I : Type 0} (name : Option (List ℕ)) (standard : Option I) (old new : ℕ) (fault : Fault)
+    → IsUnopenedBy name standard old new fault → IsUnread fault
+unopened name standard old new fault h =
+    by_unopened name standard old new (λ (f : Fault). IsUnread f) (λ is gone same. tt) (λ of reason is word counted. tt) fault h

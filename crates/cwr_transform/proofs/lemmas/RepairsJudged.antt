@@ -18,8 +18,8 @@ use Rattle.cwr_tools.specs.Format.Watching.{AreFindingsIn, any_from, is_reached}
 use Rattle.cwr_parts.specs.Format.Joins.{IsOfDevice}
 use Rattle.cwr_renumber.specs.Steps.Renumbered.{renumbered_text}
 use Rattle.cwr_renumber.specs.Steps.Renumberings.{CountsWriter, Renumbers, RenumbersAccepted}
-use Rattle.cwr_files.specs.Format.Files.{counted_on}
-use Rattle.cwr_files.specs.Steps.NewFiles.{HasCounted, HasKeptCount}
+use Rattle.cwr_files.specs.Format.Files.{HasCounted, counted_on}
+use Rattle.cwr_files.specs.Steps.NewFiles.{HasKeptCount}
 use Rattle.cwr_endings.specs.declared.endings.Look.{Look}
 use Rattle.cwr_endings.specs.declared.endings.Look.TheVariants as looks
 use Rattle.cwr_endings.specs.declared.endings.Status.{Status}

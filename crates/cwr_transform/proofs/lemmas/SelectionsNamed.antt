@@ -13,10 +13,10 @@ use Rattle.std.proofs.lemmas.Option.{none-some}
 use Rattle.std.proofs.lemmas.List.Sorted.{list_any-IsPermutation}
 use Rattle.cwr_select.specs.Format.Selections.{Choice}
 use Rattle.cwr_files.specs.Format.Files.{Same, Texts, Turns}
-use Rattle.cwr_files.specs.Format.Inputs.{IfReadAt, is_standard}
+use Rattle.cwr_files.specs.Format.Inputs.{IfReadAt, IsThereOrRead, is_standard}
 use Rattle.cwr_files.specs.Steps.Inputs.{IsLeftOf, IsThereFor, standard_left}
 use Rattle.cwr_files.proofs.lemmas.Outs.{leaves_same}
-use Rattle.cwr_files.proofs.lemmas.Reads.{IsLent, if_read, left_lent, lent_on}
+use Rattle.cwr_files.proofs.lemmas.Reads.{if_read, left_lent, lent_on}
 use Rattle.cwr_endings.specs.declared.endings.Status.{Status}
 use Rattle.cwr_endings.specs.declared.endings.Status.TheVariants as statuses
 use Rattle.cwr_endings.specs.declared.stops.Stop.{Stop}
@@ -56,18 +56,18 @@ asked_same of_number of_place a b c k kinds p party turned others numbers places
 -- ---- what the words name
 
 -- standard input is lent to the lists
-pub after_lent : {I : Type 0} (name : Option (List ℕ)) (input : I) (standard : Option I) → IsLent input standard
-    → IsLent input (standard_after_list name standard)
+pub after_lent : {I : Type 0} (name : Option (List ℕ)) (input : I) (standard : Option I) → IsThereOrRead input standard
+    → IsThereOrRead input (standard_after_list name standard)
 after_lent None input standard lent = lent
 after_lent (Some name) input standard lent = lent_on (is_standard (Some name)) input standard _ lent refl
 
-pub lists_lent : {I : Type 0} (works places : Option (List ℕ)) (input : I) (standard : Option I) → IsLent input standard
-    → IsLent input (standard_after_list places (standard_after_list works standard))
+pub lists_lent : {I : Type 0} (works places : Option (List ℕ)) (input : I) (standard : Option I) → IsThereOrRead input standard
+    → IsThereOrRead input (standard_after_list places (standard_after_list works standard))
 lists_lent works places input standard lent =
     after_lent places input (standard_after_list works standard) (after_lent works input standard lent)
 
 read_lent : {I : Type 0} (b : Bool) (held : Option Texts) (of_standard : I → Option (List ℕ)) (input : I) (standard : Option I)
-    (name : List ℕ) (is : List ℕ → Type 0) → IsLent input standard → IsThereFor b standard
+    (name : List ℕ) (is : List ℕ → Type 0) → IsThereOrRead input standard → IsThereFor b standard
     → IfReadAt b held (standard_left of_standard standard) name is → IfReadAt b held (of_standard input) name is
 read_lent true held of_standard input None name is lent there h = absurd (true≢false (sym there))
 read_lent {I} true held of_standard input (Some other) name is lent there h =
@@ -91,7 +91,7 @@ listed_so reads held standard name bytes values r s = (
 
 -- what was read of a list is what the word names
 pub listed_lent : {I A : Type 0} (reads : List ℕ → Option A) (held : Option Texts) (of_standard : I → Option (List ℕ)) (input : I)
-    (standard : Option I) (name : Option (List ℕ)) (values : Option (List A)) → IsLent input standard → IsThereForList name standard
+    (standard : Option I) (name : Option (List ℕ)) (values : Option (List A)) → IsThereOrRead input standard → IsThereForList name standard
     → ReadsList reads held (standard_left of_standard standard) name values → ReadsList reads held (of_standard input) name values
 listed_lent reads held of_standard input standard None values lent there h = h
 listed_lent reads held of_standard input standard (Some name) values lent there h = (
@@ -106,15 +106,15 @@ listed_lent reads held of_standard input standard (Some name) values lent there 
 
 -- so it has what it had, where it is read
 pub left_named : {I : Type 0} (of_standard : I → Option (List ℕ)) (standard : I) (first : Option I) (works places : Option (List ℕ))
-    (now : Option I) (held : Option Texts) (name left : Option (List ℕ)) → IsLent standard first
+    (now : Option I) (held : Option Texts) (name left : Option (List ℕ)) → IsThereOrRead standard first
     → now ≡ standard_after_list places (standard_after_list works first) → IsThereFor (is_standard name) now → IsLeftOf held (standard_left of_standard now) name left
     → IsLeftOf held (of_standard standard) name left
 left_named {I} of_standard standard first works places now held name left begun is there h =
     by name there h where
-      lent : IsLent standard now
-      lent = subst (λ (o : Option I). IsLent standard o) (sym is) (lists_lent works places standard first begun)
+      lent : IsThereOrRead standard now
+      lent = subst (λ (o : Option I). IsThereOrRead standard o) (sym is) (lists_lent works places standard first begun)
 
-      alone : (o : Option I) → IsLent standard o → IsSome o → left ≡ standard_left of_standard o → left ≡ of_standard standard
+      alone : (o : Option I) → IsThereOrRead standard o → IsSome o → left ≡ standard_left of_standard o → left ≡ of_standard standard
       alone None l t e = absurd (true≢false (sym t))
       alone (Some other) l t e =
           elim l [

@@ -1,8 +1,8 @@
 -- What is left of a split.
-use Rattle.std.proofs.Common.{◌≡◌, ℕ, ◌≤◌, ◌<◌, ◌/◌, zero, suc, false, List, [], ◌∷◌, Option, Some, None, refl, sym, ap, subst, ◌∙◌, arith, inr, map, count_by, true≢false}
+use Rattle.std.proofs.Common.{◌≡◌, ℕ, ◌≤◌, ◌<◌, ◌/◌, zero, suc, Bool, true, false, List, [], ◌∷◌, Option, Some, None, refl, sym, ap, subst, ◌∙◌, arith, inr, map, count_by, true≢false}
 use Rattle.std.proofs.lemmas.Option.{none-some}
 use Rattle.std.specs.Option.{is_some}
-use Rattle.std.specs.Prelude.{IsSome, Result, Ok, Err}
+use Rattle.std.specs.Prelude.{IsSome, OnOk, Result, Ok, Err}
 use Rattle.cwr_devices.specs.Format.Failures.{most_failures}
 use Rattle.cwr_devices.specs.Format.Outputs.{AddsTexts}
 use Rattle.cwr_shape.specs.declared.limits.Limits.{Limits}
@@ -19,14 +19,14 @@ use Rattle.cwr_parts.specs.Format.Told.{SplitsText}
 use Rattle.cwr_files.specs.declared.faults.Fault.{Fault}
 use Rattle.cwr_files.specs.declared.faults.Told.{Told}
 use Rattle.cwr_files.specs.Format.Files.{Texts, Turns, counted_on}
-use Rattle.cwr_files.specs.Format.Parts.{LeavesParts}
+use Rattle.cwr_files.specs.Format.Parts.{HoldsParts, LeavesParts}
 use Rattle.cwr_files.specs.Steps.NewFiles.{HasKeptCount}
 use Rattle.cwr_files.specs.Steps.NumberedFiles.{StartsAs, told_texts}
 use Rattle.cwr_endings.specs.declared.endings.Status.{Status}
 use Rattle.cwr_endings.specs.declared.stops.Stop.{Stop}
 use Rattle.cwr_endings.proofs.lemmas.Outs.{turns_so}
-use Rattle.cwr_transform.specs.Format.Splits.{LeavesCut, LeavesSplit, MayEndAs, SplitsInto}
-use Rattle.cwr_transform.specs.Steps.Splits.{HandsOver, IsToldAs, LeavesTold, SplitEndsAs, texts_before}
+use Rattle.cwr_transform.specs.Format.Splits.{HoldsAll, LeavesCut, LeavesSplit, MayEndAs, SplitsInto}
+use Rattle.cwr_transform.specs.Steps.Splits.{HandsOver, IsToldAs, LeavesTold, SplitEndsAs, texts_before, unless_stopped}
 
 -- ---- what was handed over
 
@@ -98,25 +98,66 @@ cut_borrow limits n input (Some texts) borrow on known found told e h some =
     let m = handed limits n input k.1 (borrow ∷ []) (told_texts (Some texts) on found) k.0 k.2 in
     name_kept texts borrow on found m.0 m.1
 
+-- what is told of them, where not all were made
+pub handed_stopped : (limits : Limits) (n : ℕ) (before : Option (List ℕ)) (old new : Option (List (List ℕ))) (stopped : Bool)
+    (told : Result SplitReport ToolFault) → HandsOver limits n before old new told
+    → HandsOver limits n before old new (unless_stopped stopped told)
+handed_stopped limits n before old new false told h = h
+handed_stopped limits n before old new true (Err fault) h = h
+handed_stopped limits n before old new true (Ok report) h = (h.0, h.1, h.2, as_stopped h.0 h.3)
+  where
+    as_stopped : (answer : Result SplitReport ToolFault) → IsToldAs answer (Ok report) → IsToldAs answer (Err tool_faults.Output)
+    as_stopped (Ok other) e = tt
+    as_stopped (Err fault) e = absurd (cc e)
+
+-- where all were made, this is so of them
+all_made : (stopped : Bool) (told : Result SplitReport ToolFault) (P : Type 0) → (stopped ≡ false → P) → OnOk (unless_stopped stopped told) P
+all_made true (Ok report) P h = tt
+all_made true (Err fault) P h = tt
+all_made false (Ok report) P h = h refl
+all_made false (Err fault) P h = tt
+
+told_leaves : (limits : Limits) (n : ℕ) (prefix : List ℕ) (input : Option (List ℕ)) (old failures : ℕ) (stopped : Bool)
+    (told answer : Result SplitReport ToolFault) (parts : List (List ℕ)) (texts : Texts) (held : Option Texts)
+    → SplitsInto limits n input parts answer → IsToldAs answer (unless_stopped stopped told)
+    → Turns (Some texts) held (LeavesParts prefix parts old failures)
+    → (stopped ≡ false → Turns (Some texts) held (HoldsParts prefix parts))
+    → Turns (Some texts) held (LeavesTold limits n prefix input old failures (unless_stopped stopped told))
+told_leaves limits n prefix input old failures stopped told answer parts texts None s is left whole = absurd left
+told_leaves limits n prefix input old failures stopped told answer parts texts (Some new) s is left whole = record {
+  parts = parts;
+  answer = answer;
+  split = s;
+  is_told = is;
+  left = left;
+  all = all_made stopped told (HoldsParts prefix parts texts new) whole;
+}
+
 pub cut_leaves : (limits : Limits) (n : ℕ) (prefix : List ℕ) (input : Option (List ℕ)) (before : Option Texts) (borrow on : ℕ)
-    (known found : Option (List (List ℕ))) (held : Option Texts) (old failures : ℕ) (told : Result SplitReport ToolFault) → known ≡ Some []
-    → HandsOver limits n input (told_texts before borrow known) (told_texts before on found) told
+    (known found : Option (List (List ℕ))) (held : Option Texts) (old failures : ℕ) (stopped : Bool) (told : Result SplitReport ToolFault)
+    → known ≡ Some [] → HandsOver limits n input (told_texts before borrow known) (told_texts before on found) told
     → ((name : List ℕ) (parts : List (List ℕ)) → told_texts before on found ≡ Some (name ∷ parts)
     → Turns before held (LeavesParts prefix parts old failures))
-    → Turns before held (LeavesTold limits n prefix input old failures told)
-cut_leaves limits n prefix input None borrow on known found held old failures told e h left = tt
-cut_leaves limits n prefix input (Some texts) borrow on known found held old failures told e h left =
+    → ((name : List ℕ) (parts : List (List ℕ)) → told_texts before on found ≡ Some (name ∷ parts) → stopped ≡ false
+    → Turns before held (HoldsParts prefix parts))
+    → Turns before held (LeavesTold limits n prefix input old failures (unless_stopped stopped told))
+cut_leaves limits n prefix input None borrow on known found held old failures stopped told e h left whole = tt
+cut_leaves limits n prefix input (Some texts) borrow on known found held old failures stopped told e h left whole =
     let k = subst (λ (o : Option (List (List ℕ))). HandsOver limits n input (told_texts (Some texts) borrow o)
-    (told_texts (Some texts) on found) told) e h in
+    (told_texts (Some texts) on found) (unless_stopped stopped told)) e
+    (handed_stopped limits n input (told_texts (Some texts) borrow known) (told_texts (Some texts) on found) stopped told h) in
     let m = handed limits n input k.1 (borrow ∷ []) (told_texts (Some texts) on found) k.0 k.2 in
-    turns_so (Some texts) held (LeavesParts prefix m.0 old failures) (LeavesTold limits n prefix input old failures told)
-    (λ was new l. record { parts = m.0; answer = k.0; split = (k.1, m.2); is_told = k.3; left = l }) (left (borrow ∷ []) m.0 m.1)
+    told_leaves limits n prefix input old failures stopped told k.0 m.0 texts held (k.1, m.2) k.3 (left (borrow ∷ []) m.0 m.1)
+    (whole (borrow ∷ []) m.0 m.1)
 
 -- what is so of one store is so of the same one
 pub of_store : {S : Type 0} (before : Option Texts) (held : S → Option Texts) (how : S → Texts → Texts → Type 0) (store new : S)
     → (IsSome before → new ≡ store) → Turns before (held store) (how store) → Turns before (held new) (how new)
 of_store None held how store new e h = tt
 of_store (Some texts) held how store new e h = subst (λ s. Turns (Some texts) (held s) (how s)) (sym (e refl)) h
+
+pub of_same : {S : Type 0} (P : S → Type 0) (store new : S) → new ≡ store → P store → P new
+of_same P store new e h = subst P (sym e) h
 
 -- ---- the end of a run
 
@@ -129,10 +170,17 @@ starts_as before prefix old making held failures given called created kept p m h
 
 pub starts : (created : Option Moment) (making : Option (List ℕ)) (held : Option Texts) (failures : ℕ) (prefix : List ℕ)
     → StartsAs (texts_before (is_some created) making held) prefix failures making held failures prefix created
-starts (Some moment) making held failures prefix = tt
-starts None (Some name) held failures prefix = tt
-starts None None None failures prefix = tt
+starts (Some moment) making held failures prefix = refl
+starts None (Some name) held failures prefix = refl
+starts None None None failures prefix = refl
 starts None None (Some texts) failures prefix = (refl, refl, refl, refl, refl)
+
+pub texts_some : (created : Option Moment) (making writing : Option (List ℕ)) (held was : Option Texts) → making ≡ None → IsSome held
+    → created ≡ None → writing ≡ making → was ≡ held → IsSome (texts_before (is_some created) writing was)
+texts_some created making writing held was quiet known plain w h =
+    subst (λ (c : Option Moment). IsSome (texts_before (is_some c) writing was)) (sym plain)
+    (subst (λ (m : Option (List ℕ)). IsSome (texts_before false m was)) (sym (w ∙ quiet))
+    (subst (λ (t : Option Texts). IsSome t) (sym h) known))
 
 pub kept_counted : (times failures after : ℕ) → after ≡ counted_on times failures → HasKeptCount failures after
 kept_counted zero failures after e lt = omega (arith, e)
@@ -158,6 +206,26 @@ ends_so limits n input parts (Ok report) outcome told made status ending e s is 
 ends_so limits n input parts (Err fault) outcome told made status ending e s is =
     may_end limits n input parts fault told made status ending s
     (subst (λ (r : Result SplitReport ToolFault). SplitEndsAs told made r status ending) is e)
+
+-- where all was split, and it ends with a status, all parts are there
+pub holds_so : (prefix : List ℕ) (parts : List (List ℕ)) (answer outcome : Result SplitReport ToolFault) (told : Told) (made : Fault)
+    (status : Option Status) (ending : Result Status Stop) (texts new : Texts) → SplitEndsAs told made outcome status ending
+    → IsToldAs answer outcome → OnOk outcome (HoldsParts prefix parts texts new) → HoldsAll answer ending prefix parts texts new
+holds_so prefix parts (Err fault) outcome told made status ending texts new e is h = tt
+holds_so prefix parts (Ok report) outcome told made status (Err stop) texts new e is h = tt
+holds_so prefix parts (Ok report) (Ok other) told made status (Ok end) texts new e is h = h
+holds_so prefix parts (Ok report) (Err tool_faults.Memory) told made status (Ok end) texts new e is h = absurd (cc e)
+holds_so prefix parts (Ok report) (Err tool_faults.Output) told made status (Ok end) texts new e is h = absurd (cc e)
+holds_so prefix parts (Ok report) (Err tool_faults.Reader) told made status (Ok end) texts new e is h = absurd (cc is)
+holds_so prefix parts (Ok report) (Err (tool_faults.Writer n)) told made status (Ok end) texts new e is h = absurd (cc is)
+holds_so prefix parts (Ok report) (Err (tool_faults.Refused r)) told made status (Ok end) texts new e is h = absurd (cc is)
+holds_so prefix parts (Ok report) (Err (tool_faults.Truncated n)) told made status (Ok end) texts new e is h = absurd (cc is)
+holds_so prefix parts (Ok report) (Err (tool_faults.Limit l)) told made status (Ok end) texts new e is h = absurd (cc is)
+
+pub stops_holding : (prefix : List ℕ) (parts : List (List ℕ)) (answer : Result SplitReport ToolFault) (stop : Stop) (texts new : Texts)
+    → HoldsAll answer (Err stop) prefix parts texts new
+stops_holding prefix parts (Ok report) stop texts new = tt
+stops_holding prefix parts (Err fault) stop texts new = tt
 
 -- any may end with a fault
 pub stops_so : (answer : Result SplitReport ToolFault) (stop : Stop) → MayEndAs answer (Err stop)
@@ -187,8 +255,11 @@ pub files_left : (limits : Limits) (n : ℕ) (prefix : List ℕ) (input : Option
     → Turns (texts_before (is_some created) writing was) on (LeavesTold limits n prefix input then after told)
     → ((answer : Result SplitReport ToolFault) (parts : List (List ℕ)) → SplitsInto limits n input parts answer → IsToldAs answer told
     → MayEndAs answer ending)
+    → ((answer : Result SplitReport ToolFault) (parts : List (List ℕ)) (texts new : Texts) → IsToldAs answer told
+    → OnOk told (HoldsParts prefix parts texts new) → HoldsAll answer ending prefix parts texts new)
     → Turns held now (LeavesCut limits n prefix input old failures ending)
-files_left limits n prefix input created making writing held was on now old then after failures told ending quiet plain w h t e kept left ends =
+files_left limits n prefix input created making writing held was on now old then after failures told ending quiet plain w h t e kept left ends
+    holds =
     subst (λ (x : Option Texts). Turns held x (LeavesCut limits n prefix input old failures ending)) (sym e)
     (turns_so held on (LeavesTold limits n prefix input old after told) (LeavesCut limits n prefix input old failures ending)
     (λ texts new l. cut_of limits n prefix input old failures ending texts new (record {
@@ -197,6 +268,7 @@ files_left limits n prefix input created making writing held was on now old then
       split = l.split;
       ends = ends l.answer l.parts l.split l.is_told;
       left = left_since prefix l.parts old after failures texts new kept l.left;
+      all = holds l.answer l.parts texts new l.is_told l.all;
     }))
     (subst (λ (f : ℕ). Turns held on (LeavesTold limits n prefix input f after told)) t
     (subst (λ (x : Option Texts). Turns x on (LeavesTold limits n prefix input then after told)) before left)))

@@ -7,7 +7,7 @@ use Rattle.cwr_values.specs.Format.Rows.{canonical_text}
 use Rattle.cwr_judge.specs.Format.Ends.{IsAccepted}
 use Rattle.cwr_judge.specs.Format.Items.{value_items}
 use Rattle.cwr_parts.specs.Format.Joins.{AreJoined}
-use Rattle.cwr_files.specs.Format.Files.{Texts}
+use Rattle.cwr_files.specs.Format.Files.{HasCounted, Texts}
 use Rattle.cwr_files.specs.Format.Inputs.{AreTexts, AreThere}
 use Rattle.cwr_endings.specs.declared.endings.Wanted.{Wanted}
 use Rattle.cwr_tools.specs.declared.verdicts.JoinFault.{JoinFault}
@@ -15,7 +15,7 @@ use Rattle.cwr_tools.specs.declared.verdicts.JoinReport.{JoinReport}
 use Rattle.cwr_files.specs.declared.faults.Fault.{Fault}
 use Rattle.cwr_files.specs.declared.faults.Fault.TheVariants as faults
 use Rattle.cwr_files.specs.declared.faults.Name.{Name}
-use Rattle.cwr_files.specs.declared.faults.Name.TheVariants.{File}
+use Rattle.cwr_files.specs.declared.faults.Name.TheVariants.{File, StandardInput}
 use Rattle.cwr_files.specs.declared.faults.Told.{Told}
 use Rattle.cwr_endings.specs.declared.endings.Status.{Status}
 use Rattle.cwr_endings.specs.declared.endings.Status.TheVariants as statuses
@@ -71,6 +71,13 @@ abbrev pub IsUnread : Fault → Type 0
 IsUnread (faults.Open name reason) = Unit {0}
 IsUnread faults.Memory = Unit {0}
 IsUnread fault = ⊥
+
+-- so it is, and that a file couldn't be opened is counted; standard input, which is there once, may have been read already
+abbrev pub IsUnreadBy : Fault → ℕ → ℕ → Type 0
+IsUnreadBy (faults.Open StandardInput reason) old now = Unit {0}
+IsUnreadBy (faults.Open of reason) old now = HasCounted old now
+IsUnreadBy faults.Memory old now = Unit {0}
+IsUnreadBy fault old now = ⊥
 
 -- an input has another sender than the first where it may not, or there was no memory
 abbrev pub IsRefusedSender : Bool → Fault → Type 0

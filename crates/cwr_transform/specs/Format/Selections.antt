@@ -61,10 +61,6 @@ EndsAsSelection limits whole created choice left (Err stop) = Unit {0}
 
 -- ---- by what the words name
 
--- standard input is there, or was read
-abbrev pub IsThereOrRead : {I : Type 0} → I → Option I → Type 0
-IsThereOrRead input standard = (standard ≡ Some input) ⊎ (standard ≡ None)
-
 -- The text is that of what is selected of the transmission of the file: by the numbers of a list where one is named, by the places of one
 -- where one is, by these places where answers ask for some, by kind and party.
 pub record IsSelectionAt (s : Selection) (answered : Option (List (ℕ × ℕ))) (held : Option Texts) (standard : Option (List ℕ)) (text : List ℕ) : Type 0 where

@@ -1,8 +1,12 @@
 -- How a split ends, by its text, and what it leaves.
 use Rattle.std.specs.Prelude.{◌⊎◌, List, [], ℕ, Option, Some, IfSome, Result, Ok, Err}
+use Rattle.cwr_files.specs.declared.faults.Fault.{Fault}
+use Rattle.cwr_files.specs.declared.faults.Fault.TheVariants as faults
+use Rattle.cwr_files.specs.declared.faults.Name.TheVariants.{StandardInput}
+use Rattle.cwr_files.specs.Format.Faults.{IsFaultOfPart}
 use Rattle.cwr_shape.specs.declared.limits.Limits.{Limits}
-use Rattle.cwr_files.specs.Format.Files.{Same, Texts}
-use Rattle.cwr_files.specs.Format.Parts.{LeavesParts}
+use Rattle.cwr_files.specs.Format.Files.{HasCounted, Same, Texts}
+use Rattle.cwr_files.specs.Format.Parts.{HoldsParts, LeavesParts}
 use Rattle.cwr_tools.specs.declared.verdicts.SplitReport.{SplitReport}
 use Rattle.cwr_tools.specs.declared.verdicts.ToolFault.{ToolFault}
 use Rattle.cwr_tools.specs.declared.verdicts.ToolFault.TheVariants as tool_faults
@@ -10,6 +14,7 @@ use Rattle.cwr_parts.specs.Format.Told.{SplitsText}
 use Rattle.cwr_endings.specs.declared.endings.Status.{Status}
 use Rattle.cwr_endings.specs.declared.endings.Status.TheVariants as statuses
 use Rattle.cwr_endings.specs.declared.stops.Stop.{Stop}
+use Rattle.cwr_endings.specs.declared.stops.Stop.TheVariants as stops
 use Rattle.cwr_endings.specs.declared.endings.Wanted.{Wanted}
 use Rattle.cwr_endings.specs.Format.Endings.{IsStatusOn}
 
@@ -35,6 +40,11 @@ MayEndAs (Err (tool_faults.Refused refusal)) (Ok status) = Unit {0}
 MayEndAs (Err (tool_faults.Truncated records)) (Ok status) = Unit {0}
 MayEndAs (Err fault) (Ok status) = ⊥
 
+-- where all was split, and it ends with a status, the parts have their names, and nothing else changed
+abbrev pub HoldsAll : Result SplitReport ToolFault → Result Status Stop → List ℕ → List (List ℕ) → Texts → Texts → Type 0
+HoldsAll (Ok report) (Ok status) prefix parts texts new = HoldsParts prefix parts texts new
+HoldsAll answer ending prefix parts texts new = Unit {0}
+
 -- The parts that were handed over have their names, and under any other name lies what lay there before. Where a call failed, something may
 -- be left of the next part, under a name of what isn't whole.
 pub record LeavesSplit (limits : Limits) (n : ℕ) (prefix : List ℕ) (input : Option (List ℕ)) (old now : ℕ) (ending : Result Status Stop)
@@ -44,6 +54,7 @@ pub record LeavesSplit (limits : Limits) (n : ℕ) (prefix : List ℕ) (input : 
   pub split : SplitsInto limits n input parts answer
   pub ends : MayEndAs answer ending
   pub left : LeavesParts prefix parts old now texts new
+  pub all : HoldsAll answer ending prefix parts texts new
 
 -- What a run leaves that splits its input, where so many failures were counted before it and after it. One that fails may have changed
 -- nothing.
@@ -51,3 +62,20 @@ abbrev pub LeavesCut : Limits → ℕ → List ℕ → Option (List ℕ) → ℕ
 LeavesCut limits n prefix input old now (Ok status) texts new = LeavesSplit limits n prefix input old now (Ok status) texts new
 LeavesCut limits n prefix input old now (Err stop) texts new =
     Same texts new ⊎ LeavesSplit limits n prefix input old now (Err stop) texts new
+
+-- ---- what failed
+
+-- the input failed, which is counted, or a part did, or it may not be written, or there was no memory
+abbrev pub IsFaultOfCut : Fault → ℕ → ℕ → Type 0
+IsFaultOfCut (faults.Open StandardInput reason) old now = ⊥
+IsFaultOfCut (faults.Open of reason) old now = HasCounted old now
+IsFaultOfCut (faults.Read told) old now = HasCounted old now
+IsFaultOfCut fault old now = IsFaultOfPart old now fault
+
+-- So it is where a run ends as what failed does that splits its input, where so many failures were counted before it and after it. Of standard
+-- output nothing is said here.
+abbrev pub FailsToCut : Result Status Stop → ℕ → ℕ → Type 0
+FailsToCut (Ok statuses.Fault) old now = ⊥
+FailsToCut (Ok status) old now = Unit {0}
+FailsToCut (Err stops.Output) old now = Unit {0}
+FailsToCut (Err (stops.Fault fault)) old now = IsFaultOfCut fault old now

@@ -19,7 +19,8 @@ use Rattle.cwr_files.specs.declared.faults.Fault.{Fault}
 use Rattle.cwr_files.specs.declared.faults.Told.{Told}
 use Rattle.cwr_files.specs.declared.inputs.Input.{Input}
 use Rattle.cwr_files.specs.declared.outputs.Written.{Written}
-use Rattle.cwr_files.specs.Format.Files.{Same, Texts}
+use Rattle.cwr_files.specs.Format.Files.{HasCounted, Same, Texts}
+use Rattle.cwr_files.specs.Steps.NewFiles.{HasKeptCount}
 use Rattle.cwr_files.specs.Format.Inputs.{AreTexts, AreThere}
 use Rattle.cwr_files.specs.Format.Written.{is_whole, writer_in}
 use Rattle.cwr_files.specs.Steps.Inputs.{IsLeftOf, remaining_of}
@@ -171,6 +172,25 @@ writer_faults_of fault = 0
 abbrev pub writer_faults : Result JoinReport JoinFault → ℕ
 writer_faults (Ok report) = 0
 writer_faults (Err stopped) = writer_faults_of stopped.fault
+
+-- ---- how failures are counted
+
+-- a failure of the writer is, and none is taken away
+abbrev pub CountsWriter : Result JoinReport JoinFault → ℕ → ℕ → Type 0
+CountsWriter outcome old now = HasKeptCount old now × (writer_faults outcome ≡ 1 → HasCounted old now)
+
+-- those of a reader and of the writer are; no output is made
+abbrev pub CountsFault : ToolFault → ℕ → ℕ → Type 0
+CountsFault Reader old now = HasCounted old now
+CountsFault (Writer written) old now = HasCounted old now
+CountsFault Output old now = ⊥
+CountsFault fault old now = Unit {0}
+
+-- where the join stopped, or an input failed after its transmission
+abbrev pub CountsJoined : Result JoinReport JoinFault → Option (Result Bool ℕ) → ℕ → ℕ → Type 0
+CountsJoined (Err stopped) after old now = CountsFault stopped.fault old now
+CountsJoined (Ok report) (Some (Err number)) old now = HasCounted old now
+CountsJoined (Ok report) after old now = Unit {0}
 
 -- ---- the file
 

@@ -10,12 +10,12 @@ use Rattle.cwr_judge.specs.Format.Ends.{IsAccepted}
 use Rattle.cwr_judge.specs.Format.Items.{value_items}
 use Rattle.cwr_tools.specs.declared.verdicts.JoinReport.{JoinReport}
 use Rattle.cwr_tools.specs.declared.verdicts.ToolFault.{ToolFault}
-use Rattle.cwr_tools.specs.declared.verdicts.ToolFault.TheVariants.{Memory, Output}
+use Rattle.cwr_tools.specs.declared.verdicts.ToolFault.TheVariants.{Memory, Output, Writer}
 use Rattle.cwr_parts.specs.Format.Joins.{IsOfDevice}
 use Rattle.cwr_files.specs.declared.faults.Fault.{Fault}
 use Rattle.cwr_files.specs.declared.faults.Fault.TheVariants as faults
-use Rattle.cwr_files.specs.Format.Files.{Texts}
-use Rattle.cwr_files.specs.Steps.NewFiles.{HasCounted, HasKeptCount}
+use Rattle.cwr_files.specs.Format.Files.{HasCounted, Texts}
+use Rattle.cwr_files.specs.Steps.NewFiles.{HasKeptCount}
 use Rattle.cwr_endings.specs.declared.endings.Look.{Look}
 use Rattle.cwr_endings.specs.declared.endings.Look.TheVariants as looks
 use Rattle.cwr_endings.specs.declared.endings.Status.{Status}
@@ -89,6 +89,11 @@ HasFailedAs look failures = Unit {0}
 abbrev pub CountsRead : Look → ℕ → ℕ → Type 0
 CountsRead looks.Failed old new = HasCounted old new
 CountsRead look old new = HasKeptCount old new
+
+-- a failure of the file's writer is counted
+abbrev pub CountsFile : Result JoinReport ToolFault → ℕ → ℕ → Type 0
+CountsFile (Err (Writer written)) old now = HasCounted old now
+CountsFile outcome old now = Unit {0}
 
 -- how often the writer failed, or the reader after the transmission
 abbrev pub look_faults : Look → ℕ

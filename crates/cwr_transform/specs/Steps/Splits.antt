@@ -1,15 +1,15 @@
 -- How a split comes to its end: what it answered, what was seen after its transmission, the status of that, and what lies under names then.
-use Rattle.std.specs.Prelude.{◌≡◌, ℕ, Bool, true, false, List, drop, Option, Some, None, IfSome, Result, Ok, Err}
+use Rattle.std.specs.Prelude.{◌≡◌, ℕ, Bool, true, false, List, drop, Option, Some, None, IfSome, OnOk, Result, Ok, Err}
 use Rattle.cwr_shape.specs.declared.limits.Limits.{Limits}
 use Rattle.cwr_values.specs.Format.Values.{TransmissionValue}
 use Rattle.cwr_judge.specs.Format.Ends.{IsAccepted}
 use Rattle.cwr_tools.specs.declared.verdicts.SplitReport.{SplitReport}
 use Rattle.cwr_tools.specs.declared.verdicts.ToolFault.{ToolFault}
-use Rattle.cwr_tools.specs.declared.verdicts.ToolFault.TheVariants.{Memory, Writer}
+use Rattle.cwr_tools.specs.declared.verdicts.ToolFault.TheVariants.{Memory, Output, Reader, Writer}
 use Rattle.cwr_parts.specs.Format.Splitting.{JudgesSplit}
 use Rattle.cwr_parts.specs.Format.Told.{SplitsText}
 use Rattle.cwr_files.specs.Format.Files.{Texts}
-use Rattle.cwr_files.specs.Format.Parts.{LeavesParts}
+use Rattle.cwr_files.specs.Format.Parts.{HoldsParts, LeavesParts}
 use Rattle.cwr_transform.specs.Format.Splits.{SplitsInto}
 use Rattle.cwr_endings.specs.declared.endings.Look.{Look}
 use Rattle.cwr_endings.specs.declared.endings.Status.{Status}
@@ -19,7 +19,8 @@ use Rattle.cwr_files.specs.declared.faults.Told.{Told}
 use Rattle.cwr_files.specs.declared.faults.Fault.{Fault}
 use Rattle.cwr_files.specs.declared.faults.Fault.TheVariants as faults
 use Rattle.cwr_endings.specs.Format.Endings.{EndsAfterFault}
-use Rattle.cwr_endings.specs.Steps.Looks.{IsLook}
+use Rattle.cwr_endings.specs.Steps.Looks.{CountsLook, IsLook}
+use Rattle.cwr_devices.specs.Format.Failures.{one_more_failure}
 
 -- all of an accepted transmission is split, and what stands after it is looked at; else the fault is right of the text
 abbrev pub JudgesCut : Limits → Option (List ℕ) → Result SplitReport ToolFault → Look → Type 0
@@ -36,9 +37,11 @@ SplitEndsAs input made (Ok report) None ending = ending ≡ Err (stops.Fault (fa
 SplitEndsAs input made (Err (Writer written)) status ending = ending ≡ Err (stops.Fault made)
 SplitEndsAs input made (Err fault) status ending = EndsAfterFault input (stops.Fault made) (stops.Fault made) (Some fault) ending
 
--- what is told of what the split answered: that, but want of memory where findings couldn't be counted
+-- What is told of what the split answered: that, but want of memory where findings couldn't be counted, and that a part failed where not all were
+-- made that were asked for.
 abbrev pub IsToldAs : Result SplitReport ToolFault → Result SplitReport ToolFault → Type 0
 IsToldAs (Ok report) (Err Memory) = Unit {0}
+IsToldAs (Ok report) (Err Output) = Unit {0}
 IsToldAs answer told = told ≡ answer
 
 -- what was handed over of the input, where that is told
@@ -55,9 +58,23 @@ pub record LeavesTold (limits : Limits) (n : ℕ) (prefix : List ℕ) (input : O
   pub split : SplitsInto limits n input parts answer
   pub is_told : IsToldAs answer told
   pub left : LeavesParts prefix parts old now texts new
+  pub all : OnOk told (HoldsParts prefix parts texts new)
 
 -- what lay under names at first, where that is known, nothing was being written, and files get what is written
 abbrev pub texts_before : Bool → Option (List ℕ) → Option Texts → Option Texts
 texts_before true making held = None
 texts_before false (Some name) held = None
 texts_before false None held = held
+
+-- ---- what is counted
+
+-- the reader's failures count one more where its fault is answered, or it failed after the transmission
+abbrev pub CountsCut : Result SplitReport ToolFault → Look → ℕ → ℕ → Type 0
+CountsCut (Ok report) look old now = CountsLook look old now
+CountsCut (Err Reader) look old now = now ≡ one_more_failure old
+CountsCut (Err fault) look old now = Unit {0}
+
+-- not all parts were made that were asked for
+abbrev pub unless_stopped : Bool → Result SplitReport ToolFault → Result SplitReport ToolFault
+unless_stopped true (Ok report) = Err Output
+unless_stopped stopped outcome = outcome

@@ -28,4 +28,4 @@ returns-in-Ok-clause-output g c =
 
 pub returns-clause-failed : goal.returns-clause-failed
 returns-clause-failed g c =
-    unopened_fails c.args.standard (g.S.Store.failures c.args.store.now) (g.S.Store.failures c.open_input.new.store) c.in-Err.fault c.in-Err.ensures.unopened
+    unopened_fails _ c.args.standard (g.S.Store.failures c.args.store.now) (g.S.Store.failures c.open_input.new.store) c.in-Err.fault c.in-Err.ensures.unopened

@@ -1,7 +1,7 @@
 use Rattle.std.proofs.Common.{◌≡◌, [], Option, map, take}
 use Rattle.cwr_acks.specs.Format.AckLines.{Matched}
 use Rattle.cwr_acks.specs.Steps.AckSteps.{IsKept, held_if}
-use Rattle.cwr_answers.specs.Format.Answered.{IsThereOrRead}
+use Rattle.cwr_files.specs.Format.Inputs.{IsThereOrRead}
 use Rattle.cwr_answers.specs.Steps.Seeking.{ReadsEach}
 use Rattle.cwr_answers.proofs.answered.read_each.Given as goal
 

@@ -7,10 +7,13 @@ use Rattle.cwr_files.specs.Format.Written.{times_failed, writer_in}
 use Rattle.cwr_files.specs.Steps.Gathering.{written_to}
 use Rattle.cwr_files.specs.Steps.Inputs.{remaining_of}
 use Rattle.cwr_files.specs.Steps.NewFiles.{IsBegun}
+use Rattle.cwr_files.proofs.lemmas.Counts.{kept_then_counted}
 use Rattle.cwr_endings.specs.Format.Endings.{SettlesOut}
+use Rattle.cwr_endings.proofs.lemmas.Fails.{made_fails, unkept_fails}
 use Rattle.cwr_endings.proofs.lemmas.Outs.{Begins, empty_so, out_dropped, settles, turns_so, unkept_so}
 use Rattle.cwr_reports.specs.Format.Exports.{IsExportOf, is_good}
 use Rattle.cwr_reports.specs.Steps.Tellings.{CountsInput, CountsWriting}
+use Rattle.cwr_reports.proofs.lemmas.ExportFails.{export_fails, input_kept}
 use Rattle.cwr_reports.proofs.lemmas.ExportFiles.{export_leaves, few_judged, few_unkept, good_written, judged_faults}
 use Rattle.cwr_reports.proofs.exports.report_to_file.Goals as goal
 
@@ -96,3 +99,41 @@ returns-clause-files g c =
     (λ texts known. empty_so (g.S.Store.held s0) (g.S.Store.held s1) texts (g.S.Writer.Write.contents c.in-Ok.made.1 ≡ Some [])
     (λ t n. IsBegun made (g.S.Store.making s1) t n) known (c.in-Ok.ensures.begun none))
     c.in_default-settle.ensures.whole c.in_default-settle.ensures.kept c.in_default-settle.ensures.dropped))
+
+pub returns-in-Err-clause-failed : goal.returns-in-Err-clause-failed
+returns-in-Err-clause-failed g c =
+    let s0 = c.args.store.now in
+    let s1 = c.create_output.new.store in
+    made_fails c.args.out (g.S.Store.making s0) (g.S.Store.held s0) (g.S.Store.held s1) c.in-Err.fault (g.S.Store.failures s0)
+    (g.S.Store.failures s1) c.in-Err.ensures.unmade c.in-Err.ensures.failed
+
+pub returns-in-Err-settle-clause-failed : goal.returns-in-Err-settle-clause-failed
+returns-in-Err-settle-clause-failed g c =
+    let s0 = c.args.store.now in
+    let s2 = c.judge_input-lines.new.store in
+    let s3 = c.settle.new.store in
+    let judged = c.judge_input-lines.result.1 in
+    let reads : CountsInput judged (g.S.Store.failures s0) (g.S.Store.failures s2)
+    = subst (λ (n : ℕ). CountsInput judged n (g.S.Store.failures s2)) c.in-Ok.ensures.unfailed c.judge_input-lines.ensures.reader_failures in
+    unkept_fails c.args.out (g.S.Store.making s0) (g.S.Store.held s0) (g.S.Store.held s3) c.in-Err-settle.fault (g.S.Store.failures s0)
+    (g.S.Store.failures s3) c.in-Err-settle.ensures.fault.1
+    (kept_then_counted (g.S.Store.failures s0) (g.S.Store.failures s2) (g.S.Store.failures s3)
+    (input_kept judged (g.S.Store.failures s0) (g.S.Store.failures s2) reads) c.in-Err-settle.ensures.counted)
+
+pub returns-clause-failed : goal.returns-clause-failed
+returns-clause-failed g c =
+    let s0 = c.args.store.now in
+    let s2 = c.judge_input-lines.new.store in
+    let s3 = c.settle.new.store in
+    let judged = c.judge_input-lines.result.1 in
+    let written = c.take_back-written.result.1 in
+    let reads : CountsInput judged (g.S.Store.failures s0) (g.S.Store.failures s2)
+    = subst (λ (n : ℕ). CountsInput judged n (g.S.Store.failures s2)) c.in-Ok.ensures.unfailed c.judge_input-lines.ensures.reader_failures in
+    let writes : CountsWriting judged 0 (times_failed written)
+    = subst (λ (n : ℕ). CountsWriting judged 0 n) (sym c.take_back-written.ensures.failures)
+    (subst (λ (n : ℕ). CountsWriting judged n (failures_of c.judge_input-lines.result.0)) c.in-Ok-gathered.ensures.failures
+    c.judge_input-lines.ensures.writer_failures) in
+    export_fails c.args.out (g.S.Store.making s0) (g.S.Store.held s0) (g.S.Store.held s3) c.judge_input-lines.result.2
+    c.take_back-written.result.0 (g.S.Store.failures s0) (g.S.Store.failures s2) (g.S.Store.failures s3) (times_failed written)
+    c.is_good-is_wanted.result c.settle.ensures.failures c.settle.ensures.given_up judged c.export_ending.result c.is_good-is_wanted.ensures
+    c.judge_input-lines.ensures.read reads writes c.export_ending.ensures

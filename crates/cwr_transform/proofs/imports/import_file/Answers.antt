@@ -7,9 +7,12 @@ use Rattle.cwr_files.specs.Steps.Gathering.{written_to}
 use Rattle.cwr_files.specs.Steps.Inputs.{remaining_of}
 use Rattle.cwr_files.specs.Steps.NewFiles.{IsBegun}
 use Rattle.cwr_files.specs.declared.faults.Name.TheVariants.{File}
+use Rattle.cwr_files.proofs.lemmas.Counts.{kept_then_counted}
+use Rattle.cwr_endings.proofs.lemmas.Fails.{made_fails, unkept_fails}
 use Rattle.cwr_endings.proofs.lemmas.Outs.{Begins, empty_so, out_dropped, turns_so, unkept_so, where_known}
 use Rattle.cwr_write.specs.Format.Imports.{CountsReaderFault, CountsWriterFault}
 use Rattle.cwr_transform.specs.Format.Imports.{IsImportOf}
+use Rattle.cwr_transform.proofs.lemmas.ImportFails.{import_fails, reads_kept}
 use Rattle.cwr_transform.proofs.lemmas.ImportFiles.{few_more, import_out}
 use Rattle.cwr_transform.proofs.lemmas.ImportsEnd.{file_ends}
 use Rattle.cwr_transform.proofs.imports.import_file.Goals as goal
@@ -87,3 +90,40 @@ returns-clause-files g c =
     c.take_back-written.ensures.whole c.in_default-settle.ensures.whole c.in_default-settle.ensures.kept
     c.in_default-settle.ensures.dropped c.import_from-writer.result.1 c.import_ending.result c.is_ok.ensures.value
     c.import_from-writer.ensures.written reads writes c.import_ending.ensures)
+
+pub returns-in-Err-clause-failed : goal.returns-in-Err-clause-failed
+returns-in-Err-clause-failed g c =
+    let s0 = c.args.store.now in
+    let s1 = c.create_output.new.store in
+    made_fails c.args.out (g.S.Store.making s0) (g.S.Store.held s0) (g.S.Store.held s1) c.in-Err.fault (g.S.Store.failures s0)
+    (g.S.Store.failures s1) c.in-Err.ensures.unmade c.in-Err.ensures.failed
+
+pub returns-in-Err-settle-clause-failed : goal.returns-in-Err-settle-clause-failed
+returns-in-Err-settle-clause-failed g c =
+    let s0 = c.args.store.now in
+    let s2 = c.import_from-writer.new.store in
+    let s3 = c.settle.new.store in
+    let reads : CountsReaderFault c.import_from-writer.result.1 (g.S.Store.failures s0) (g.S.Store.failures s2)
+    = subst (λ (n : ℕ). CountsReaderFault c.import_from-writer.result.1 n (g.S.Store.failures s2)) c.in-Ok.ensures.unfailed
+    c.import_from-writer.ensures.reads in
+    unkept_fails c.args.out (g.S.Store.making s0) (g.S.Store.held s0) (g.S.Store.held s3) c.in-Err-settle.fault (g.S.Store.failures s0)
+    (g.S.Store.failures s3) c.in-Err-settle.ensures.fault.1
+    (kept_then_counted (g.S.Store.failures s0) (g.S.Store.failures s2) (g.S.Store.failures s3)
+    (reads_kept c.import_from-writer.result.1 (g.S.Store.failures s0) (g.S.Store.failures s2) reads) c.in-Err-settle.ensures.counted)
+
+pub returns-clause-failed : goal.returns-clause-failed
+returns-clause-failed g c =
+    let s0 = c.args.store.now in
+    let s2 = c.import_from-writer.new.store in
+    let s3 = c.settle.new.store in
+    let written = c.take_back-written.result.1 in
+    let reads : CountsReaderFault c.import_from-writer.result.1 (g.S.Store.failures s0) (g.S.Store.failures s2)
+    = subst (λ (n : ℕ). CountsReaderFault c.import_from-writer.result.1 n (g.S.Store.failures s2)) c.in-Ok.ensures.unfailed
+    c.import_from-writer.ensures.reads in
+    let writes : CountsWriterFault c.import_from-writer.result.1 0 (times_failed written)
+    = subst (λ (n : ℕ). CountsWriterFault c.import_from-writer.result.1 0 n) (sym c.take_back-written.ensures.failures)
+    (subst (λ (n : ℕ). CountsWriterFault c.import_from-writer.result.1 n (failures_of c.import_from-writer.result.0)) c.in-Ok-gathered.ensures.failures c.import_from-writer.ensures.failures) in
+    import_fails c.args.out (g.S.Store.making s0) (g.S.Store.held s0) (g.S.Store.held s3) c.import_from-writer.result.2
+    c.take_back-written.result.0 (g.S.Store.failures s0) (g.S.Store.failures s2) (g.S.Store.failures s3) (times_failed written) c.is_ok.result
+    c.settle.ensures.failures c.settle.ensures.given_up c.import_from-writer.result.1 c.import_ending.result c.is_ok.ensures.value reads writes
+    c.import_ending.ensures

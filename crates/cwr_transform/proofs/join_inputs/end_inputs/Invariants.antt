@@ -1,6 +1,7 @@
 use Rattle.std.proofs.Common.{◌≡◌}
 use Rattle.cwr_devices.specs.Steps.Sources.{failures_of}
-use Rattle.cwr_files.specs.Steps.NewFiles.{HasCounted, HasKeptCount}
+use Rattle.cwr_files.specs.Format.Files.{HasCounted}
+use Rattle.cwr_files.specs.Steps.NewFiles.{HasKeptCount}
 use Rattle.cwr_transform.specs.Steps.Joins.{HasFailed}
 use Rattle.cwr_transform.proofs.join_inputs.end_inputs.Given as goal
 

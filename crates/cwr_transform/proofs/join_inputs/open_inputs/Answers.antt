@@ -4,13 +4,25 @@ use Rattle.cwr_files.specs.Format.Files.{Texts}
 use Rattle.cwr_files.specs.Format.Inputs.{is_standard}
 use Rattle.cwr_files.specs.Steps.Inputs.{IsLeftOf, remaining_of}
 use Rattle.cwr_files.proofs.lemmas.Reads.{left_lent, lent_on}
+use Rattle.cwr_transform.specs.Format.Joins.{IsUnreadBy}
+use Rattle.cwr_transform.proofs.lemmas.JoinFails.{unopened_counted}
 use Rattle.cwr_transform.proofs.lemmas.JoinInputs.{new_left, read_more}
 use Rattle.cwr_transform.proofs.lemmas.JoinsEnd.{unopened}
 use Rattle.cwr_transform.specs.Steps.Joins.{ReadEach, left_of}
 use Rattle.cwr_transform.proofs.join_inputs.open_inputs.Goals as goal
 
 pub returns-in-Err-clause-unopened : goal.returns-in-Err-clause-unopened
-returns-in-Err-clause-unopened g c = unopened _ _ _ c.in-Err.fault c.in-Err.ensures.unopened
+returns-in-Err-clause-unopened g c =
+    let d : Bor (List ℕ) = record { ref_ptr = (0, 0); now = [] } in
+    unopened (Some (get_or c.args.names.now c.loop-name.name-index d).now) c.loop-name.standard _ _ c.in-Err.fault
+    c.in-Err.ensures.unopened
+
+pub returns-in-Err-clause-counted : goal.returns-in-Err-clause-counted
+returns-in-Err-clause-counted g c =
+    let d : Bor (List ℕ) = record { ref_ptr = (0, 0); now = [] } in
+    subst (λ (n : ℕ). IsUnreadBy c.in-Err.fault n (g.S.Store.failures c.open_input.new.store)) c.loop-name.invariant.failures
+    (unopened_counted (Some (get_or c.args.names.now c.loop-name.name-index d).now) c.loop-name.standard _ _ c.in-Err.fault
+    c.in-Err.ensures.unopened)
 
 pub loop-name-preserved : goal.loop-name-preserved
 loop-name-preserved g c =

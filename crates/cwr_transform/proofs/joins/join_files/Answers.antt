@@ -7,10 +7,12 @@ use Rattle.cwr_files.specs.Format.Files.{Turns}
 use Rattle.cwr_endings.specs.declared.stops.Stop.{Stop}
 use Rattle.cwr_endings.specs.declared.stops.Stop.TheVariants as stops
 use Rattle.cwr_endings.specs.Format.Endings.{WritesOut}
+use Rattle.cwr_endings.specs.Format.Failures.{FailsToJoin}
 use Rattle.cwr_endings.proofs.lemmas.Outs.{settled_untold, turns_so}
 use Rattle.cwr_transform.specs.declared.joins.Joined.{Joined}
 use Rattle.cwr_transform.specs.Format.Joins.{IsTextOfJoin}
-use Rattle.cwr_transform.specs.Steps.Joins.{JudgesNamed, LeavesNamed, join_faults, keeps_file}
+use Rattle.cwr_transform.specs.Steps.Joins.{CountsJoined, JudgesNamed, LeavesNamed, join_faults, keeps_file}
+use Rattle.cwr_transform.proofs.lemmas.JoinFails.{join_fails}
 use Rattle.cwr_transform.proofs.lemmas.JoinFiles.{join_leaves, status_of_join}
 use Rattle.cwr_transform.proofs.joins.join_files.Goals as goal
 
@@ -60,3 +62,23 @@ returns-in-Err-put-clause-files g c =
     (keeps_file c.args.union.now.wanted.whole joined) texts new h))
     (subst (λ (r : Result (Option (Joined × Option Told)) Fault). Turns (g.S.Store.held s0) (g.S.Store.held s1)
     (LeavesNamed c.args.union.now (g.S.Store.failures s0) (g.S.Store.failures s1) is r)) (c.in-Ok-Some.is ∙ ap Ok c.in-Ok-Some.field-0-is) (c.join_named.ensures.files none))
+
+pub returns-in-Ok-clause-failed : goal.returns-in-Ok-clause-failed
+returns-in-Ok-clause-failed g c =
+    let s0 = c.args.store.now in
+    let s1 = c.join_named.new.store in
+    let joined = c.in-Ok-Some.joined in
+    join_fails c.args.union.now (g.S.Store.making s0) (g.S.Store.held s0) (g.S.Store.held s1) (g.S.Store.failures s0) (g.S.Store.failures s1)
+    joined.outcome joined.found joined.after c.ending.result c.ending.ensures
+    (subst (λ (r : Result (Option (Joined × Option Told)) Fault). IfOk r (λ answer. IfSome answer
+    (λ a. CountsJoined a.0.outcome a.0.after (g.S.Store.failures s0) (g.S.Store.failures s1))))
+    (c.in-Ok-Some.is ∙ ap Ok c.in-Ok-Some.field-0-is) c.join_named.ensures.counted)
+
+pub returns-in-Err-put-clause-failed : goal.returns-in-Err-put-clause-failed
+returns-in-Err-put-clause-failed g c =
+    let s0 = c.args.store.now in
+    let s1 = c.join_named.new.store in
+    let untold : c.in-Err-put.stop ≡ stops.Output
+    = subst (λ (r : Result (Unit {0}) Stop). IfErr r (λ stop. stop ≡ stops.Output)) c.in-Err-put.is c.put_joined-lines.ensures in
+    subst (λ (s : Stop). FailsToJoin c.args.union.now.out (g.S.Store.making s0) (g.S.Store.held s0) (g.S.Store.held s1) (Err s)
+    (g.S.Store.failures s0) (g.S.Store.failures s1)) (sym untold) tt

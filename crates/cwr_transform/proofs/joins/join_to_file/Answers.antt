@@ -3,15 +3,17 @@ use Rattle.std.specs.Prelude.{IfOk, Result}
 use Rattle.cwr_files.specs.declared.faults.Fault.{Fault}
 use Rattle.cwr_files.specs.Format.Faults.{IfErr}
 use Rattle.cwr_files.specs.declared.faults.Name.TheVariants.{File}
-use Rattle.cwr_files.specs.Format.Files.{Turns, counted_on}
+use Rattle.cwr_files.specs.Format.Files.{HasCounted, Turns, counted_on}
 use Rattle.cwr_files.specs.Format.NewFiles.{LeavesAll}
 use Rattle.cwr_files.specs.Format.Written.{times_failed}
 use Rattle.cwr_files.specs.Steps.NewFiles.{IsBegun}
 use Rattle.cwr_endings.specs.Format.Endings.{SettlesOut}
+use Rattle.cwr_endings.proofs.lemmas.Fails.{made_fails, unkept_fails}
 use Rattle.cwr_endings.proofs.lemmas.Outs.{Begins, empty_so, out_dropped, settles, turns_so, unkept_so}
 use Rattle.cwr_transform.specs.declared.joins.Joined.{Joined}
 use Rattle.cwr_transform.specs.Format.Joins.{IsRefusedSender}
-use Rattle.cwr_transform.specs.Steps.Joins.{IsTextOfReaders, WritesJoin, judged_faults, keeps_file, writer_faults}
+use Rattle.cwr_transform.specs.Steps.Joins.{CountsWriter, IsTextOfReaders, StopsAs, WritesJoin, judged_faults, keeps_file, writer_faults}
+use Rattle.cwr_transform.proofs.lemmas.JoinFails.{sender_fails, writer_counted}
 use Rattle.cwr_transform.proofs.lemmas.JoinFiles.{few_counted, sender_leaves}
 use Rattle.cwr_transform.proofs.joins.join_to_file.Goals as goal
 
@@ -97,3 +99,39 @@ returns-clause-files g c =
     (g.S.Store.failures s2) (g.S.Store.held s0) (g.S.Store.held s1) (g.S.Store.held s2) c.in-Ok.ensures.named begun
     (c.in-Err-settle.ensures.unkept c.in-Err-settle.ensures.fault.0)
     (λ le lt. subst (λ (n : ℕ). g.S.Store.failures s2 ≤ n + 1) (sym c.in-Ok.ensures.unfailed) le))
+
+pub returns-in-Err-clause-unmade : goal.returns-in-Err-clause-unmade
+returns-in-Err-clause-unmade g c =
+    let s0 = c.args.store.now in
+    let s1 = c.create_output.new.store in
+    made_fails c.args.union.now.out (g.S.Store.making s0) (g.S.Store.held s0) (g.S.Store.held s1) c.in-Err.fault (g.S.Store.failures s0)
+    (g.S.Store.failures s1) c.in-Err.ensures.unmade c.in-Err.ensures.failed
+
+pub returns-in-Err-judged-clause-unmade : goal.returns-in-Err-judged-clause-unmade
+returns-in-Err-judged-clause-unmade g c =
+    let s0 = c.args.store.now in
+    let s2 = c.give_up.new.store in
+    sender_fails c.args.union.now.out (g.S.Store.making s0) (g.S.Store.held s0) (g.S.Store.held s2) c.args.union.now.same_sender
+    c.in-Err-judged.fault (g.S.Store.failures s0) (g.S.Store.failures s2)
+    (subst (λ (r : Result Joined Fault). IfErr r (IsRefusedSender c.args.union.now.same_sender)) c.in-Err-judged.is c.in-Some.ensures.fault)
+
+pub returns-in-Ok-settle-clause-counted : goal.returns-in-Ok-settle-clause-counted
+returns-in-Ok-settle-clause-counted g c =
+    let s1 = c.create_output.new.store in
+    let s2 = c.settle.new.store in
+    let joined = c.in-Ok-judged.joined in
+    subst (λ (n : ℕ). CountsWriter joined.outcome n (g.S.Store.failures s2)) c.in-Ok.ensures.unfailed
+    (writer_counted c.args.union.now.wanted.whole joined.outcome joined.found joined.after c.is_wanted-is_kept.result
+    (times_failed c.in-Some.written) (g.S.Store.failures s1) (g.S.Store.failures s2)
+    (subst (λ (r : Result Joined Fault). IfOk r (λ it. StopsAs it.outcome it.after)) c.in-Ok-judged.is c.in-Some.ensures.stops)
+    c.is_wanted-is_kept.ensures (c.in-Some.ensures.failures ∙ ap judged_faults c.in-Ok-judged.is) c.settle.ensures.failures
+    c.settle.ensures.given_up)
+
+pub returns-clause-unmade : goal.returns-clause-unmade
+returns-clause-unmade g c =
+    let s0 = c.args.store.now in
+    let s1 = c.create_output.new.store in
+    let s2 = c.settle.new.store in
+    unkept_fails c.args.union.now.out (g.S.Store.making s0) (g.S.Store.held s0) (g.S.Store.held s2) c.in-Err-settle.fault
+    (g.S.Store.failures s0) (g.S.Store.failures s2) c.in-Err-settle.ensures.fault.1
+    (subst (λ (n : ℕ). HasCounted n (g.S.Store.failures s2)) c.in-Ok.ensures.unfailed c.in-Err-settle.ensures.counted)

@@ -9,12 +9,15 @@ use Rattle.cwr_files.specs.Steps.Gathering.{written_to}
 use Rattle.cwr_files.specs.Steps.Inputs.{remaining_of}
 use Rattle.cwr_files.specs.Steps.NewFiles.{IsBegun}
 use Rattle.cwr_endings.specs.declared.stops.Stop.TheVariants as stops
+use Rattle.cwr_files.proofs.lemmas.Counts.{kept_then_counted}
 use Rattle.cwr_endings.specs.Format.Endings.{SettlesOut}
+use Rattle.cwr_endings.proofs.lemmas.Fails.{made_fails, unkept_fails}
 use Rattle.cwr_endings.proofs.lemmas.Outs.{Begins, empty_so, out_dropped, settles, turns_so, unkept_so}
 use Rattle.cwr_renumber.specs.Steps.Renumbered.{renumbered_text}
 use Rattle.cwr_renumber.specs.Steps.Renumberings.{CountsWriter}
 use Rattle.cwr_transform.specs.Format.Repairs.{IsRepairOf}
 use Rattle.cwr_transform.specs.Steps.Repairs.{CountsRead, faults_by}
+use Rattle.cwr_transform.proofs.lemmas.RepairFails.{file_counted, read_kept}
 use Rattle.cwr_transform.proofs.lemmas.RepairFiles.{few_kept, few_repaired, repair_so, text_kept}
 use Rattle.cwr_transform.proofs.renumberings.make_repaired.Goals as goal
 
@@ -97,3 +100,40 @@ returns-in-Ok-settle-clause-files g c =
     (λ texts known. empty_so (g.S.Store.held s0) (g.S.Store.held s1) texts (g.S.Writer.Write.contents c.in-Ok.made.1 ≡ Some [])
     (λ t n. IsBegun made (g.S.Store.making s1) t n) known (c.in-Ok.ensures.begun none))
     c.in-Ok-settle.ensures.whole c.in-Ok-settle.ensures.kept c.in-Ok-settle.ensures.dropped)
+
+pub returns-in-Err-clause-unmade : goal.returns-in-Err-clause-unmade
+returns-in-Err-clause-unmade g c =
+    let s0 = c.args.store.now in
+    let s1 = c.create_output.new.store in
+    made_fails c.args.out (g.S.Store.making s0) (g.S.Store.held s0) (g.S.Store.held s1) c.in-Err.fault (g.S.Store.failures s0)
+    (g.S.Store.failures s1) c.in-Err.ensures.unmade c.in-Err.ensures.failed
+
+pub returns-in-Err-settle-clause-unmade : goal.returns-in-Err-settle-clause-unmade
+returns-in-Err-settle-clause-unmade g c =
+    let s0 = c.args.store.now in
+    let s2 = c.run-writer.new.store in
+    let s3 = c.settle.new.store in
+    let repaired = c.run-writer.result.0 in
+    let reads : CountsRead repaired.look (g.S.Store.failures s0) (g.S.Store.failures s2)
+    = subst (λ (n : ℕ). CountsRead repaired.look n (g.S.Store.failures s2)) c.in-Ok.ensures.unfailed c.run-writer.ensures.reads in
+    unkept_fails c.args.out (g.S.Store.making s0) (g.S.Store.held s0) (g.S.Store.held s3) c.in-Err-settle.fault (g.S.Store.failures s0)
+    (g.S.Store.failures s3) c.in-Err-settle.ensures.fault.1
+    (kept_then_counted (g.S.Store.failures s0) (g.S.Store.failures s2) (g.S.Store.failures s3)
+    (read_kept repaired.look (g.S.Store.failures s0) (g.S.Store.failures s2) reads) c.in-Err-settle.ensures.counted)
+
+pub returns-in-Ok-settle-clause-counted : goal.returns-in-Ok-settle-clause-counted
+returns-in-Ok-settle-clause-counted g c =
+    let s0 = c.args.store.now in
+    let s2 = c.run-writer.new.store in
+    let s3 = c.settle.new.store in
+    let repaired = c.run-writer.result.0 in
+    let written = c.take_back-written.result.1 in
+    let reads : CountsRead repaired.look (g.S.Store.failures s0) (g.S.Store.failures s2)
+    = subst (λ (n : ℕ). CountsRead repaired.look n (g.S.Store.failures s2)) c.in-Ok.ensures.unfailed c.run-writer.ensures.reads in
+    let writes : CountsWriter repaired.outcome 0 (times_failed written)
+    = subst (λ (n : ℕ). CountsWriter repaired.outcome 0 n) (sym c.take_back-written.ensures.failures)
+    (subst (λ (n : ℕ). CountsWriter repaired.outcome n (failures_of c.run-writer.result.1)) c.in-Ok-gathered.ensures.failures
+    c.run-writer.ensures.failures) in
+    file_counted repaired.outcome _ _ _ c.is_wanted-is_kept.result (times_failed written) (g.S.Store.failures s0) (g.S.Store.failures s2)
+    (g.S.Store.failures s3) writes c.is_wanted-is_kept.ensures
+    (read_kept repaired.look (g.S.Store.failures s0) (g.S.Store.failures s2) reads) c.settle.ensures.given_up

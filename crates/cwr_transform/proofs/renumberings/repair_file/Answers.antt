@@ -6,11 +6,14 @@ use Rattle.cwr_files.specs.Format.Faults.{IfErr}
 use Rattle.cwr_files.specs.Steps.Inputs.{remaining_of}
 use Rattle.cwr_endings.specs.declared.stops.Stop.{Stop}
 use Rattle.cwr_endings.specs.declared.stops.Stop.TheVariants as stops
+use Rattle.cwr_tools.specs.declared.verdicts.ToolFault.TheVariants.{Output}
 use Rattle.cwr_endings.specs.Format.Endings.{FindsFrom}
+use Rattle.cwr_endings.specs.Format.Failures.{FailsToWrite, UnlessRead}
 use Rattle.cwr_endings.proofs.lemmas.Outs.{settled_untold, turns_so}
 use Rattle.cwr_renumber.specs.Steps.Renumbered.{renumbered_text}
 use Rattle.cwr_transform.specs.Format.Repairs.{IsRepairOf, WritesRepair}
 use Rattle.cwr_transform.specs.Steps.Repairs.{faults_by, keeps_repaired}
+use Rattle.cwr_transform.proofs.lemmas.RepairFails.{repair_fails, unless_read}
 use Rattle.cwr_transform.proofs.lemmas.RepairFiles.{repair_leaves, unmade_in}
 use Rattle.cwr_transform.proofs.lemmas.RepairsJudged.{repair_ends}
 use Rattle.cwr_transform.proofs.renumberings.repair_file.Goals as goal
@@ -52,3 +55,31 @@ returns-in-Err-handed-clause-files g c =
     (settled_untold c.args.out.now (g.S.Store.failures s0) (faults_by repaired.outcome repaired.look) (g.S.Store.failures s1) is
     (keeps_repaired c.args.repair.now.wanted.whole repaired) texts new h))
     (c.in-Ok.ensures.files none)
+
+pub returns-in-Err-clause-failed : goal.returns-in-Err-clause-failed
+returns-in-Err-clause-failed g c =
+    let s0 = c.args.store.now in
+    let s1 = c.write_repaired.new.store in
+    unless_read c.args.out (g.S.Store.making s0) (g.S.Store.held s0) (g.S.Store.held s1) c.in-Err.fault (g.S.Store.failures s0)
+    (g.S.Store.failures s1) c.in-Err.ensures.unmade
+
+pub returns-in-Ok-handed-clause-failed : goal.returns-in-Ok-handed-clause-failed
+returns-in-Ok-handed-clause-failed g c =
+    let s0 = c.args.store.now in
+    let s1 = c.write_repaired.new.store in
+    let repaired = c.in-Ok.file.repaired in
+    let left : Option (List ℕ) = remaining_of g.S.Reader.Read.remaining g.I.Read.remaining c.args.input in
+    repair_fails c.args.out (g.S.Store.making s0) (g.S.Store.held s0) (g.S.Store.held s1) (g.S.Store.failures s0) (g.S.Store.failures s1)
+    repaired c.args.repair.now.wanted.whole c.in-Ok.file.written repaired.outcome c.file_ending.result
+    (λ e. unmade_in renumbered_text c.args.repair.now.limits (λ items. FindsFrom c.args.repair.now.wanted.fail_on items repaired.found) left
+    repaired.outcome c.in-Ok.ensures.judged.judged Output e refl)
+    c.in-Ok.ensures.counted c.file_ending.ensures
+
+pub returns-in-Err-handed-clause-failed : goal.returns-in-Err-handed-clause-failed
+returns-in-Err-handed-clause-failed g c =
+    let s0 = c.args.store.now in
+    let s1 = c.write_repaired.new.store in
+    let untold : c.in-Err-handed.stop ≡ stops.Output
+    = subst (λ (r : Result (Unit {0}) Stop). IfErr r (λ stop. stop ≡ stops.Output)) c.in-Err-handed.is c.put_repaired-lines.ensures in
+    subst (λ (s : Stop). UnlessRead (Err s) (FailsToWrite c.args.out (g.S.Store.making s0) (g.S.Store.held s0) (g.S.Store.held s1) (Err s)
+    (g.S.Store.failures s0) (g.S.Store.failures s1))) (sym untold) tt

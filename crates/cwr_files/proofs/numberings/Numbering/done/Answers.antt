@@ -1,8 +1,9 @@
-use Rattle.std.proofs.Common.{sym, ap, ◌∙◌}
+use Rattle.std.proofs.Common.{sym, ap, subst, ◌∙◌}
 use Rattle.cwr_files.specs.Format.Files.{put}
 use Rattle.cwr_files.specs.Format.Parts.{part_name}
 use Rattle.std.proofs.Common.{◌+◌, Some, None}
-use Rattle.cwr_files.specs.Steps.NumberedFiles.{has_stopped, prefix_of}
+use Rattle.cwr_files.specs.Steps.NumberedFiles.{FaultIsOfPart, fault_of, has_stopped, prefix_of}
+use Rattle.cwr_files.proofs.lemmas.Counts.{fault_first}
 use Rattle.cwr_files.proofs.lemmas.PartsInHand.{finished, kept_bytes, of_file, stands_alike, stands_ends, stopped_stands}
 use Rattle.cwr_files.proofs.numberings.Numbering.done.Goals as goal
 
@@ -50,3 +51,10 @@ returns-then-self-clause-unnamed g c =
     (c.discard.ensures.drops texts count failures
     (stands_ends (has_stopped it) (prefix_of it) it.asked it.open_file (g.S.Store.making c.args.store.now)
     (g.S.Store.held c.args.store.now) (g.S.Store.failures c.args.store.now) texts count failures h))
+
+pub returns-then-self-clause-fault : goal.returns-then-self-clause-fault
+returns-then-self-clause-fault g c =
+    fault_first (g.S.Store.failures c.args.store.now) (g.S.Store.failures c.discard.new.store) (fault_of c.args.self.now)
+    (fault_of c.count_failure.new.self) c.first_fault-fault.result
+    (λ old on f. c.first_fault-fault.ensures old on (subst (FaultIsOfPart old on) (sym c.discard.ensures.fault) f))
+    c.discard.ensures.failures c.count_failure.ensures.fault

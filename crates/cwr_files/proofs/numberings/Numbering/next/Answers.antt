@@ -1,5 +1,6 @@
-use Rattle.std.proofs.Common.{ℕ, ◌+◌, sym, ap, ◌∙◌}
-use Rattle.cwr_files.specs.Steps.NumberedFiles.{has_stopped, prefix_of}
+use Rattle.std.proofs.Common.{ℕ, ◌+◌, refl, sym, ap, ◌∙◌}
+use Rattle.cwr_files.specs.Steps.NumberedFiles.{fault_of, has_stopped, prefix_of}
+use Rattle.cwr_files.proofs.lemmas.Counts.{fault_first, fault_kept, fault_new, same_count}
 use Rattle.cwr_files.proofs.lemmas.PartsInHand.{asks, goes_on, stopped_stands}
 use Rattle.cwr_files.proofs.numberings.Numbering.next.Goals as goal
 
@@ -10,7 +11,7 @@ returns-in-Ok-clause-stands g c = λ texts count failures h.
     let a = asks (has_stopped it) (prefix_of it) (prefix_of new) it.asked it.open_file new.open_file
     (g.S.Store.making c.args.store.now) (g.S.Store.making c.make.new.store) (g.S.Store.held c.args.store.now)
     (g.S.Store.held c.make.new.store) (g.S.Store.failures c.args.store.now) (g.S.Store.failures c.make.new.store) texts count failures h
-    (sym c.is_some-else-is_some.ensures ∙ c.if-is_some-2.false) (sym c.is_some.ensures ∙ c.if-is_some.false) c.make.ensures.prefix
+    c.if-self.false (sym c.is_some.ensures ∙ c.if-is_some.false) c.make.ensures.prefix
     c.make.ensures.begun c.make.ensures.failures in
     goes_on (has_stopped new) (prefix_of new) new.asked new.open_file (g.S.Store.making c.make.new.store) (g.S.Store.held c.make.new.store)
     (g.S.Store.failures c.make.new.store) texts count failures c.in-Ok.ensures.lent
@@ -24,9 +25,26 @@ returns-in-Err-clause-stands g c = λ texts count failures h.
     let a = asks (has_stopped it) (prefix_of it) (prefix_of new) it.asked it.open_file new.open_file
     (g.S.Store.making c.args.store.now) (g.S.Store.making c.make.new.store) (g.S.Store.held c.args.store.now)
     (g.S.Store.held c.make.new.store) (g.S.Store.failures c.args.store.now) (g.S.Store.failures c.make.new.store) texts count failures h
-    (sym c.is_some-else-is_some.ensures ∙ c.if-is_some-2.false) (sym c.is_some.ensures ∙ c.if-is_some.false) c.make.ensures.prefix
+    c.if-self.false (sym c.is_some.ensures ∙ c.if-is_some.false) c.make.ensures.prefix
     c.make.ensures.begun c.make.ensures.failures in
     stopped_stands (has_stopped last) (prefix_of c.discard.new.self) (prefix_of last) last.asked c.discard.new.self.open_file last.open_file
     (g.S.Store.making c.discard.new.store) (g.S.Store.held c.discard.new.store) (g.S.Store.failures c.discard.new.store) texts count failures
     c.count_failure-in-Err.ensures.stopped c.count_failure-in-Err.ensures.prefix c.count_failure-in-Err.ensures.made
     (c.discard.ensures.drops texts count failures a.0)
+
+pub returns-then-is_some-clause-fault : goal.returns-then-is_some-clause-fault
+returns-then-is_some-clause-fault g c =
+    let failures = g.S.Store.failures c.args.store.now in
+    fault_first failures failures (fault_of c.args.self.now) (fault_of c.count_failure.new.self) c.first_fault-fault.result c.first_fault-fault.ensures
+    (same_count failures failures refl) c.count_failure.ensures.fault
+
+pub returns-in-Ok-clause-fault : goal.returns-in-Ok-clause-fault
+returns-in-Ok-clause-fault g c =
+    fault_kept (g.S.Store.failures c.args.store.now) (g.S.Store.failures c.make.new.store) (fault_of c.args.self.now)
+    (fault_of c.make.new.self) c.make.ensures.failures c.make.ensures.fault
+
+pub returns-in-Err-clause-fault : goal.returns-in-Err-clause-fault
+returns-in-Err-clause-fault g c =
+    fault_new (g.S.Store.failures c.args.store.now) (g.S.Store.failures c.make.new.store) (g.S.Store.failures c.discard.new.store)
+    (fault_of c.args.self.now) (fault_of c.count_failure-in-Err.new.self) c.in-Err.fault c.in-Err.ensures.failed c.discard.ensures.failures
+    c.count_failure-in-Err.ensures.fault
