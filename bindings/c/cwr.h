@@ -1,5 +1,5 @@
-/// CWR 2.1 from C: checks, findings, an index of the records of a text in memory, reports, layouts, selecting
-/// and writing.
+/// CWR 2.1 from C: checks, findings, an index of the records of a text in memory, reports, layouts, selecting,
+/// summaries and writing.
 ///
 /// Link with `-lcwr`, or with `libcwr.a`. The library keeps no state, opens no file and prints nothing: all that a call reads
 /// or writes is handed in, and nothing of it is kept after the call. Any number of threads may call at once. What each call
@@ -196,6 +196,28 @@ typedef struct cwr_place {
 /// many bytes the text has. Memory holds it, and the places.
 size_t cwr_select(const uint8_t *text, size_t text_size, uint32_t records, uint32_t groups, uint32_t transaction,
                   const cwr_place *places, size_t places_size, uint8_t *room, size_t room_size, cwr_verdict *verdict);
+
+/// What the numbers of a summary count, by their places. A work is a transaction that begins with NWR or REV: the copy in an
+/// acknowledgement is none, though its records count as records. Shares are in hundredths of a percent, added up over works: a control, and
+/// no money. Where several places follow each other, they are in the order that the comment gives.
+enum cwr_column {
+    CWR_GROUPS = 0,            ///< groups, by their GRH
+    CWR_TRANSACTIONS = 1,      ///< transactions: AGR, NWR, REV, ACK
+    CWR_RECORDS = 5,           ///< records of each kind, in the order of cwr_kind
+    CWR_WORKS = 45,            ///< works by version type: ORI, MOD
+    CWR_ACKNOWLEDGEMENTS = 47, ///< acknowledgements by status: CO DU RA AS AC SR CR RJ NP RC
+    CWR_FINDINGS_OF = 57,      ///< findings by rule: V1 to V11
+    CWR_CONTROLLED = 68,       ///< shares of SPU and SWR: performing, mechanical, synchronization
+    CWR_OTHERS = 71,           ///< shares of OPU and OWR
+    CWR_WORKS_WITHOUT = 74,    ///< works of which each share in the right is blank
+    CWR_WORKS_OFF = 77,        ///< works whose shares in the right add up to neither nothing nor about the whole (V3, V4, V5)
+    CWR_COLUMNS = 80,          ///< how many there are
+};
+
+/// What stands in the text's transmission, into `numbers`, and the verdict. Of a text that is refused or ends too early it is what stands
+/// in the items before. Answers CWR_COLUMNS. No number is passed over: 64 bits hold what any transmission has. Memory holds one transaction.
+size_t cwr_summary(const uint8_t *text, size_t text_size, uint32_t records, uint32_t groups, uint32_t transaction,
+                   uint64_t *numbers, size_t numbers_size, cwr_verdict *verdict);
 
 /// How writing ended.
 enum cwr_writing {

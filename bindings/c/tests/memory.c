@@ -6,9 +6,9 @@
 #include "files.h"
 #include <string.h>
 
-enum { CHECK, FINDINGS, SELECT, REPORT, WRITE = REPORT + 7, WRITE_JSON, CALLS };
+enum { CHECK, FINDINGS, SELECT, SUMMARY, REPORT, WRITE = REPORT + 7, WRITE_JSON, CALLS };
 
-static const char *names[CALLS] = {"cwr_check", "cwr_findings", "cwr_select", "cwr_report 0", "cwr_report 1", "cwr_report 2", "cwr_report 3", "cwr_report 4", "cwr_report 5", "cwr_report 6", "cwr_write", "cwr_write_json"};
+static const char *names[CALLS] = {"cwr_check", "cwr_findings", "cwr_select", "cwr_summary", "cwr_report 0", "cwr_report 1", "cwr_report 2", "cwr_report 3", "cwr_report 4", "cwr_report 5", "cwr_report 6", "cwr_write", "cwr_write_json"};
 
 /// What a call answers: how many bytes or findings there are, how it ended, and the room with a few bytes behind it.
 typedef struct {
@@ -72,6 +72,8 @@ static void call(int what, const uint8_t *text, size_t size, unsigned long numbe
         it->count = cwr_findings(text, size, CWR_NO_LIMITS, (cwr_finding *)it->room, it->space / sizeof(cwr_finding), &it->verdict);
     else if (what == SELECT)
         it->count = cwr_select(text, size, CWR_NO_LIMITS, places, 2, it->room, it->space, &it->verdict);
+    else if (what == SUMMARY)
+        it->count = cwr_summary(text, size, CWR_NO_LIMITS, (uint64_t *)it->room, it->space / sizeof(uint64_t), &it->verdict);
     else if (what < WRITE)
         it->count = cwr_report((uint32_t)(what - REPORT), text, size, CWR_NO_LIMITS, (const uint8_t *)"it", 2, it->room, it->space, &it->verdict);
     else if (what == WRITE)
@@ -109,7 +111,7 @@ static int is_out_of_memory(int what, const answer *it, const answer *ample) {
 static void check(int what, const char *name, const uint8_t *text, size_t size) {
     answer ample = {.room = room_of(BEHIND)};
     call(what, text, size, 0, &ample);
-    ample.space = ample.count * (what == FINDINGS ? sizeof(cwr_finding) : 1);
+    ample.space = ample.count * (what == FINDINGS ? sizeof(cwr_finding) : what == SUMMARY ? sizeof(uint64_t) : 1);
     free(ample.room);
     ample.room = room_of(ample.space + BEHIND);
     call(what, text, size, 0, &ample);

@@ -8,6 +8,7 @@ static uint8_t *text, room[1 << 22];
 static size_t size;
 static cwr_line lines[1 << 14];
 static cwr_finding findings[1 << 10];
+static uint64_t numbers[CWR_COLUMNS];
 
 static void *small(void *none) {
     cwr_verdict verdict;
@@ -15,6 +16,7 @@ static void *small(void *none) {
     cwr_check(text, size, CWR_NO_LIMITS, &verdict);
     cwr_index(text, size, CWR_NO_LIMITS, lines, 1 << 14, &verdict);
     cwr_findings(text, size, CWR_NO_LIMITS, findings, 1 << 10, &verdict);
+    cwr_summary(text, size, CWR_NO_LIMITS, numbers, CWR_COLUMNS, &verdict);
     for (uint32_t i = 0; cwr_kind(i, room, 3); i++) {
         cwr_blank(room, 3, room + 3, 1024);
         for (uint8_t j = 1; cwr_field(room, 3, j, &place, room + 3, 64); j++)

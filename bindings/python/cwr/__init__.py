@@ -9,6 +9,7 @@
     print(cwr.explain("CW240001PB_052.V21"))
     text = cwr.write(records)                         # with all numbers made
     text = cwr.select("CW240001PB_052.V21", lambda transaction: transaction.kind == "NWR")
+    print(cwr.summary("CW240001PB_052.V21").columns())  # groups, transactions by type, records by kind, shares, ...
 
 A source is a path, or bytes that are there already. Sizes are bytes, numbers of records and fields count from 1, shares are in
 percent. A text is judged up to the end of its transmission; what follows isn't looked at.
@@ -19,6 +20,7 @@ from ._limits import NO_LIMITS
 from ._records import Place, Record, Transaction
 from ._reports import explain, lint, report, show, to_json
 from ._selecting import select
+from ._summaries import Summary, summary
 from ._verdicts import Ending, Error, Finding, Level, RefusedError, TruncatedError, Verdict, WriteError
 from ._writing import from_json, write
 
@@ -36,6 +38,7 @@ __all__ = [
     "Place",
     "Record",
     "RefusedError",
+    "Summary",
     "Transaction",
     "TruncatedError",
     "Type",
@@ -51,6 +54,7 @@ __all__ = [
     "report",
     "select",
     "show",
+    "summary",
     "to_json",
     "write",
 ]

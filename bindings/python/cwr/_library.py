@@ -64,6 +64,7 @@ field = _call("cwr_field", _size, _at, _size, _u8, _at, _at, _size)
 code = _call("cwr_code", _size, _at, _size, _u8, _u32, _at, _size)
 blank = _call("cwr_blank", _size, _at, _size, _at, _size)
 select = _call("cwr_select", _size, _at, _size, *_LIMITS, _at, _size, _at, _size, _at)
+summary = _call("cwr_summary", _size, _at, _size, *_LIMITS, _at, _size, _at)
 write = _call("cwr_write", _size, _at, _size, *_LIMITS, _at, _size, _at)
 write_json = _call("cwr_write_json", _size, _at, _size, *_LIMITS, _at, _size, _at)
 

@@ -3,6 +3,7 @@
 Run from anywhere, by the standard library alone (`python3 -m unittest discover bindings/python/tests`) or by pytest. PROGRAM
 is the program (crates/cwr/out/cwr), and SEED and COUNT change what is tried.
 """
+import collections
 import concurrent.futures
 import datetime
 import glob
@@ -579,6 +580,64 @@ class Selecting(unittest.TestCase):
             cwr.select(b"", lambda _: True)
         with self.assertRaises(ValueError):
             cwr.select(WORKS, lambda _: True, limits=(5, 0, 1))
+
+
+class Summaries(unittest.TestCase):
+    """A summary is what the records say, one after another, and what a check finds."""
+
+    RIGHTS = ("pr", "mr", "sr")
+    OWNERS = {"SPU": "controlled", "SWR": "controlled", "OPU": "others", "OWR": "others"}
+
+    def expected(self, document):
+        """The same numbers, by the cells of the document's records."""
+        count = collections.Counter()
+        for record in document.records():
+            count[f"records_{record.kind}"] += 1
+            count["groups"] += record.kind == "GRH"
+        for transaction in document:
+            kind = transaction.kind
+            count[f"transactions_{kind}"] += 1
+            if kind == "ACK":
+                count[f"acknowledgements_{transaction.header['transaction status']}"] += 1
+            if kind not in ("NWR", "REV"):
+                continue
+            count[f"works_{transaction.header['version type']}"] += 1
+            for right in self.RIGHTS:
+                owned = [(self.OWNERS[it.kind], it.share(f"{right} share")) for it in transaction if it.kind in self.OWNERS]
+                filled = [share for _, share in owned if share is not None]
+                for side, share in owned:
+                    count[f"{side}_{right}"] += share or 0
+                count[f"works_without_{right}"] += not filled
+                count[f"works_off_{right}"] += bool(sum(filled)) and abs(sum(filled) - 100) > Decimal("0.06")
+        return count
+
+    def test_each_sample_is_summed_up(self):
+        for name in SAMPLES:
+            found = cwr.summary(name)
+            row = found.columns()
+            self.assertEqual(found.verdict, cwr.check(name), name)
+            rules = collections.Counter(f"findings_{it.rule}" for it in cwr.findings(name))
+            self.assertEqual({key: value for key, value in row.items() if key.startswith("findings_V") and value}, dict(rules), name)
+            if not found.verdict:
+                continue
+            document = cwr.read(name)
+            expected = self.expected(document)
+            sums = {"transactions", "records", "works", "acknowledgements", "findings"}
+            numbers = {key: value for key, value in row.items() if value and key not in sums and not key.startswith("findings_")}
+            self.assertEqual(numbers, {key: value for key, value in expected.items() if value}, name)
+            self.assertEqual(row["records"], found.verdict.records, name)
+            self.assertEqual(row["transactions"], found.verdict.transactions, name)
+
+    def test_what_a_part_of_a_transmission_has(self):
+        with open(WORKS, "rb") as it:
+            text = it.read()
+        lines = text.splitlines(keepends=True)
+        self.assertEqual(cwr.summary(b"").columns()["records"], 0)
+        cut = cwr.summary(b"".join(lines[:2]))
+        self.assertEqual((str(cut.verdict), cut.records["HDR"], cut.records["GRH"], cut.groups), ("TRUNCATED records 2", 1, 1, 1))
+        self.assertEqual(cwr.summary(text + b"what follows").columns(), cwr.summary(text).columns())
+        with self.assertRaises(ValueError):
+            cwr.summary(WORKS, limits=(5, 0, 1))
 
 
 if __name__ == "__main__":

@@ -105,6 +105,16 @@ mod c {
             room_size: usize,
             verdict: *mut RawVerdict,
         ) -> usize;
+        pub fn cwr_summary(
+            text: *const u8,
+            size: usize,
+            records: u32,
+            groups: u32,
+            transaction: u32,
+            numbers: *mut u64,
+            room: usize,
+            verdict: *mut RawVerdict,
+        ) -> usize;
         pub fn cwr_write(
             lines: *const u8,
             size: usize,
@@ -273,6 +283,25 @@ pub(crate) fn select(text: &[u8], places: &[Place], limits: &Limits, first: usiz
         }
     })?;
     Ok((made, verdict))
+}
+
+/// The numbers of a summary, as many as the room has, how many there are, and the verdict.
+pub(crate) fn summary(text: &[u8], limits: &Limits, room: &mut [u64]) -> (usize, RawVerdict) {
+    let mut verdict = RawVerdict::default();
+    // Safety: see the head of this module.
+    let count = unsafe {
+        c::cwr_summary(
+            text.as_ptr(),
+            text.len(),
+            limits.records,
+            limits.groups,
+            limits.transaction,
+            room.as_mut_ptr(),
+            room.len(),
+            &mut verdict,
+        )
+    };
+    (count, verdict)
 }
 
 pub(crate) fn write(lines: &[u8], limits: &Limits, is_json: bool, first: usize) -> Result<(Vec<u8>, RawWritten), Error> {

@@ -28,6 +28,7 @@ mod layouts;
 mod records;
 mod reports;
 mod selecting;
+mod summaries;
 mod verdicts;
 mod writing;
 
@@ -37,5 +38,6 @@ pub use layouts::{fields, kinds, Field, Type};
 pub use records::{Record, RecordBuf};
 pub use reports::{explain, lint, report, show, to_json, Report};
 pub use selecting::{select, Place};
+pub use summaries::{summary, Right, Summary, COLUMNS};
 pub use verdicts::{check, findings, CellFault, Finding, Level, LimitKind, Limits, Reason, Refusal, Verdict};
 pub use writing::{from_json, write, Why};

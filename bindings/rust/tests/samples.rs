@@ -91,6 +91,29 @@ fn transactions_are_selected_by_their_places() {
 }
 
 #[test]
+fn a_summary_counts_what_a_document_has() {
+    for name in samples() {
+        let text = fs::read(&name).unwrap();
+        let (found, verdict) = cwr::summary(&text, &Limits::NONE).unwrap();
+        assert_eq!(verdict, cwr::check(&text, &Limits::NONE).unwrap());
+        let (findings, _) = cwr::findings(&text, &Limits::NONE).unwrap();
+        let Verdict::Good { groups, transactions, records } = verdict else {
+            continue;
+        };
+        assert_eq!(found.groups(), u64::from(groups));
+        assert_eq!(found.transactions().iter().sum::<u64>(), u64::from(transactions));
+        assert_eq!(found.records().iter().sum::<u64>(), u64::from(records));
+        assert_eq!(found.works().iter().sum::<u64>(), found.transactions()[1] + found.transactions()[2]);
+        assert_eq!(found.acknowledgements().iter().sum::<u64>(), found.transactions()[3]);
+        assert_eq!(found.findings().iter().sum::<u64>(), findings.len() as u64);
+        let document = Document::read(&text).unwrap();
+        for (kind, count) in cwr::kinds().iter().zip(found.records()) {
+            assert_eq!(document.records().filter(|it| it.kind() == *kind).count() as u64, *count, "{name:?} {kind}");
+        }
+    }
+}
+
+#[test]
 fn records_are_written_as_they_were_read() {
     for name in samples() {
         let text = fs::read(&name).unwrap();

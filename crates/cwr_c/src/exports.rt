@@ -9,11 +9,12 @@ ghost use Rattle.cwr_calls.specs.Format.Selected.{TellsSelected};
 ghost use Rattle.cwr_calls.specs.Format.WrittenTexts.{TellsImported, TellsWritten};
 ghost use Rattle.cwr_calls.specs.Steps.Listed.{TellsFindings};
 ghost use Rattle.cwr_calls.specs.Steps.Reported.{TellsReport};
+ghost use Rattle.cwr_calls.specs.Steps.Summed.{TellsSummary};
 
 use cwr_calls::{
     CwrField, CwrFinding, CwrPlace, CwrVerdict, CwrWritten, blank_record, check_text, code_text,
-    field_place, findings_in, index_text, kind_letters, report_on, select_places, write_data,
-    write_records,
+    field_place, findings_in, index_text, kind_letters, report_on, select_places, sum_text,
+    write_data, write_records,
 };
 use cwr_decode::IndexEntry;
 use std::alloc::Global;
@@ -174,6 +175,32 @@ pub extern "C" fn cwr_select(
         transaction,
         places,
         room,
+        verdict,
+    )
+}
+
+/// Puts what stands in the text's items up to where it ends or is refused, a number for each column, as far as there is room, and writes
+/// the verdict. Answers how many columns there are. Memory holds one transaction.
+#[unsafe(no_mangle)]
+pub extern "C" fn cwr_summary(
+    alloc: Global,
+    text: &[u8],
+    records: u32,
+    groups: u32,
+    transaction: u32,
+    numbers: &mut [u64],
+    verdict: &mut CwrVerdict,
+) -> usize
+    ensures told { TellsSummary records groups transaction text.now numbers.old numbers.new result verdict.new }
+    ensures out_of_range { IsOutOfRange records groups transaction → verdict.new ≡ ended 4 }
+{
+    sum_text(
+        alloc,
+        text,
+        records,
+        groups,
+        transaction,
+        numbers,
         verdict,
     )
 }

@@ -18,3 +18,5 @@ pub mod ReportedTexts
 pub mod BlankTexts
 -- What a selection of a text in memory answers, and what C is told of it.
 pub mod SelectedTexts
+-- What was summed up where a text has a verdict.
+pub mod SummedTexts

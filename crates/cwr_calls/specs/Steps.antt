@@ -4,3 +4,5 @@ pub mod Reported
 pub mod Listed
 pub mod Writings
 pub mod Selecting
+-- What a summary answers to C.
+pub mod Summed

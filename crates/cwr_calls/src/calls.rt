@@ -1,6 +1,6 @@
 //! The calls of the C library.
 
-ghost use Rattle.std.specs.Prelude.{◌≡◌};
+ghost use Rattle.std.specs.Prelude.{◌≡◌, true};
 ghost use Rattle.cwr_calls.specs.Format.Answers.{Indexes, IsOutOfRange};
 ghost use Rattle.cwr_calls.specs.Steps.Checked.{Checks};
 ghost use Rattle.cwr_calls.specs.Format.VerdictNumbers.{ended};
@@ -9,6 +9,7 @@ ghost use Rattle.cwr_calls.specs.Format.Selected.{TellsSelected};
 ghost use Rattle.cwr_calls.specs.Format.WrittenTexts.{TellsImported, TellsWritten};
 ghost use Rattle.cwr_calls.specs.Steps.Listed.{TellsFindings};
 ghost use Rattle.cwr_calls.specs.Steps.Reported.{TellsReport};
+ghost use Rattle.cwr_calls.specs.Steps.Summed.{TellsSummary};
 
 use crate::codes::{blank_line, put_code};
 use crate::fields::{CwrField, find_field, kind_at, place_of};
@@ -16,6 +17,7 @@ use crate::imports::import_text;
 use crate::listing::{CwrFinding, list_findings};
 use crate::report_texts::{copy_out, report, what_is_asked};
 use crate::selecting::{CwrPlace, listed, select_text, selected_in_c};
+use crate::summing::{copy_numbers, summarize};
 use crate::verdicts::{CwrVerdict, end_in_c, ended, in_c};
 use crate::writing::{CwrWritten, write_text, written};
 use cwr_decode::{IndexEntry, index};
@@ -28,9 +30,18 @@ use std::str::from_utf8;
 
 /// A writer that keeps nothing.
 #[derive(Drop)]
-struct Nowhere {
+pub(crate) struct Nowhere {
     /// All that was written was handed on.
     handed_on: bool,
+}
+
+impl Nowhere {
+    /// Before anything is written.
+    pub(crate) fn new() -> Nowhere
+        ensures { result.handed_on ≡ true }
+    {
+        Nowhere { handed_on: true }
+    }
 }
 
 impl Target for Nowhere {
@@ -70,7 +81,7 @@ pub fn check_text(
         return;
     };
     let mut reader = InMemory::new(text);
-    let (_, checked) = check(alloc, limits, &mut reader, Nowhere { handed_on: true });
+    let (_, checked) = check(alloc, limits, &mut reader, Nowhere::new());
     *verdict = match checked {
         Ok(found) => in_c(found),
         Err(_) => ended(3),
@@ -247,6 +258,37 @@ pub fn select_places(
     match outcome {
         Ok(_) => copy_out(made.as_slice(), room),
         Err(_) => 0,
+    }
+}
+
+/// Puts what stands in the text's items up to where it ends or is refused, a number for each column, as far as there is room, and writes
+/// the verdict. Answers how many columns there are. Memory holds one transaction.
+pub fn sum_text(
+    alloc: Global,
+    text: &[u8],
+    records: u32,
+    groups: u32,
+    transaction: u32,
+    numbers: &mut [u64],
+    verdict: &mut CwrVerdict,
+) -> usize
+    ensures told { TellsSummary records groups transaction text.now numbers.old numbers.new result verdict.new }
+    ensures out_of_range { IsOutOfRange records groups transaction → verdict.new ≡ ended 4 }
+{
+    let Ok(limits) = Limits::new(records, groups, transaction) else {
+        *verdict = ended(4);
+        return 0;
+    };
+    let (summary, found) = summarize(alloc, limits, text);
+    match found {
+        Ok(found) => {
+            *verdict = in_c(found);
+            copy_numbers(summary.numbers(), numbers)
+        }
+        Err(_) => {
+            *verdict = ended(3);
+            0
+        }
     }
 }
 

@@ -1,18 +1,20 @@
 -- What a run over a text in memory has written to an empty writer.
 use Rattle.std.proofs.Common.{◌≡◌, ℕ, Bool, List, [], ◌++◌, Option, Some, None, refl, sym, ap, subst, ◌∙◌, false}
-use Rattle.std.specs.Prelude.{Result, Ok, Err, IfOk, IfSome}
+use Rattle.std.specs.Prelude.{Result, Ok, Err, IfErr, IfOk, IfSome}
 use Rattle.std.specs.Io.KnownBytes.{Appends}
 use Rattle.cwr_shape.specs.declared.limits.Limits.{Limits}
 use Rattle.cwr_tools.specs.declared.verdicts.Verdict.{Verdict}
 use Rattle.cwr_tools.specs.declared.verdicts.Verdict.TheVariants.{Good, Refused, Truncated}
 use Rattle.cwr_tools.specs.declared.verdicts.ToolFault.{ToolFault}
-use Rattle.cwr_tools.specs.Format.Reports.{ItemLines, lines_of_explained, text_on}
+use Rattle.cwr_tools.specs.declared.verdicts.ToolFault.TheVariants.{Memory, Reader, Writer}
+use Rattle.cwr_tools.specs.Format.Reports.{CountsReaderFault, CountsWriterFault, ItemLines, lines_of_explained, text_on}
 use Rattle.cwr_tools.specs.Format.Verdicts.{IsVerdictOn, JudgesText}
 use Rattle.cwr_tools.specs.Steps.Reports.{Reports}
 use Rattle.cwr_tools.specs.Format.Verdicts.{IsAnswerAfter}
 use Rattle.cwr_explain.specs.Steps.Explained.{Explains}
 use Rattle.cwr_lint.specs.Format.Wanted.{Wanted, wanting}
 use Rattle.cwr_lint.specs.Steps.Lints.{Lints, Tells}
+use Rattle.cwr_calls.specs.Steps.Checked.{MayLackMemory}
 use Rattle.cwr_calls.specs.Steps.Reported.{IsExplainedOn, IsJudged, IsLintOn, IsTextOn, IsWritten}
 
 -- the verdict is on the text
@@ -142,3 +144,15 @@ lint_on_items explained limits before after text report contents old new (Ok ver
   tells_to (wanting explained false false) limits after text report contents old new verdict none has
       (subst (λ (b : Option (List ℕ)). Tells (wanting explained false false) limits b after contents old new verdict) e h),
 )
+
+-- a report over memory, whose writer never fails, fails only where memory is asked for
+pub lacks : {W : Type 0} (of : ItemLines) (limits : Limits) (before after : Option (List ℕ)) (text : List ℕ) (contents : W → Option (List ℕ))
+    (old new : W) (result : Result Verdict ToolFault) → before ≡ Some text → Reports of limits before after contents old new result
+    → CountsReaderFault result 0 0 → CountsWriterFault result 0 0 → IfErr result (λ fault. MayLackMemory of limits text)
+lacks of limits before after text contents old new (Ok verdict) e h read wrote = tt
+lacks of limits before after text contents old new (Err Memory) e h read wrote =
+    let there = subst (λ (b : Option (List ℕ)). Reports of limits b after contents old new (Err Memory)) e h in
+    (there.0, after, there.1)
+lacks of limits before after text contents old new (Err Reader) e h read wrote = absurd (cc read)
+lacks of limits before after text contents old new (Err (Writer written)) e h read wrote = absurd (cc wrote)
+lacks of limits before after text contents old new (Err fault) e h read wrote = absurd h

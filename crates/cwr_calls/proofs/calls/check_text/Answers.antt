@@ -1,17 +1,14 @@
-use Rattle.std.proofs.Common.{◌≡◌, ℕ, List, Option, None, Some, true, inl, inr, rules, subst}
-use Rattle.std.specs.Prelude.{Result, Ok, Err, IfErr}
+use Rattle.std.proofs.Common.{None, Some, true, inl, inr, rules, subst}
+use Rattle.std.specs.Prelude.{Result, IfErr}
 use Rattle.cwr_tools.specs.declared.verdicts.Verdict.{Verdict}
 use Rattle.cwr_tools.specs.declared.verdicts.ToolFault.{ToolFault}
-use Rattle.cwr_tools.specs.declared.verdicts.ToolFault.TheVariants.{Reader, Writer, Memory}
-use Rattle.cwr_tools.specs.Format.Reports.{ItemLines, CountsReaderFault, CountsWriterFault}
-use Rattle.cwr_tools.specs.Steps.Reports.{Reports}
 use Rattle.cwr_calls.specs.Steps.Checked.{MayLackMemory}
 use Rattle.cwr_shape.specs.declared.limits.Limits.{Limits}
 use Rattle.cwr_tools.specs.Format.Reports.{lines_of_findings}
 use Rattle.cwr_tools.specs.Format.Verdicts.{IsVerdictOn}
 use Rattle.cwr_tools.proofs.lemmas.RightReports.{judged_text}
 use Rattle.cwr_calls.specs.Steps.Reported.{IsJudged}
-use Rattle.cwr_calls.proofs.lemmas.ReportedTexts.{judged_on}
+use Rattle.cwr_calls.proofs.lemmas.ReportedTexts.{judged_on, lacks}
 use Rattle.cwr_calls.proofs.calls.check_text.Goals as goal
 
 pub returns-in-Ok-checked-clause-told : goal.returns-in-Ok-checked-clause-told
@@ -29,17 +26,6 @@ returns-in-Ok-checked-clause-told c =
       c.in_c.ensures,
       subst (λ (l : Limits). IsVerdictOn l c.args.text.now c.in-Ok-checked.found) c.in-Ok.ensures.0 found,
     ))
-
-lacks : {W : Type 0} (of : ItemLines) (limits : Limits) (before after : Option (List ℕ)) (text : List ℕ) (contents : W → Option (List ℕ))
-    (old new : W) (result : Result Verdict ToolFault) → before ≡ Some text → Reports of limits before after contents old new result
-    → CountsReaderFault result 0 0 → CountsWriterFault result 0 0 → IfErr result (λ fault. MayLackMemory of limits text)
-lacks of limits before after text contents old new (Ok verdict) e h read wrote = tt
-lacks of limits before after text contents old new (Err Memory) e h read wrote =
-    let there = subst (λ (b : Option (List ℕ)). Reports of limits b after contents old new (Err Memory)) e h in
-    (there.0, after, there.1)
-lacks of limits before after text contents old new (Err Reader) e h read wrote = absurd (cc read)
-lacks of limits before after text contents old new (Err (Writer written)) e h read wrote = absurd (cc wrote)
-lacks of limits before after text contents old new (Err fault) e h read wrote = absurd h
 
 pub returns-in-Err-clause-told : goal.returns-in-Err-clause-told
 returns-in-Err-clause-told c =
