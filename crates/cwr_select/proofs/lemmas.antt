@@ -18,7 +18,15 @@ pub mod FoundValues
 pub mod PartyCells
 -- What a selection leaves written where it stops.
 pub mod LeftSelections
--- The cells of HDR are set one by one, and with those of a moment they are a record.
+-- A cell that is known to be one of its field is set as it is, and never refused.
+pub mod WholeCells
+-- The cells of a record are copied one by one into a draft in which nothing was set.
+pub mod CopiedCells
+-- The cells of HDR, and that with those of a moment they are a record.
 pub mod CreatedHeaders
 -- A transmission that is created at a moment is one, and its items are those of the transmission, but for HDR.
 pub mod CreatedItems
+-- A transmission whose works are sent as new or as revised ones is one, within the limits that it was within.
+pub mod SentWorks
+-- The items of a transmission whose works are sent as new or as revised ones are its items, as they are sent.
+pub mod SentItems

@@ -4,3 +4,4 @@ pub mod Criteria
 pub mod Laws
 pub mod Selections
 pub mod Selecting
+pub mod Sent

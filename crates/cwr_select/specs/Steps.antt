@@ -3,3 +3,4 @@ pub mod Headers
 pub mod Held
 pub mod Parties
 pub mod Selecting
+pub mod Sent

@@ -2,7 +2,8 @@
 
 ghost use Rattle.cwr_select.specs.Format.Laws.{AllIsSelected, ChosenAreSelected, OthersAreTheRest, SelectionIsAccepted, TwiceIsOnce};
 
-/// What is selected of a transmission is one, within any limits that the whole is within, and its canonical text is accepted.
+/// What is selected of a transmission and sent with any changes is one, within any limits that the whole is within, and its canonical text is
+/// accepted.
 pub fn selection_is_accepted()
     ensures { SelectionIsAccepted }
 {}

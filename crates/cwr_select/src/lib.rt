@@ -1,7 +1,9 @@
 //! Some transactions of a transmission, as a transmission of their own.
 #![tactic(auto)]
 
+mod changes;
 mod choices;
+mod copies;
 mod criteria;
 mod headers;
 mod held;
@@ -11,7 +13,9 @@ mod parties;
 mod reports;
 mod selecting;
 mod selection;
+mod sent;
 
+pub use changes::{Changes, WorkKind};
 pub use choices::{Both, Chooses, Others, Turned};
 pub use criteria::{ByKind, ByNumber, ByPlace, number_cell};
 pub use laws::{all_is_selected, chosen_are_selected, selection_is_accepted};

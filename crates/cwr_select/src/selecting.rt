@@ -1,6 +1,6 @@
 //! A selection while it is written.
 
-ghost use Rattle.std.specs.Prelude.{◌≡◌, ◌≢◌, ◌<◌, ◌∷◌, ◌++◌, ℕ, List, [], Err, Some, IfOk, OnOk, false, true};
+ghost use Rattle.std.specs.Prelude.{◌≡◌, ◌≢◌, ◌<◌, ◌∷◌, ◌++◌, ℕ, List, [], Err, IfOk, OnOk, false, option_map, true};
 ghost use Rattle.std.specs.Option.{option_to_list};
 ghost use Rattle.cwr_lines.specs.Format.Records.{RecordValue};
 ghost use Rattle.cwr_values.specs.declared.items.Item.{Item};
@@ -10,12 +10,15 @@ ghost use Rattle.cwr_encode.specs.Steps.Encoders.{AddsRecords, Encodes, is_stopp
 ghost use Rattle.cwr_parts.specs.Steps.Joined.{JudgesNext, is_fault_of};
 ghost use Rattle.cwr_parts.specs.Steps.SplitOutputs.{MayPut, blank_end};
 ghost use Rattle.cwr_parts.specs.Format.Splitting.{CountsSplitWriter};
-ghost use Rattle.cwr_select.specs.Steps.Held.{HasRoom, end_with, held_with, items_before, items_with, none_held, with_selected};
-ghost use Rattle.cwr_select.specs.Steps.Selecting.{Finishes, MayFinish, MayTake, WritesItems};
+ghost use Rattle.cwr_select.specs.Steps.Held.{HasRoom, end_with, held_with, none_held, with_selected};
+ghost use Rattle.cwr_select.specs.Steps.Selecting.{Finishes, IsControl, MayFinish, MayTake, TakesItem, WritesItems};
+ghost use Rattle.cwr_select.specs.Steps.Sent.{sent_before, sent_item, sent_with};
 
+use crate::changes::WorkKind;
 use crate::choices::Chooses;
 use crate::held::Held;
 use crate::reports::SelectReport;
+use crate::sent::{sent_control, sent_transaction};
 use cwr_devices::Target;
 use cwr_encode::{EncodeFault, Encoder};
 use cwr_fields::Kind;
@@ -23,6 +26,7 @@ use cwr_lines::Draft;
 use cwr_shape::Limits;
 use cwr_tools::ToolFault;
 use cwr_values::{Item, Transaction};
+use std::alloc::Global;
 
 /// What the fault of an encoder is reported as.
 fn fault_of(fault: EncodeFault) -> ToolFault
@@ -95,16 +99,21 @@ fn put<W: Target>(encoder: &mut Encoder<W>, item: &Item) -> Result<(), ToolFault
     }
 }
 
-/// Writes an item, where there is one.
-fn put_held<W: Target>(encoder: &mut Encoder<W>, held: Option<Item>) -> Result<(), ToolFault>
+/// Writes an item that is none of a transaction as it is sent, where there is one.
+fn put_held<W: Target>(
+    encoder: &mut Encoder<W>,
+    works: Option<WorkKind>,
+    held: Option<Item>,
+) -> Result<(), ToolFault>
     requires unfailed { is_stopped encoder.old ≡ false }
-    requires not_ended { held ≢ Some Item.Ended }
-    requires may { MayPut W.contents (option_to_list held) encoder.old }
-    ensures { WritesItems W.contents W.failures (option_to_list held) result encoder.old
-        encoder.new }
+    requires control { IsControl held }
+    requires may { MayPut W.contents (option_to_list (option_map (sent_item works) held))
+        encoder.old }
+    ensures { WritesItems W.contents W.failures
+        (option_to_list (option_map (sent_item works) held)) result encoder.old encoder.new }
 {
     match held {
-        Some(item) => put(encoder, &item),
+        Some(item) => put(encoder, &sent_control(works, item)),
         None => Ok(()),
     }
 }
@@ -131,47 +140,52 @@ impl<W: Target> Selecting<W> {
         }
     }
 
-    /// Writes a transaction that is selected, after HDR and GRH where these weren't written.
-    fn select(&mut self, transaction: &Item) -> Result<(), ToolFault>
+    /// Writes a transaction that is selected, as it is sent, after HDR and GRH where these weren't written.
+    fn select(&mut self, works: Option<WorkKind>, transaction: &Item) -> Result<(), ToolFault>
         requires unfailed { is_stopped self.old.encoder ≡ false }
-        requires opening { self.old.held.opening ≢ Some Item.Ended }
-        requires head { self.old.held.head ≢ Some Item.Ended }
+        requires opening { IsControl self.old.held.opening }
+        requires head { IsControl self.old.held.head }
         requires not_ended { transaction.now ≢ Item.Ended }
         requires room { HasRoom self.old.held }
-        requires may { MayPut W.contents (items_before self.old.held ++ transaction.now ∷ [])
+        requires may { MayPut W.contents (sent_before works self.old.held ++ transaction.now ∷ [])
             self.old.encoder }
         ensures writes { WritesItems W.contents W.failures
-            (items_before self.old.held ++ transaction.now ∷ []) result self.old.encoder
+            (sent_before works self.old.held ++ transaction.now ∷ []) result self.old.encoder
             self.new.encoder }
         ensures held { OnOk result (self.new.held ≡ with_selected self.old.held) }
     {
-        put_held(&mut self.encoder, self.held.opening.take())?;
-        put_held(&mut self.encoder, self.held.head.take())?;
+        put_held(&mut self.encoder, works, self.held.opening.take())?;
+        put_held(&mut self.encoder, works, self.held.head.take())?;
         put(&mut self.encoder, transaction)?;
         self.held.count_selected();
         Ok(())
     }
 
-    /// Writes a transaction where it is chosen.
+    /// Writes a transaction where it is chosen, as it is sent.
     fn weigh<C: Chooses>(
         &mut self,
+        alloc: Global,
+        works: Option<WorkKind>,
         choice: &C,
         transaction: &Transaction,
         item: &Item,
     ) -> Result<(), ToolFault>
         requires same { item.now ≡ Item.Transaction transaction.now }
-        requires may { MayTake W.contents (C.choice choice.now) item.now self.old }
-        ensures writes { WritesItems W.contents W.failures
-            (items_with (C.choice choice.now) self.old.held item.now) result self.old.encoder
+        requires may { MayTake W.contents works (C.choice choice.now) item.now self.old }
+        ensures writes { TakesItem W.contents W.failures works
+            (sent_with works (C.choice choice.now) self.old.held item.now) result self.old.encoder
             self.new.encoder }
         ensures held { OnOk result
             (self.new.held ≡ held_with (C.choice choice.now) self.old.held item.now) }
     {
-        if choice.chooses(self.held.group, self.held.transactions, transaction) {
-            return self.select(item);
+        if !choice.chooses(self.held.group, self.held.transactions, transaction) {
+            self.held.leave_out();
+            return Ok(());
         }
-        self.held.leave_out();
-        Ok(())
+        match sent_transaction(alloc, works, transaction)? {
+            Some(sent) => self.select(works, &Item::Transaction(sent)),
+            None => self.select(works, item),
+        }
     }
 
     /// Ends a group of which a transaction was selected: with its GRT, or with a blank one where a transaction was left out.
@@ -195,12 +209,14 @@ impl<W: Target> Selecting<W> {
     /// Takes an item of the input, and gives it back where it isn't held.
     pub(crate) fn take<C: Chooses>(
         &mut self,
+        alloc: Global,
+        works: Option<WorkKind>,
         choice: &C,
         item: Item,
     ) -> Result<Option<Item>, ToolFault>
-        requires { MayTake W.contents (C.choice choice.now) item self.old }
-        ensures writes { WritesItems W.contents W.failures
-            (items_with (C.choice choice.now) self.old.held item) result self.old.encoder
+        requires { MayTake W.contents works (C.choice choice.now) item self.old }
+        ensures writes { TakesItem W.contents W.failures works
+            (sent_with works (C.choice choice.now) self.old.held item) result self.old.encoder
             self.new.encoder }
         ensures held { OnOk result
             (self.new.held ≡ held_with (C.choice choice.now) self.old.held item) }
@@ -215,7 +231,7 @@ impl<W: Target> Selecting<W> {
                 Ok(None)
             }
             Item::Transaction(transaction) => {
-                self.weigh(choice, transaction, &item)?;
+                self.weigh(alloc, works, choice, transaction, &item)?;
                 Ok(Some(item))
             }
             Item::GroupClosed(_) => {

@@ -9,13 +9,13 @@ ghost use Rattle.cwr_select.specs.Format.Selecting.{Selects, SelectsAccepted};
 ghost use Rattle.cwr_select.specs.Steps.Held.{none_held};
 ghost use Rattle.cwr_select.specs.Steps.Selecting.{LeavesSelected, SelectsItems};
 
+use crate::changes::Changes;
 use crate::choices::Chooses;
 use crate::headers::created_item;
 use crate::reports::SelectReport;
 use crate::selecting::Selecting;
 use cwr_decode::{ReadFault, Reading};
 use cwr_devices::{Source, Target};
-use cwr_moments::Moment;
 use cwr_shape::Limits;
 use cwr_tools::{Blind, ToolFault, Viewer};
 use std::alloc::Global;
@@ -37,7 +37,7 @@ fn select_items<R: Source, W: Target, C: Chooses, V: Viewer>(
     alloc: Global,
     limits: Limits,
     reader: &mut R,
-    created: Option<Moment>,
+    changes: Changes,
     choice: &C,
     viewer: &mut V,
     selecting: &mut Selecting<W>,
@@ -47,7 +47,7 @@ fn select_items<R: Source, W: Target, C: Chooses, V: Viewer>(
     requires encodes { Encodes W.contents (W.contents (target_of selecting.old.encoder)) []
         selecting.old.encoder }
     requires held { selecting.old.held ≡ none_held }
-    ensures selects { SelectsItems limits created (C.choice choice.now) W.contents W.failures
+    ensures selects { SelectsItems limits changes (C.choice choice.now) W.contents W.failures
         (R.remaining reader.old) (R.remaining reader.new) result selecting.old selecting.new }
     ensures seen { OnOk result
         (SeesText limits V.has_seen (R.remaining reader.old) viewer.old viewer.new) }
@@ -60,7 +60,12 @@ fn select_items<R: Source, W: Target, C: Chooses, V: Viewer>(
         match reading.next_item_after(spent) {
             Ok(Some(item)) => {
                 viewer.see(&item);
-                spent = selecting.take(choice, created_item(created, item))?;
+                spent = selecting.take(
+                    alloc,
+                    changes.works,
+                    choice,
+                    created_item(changes.created, item),
+                )?;
                 handed_out += 1;
             }
             Ok(None) => return Ok(()),
@@ -70,8 +75,9 @@ fn select_items<R: Source, W: Target, C: Chooses, V: Viewer>(
 }
 
 /// Writes the transactions of a transmission that are chosen, as a transmission: its HDR, and each group of which one is chosen, with
-/// its GRH, these transactions in their order, and its GRT, without currency and total where others are left out. Where a moment is given,
-/// that is HDR's creation date and time, and a transmission date before that day is that day. The writer comes back.
+/// its GRH, these transactions in their order, and its GRT, without currency and total where others are left out. With a moment among the
+/// changes that is HDR's creation date and time, and a transmission date before that day is that day. With a kind of works their headers
+/// have it, and the GRH of groups of works its type. The writer comes back.
 ///
 /// It writes the canonical text of that exactly where the input is accepted; then just the input is consumed, and the report says how
 /// many were chosen. Where none is, nothing is written. Else it stops at the first fault: `ToolFault::Refused` or
@@ -79,21 +85,21 @@ fn select_items<R: Source, W: Target, C: Chooses, V: Viewer>(
 /// device failed or memory for a transaction was refused. It never answers `ToolFault::Limit`.
 ///
 /// HDR and GRH are written with the first transaction that is chosen of the transmission and of the group. It holds these, one
-/// transaction and one line, whatever the input.
+/// transaction, where that is sent with another kind a second time, and one line, whatever the input.
 pub fn select<R: Source, W: Target + Drop, C: Chooses>(
     alloc: Global,
     limits: Limits,
     reader: &mut R,
-    created: Option<Moment>,
+    changes: Changes,
     choice: &C,
     writer: W,
 ) -> (W, Result<SelectReport, ToolFault>)
-    ensures selects { Selects limits created (C.choice choice.now) (R.remaining reader.old)
+    ensures selects { Selects limits changes (C.choice choice.now) (R.remaining reader.old)
         (R.remaining reader.new) (W.contents writer) (W.contents result.0) result.1 }
-    ensures accepted { SelectsAccepted limits created (C.choice choice.now) (R.remaining reader.old)
+    ensures accepted { SelectsAccepted limits changes (C.choice choice.now) (R.remaining reader.old)
         (R.remaining reader.new) (W.contents writer) (W.contents result.0) result.1 }
     // Else what is selected of the items before that is written, and no TRL; or the first bytes, so many as a fault of the writer tells.
-    ensures leaves { IfErr result.1 (LeavesSelected limits created (C.choice choice.now)
+    ensures leaves { IfErr result.1 (LeavesSelected limits changes (C.choice choice.now)
         (R.remaining reader.old) (R.remaining reader.new) W.contents writer result.0) }
     // No failure is passed over: a reader or the writer failed only where that is the answer.
     ensures reader_failures { CountsSplitReader result.1 (R.failures reader.old)
@@ -103,7 +109,7 @@ pub fn select<R: Source, W: Target + Drop, C: Chooses>(
     ensures handed_on { IfOk result.1
         (λ report. 0 < report.selected → W.handed_on result.0 ≡ true) }
 {
-    select_viewed(alloc, limits, reader, created, choice, &mut Blind, writer)
+    select_viewed(alloc, limits, reader, changes, choice, &mut Blind, writer)
 }
 
 /// Selects as `select` does. The viewer sees the items of the input while they are read.
@@ -111,16 +117,16 @@ pub fn select_viewed<R: Source, W: Target + Drop, C: Chooses, V: Viewer>(
     alloc: Global,
     limits: Limits,
     reader: &mut R,
-    created: Option<Moment>,
+    changes: Changes,
     choice: &C,
     viewer: &mut V,
     writer: W,
 ) -> (W, Result<SelectReport, ToolFault>)
-    ensures selects { Selects limits created (C.choice choice.now) (R.remaining reader.old)
+    ensures selects { Selects limits changes (C.choice choice.now) (R.remaining reader.old)
         (R.remaining reader.new) (W.contents writer) (W.contents result.0) result.1 }
-    ensures accepted { SelectsAccepted limits created (C.choice choice.now) (R.remaining reader.old)
+    ensures accepted { SelectsAccepted limits changes (C.choice choice.now) (R.remaining reader.old)
         (R.remaining reader.new) (W.contents writer) (W.contents result.0) result.1 }
-    ensures leaves { IfErr result.1 (LeavesSelected limits created (C.choice choice.now)
+    ensures leaves { IfErr result.1 (LeavesSelected limits changes (C.choice choice.now)
         (R.remaining reader.old) (R.remaining reader.new) W.contents writer result.0) }
     ensures reader_failures { CountsSplitReader result.1 (R.failures reader.old)
         (R.failures reader.new) }
@@ -136,7 +142,7 @@ pub fn select_viewed<R: Source, W: Target + Drop, C: Chooses, V: Viewer>(
         alloc,
         limits,
         reader,
-        created,
+        changes,
         choice,
         viewer,
         &mut selecting,

@@ -1,13 +1,14 @@
 -- What is held between two items: HDR and GRH, never TRL, and few counts.
-use Rattle.std.proofs.Common.{◌≡◌, ℕ, ◌+◌, ◌≤◌, Bool, true, false, List, [], ◌∷◌, ◌++◌, length, Some, ap, subst, ◌∙◌}
+use Rattle.std.proofs.Common.{◌≡◌, ℕ, ◌+◌, ◌≤◌, Bool, true, false, List, [], ◌∷◌, ◌++◌, length, ap, subst, ◌∙◌}
 use Rattle.std.proofs.Common.{append-nil, arith}
-use Rattle.std.specs.Prelude.{◌≢◌, if◌then◌else◌}
+use Rattle.std.specs.Prelude.{None, if◌then◌else◌}
 use Rattle.cwr_values.specs.declared.items.Item.{Item}
 use Rattle.cwr_values.specs.declared.items.Item.TheVariants.{Opened, GroupOpened, Transaction, GroupClosed, Ended}
 use Rattle.cwr_select.specs.declared.held.Held.{Held}
 use Rattle.cwr_select.specs.Format.Selections.{Choice}
 use Rattle.cwr_select.specs.Steps.Held.{HasRoom, held_after, held_with, items_after, items_with, none_held, with_left_out}
 use Rattle.cwr_select.specs.Steps.Held.{with_selected}
+use Rattle.cwr_select.specs.Steps.Selecting.{IsControl}
 use Rattle.cwr_select.proofs.lemmas.SelectedItems.{held_after-append, items_after-append}
 
 -- ---- one item more
@@ -24,19 +25,22 @@ held_more choice h given item = held_after-append choice h given (item ∷ [])
 
 -- ---- what is held
 
--- TRL isn't held, and there are at most so many of each
+-- TRL isn't held, and no transaction; and there are at most so many of each
 pub record IsHeld (h : Held) (count : ℕ) : Type 0 where
-  pub opening : h.opening ≢ Some Ended
-  pub head : h.head ≢ Some Ended
+  pub opening : IsControl h.opening
+  pub head : IsControl h.head
   pub groups : h.group ≤ count
   pub transactions : h.transactions ≤ count
   pub selected : h.selected ≤ count
   pub all : h.report.transactions ≤ count
   pub all_selected : h.report.selected ≤ count
 
+none_there : IsControl None
+none_there = record { goes_on = λ e. absurd (cc e); outside = λ t e. absurd (cc e) }
+
 held_item : (choice : Choice) (h : Held) (count : ℕ) (item : Item) → IsHeld h count → IsHeld (held_with choice h item) (count + 1)
 held_item choice h count (Opened r) k = record {
-  opening = λ e. absurd (cc e);
+  opening = record { goes_on = λ e. absurd (cc e); outside = λ t e. absurd (cc e) };
   head = k.head;
   groups = omega (arith, k.groups);
   transactions = omega (arith, k.transactions);
@@ -46,7 +50,7 @@ held_item choice h count (Opened r) k = record {
 }
 held_item choice h count (GroupOpened r) k = record {
   opening = k.opening;
-  head = λ e. absurd (cc e);
+  head = record { goes_on = λ e. absurd (cc e); outside = λ t e. absurd (cc e) };
   groups = omega (arith, k.groups);
   transactions = omega arith;
   selected = omega arith;
@@ -57,8 +61,8 @@ held_item choice h count (Transaction t) k = by (choice h.group h.transactions t
   where
     by : (b : Bool) → IsHeld (if b then with_selected h else with_left_out h) (count + 1)
     by true = record {
-      opening = λ e. absurd (cc e);
-      head = λ e. absurd (cc e);
+      opening = none_there;
+      head = none_there;
       groups = omega (arith, k.groups);
       transactions = omega (arith, k.transactions);
       selected = omega (arith, k.selected);
@@ -102,8 +106,8 @@ held_from choice h count (item ∷ given) k =
 
 nothing_held : IsHeld none_held 0
 nothing_held = record {
-  opening = λ e. absurd (cc e);
-  head = λ e. absurd (cc e);
+  opening = none_there;
+  head = none_there;
   groups = omega arith;
   transactions = omega arith;
   selected = omega arith;

@@ -20,7 +20,8 @@ use Rattle.cwr_parts.proofs.lemmas.PutItems.{Judged, puts_more}
 use Rattle.cwr_parts.proofs.lemmas.OutputAdded.{all_added}
 use Rattle.cwr_select.specs.declared.held.Held.{Held}
 use Rattle.cwr_select.specs.Steps.Held.{end_with}
-use Rattle.cwr_select.specs.Steps.Selecting.{FailsIn, WritesItems}
+use Rattle.cwr_select.specs.declared.changes.WorkKind.{WorkKind}
+use Rattle.cwr_select.specs.Steps.Selecting.{FailsIn, TakesItem, WritesItems}
 
 -- the writer failed in an item; there is no other fault of one
 pub item_failed : (A : Type 0) {W : Type 0} (contents : W → Option (List ℕ)) (failures : W → ℕ) (item : Item)
@@ -117,6 +118,32 @@ same_failed A B contents failures added old new (tool_faults.Refused r) h = absu
 same_failed A B contents failures added old new (tool_faults.Truncated r) h = absurd h
 same_failed A B contents failures added old new tool_faults.Output h = absurd h
 same_failed A B contents failures added old new (tool_faults.Limit l) h = absurd h
+
+-- what is written of an item, and no memory is refused
+pub took : (A : Type 0) {W : Type 0} (contents : W → Option (List ℕ)) (failures : W → ℕ) (works : Option WorkKind)
+    (added : List Item) (old new : Encoder W) (result : Result A ToolFault)
+    → WritesItems contents failures added result old new → TakesItem contents failures works added result old new
+took A contents failures works added old new (Ok x) h = h
+took A contents failures works added old new (Err (tool_faults.Writer n)) h = h
+took A contents failures works added old new (Err tool_faults.Reader) h = h
+took A contents failures works added old new (Err tool_faults.Memory) h = absurd h
+took A contents failures works added old new (Err (tool_faults.Refused r)) h = h
+took A contents failures works added old new (Err (tool_faults.Truncated r)) h = h
+took A contents failures works added old new (Err tool_faults.Output) h = h
+took A contents failures works added old new (Err (tool_faults.Limit l)) h = h
+
+-- an answer of another type has the same fault
+pub took_not : (A B : Type 0) {W : Type 0} (contents : W → Option (List ℕ)) (failures : W → ℕ) (works : Option WorkKind)
+    (added : List Item) (old new : Encoder W) (fault : ToolFault)
+    → TakesItem {A = A} contents failures works added (Err fault) old new
+    → TakesItem {A = B} contents failures works added (Err fault) old new
+took_not A B contents failures works added old new (tool_faults.Writer n) h = h
+took_not A B contents failures works added old new tool_faults.Reader h = h
+took_not A B contents failures works added old new tool_faults.Memory h = h
+took_not A B contents failures works added old new (tool_faults.Refused r) h = h
+took_not A B contents failures works added old new (tool_faults.Truncated r) h = h
+took_not A B contents failures works added old new tool_faults.Output h = h
+took_not A B contents failures works added old new (tool_faults.Limit l) h = h
 
 -- ---- HDR and GRH before a transaction
 

@@ -1,5 +1,5 @@
 -- What a selection leaves written where it stops.
-use Rattle.std.proofs.Common.{◌≡◌, ℕ, List, [], map, Option, false, subst, ◌∙◌, inl, inr, refl}
+use Rattle.std.proofs.Common.{◌≡◌, ℕ, List, [], ◌∷◌, ◌++◌, map, Option, false, subst, ◌∙◌, inl, inr, refl}
 use Rattle.std.specs.Prelude.{Result, Ok, Err, IfErr}
 use Rattle.cwr_lines.specs.Format.Records.{RecordValue}
 use Rattle.cwr_shape.specs.declared.limits.Limits.{Limits}
@@ -18,9 +18,10 @@ use Rattle.cwr_parts.specs.Format.Joins.{WritesPart}
 use Rattle.cwr_parts.proofs.lemmas.ToldItems.{handed_before, memory_before, reader_before, refused_before, truncated_before}
 use Rattle.cwr_select.specs.declared.reports.SelectReport.{SelectReport}
 use Rattle.cwr_select.specs.declared.selecting.Selecting.{Selecting}
-use Rattle.cwr_moments.specs.declared.moments.Moment.{Moment}
+use Rattle.cwr_select.specs.declared.changes.Changes.{Changes}
 use Rattle.cwr_select.specs.Format.Created.{created_at}
-use Rattle.cwr_select.specs.Format.Selections.{Choice, selected_text}
+use Rattle.cwr_select.specs.Format.Selections.{Choice}
+use Rattle.cwr_select.specs.Format.Sent.{sent_text}
 use Rattle.cwr_select.specs.Steps.Selecting.{EndsSelection, Finishes, LeavesSelected, SelectsItems, written_of}
 use Rattle.cwr_select.proofs.lemmas.SelectionsEnded.{selects_all, written_whole}
 
@@ -43,41 +44,52 @@ part_written limits contents records old new same unfailed h = record {
 }
 
 -- in the items of the input
-pub left_in_items : {W : Type 0} (limits : Limits) (created : Option Moment) (choice : Choice) (contents : W → Option (List ℕ))
+pub left_in_items : {W : Type 0} (limits : Limits) (changes : Changes) (choice : Choice) (contents : W → Option (List ℕ))
     (failures : W → ℕ)
     (before after : Option (List ℕ)) (old s : Selecting W) (fault : ToolFault) → encoder_limits old.encoder ≡ limits
     → Encodes contents (contents (target_of old.encoder)) [] old.encoder
-    → SelectsItems limits created choice contents failures before after (Err fault) old s
-    → LeavesSelected limits created choice before after contents (target_of old.encoder) (target_of s.encoder) fault
-left_in_items limits created choice contents failures before after old s tool_faults.Reader same encodes h = record {
+    → SelectsItems limits changes choice contents failures before after (Err fault) old s
+    → LeavesSelected limits changes choice before after contents (target_of old.encoder) (target_of s.encoder) fault
+left_in_items limits changes choice contents failures before after old s tool_faults.Reader same encodes h = record {
   given = h.given;
   before_it = reader_before limits before after h.given h.stops;
   written =
-      part_written limits contents (records_in (written_of created choice h.given)) old.encoder s.encoder (h.on.limits ∙ same)
+      part_written limits contents (records_in (written_of changes choice h.given)) old.encoder s.encoder (h.on.limits ∙ same)
       h.on.unfailed (h.on.more (contents (target_of old.encoder)) [] encodes);
 }
-left_in_items limits created choice contents failures before after old s tool_faults.Memory same encodes h = record {
+left_in_items limits changes choice contents failures before after old s tool_faults.Memory same encodes (inl h) = inl (record {
   given = h.given;
   before_it = memory_before limits before after h.given h.stops;
   written =
-      part_written limits contents (records_in (written_of created choice h.given)) old.encoder s.encoder (h.on.limits ∙ same)
+      part_written limits contents (records_in (written_of changes choice h.given)) old.encoder s.encoder (h.on.limits ∙ same)
       h.on.unfailed (h.on.more (contents (target_of old.encoder)) [] encodes);
-}
-left_in_items limits created choice contents failures before after old s (tool_faults.Refused refusal) same encodes h = record {
+})
+left_in_items limits changes choice contents failures before after old s tool_faults.Memory same encodes (inr h) = inr (
+  h.some,
+  record {
+    given = h.given;
+    item = h.item;
+    before_it = handed_before limits tool_faults.Output before after (h.given ++ h.item ∷ []) h.handed_out (λ text read given k. k);
+    written =
+        part_written limits contents (records_in (written_of changes choice h.given)) old.encoder s.encoder (h.on.limits ∙ same)
+        h.on.unfailed (h.on.more (contents (target_of old.encoder)) [] encodes);
+  },
+)
+left_in_items limits changes choice contents failures before after old s (tool_faults.Refused refusal) same encodes h = record {
   given = h.given;
   before_it = refused_before limits refusal before after h.given h.stops;
   written =
-      part_written limits contents (records_in (written_of created choice h.given)) old.encoder s.encoder (h.on.limits ∙ same)
+      part_written limits contents (records_in (written_of changes choice h.given)) old.encoder s.encoder (h.on.limits ∙ same)
       h.on.unfailed (h.on.more (contents (target_of old.encoder)) [] encodes);
 }
-left_in_items limits created choice contents failures before after old s (tool_faults.Truncated records) same encodes h = record {
+left_in_items limits changes choice contents failures before after old s (tool_faults.Truncated records) same encodes h = record {
   given = h.given;
   before_it = truncated_before limits records before after h.given h.stops;
   written =
-      part_written limits contents (records_in (written_of created choice h.given)) old.encoder s.encoder (h.on.limits ∙ same)
+      part_written limits contents (records_in (written_of changes choice h.given)) old.encoder s.encoder (h.on.limits ∙ same)
       h.on.unfailed (h.on.more (contents (target_of old.encoder)) [] encodes);
 }
-left_in_items limits created choice contents failures before after old s (tool_faults.Writer n) same encodes h =
+left_in_items limits changes choice contents failures before after old s (tool_faults.Writer n) same encodes h =
     let records : List RecordValue = records_in h.fails.begun in
     let now = h.fails.more (contents (target_of old.encoder)) [] encodes in (
       part_of records,
@@ -96,26 +108,26 @@ left_in_items limits created choice contents failures before after old s (tool_f
         has = record { appended = now.written.appended; counted = h.fails.counted ∙ now.written.counted };
       },
     )
-left_in_items limits created choice contents failures before after old s tool_faults.Output same encodes h = absurd h
-left_in_items limits created choice contents failures before after old s (tool_faults.Limit l) same encodes h = absurd h
+left_in_items limits changes choice contents failures before after old s tool_faults.Output same encodes h = absurd h
+left_in_items limits changes choice contents failures before after old s (tool_faults.Limit l) same encodes h = absurd h
 
 -- at the end
-pub left_at_end : {W : Type 0} (limits : Limits) (created : Option Moment) (choice : Choice) (contents : W → Option (List ℕ))
+pub left_at_end : {W : Type 0} (limits : Limits) (changes : Changes) (choice : Choice) (contents : W → Option (List ℕ))
     (failures : W → ℕ)
     (before after : Option (List ℕ)) (old s : Selecting W) (new : W) (result : Result SelectReport ToolFault)
     → encoder_limits old.encoder ≡ limits → Encodes contents (contents (target_of old.encoder)) [] old.encoder
-    → SelectsItems limits created choice contents failures before after (Ok tt) old s → Finishes contents s new result
-    → IfErr result (LeavesSelected limits created choice before after contents (target_of old.encoder) new)
-left_at_end limits created choice contents failures before after old s new result same encodes h f =
-    by result (f (contents (target_of old.encoder)) choice (created_at created h.value)
-    (selects_all limits created choice contents failures before after old s same encodes h))
+    → SelectsItems limits changes choice contents failures before after (Ok tt) old s → Finishes contents s new result
+    → IfErr result (LeavesSelected limits changes choice before after contents (target_of old.encoder) new)
+left_at_end limits changes choice contents failures before after old s new result same encodes h f =
+    by result (f (contents (target_of old.encoder)) changes.works choice (created_at changes.created h.value)
+    (selects_all limits changes choice contents failures before after old s same encodes h))
   where
     by : (r : Result SelectReport ToolFault)
-        → EndsSelection contents (contents (target_of old.encoder)) choice (created_at created h.value) new r
-        → IfErr r (LeavesSelected limits created choice before after contents (target_of old.encoder) new)
+        → EndsSelection contents (contents (target_of old.encoder)) changes.works choice (created_at changes.created h.value) new r
+        → IfErr r (LeavesSelected limits changes choice before after contents (target_of old.encoder) new)
     by (Ok report) e = tt
     by (Err (tool_faults.Writer n)) e =
-        (selected_text choice (created_at created h.value), inr (record { value = h.value; taken = h.taken; text_is = refl }), e)
+        (sent_text changes choice h.value, inr (record { value = h.value; taken = h.taken; text_is = refl }), e)
     by (Err tool_faults.Reader) e = absurd e
     by (Err tool_faults.Memory) e = absurd e
     by (Err (tool_faults.Refused r)) e = absurd e

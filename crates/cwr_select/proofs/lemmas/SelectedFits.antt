@@ -71,13 +71,13 @@ each_group P Q choice n (g ∷ gs) f h = by (has_some (selected_group choice n g
 -- ---- the limits
 
 -- the symbols of transactions, and of groups
-abbrev in_transactions : List (List RecordValue) → ℕ
+abbrev pub in_transactions : List (List RecordValue) → ℕ
 in_transactions ts = length (flat_map (λ t. t) (map (map symbol_of) ts))
 
-abbrev in_groups : List GroupValue → ℕ
+abbrev pub in_groups : List GroupValue → ℕ
 in_groups gs = length (flat_map group_symbols (map outline_of_group gs))
 
-transactions_more : (t : List RecordValue) (ts : List (List RecordValue))
+pub transactions_more : (t : List RecordValue) (ts : List (List RecordValue))
     → in_transactions (t ∷ ts) ≡ length t + in_transactions ts
 transactions_more t ts =
     length-append (map symbol_of t) (flat_map (λ t. t) (map (map symbol_of) ts))
@@ -102,7 +102,7 @@ fewer_transactions test k (t ∷ ts) = by (test k t) refl (fewer_transactions te
         (omega (arith, fewer, transactions_more t ts))
 
 -- GRH and GRT are two
-group_more : (g : GroupValue) (gs : List GroupValue) → in_groups (g ∷ gs) ≡ in_transactions g.transactions + 2 + in_groups gs
+pub group_more : (g : GroupValue) (gs : List GroupValue) → in_groups (g ∷ gs) ≡ in_transactions g.transactions + 2 + in_groups gs
 group_more g gs =
     let ts : List Symbol = flat_map (λ t. t) (map (map symbol_of) g.transactions) in
     let one : length (group_symbols (outline_of_group g)) ≡ length ts + 2 =
@@ -139,7 +139,7 @@ fewer_groups choice n (g ∷ gs) = by (has_some (selected_group choice n g)) ref
     })
 
 -- HDR and TRL are two
-all_symbols : (gs : List GroupValue) → length (symbols_of (map outline_of_group gs)) ≡ in_groups gs + 2
+pub all_symbols : (gs : List GroupValue) → length (symbols_of (map outline_of_group gs)) ≡ in_groups gs + 2
 all_symbols gs = ap suc (length-append (flat_map group_symbols (map outline_of_group gs)) (Plain kinds.Trl ∷ [])) ∙ omega arith
 
 -- each transaction of each group keeps to its limit

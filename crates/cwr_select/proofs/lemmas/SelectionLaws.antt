@@ -1,7 +1,7 @@
 -- Laws over what is selected: just what is chosen, with the rest all, and of what was selected all.
-use Rattle.std.proofs.Common.{◌≡◌, ℕ, ◌+◌, ◌<◌, Bool, true, false, not, cond, List, [], ◌∷◌, ◌++◌, length, map, Some}
+use Rattle.std.proofs.Common.{◌≡◌, ℕ, ◌+◌, ◌<◌, Bool, true, false, not, cond, List, [], ◌∷◌, ◌++◌, length, map, Option, Some, None}
 use Rattle.std.proofs.Common.{refl, sym, ap, ap₂, subst, ◌∙◌, arith, inl, inr, append-nil}
-use Rattle.std.specs.Prelude.{filter, if◌then◌else◌}
+use Rattle.std.specs.Prelude.{filter, option_map, if◌then◌else◌}
 use Rattle.std.specs.List.{AllByRecursion, enumerate_from}
 use Rattle.std.specs.Option.{option_map_or}
 use Rattle.std.proofs.lemmas.Bool.{eq-eqb, lt-ltb}
@@ -14,24 +14,47 @@ use Rattle.cwr_values.specs.Format.Values.{GroupValue, TransmissionValue, FitsIn
 use Rattle.cwr_values.specs.Format.Rows.{canonical_text}
 use Rattle.cwr_judge.specs.Format.Ends.{IsAccepted}
 use Rattle.cwr_judge.proofs.lemmas.Accepted.{canonical_accepted}
+use Rattle.cwr_select.specs.declared.changes.Changes.{Changes}
+use Rattle.cwr_select.specs.Format.Created.{created_at}
+use Rattle.cwr_select.specs.Format.Sent.{sent, sent_as}
 use Rattle.cwr_select.specs.Format.Selections.{Choice, selected, selected_foot, selected_group, selected_groups}
 use Rattle.cwr_select.specs.Format.Selections.{selected_transactions, with_groups}
 use Rattle.cwr_select.specs.Format.Laws.{IsMerge, Placed, others, placed_in, selected_of, transactions_of}
+use Rattle.cwr_select.proofs.lemmas.CreatedItems.{created_fits, created_right}
+use Rattle.cwr_select.proofs.lemmas.SentWorks.{sent_fits, sent_right}
 use Rattle.cwr_select.proofs.lemmas.SelectedFits.{any_group, each_group, selected_fits, some_of}
 use Rattle.cwr_select.proofs.lemmas.SelectedItems.{group_first, group_later, has_some, none_in, selected_first, selected_later}
 
 -- ---- what is selected is accepted
 
-pub selection_accepted : (limits : Limits) (choice : Choice) (v w : TransmissionValue) → IsTransmission v → FitsIn limits v
-    → selected choice v ≡ Some w
+pub selection_accepted : (limits : Limits) (changes : Changes) (choice : Choice) (v w : TransmissionValue) → IsTransmission v
+    → FitsIn limits v → sent changes choice v ≡ Some w
     → IsTransmission w × FitsIn limits w × IsAccepted limits (canonical_text w) w (length (canonical_text w))
-selection_accepted limits choice v w whole fits e =
-    let right = selected_fits limits choice v w whole fits e in (
-      right.0,
-      right.1,
-      subst (λ (text : List ℕ). IsAccepted limits text w (length (canonical_text w))) (append-nil (canonical_text w))
-          (canonical_accepted limits w [] right.0 right.1),
+selection_accepted limits changes choice v w whole fits e = by (selected choice made) refl
+  where
+    made : TransmissionValue
+    made = created_at changes.created v
+
+    accepted : (x : TransmissionValue) → IsTransmission x → FitsIn limits x
+        → IsTransmission x × FitsIn limits x × IsAccepted limits (canonical_text x) x (length (canonical_text x))
+    accepted x right within = (
+      right,
+      within,
+      subst (λ (text : List ℕ). IsAccepted limits text x (length (canonical_text x))) (append-nil (canonical_text x))
+          (canonical_accepted limits x [] right within),
     )
+
+    by : (o : Option TransmissionValue) → selected choice made ≡ o
+        → IsTransmission w × FitsIn limits w × IsAccepted limits (canonical_text w) w (length (canonical_text w))
+    by None none = absurd (cc (sym (ap (option_map (sent_as changes.works)) none) ∙ e))
+    by (Some x) some =
+        let right =
+        selected_fits limits choice made x (created_right changes.created v whole) (created_fits limits changes.created v fits)
+        some in
+        let same : sent_as changes.works x ≡ w = cc (sym (ap (option_map (sent_as changes.works)) some) ∙ e) in
+        subst (λ (y : TransmissionValue). IsTransmission y × FitsIn limits y
+        × IsAccepted limits (canonical_text y) y (length (canonical_text y))) same
+        (accepted (sent_as changes.works x) (sent_right changes.works x right.0) (sent_fits limits changes.works x right.1))
 
 -- ---- just what is chosen
 

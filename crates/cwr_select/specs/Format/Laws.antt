@@ -7,14 +7,17 @@ use Rattle.cwr_shape.specs.declared.limits.Limits.{Limits}
 use Rattle.cwr_values.specs.Format.Values.{GroupValue, TransmissionValue, IsTransmission, FitsIn}
 use Rattle.cwr_values.specs.Format.Rows.{canonical_text}
 use Rattle.cwr_judge.specs.Format.Ends.{IsAccepted}
+use Rattle.cwr_select.specs.declared.changes.Changes.{Changes}
 use Rattle.cwr_select.specs.Format.Selections.{Choice, selected}
+use Rattle.cwr_select.specs.Format.Sent.{sent}
 
 -- ---- what is selected is accepted
 
--- what is selected of a transmission is one, within any limits that the whole is within, and its canonical text is accepted as it
+-- What is selected of a transmission and sent with any changes is one, within any limits that the whole is within, and its canonical text
+-- is accepted as it.
 abbrev pub SelectionIsAccepted : Type 0
-SelectionIsAccepted = (limits : Limits) (choice : Choice) (v w : TransmissionValue) → IsTransmission v → FitsIn limits v
-    → selected choice v ≡ Some w
+SelectionIsAccepted = (limits : Limits) (changes : Changes) (choice : Choice) (v w : TransmissionValue) → IsTransmission v
+    → FitsIn limits v → sent changes choice v ≡ Some w
     → IsTransmission w × FitsIn limits w × IsAccepted limits (canonical_text w) w (length (canonical_text w))
 
 -- ---- the transactions that are selected

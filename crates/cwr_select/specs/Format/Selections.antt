@@ -1,11 +1,9 @@
 -- What is selected of a transmission: some of its transactions, and the groups that have any.
 use Rattle.std.specs.Prelude.{ℕ, ◌==◌, nat_lt, Bool, length, map, filter, sum_by, List, [], ◌∷◌, Option, Some, None, if◌then◌else◌}
 use Rattle.std.specs.List.{enumerate_from}
-use Rattle.std.specs.Option.{option_map_or}
 use Rattle.cwr_fields.specs.declared.kinds.Kind.TheVariants as kinds
 use Rattle.cwr_lines.specs.Format.Records.{RecordValue, blank_record}
 use Rattle.cwr_values.specs.Format.Values.{GroupValue, TransmissionValue}
-use Rattle.cwr_values.specs.Format.Rows.{canonical_text}
 
 -- whether a transaction is selected: by the place of its group, from 1, by its own in the group, from 0, and by its records
 abbrev pub Choice : Type 0
@@ -43,10 +41,6 @@ with_groups opening (g ∷ groups) = Some (record { opening = opening; groups = 
 -- what is selected of a transmission; none where no transaction is
 abbrev pub selected : Choice → TransmissionValue → Option TransmissionValue
 selected choice v = with_groups v.opening (selected_groups choice 1 v.groups)
-
--- its canonical text; where no transaction is selected nothing is written
-abbrev pub selected_text : Choice → TransmissionValue → List ℕ
-selected_text choice v = option_map_or canonical_text (selected choice v) []
 
 -- how many transactions groups have
 abbrev pub transactions_in : List GroupValue → ℕ

@@ -22,7 +22,7 @@ items-init g c =
     (ap g.R.Source.remaining new.kept) in
     record {
       selecting =
-          none_yet c.args.limits c.args.created (g.C.Chooses.choice c.args.choice.now) c.new-reading.result.decoder
+          none_yet c.args.limits c.args.changes (g.C.Chooses.choice c.args.choice.now) c.new-reading.result.decoder
           (g.R.Source.remaining c.args.reader.now) (g.R.Source.remaining c.new-reading.result.reader.now) g.W.Target.contents
           g.W.Target.failures c.args.selecting.now reading c.requires.unfailed c.requires.held;
       seen = sees_none g.V.Viewer.has_seen c.args.viewer.now;
@@ -33,13 +33,13 @@ items-init g c =
 pub take-requires : goal.take-requires
 take-requires g c =
     let reading =
-    next_item c.args.limits c.args.created (g.C.Chooses.choice c.args.choice.now) c.items.reading.decoder
+    next_item c.args.limits c.args.changes (g.C.Chooses.choice c.args.choice.now) c.items.reading.decoder
     c.next_item_after.new.self.decoder
     (g.R.Source.remaining c.args.reader.now) _ _ g.W.Target.contents g.W.Target.failures c.items.handed_out c.args.selecting.now
     c.items.selecting c.in-Ok-Some.field-0 c.in-Ok-Some.item _ _ c.in-Ok-Some.field-0-is c.items.invariant.selecting
     c.in-Ok-Some.ensures.reads c.in-Ok-Some.ensures.again in
-    subst (λ (i : Item). MayTake g.W.Target.contents (g.C.Chooses.choice c.args.choice.now) i c.items.selecting)
-    (sym c.created_item.ensures) (may_take c.args.limits c.args.created (g.C.Chooses.choice c.args.choice.now)
+    subst (λ (i : Item). MayTake g.W.Target.contents c.args.changes.works (g.C.Chooses.choice c.args.choice.now) i c.items.selecting)
+    (sym c.created_item.ensures) (may_take c.args.limits c.args.changes (g.C.Chooses.choice c.args.choice.now)
     c.items.reading.decoder c.next_item_after.new.self.decoder (g.R.Source.remaining c.args.reader.now) _ _ g.W.Target.contents
     g.W.Target.failures c.items.handed_out c.args.selecting.now c.items.selecting c.in-Ok-Some.item c.requires.limits
     c.requires.encodes c.items.invariant.selecting reading)
@@ -47,26 +47,26 @@ take-requires g c =
 pub created_item-requires : goal.created_item-requires
 created_item-requires g c =
     let reading =
-    next_item c.args.limits c.args.created (g.C.Chooses.choice c.args.choice.now) c.items.reading.decoder
+    next_item c.args.limits c.args.changes (g.C.Chooses.choice c.args.choice.now) c.items.reading.decoder
     c.next_item_after.new.self.decoder
     (g.R.Source.remaining c.args.reader.now) _ _ g.W.Target.contents g.W.Target.failures c.items.handed_out c.args.selecting.now
     c.items.selecting c.in-Ok-Some.field-0 c.in-Ok-Some.item _ _ c.in-Ok-Some.field-0-is c.items.invariant.selecting
     c.in-Ok-Some.ensures.reads c.in-Ok-Some.ensures.again in
-    opens_so c.args.limits c.args.created (g.C.Chooses.choice c.args.choice.now) c.items.reading.decoder
+    opens_so c.args.limits c.args.changes (g.C.Chooses.choice c.args.choice.now) c.items.reading.decoder
     c.next_item_after.new.self.decoder (g.R.Source.remaining c.args.reader.now) _ _ g.W.Target.contents g.W.Target.failures
     c.items.handed_out c.args.selecting.now c.items.selecting c.in-Ok-Some.item c.items.invariant.selecting reading
 
 pub overflow_add-handed_out : goal.overflow_add-handed_out
 overflow_add-handed_out g c =
     let reading =
-    next_item c.args.limits c.args.created (g.C.Chooses.choice c.args.choice.now) c.items.reading.decoder
+    next_item c.args.limits c.args.changes (g.C.Chooses.choice c.args.choice.now) c.items.reading.decoder
     c.next_item_after.new.self.decoder
     (g.R.Source.remaining c.args.reader.now) _ _ g.W.Target.contents g.W.Target.failures c.items.handed_out c.args.selecting.now
     c.items.selecting c.in-Ok-Some.field-0 c.in-Ok-Some.item _ _ c.in-Ok-Some.field-0-is c.items.invariant.selecting
     c.in-Ok-Some.ensures.reads c.in-Ok-Some.ensures.again in
     omega (
       arith,
-      few_handed_out c.args.limits c.args.created (g.C.Chooses.choice c.args.choice.now) c.items.reading.decoder
+      few_handed_out c.args.limits c.args.changes (g.C.Chooses.choice c.args.choice.now) c.items.reading.decoder
           c.next_item_after.new.self.decoder (g.R.Source.remaining c.args.reader.now) _ _ g.W.Target.contents
           g.W.Target.failures c.items.handed_out c.args.selecting.now c.items.selecting c.in-Ok-Some.item
           c.items.invariant.selecting reading,
@@ -75,14 +75,14 @@ overflow_add-handed_out g c =
 pub items-smaller : goal.items-smaller
 items-smaller g c =
     let reading =
-    next_item c.args.limits c.args.created (g.C.Chooses.choice c.args.choice.now) c.items.reading.decoder
+    next_item c.args.limits c.args.changes (g.C.Chooses.choice c.args.choice.now) c.items.reading.decoder
     c.next_item_after.new.self.decoder
     (g.R.Source.remaining c.args.reader.now) _ _ g.W.Target.contents g.W.Target.failures c.items.handed_out c.args.selecting.now
     c.items.selecting c.in-Ok-Some.field-0 c.in-Ok-Some.item _ _ c.in-Ok-Some.field-0-is c.items.invariant.selecting
     c.in-Ok-Some.ensures.reads c.in-Ok-Some.ensures.again in
     omega (
       arith,
-      few_handed_out c.args.limits c.args.created (g.C.Chooses.choice c.args.choice.now) c.items.reading.decoder
+      few_handed_out c.args.limits c.args.changes (g.C.Chooses.choice c.args.choice.now) c.items.reading.decoder
           c.next_item_after.new.self.decoder (g.R.Source.remaining c.args.reader.now) _ _ g.W.Target.contents
           g.W.Target.failures c.items.handed_out c.args.selecting.now c.items.selecting c.in-Ok-Some.item
           c.items.invariant.selecting reading,
@@ -92,14 +92,14 @@ pub items-preserved : goal.items-preserved
 unfolding item_taken
 items-preserved g c =
     let reading =
-    next_item c.args.limits c.args.created (g.C.Chooses.choice c.args.choice.now) c.items.reading.decoder
+    next_item c.args.limits c.args.changes (g.C.Chooses.choice c.args.choice.now) c.items.reading.decoder
     c.next_item_after.new.self.decoder
     (g.R.Source.remaining c.args.reader.now) _ _ g.W.Target.contents g.W.Target.failures c.items.handed_out c.args.selecting.now
     c.items.selecting c.in-Ok-Some.field-0 c.in-Ok-Some.item _ _ c.in-Ok-Some.field-0-is c.items.invariant.selecting
     c.in-Ok-Some.ensures.reads c.in-Ok-Some.ensures.again in
     record {
       selecting =
-          item_taken c.args.limits c.args.created (g.C.Chooses.choice c.args.choice.now) c.items.reading.decoder
+          item_taken c.args.limits c.args.changes (g.C.Chooses.choice c.args.choice.now) c.items.reading.decoder
           c.next_item_after.new.self.decoder (g.R.Source.remaining c.args.reader.now) _ _ g.W.Target.contents
           g.W.Target.failures c.items.handed_out c.args.selecting.now c.items.selecting c.take.new.self c.in-Ok-Some.item
           c.created_item.result c.in_ok-spent-in-Ok-Some.spent c.created_item.ensures c.items.invariant.selecting reading
@@ -115,20 +115,20 @@ items-preserved g c =
 pub returns-in_err-spent-in-Ok-Some-clause-selects : goal.returns-in_err-spent-in-Ok-Some-clause-selects
 returns-in_err-spent-in-Ok-Some-clause-selects g c =
     let reading =
-    next_item c.args.limits c.args.created (g.C.Chooses.choice c.args.choice.now) c.items.reading.decoder
+    next_item c.args.limits c.args.changes (g.C.Chooses.choice c.args.choice.now) c.items.reading.decoder
     c.next_item_after.new.self.decoder
     (g.R.Source.remaining c.args.reader.now) _ _ g.W.Target.contents g.W.Target.failures c.items.handed_out c.args.selecting.now
     c.items.selecting c.in-Ok-Some.field-0 c.in-Ok-Some.item _ _ c.in-Ok-Some.field-0-is c.items.invariant.selecting
     c.in-Ok-Some.ensures.reads c.in-Ok-Some.ensures.again in
-    let faulty : SelectsItems c.args.limits c.args.created (g.C.Chooses.choice c.args.choice.now) g.W.Target.contents
+    let faulty : SelectsItems c.args.limits c.args.changes (g.C.Chooses.choice c.args.choice.now) g.W.Target.contents
     g.W.Target.failures
     (g.R.Source.remaining c.args.reader.now) (g.R.Source.remaining c.next_item_after.new.self.reader.now)
     c.from_residual.result c.args.selecting.now c.take.new.self
-    = subst (λ (r : Result (Unit {0}) ToolFault). SelectsItems c.args.limits c.args.created (g.C.Chooses.choice c.args.choice.now)
+    = subst (λ (r : Result (Unit {0}) ToolFault). SelectsItems c.args.limits c.args.changes (g.C.Chooses.choice c.args.choice.now)
     g.W.Target.contents g.W.Target.failures (g.R.Source.remaining c.args.reader.now)
     (g.R.Source.remaining c.next_item_after.new.self.reader.now) r c.args.selecting.now c.take.new.self)
     (sym (same_fault c.from_residual.result c.in_err-spent-in-Ok-Some.field-0.0 c.from_residual.ensures.1))
-    (item_refused (Option Item) c.args.limits c.args.created (g.C.Chooses.choice c.args.choice.now) c.items.reading.decoder
+    (item_refused (Option Item) c.args.limits c.args.changes (g.C.Chooses.choice c.args.choice.now) c.items.reading.decoder
     c.next_item_after.new.self.decoder (g.R.Source.remaining c.args.reader.now) _ _ g.W.Target.contents g.W.Target.failures
     c.items.handed_out c.args.selecting.now c.items.selecting c.take.new.self c.in-Ok-Some.item
     c.created_item.result c.in_err-spent-in-Ok-Some.field-0.0 c.created_item.ensures c.items.invariant.selecting reading
@@ -142,11 +142,11 @@ returns-in-Ok-None-clause-selects g c =
     = none_read c.args.limits c.items.reading.decoder c.next_item_after.new.self.decoder (g.R.Source.remaining c.args.reader.now)
     _ _ c.items.invariant.selecting.given c.in-Ok-None.field-0 _ c.in-Ok-None.field-0-is
     c.items.invariant.selecting.reading c.in-Ok-None.ensures.reads c.in-Ok-None.ensures.again (λ e. ap g.R.Source.remaining e) in
-    let good : SelectsItems c.args.limits c.args.created (g.C.Chooses.choice c.args.choice.now) g.W.Target.contents
+    let good : SelectsItems c.args.limits c.args.changes (g.C.Chooses.choice c.args.choice.now) g.W.Target.contents
     g.W.Target.failures
     (g.R.Source.remaining c.args.reader.now) (g.R.Source.remaining c.next_item_after.new.self.reader.now) (Ok tt)
     c.args.selecting.now c.items.selecting
-    = all_selected c.args.limits c.args.created (g.C.Chooses.choice c.args.choice.now) c.items.reading.decoder
+    = all_selected c.args.limits c.args.changes (g.C.Chooses.choice c.args.choice.now) c.items.reading.decoder
     (g.R.Source.remaining c.args.reader.now) _ _ g.W.Target.contents g.W.Target.failures c.items.handed_out
     c.args.selecting.now c.items.selecting tt c.items.invariant.selecting all in
     search rules
@@ -169,15 +169,15 @@ returns-in-Err-clause-selects g c =
     (g.R.Source.remaining c.args.reader.now)
     _ _ c.items.invariant.selecting.given c.in-Err.fault _ _ c.items.invariant.selecting.reading c.in-Err.ensures.reads
     c.in-Err.ensures.again in
-    let stopped : SelectsItems c.args.limits c.args.created (g.C.Chooses.choice c.args.choice.now) g.W.Target.contents
+    let stopped : SelectsItems c.args.limits c.args.changes (g.C.Chooses.choice c.args.choice.now) g.W.Target.contents
     g.W.Target.failures
     (g.R.Source.remaining c.args.reader.now) (g.R.Source.remaining c.next_item_after.new.self.reader.now)
     (Err c.reading_fault.result) c.args.selecting.now c.items.selecting
     = subst
-    (λ (f : ToolFault). SelectsItems c.args.limits c.args.created (g.C.Chooses.choice c.args.choice.now) g.W.Target.contents
+    (λ (f : ToolFault). SelectsItems c.args.limits c.args.changes (g.C.Chooses.choice c.args.choice.now) g.W.Target.contents
     g.W.Target.failures (g.R.Source.remaining c.args.reader.now) (g.R.Source.remaining c.next_item_after.new.self.reader.now)
     (Err f) c.args.selecting.now c.items.selecting)
-    (sym c.reading_fault.ensures) (reading_stopped c.args.limits c.args.created (g.C.Chooses.choice c.args.choice.now)
+    (sym c.reading_fault.ensures) (reading_stopped c.args.limits c.args.changes (g.C.Chooses.choice c.args.choice.now)
     c.items.reading.decoder (g.R.Source.remaining c.args.reader.now) _ _ g.W.Target.contents g.W.Target.failures
     c.items.handed_out c.args.selecting.now c.items.selecting c.in-Err.fault c.items.invariant.selecting stop) in
     search rules

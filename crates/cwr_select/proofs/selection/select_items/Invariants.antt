@@ -5,7 +5,7 @@ use Rattle.cwr_select.proofs.selection.select_items.Given as goal
 
 abbrev pub invariant-items : goal.invariant-items
 invariant-items g l = record {
-  selecting : IsSelecting l.fn.limits l.created (g.C.Chooses.choice l.choice) l.reading.decoder (g.R.Source.remaining l.fn.reader)
+  selecting : IsSelecting l.fn.limits l.changes (g.C.Chooses.choice l.choice) l.reading.decoder (g.R.Source.remaining l.fn.reader)
       (g.R.Source.remaining l.reading.reader.now) g.W.Target.contents g.W.Target.failures l.handed_out l.fn.selecting l.selecting;
   seen : SeesItems g.V.Viewer.has_seen l.fn.viewer l.viewer selecting.given;
   failures : g.R.Source.failures l.reading.reader.now ≡ g.R.Source.failures l.fn.reader;

@@ -7,7 +7,7 @@ use Rattle.cwr_encode.specs.Format.Encoders.{IsUnlimited}
 use Rattle.cwr_encode.specs.Steps.Encoders.{encoder_limits}
 use Rattle.cwr_encode.specs.Format.Finishing.{JudgesEnd}
 use Rattle.cwr_encode.specs.Steps.Finishing.{FinishesWriting}
-use Rattle.cwr_select.specs.Steps.Held.{items_after, none_held}
+use Rattle.cwr_select.specs.Steps.Sent.{sent_after}
 use Rattle.cwr_select.specs.Steps.Selecting.{Finishes}
 use Rattle.cwr_select.proofs.lemmas.SelectionsEnded.{ends_empty, ends_short, ends_whole, right_last}
 use Rattle.cwr_select.proofs.selecting.Selecting.finish.Goals as goal
@@ -30,9 +30,9 @@ fault_of-requires g c =
     let may = c.requires.may in
     right_last g.W.Target.contents c.args.self (Err c.in-Err.fault) may some
     (subst (λ (r : Result ℕ EncodeFault). JudgesEnd (encoder_limits c.args.self.encoder)
-    (map symbol_of (records_in (items_after may.choice none_held (value_items may.value)))) r) c.in-Err.is
+    (map symbol_of (records_in (sent_after may.works may.choice (value_items may.value)))) r) c.in-Err.is
     (c.finish-writer.ensures.judged c.requires.unfailed may.start
-    (records_in (items_after may.choice none_held (value_items may.value))) may.all.encodes))
+    (records_in (sent_after may.works may.choice (value_items may.value))) may.all.encodes))
 
 pub returns-clause-ends : goal.returns-clause-ends
 returns-clause-ends g c =
