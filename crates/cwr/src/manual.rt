@@ -407,7 +407,7 @@ COMMANDS
        An acknowledgement names the creation date and time of what it answers.
        So a file asks for `--created` or `--same-created`. A rejected NWR is
        sent again as NWR, mostly, and a REV is for a work that the society
-       has: no type is changed.
+       has: no type is changed without `--as`.
 
        Where nothing is selected, or FILE is refused, OUT isn't written, and
        the status is 1. It is 1 too where something of a list is missing: then
@@ -466,6 +466,12 @@ COMMANDS
 
        --same-created
               The result keeps FILE's creation date and time.
+
+       --as KIND
+              What works are sent as: with NWR each REV becomes NWR, its GRH's
+              type too, and with REV each NWR becomes REV. Groups stay apart.
+              AGR and ACK stay, and so does a header in the copy of an
+              acknowledgement. `--kind` and `--state` speak of FILE as it is.
 
        --new  Replaces no file: where OUT is there, nothing is written, and
               the status is 2.
@@ -901,6 +907,17 @@ EXAMPLES
 
            $ cwr select --state rejected,conflict --answers acks_2_991.cwr --created 20260302T090000 sent_january.cwr -o rejected.cwr
            SELECTED 2 of 6
+
+       A new work that the society has is sent again as a revised one:
+
+           $ echo W0001 > number; cwr select --works number --as REV --created 20260303T090000 works.cwr -o revised.cwr; cut -c 1-6 revised.cwr
+           SELECTED 1 of 3
+           HDRPB1
+           GRHREV
+           REV000
+           SWR000
+           GRT000
+           TRL000
 
        Parts of one work each, and the whole again:
 

@@ -18,7 +18,7 @@ ghost use Rattle.cwr_renumber.specs.Steps.Renumbered.{renumbered_text};
 ghost use Rattle.cwr_reports.specs.Format.Endings.{EndsOnRead, advice_asked, advice_in};
 ghost use Rattle.cwr_reports.specs.Format.Exports.{IsExportAt, is_data};
 ghost use Rattle.cwr.specs.Format.Selected.{AreAnsweredBy};
-ghost use Rattle.cwr.specs.Format.Tables.{encoding_of, form_of, kinds_by, selection_of, table_of};
+ghost use Rattle.cwr.specs.Format.Tables.{encoding_of, form_of, kinds_by, selection_of, table_of, work_kind_of};
 ghost use Rattle.cwr_reports.specs.Steps.Looks.{tells_findings};
 ghost use Rattle.cwr_reports.specs.Steps.Marked.{CountsOutput};
 
@@ -36,7 +36,7 @@ use cwr_files::{
 };
 use cwr_json::Encoding;
 use cwr_reports::{Asked, Telling, export, report_input, report_several, telling_of};
-use cwr_select::{ByKind, ByPlace, Listed};
+use cwr_select::{ByKind, ByPlace, Changes, Listed, WorkKind};
 use cwr_shape::Level;
 use cwr_tables::Table;
 use cwr_terminal::{Style, Styled};
@@ -46,7 +46,8 @@ use cwr_transform::{
 };
 use cwr_words::{
     AcksWords, AdviseWords, CsvWords, JoinWords, JsonWords, Judging, Kinds, LintWords,
-    RenumberWords, Rows, SelectWords, ShowWords, SplitWords, Task, Work, WriteWords, task_of,
+    RenumberWords, Rows, SelectWords, SentAs, ShowWords, SplitWords, Task, Work, WriteWords,
+    task_of,
 };
 use std::alloc::Global;
 use std::cell::Cell;
@@ -405,6 +406,17 @@ fn kinds_by(kinds: Option<Kinds>) -> Option<ByKind>
     }
 }
 
+/// The kind of works that they are sent as.
+fn works_by(works: Option<SentAs>) -> Option<WorkKind>
+    ensures { result ≡ option_map work_kind_of works }
+{
+    match works {
+        Some(SentAs::NewWorks) => Some(WorkKind::NewWork),
+        Some(SentAs::RevisedWorks) => Some(WorkKind::RevisedWork),
+        None => None,
+    }
+}
+
 /// How the words ask for transactions.
 fn selection_by<'a>(task: &Task<'a>, words: &SelectWords<'a>) -> Selection<'a>
     ensures { result ≡ selection_of task.now.limits task.now.whole words.now }
@@ -420,7 +432,10 @@ fn selection_by<'a>(task: &Task<'a>, words: &SelectWords<'a>) -> Selection<'a>
         kinds: kinds_by(words.kinds),
         party: words.party,
         others: words.others,
-        created: words.created,
+        changes: Changes {
+            created: words.created,
+            works: works_by(words.sent_as),
+        },
     }
 }
 

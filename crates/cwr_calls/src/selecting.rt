@@ -6,7 +6,7 @@ ghost use Rattle.cwr_calls.specs.Steps.Selecting.{SelectsText};
 
 use crate::verdicts::{CwrVerdict, ended, in_c};
 use cwr_devices::{Counted, InMemory};
-use cwr_select::{ByPlace, Listed, SelectReport, select};
+use cwr_select::{ByPlace, Changes, Listed, SelectReport, select};
 use cwr_shape::Limits;
 use cwr_tools::{ToolFault, Verdict};
 use std::alloc::{AllocError, Global};
@@ -43,7 +43,18 @@ pub(crate) fn select_text(
 {
     let mut reader = InMemory::new(text);
     let writer = Counted::new(Vec::new(alloc));
-    let (writer, outcome) = select(alloc, limits, &mut reader, None, &ByPlace(places), writer);
+    let unchanged = Changes {
+        created: None,
+        works: None,
+    };
+    let (writer, outcome) = select(
+        alloc,
+        limits,
+        &mut reader,
+        unchanged,
+        &ByPlace(places),
+        writer,
+    );
     (writer.into_inner(), outcome)
 }
 

@@ -82,6 +82,12 @@ pub const PARTY: &str = "party";
 /// The id of the flag that selects all others.
 pub const OTHERS: &str = "not";
 
+/// The id of what works are sent as.
+pub const SENT_AS: &str = "as";
+
+/// What they may be sent as: new or revised ones, by the letters of their headers.
+const WORK_KINDS: [&str; 2] = ["NWR", "REV"];
+
 /// The id of the flag by which what is selected keeps its moment.
 pub const SAME_CREATED: &str = "same-created";
 
@@ -199,6 +205,8 @@ enum Form {
     },
     /// `--ID LEVEL`, one of the levels.
     Level,
+    /// `--ID KIND`, one of the kinds of works.
+    WorkKind,
     /// `--ID NAME`, where NAME is this, any number of times.
     Names(&'static str),
     /// The same, only beside the option of that id.
@@ -645,7 +653,7 @@ const RENUMBERED: [Word; 6] = [
 ];
 
 /// The words of a selection.
-const SELECTED: [Word; 14] = [
+const SELECTED: [Word; 15] = [
     Word {
         id: LISTED,
         form: Form::Named("LIST"),
@@ -702,6 +710,11 @@ const SELECTED: [Word; 14] = [
         id: SAME_CREATED,
         form: Form::Flag,
         help: "The result keeps the transmission's creation date and time",
+    },
+    Word {
+        id: SENT_AS,
+        form: Form::WorkKind,
+        help: "What works are sent as: their headers, and the types of their groups",
     },
     KEEPS,
     FAILS,
@@ -919,6 +932,7 @@ fn formed<'a>(alloc: Global, id: &'static str, form: Form) -> Arg<'a>
             default,
         } => limit(alloc, id, least, most, default),
         Form::Level => option(alloc, id, "LEVEL"),
+        Form::WorkKind => option(alloc, id, "KIND"),
         Form::StatusesWithout(_) => options(alloc, id, "STATUS"),
         Form::Names(name) | Form::NamesBeside { name, .. } => options(alloc, id, name),
         Form::NameBeside { name, .. } | Form::Named(name) => option(alloc, id, name),
@@ -948,6 +962,7 @@ fn named<'a>(arg: Arg<'a>, form: Form) -> Arg<'a>
 {
     match form {
         Form::Level => arg.value_parser(&LEVELS[..]),
+        Form::WorkKind => arg.value_parser(&WORK_KINDS[..]),
         Form::StatusesWithout(_) => arg.value_delimiter(',').value_parser(&STATUSES[..]),
         Form::OneOf(words) => arg.value_parser(words),
         Form::Coloring => arg.value_parser(&COLORINGS[..]),

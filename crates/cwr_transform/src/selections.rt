@@ -29,10 +29,10 @@ use cwr_files::{
     DASH, Fault, Input, Name, Pace, Store, Told, create_output, end_input, gathered, open_input,
     take_back,
 };
-use cwr_moments::Moment;
 use cwr_parts::input_line;
 use cwr_select::{
-    Both, ByKind, ByNumber, ByParty, ByPlace, Chooses, Listed, SelectReport, Turned, select_viewed,
+    Both, ByKind, ByNumber, ByParty, ByPlace, Changes, Chooses, Listed, SelectReport, Turned,
+    select_viewed,
 };
 use cwr_shape::Limits;
 use cwr_tools::ToolFault;
@@ -61,8 +61,8 @@ pub struct Selection<'a> {
     pub party: Option<&'a str>,
     /// All others are selected in place of those that are chosen by all of these.
     pub others: bool,
-    /// When what is selected is created. Without it that is when the transmission was.
-    pub created: Option<Moment>,
+    /// What is changed of what is selected: when that is created, and what its works are sent as.
+    pub changes: Changes,
 }
 
 /// A list that was read.
@@ -348,7 +348,7 @@ fn run<'a, S: Store, I: Read + Drop, P: Pace + Drop, W: Target + Drop, C: Choose
     writer: W,
     error: &mut E,
 ) -> (Selected<'a>, W)
-    ensures judges { JudgesSelection selection.now.limits selection.now.created (C.choice choice.now)
+    ensures judges { JudgesSelection selection.now.limits selection.now.changes (C.choice choice.now)
         (remaining_of S.Reader.remaining I.remaining input.entry) W.contents writer result.1 result.0 }
     ensures failures { CountsSplitWriter result.0.outcome (W.failures writer) (W.failures result.1) }
     ensures reads { CountsSelecting result.0.outcome result.0.look (S.failures store.old) (S.failures store.new) }
@@ -360,7 +360,7 @@ fn run<'a, S: Store, I: Read + Drop, P: Pace + Drop, W: Target + Drop, C: Choose
         alloc,
         selection.limits,
         &mut reader,
-        selection.created,
+        selection.changes,
         choice,
         &mut *view,
         writer,
@@ -474,7 +474,7 @@ fn write_selected<'a, S: Store, I: Read + Drop, P: Pace + Drop, C: Chooses, E: W
         (remaining_of S.Reader.remaining I.remaining input.entry) file.selected) }
     ensures files { S.making store.old ≡ None → Turns (S.held store.old) (S.held store.new)
         (LeavesSelected selection.now.wanted out.now (S.failures store.old) (S.failures store.new)
-        (IsSelectionFrom selection.now.limits selection.now.wanted.whole selection.now.created (C.choice choice.now)
+        (IsSelectionFrom selection.now.limits selection.now.wanted.whole selection.now.changes (C.choice choice.now)
         (remaining_of S.Reader.remaining I.remaining input.entry)) result) }
 {
     let name = Name::File(out);
@@ -553,11 +553,11 @@ fn select_to_file<'a, S: Store, I: Read + Drop, P: Pace + Drop, W: Target, C: Ch
     lines: W,
     error: &mut E,
 ) -> (W, Result<Status, Stop<'a>>)
-    ensures ends { EndsAsSelection selection.now.limits selection.now.wanted.whole selection.now.created (C.choice choice.now)
+    ensures ends { EndsAsSelection selection.now.limits selection.now.wanted.whole selection.now.changes (C.choice choice.now)
         (remaining_of S.Reader.remaining I.remaining input.entry) result.1 }
     ensures files { S.making store.old ≡ None → Turns (S.held store.old) (S.held store.new)
         (WritesSelection out.now (S.failures store.old) (S.failures store.new)
-        (IsSelectionFrom selection.now.limits selection.now.wanted.whole selection.now.created (C.choice choice.now)
+        (IsSelectionFrom selection.now.limits selection.now.wanted.whole selection.now.changes (C.choice choice.now)
         (remaining_of S.Reader.remaining I.remaining input.entry)) result.1) }
 {
     let inputs = inputs_of(selection);
@@ -612,7 +612,7 @@ fn select_to_output<
     output: W,
     error: &mut E,
 ) -> (W, Result<Status, Stop<'a>>)
-    ensures ends { EndsAsSelection selection.now.limits selection.now.wanted.whole selection.now.created (C.choice choice.now)
+    ensures ends { EndsAsSelection selection.now.limits selection.now.wanted.whole selection.now.changes (C.choice choice.now)
         (remaining_of S.Reader.remaining I.remaining input.entry) result.1 }
     ensures kept { S.held store.new ≡ S.held store.old }
 {
@@ -650,16 +650,22 @@ fn select_by<'a, S: Store, I: Read + Drop, P: Pace + Drop, W: Target + Drop, C: 
     output: W,
     error: &mut E,
 ) -> (W, Result<Status, Stop<'a>>)
-    ensures ends { EndsAsSelection selection.now.limits selection.now.wanted.whole selection.now.created (C.choice choice.now)
+    ensures ends { EndsAsSelection selection.now.limits selection.now.wanted.whole selection.now.changes (C.choice choice.now)
         (remaining_of S.Reader.remaining I.remaining input.entry) result.1 }
     ensures files { S.making store.old ≡ None → Turns (S.held store.old) (S.held store.new)
         (LeavesSelection (option_map (λ name. name.now) selection.now.out) (S.failures store.old) (S.failures store.new)
-        (IsSelectionFrom selection.now.limits selection.now.wanted.whole selection.now.created (C.choice choice.now)
+        (IsSelectionFrom selection.now.limits selection.now.wanted.whole selection.now.changes (C.choice choice.now)
         (remaining_of S.Reader.remaining I.remaining input.entry)) result.1) }
 {
     match selection.out {
         Some(out) => {
-            let mut view = SelectView::new(alloc, choice, selection.created, numbers, places);
+            let mut view = SelectView::new(
+                alloc,
+                choice,
+                selection.changes.created,
+                numbers,
+                places,
+            );
             select_to_file(
                 store, alloc, selection, lists, choice, &mut view, input, out, output, error,
             )
@@ -685,13 +691,13 @@ fn select_input<'a, S: Store, I: Read + Drop, P: Pace + Drop, W: Target + Drop, 
     output: W,
     error: &mut E,
 ) -> (W, Result<Status, Stop<'a>>)
-    ensures ends { EndsAsSelection selection.now.limits selection.now.wanted.whole selection.now.created
+    ensures ends { EndsAsSelection selection.now.limits selection.now.wanted.whole selection.now.changes
         (asked_choice selection.now.others (option_map (λ list. list.values) lists.now.works)
         (option_map (λ list. list.values) lists.now.places) (option_map (λ by. by.0.now) answered.entry) selection.now.kinds party.entry)
         (remaining_of S.Reader.remaining I.remaining input.entry) result.1 }
     ensures files { S.making store.old ≡ None → Turns (S.held store.old) (S.held store.new)
         (LeavesSelection (option_map (λ name. name.now) selection.now.out) (S.failures store.old) (S.failures store.new)
-        (IsSelectionFrom selection.now.limits selection.now.wanted.whole selection.now.created
+        (IsSelectionFrom selection.now.limits selection.now.wanted.whole selection.now.changes
         (asked_choice selection.now.others (option_map (λ list. list.values) lists.now.works)
         (option_map (λ list. list.values) lists.now.places) (option_map (λ by. by.0.now) answered.entry) selection.now.kinds party.entry)
         (remaining_of S.Reader.remaining I.remaining input.entry)) result.1) }

@@ -10,7 +10,7 @@ ghost use Rattle.cwr_shape.specs.Format.Ranges.{limit_values};
 ghost use Rattle.cwr_moments.specs.Format.Moments.{moment_text};
 ghost use Rattle.cwr_grammar.specs.Format.CommandLine.{grammar};
 ghost use Rattle.cwr_words.specs.Format.Words.{AskFor, Asks, IsAnswer, IsLevelOf, IsPlainCheck, IsProgressOf, IsRenumberingOf, IsShowOf, IsSplitOf, IsTableOf, IsTaskOf};
-ghost use Rattle.cwr_words.specs.Format.Words.{AreBeside, AreLimitsOf, AreNamesOf, AreNamesOfJoin, AreStatusesOf, AreValuesOf, IsAcksOf, IsAdviceOf, IsCreatedBy, IsExportOf, IsImportOf, IsLintOf, IsJoinOf, IsJoinOfNames, IsJudgingOf, IsNumber, IsAnsweredBy, IsSelectionOf, IsWorkOf, are_answers_whole, asks_for_some, colouring_given, colouring_named, is_dated, is_file_named, is_given, is_party, kinds_given, kinds_in, level_given, level_named, named_out, party_given, rows_named, states_given, with_kind, written_in, written_once};
+ghost use Rattle.cwr_words.specs.Format.Words.{AreBeside, AreLimitsOf, AreNamesOf, AreNamesOfJoin, AreStatusesOf, AreValuesOf, IsAcksOf, IsAdviceOf, IsCreatedBy, IsExportOf, IsImportOf, IsLintOf, IsJoinOf, IsJoinOfNames, IsJudgingOf, IsNumber, IsAnsweredBy, IsSelectionOf, IsWorkOf, are_answers_whole, asks_for_some, colouring_given, colouring_named, is_dated, is_file_named, is_given, is_party, kinds_given, kinds_in, level_given, level_named, named_out, party_given, rows_named, states_given, with_kind, works_given, works_named, written_in, written_once};
 ghost use Rattle.cwr_words.specs.Steps.Matches.{given_by};
 
 use clap::error::ErrorKind;
@@ -201,6 +201,15 @@ pub struct Kinds {
     pub acknowledgements: bool,
 }
 
+/// What works are sent as.
+#[derive(Clone, Copy, Debug, PartialEq, Eq)]
+pub enum SentAs {
+    /// New works, NWR.
+    NewWorks,
+    /// Revised works, REV.
+    RevisedWorks,
+}
+
 /// The acknowledgements by which transactions are selected.
 #[derive(Debug, PartialEq, Eq, Drop)]
 pub struct AnsweredWords<'a> {
@@ -237,6 +246,8 @@ pub struct SelectWords<'a> {
     pub others: bool,
     /// When the result is created; without it when the transmission was.
     pub created: Option<Moment>,
+    /// What works are sent as; without it what they are.
+    pub sent_as: Option<SentAs>,
 }
 
 /// What is done. Each file that is read may be called `-`, which is standard input.
@@ -824,6 +835,27 @@ fn party_in<'a>(given: &ArgMatches<'a>) -> Option<Option<&'a str>>
     }
 }
 
+/// What works are sent as, by the letters of their headers. `None` where these are those of another.
+fn works_of(letters: &str) -> Option<SentAs>
+    ensures { result ≡ works_named letters.now }
+{
+    match letters {
+        "NWR" => Some(SentAs::NewWorks),
+        "REV" => Some(SentAs::RevisedWorks),
+        _ => None,
+    }
+}
+
+/// What works are sent as, where a word says it. `None` where it is none of these.
+fn works_in(given: &ArgMatches<'_>) -> Option<Option<SentAs>>
+    ensures { result ≡ works_given ((given_by (found_of given.now)).first (codes "as")) }
+{
+    match given.get_str(grammar::SENT_AS) {
+        Some(letters) => works_of(letters).map(Some),
+        None => Some(None),
+    }
+}
+
 /// Whether a word says which transactions are selected.
 fn asks_for_some(given: &ArgMatches<'_>) -> bool
     ensures { result ≡ asks_for_some (given_by (found_of given.now)) }
@@ -931,6 +963,7 @@ fn selected_in<'a>(
         answered,
         others: flag_in(given, grammar::OTHERS),
         created: created_in(given)?,
+        sent_as: works_in(given)?,
     })
 }
 

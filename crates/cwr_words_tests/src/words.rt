@@ -20,7 +20,7 @@ fn asked(rt: &(impl Abort + AllocGlobal), words: &[&str]) -> Option<(String, Lim
 
 /// Words, what they ask for, and its limits.
 #[rattlefmt::skip]
-static ASKED: [(&[&str], &str, Numbers); 46] = [
+static ASKED: [(&[&str], &str, Numbers); 47] = [
     (&["cwr"], "Check(Judging { files: [], quiet: false, fail_on: None })", LARGEST),
     (&["cwr", "check"], "Check(Judging { files: [], quiet: false, fail_on: None })", LARGEST),
     (&["cwr", "show"], "Show(ShowWords { file: None, fail_on: None })", LARGEST),
@@ -42,8 +42,9 @@ static ASKED: [(&[&str], &str, Numbers); 46] = [
     (&["cwr", "acks", "--sent", "c.cwr", "a.cwr", "--by-place", "--sent=b.cwr", "--state"], "Acks(AcksWords { files: [\"a.cwr\"], sent: [\"c.cwr\", \"b.cwr\"], as_json: false, by_place: true, state: true, fail_on: States { accepted: false, pending: false, rejected: false, conflict: false, duplicate: false, claim_rejected: false, no_participation: false, unanswered: false }, statuses: [], utf8: false })", LARGEST),
     (&["cwr", "acks", "--fail-on", "conflict,rejected", "--sent", "-", "a.cwr"], "Acks(AcksWords { files: [\"a.cwr\"], sent: [\"-\"], as_json: false, by_place: false, state: false, fail_on: States { accepted: false, pending: false, rejected: true, conflict: true, duplicate: false, claim_rejected: false, no_participation: false, unanswered: false }, statuses: [], utf8: false })", LARGEST),
     (&["cwr", "acks", "--status", "RJ,CO", "a.cwr", "--status=AS", "--sent", "b.cwr"], "Acks(AcksWords { files: [\"a.cwr\"], sent: [\"b.cwr\"], as_json: false, by_place: false, state: false, fail_on: States { accepted: false, pending: false, rejected: false, conflict: false, duplicate: false, claim_rejected: false, no_participation: false, unanswered: false }, statuses: [Rejected, Conflict, RegistrationAccepted], utf8: false })", LARGEST),
-    (&["cwr", "select", "--works", "list", "a.cwr"], "Select(SelectWords { file: Some(\"a.cwr\"), out: None, only_new: false, fail_on: None, works: Some(\"list\"), places: None, kinds: None, party: None, answered: None, others: false, created: None })", LARGEST),
-    (&["cwr", "select", "--state", "rejected,conflict", "--answers", "b.cwr", "--answers=-", "--by-place", "--not", "a.cwr", "-o", "c.cwr", "--same-created"], "Select(SelectWords { file: Some(\"a.cwr\"), out: Some(\"c.cwr\"), only_new: false, fail_on: None, works: None, places: None, kinds: None, party: None, answered: Some(AnsweredWords { states: States { accepted: false, pending: false, rejected: true, conflict: true, duplicate: false, claim_rejected: false, no_participation: false, unanswered: false }, files: [\"b.cwr\", \"-\"], by_place: true }), others: true, created: None })", LARGEST),
+    (&["cwr", "select", "--works", "list", "a.cwr"], "Select(SelectWords { file: Some(\"a.cwr\"), out: None, only_new: false, fail_on: None, works: Some(\"list\"), places: None, kinds: None, party: None, answered: None, others: false, created: None, sent_as: None })", LARGEST),
+    (&["cwr", "select", "--kind", "REV", "--as", "NWR", "a.cwr"], "Select(SelectWords { file: Some(\"a.cwr\"), out: None, only_new: false, fail_on: None, works: None, places: None, kinds: Some(Kinds { agreements: false, new_works: false, revised_works: true, acknowledgements: false }), party: None, answered: None, others: false, created: None, sent_as: Some(NewWorks) })", LARGEST),
+    (&["cwr", "select", "--state", "rejected,conflict", "--answers", "b.cwr", "--answers=-", "--by-place", "--not", "a.cwr", "-o", "c.cwr", "--same-created"], "Select(SelectWords { file: Some(\"a.cwr\"), out: Some(\"c.cwr\"), only_new: false, fail_on: None, works: None, places: None, kinds: None, party: None, answered: Some(AnsweredWords { states: States { accepted: false, pending: false, rejected: true, conflict: true, duplicate: false, claim_rejected: false, no_participation: false, unanswered: false }, files: [\"b.cwr\", \"-\"], by_place: true }), others: true, created: None, sent_as: None })", LARGEST),
     (&["cwr", "write", "--utf8", "-o", "b.cwr", "--line=9", "a.jsonl"], "Write(WriteWords { file: Some(\"a.jsonl\"), out: Some(\"b.cwr\"), line: 9, utf8: true })", LARGEST),
     (&["cwr", "show", "--groups", "3"], "Show(ShowWords { file: None, fail_on: None })", (99_999_999, 3, 999_999)),
     (&["cwr", "split", "-n", "1", "a.cwr", "part-"], "Split(SplitWords { transactions: 1, file: \"a.cwr\", prefix: \"part-\", created: None, only_new: false, fail_on: None })", LARGEST),
@@ -81,7 +82,7 @@ fn work_that_is_asked_for(rt: HostRuntime) {
 
 /// Words that are missing or out of range.
 #[rattlefmt::skip]
-static WRONG: [&[&str]; 41] = [
+static WRONG: [&[&str]; 42] = [
     &["cwr", "csv"],
     &["cwr", "csv", "swr"],
     &["cwr", "check", "--color"],
@@ -102,6 +103,7 @@ static WRONG: [&[&str]; 41] = [
     &["cwr", "select", "--kind", "NWR", "--answers", "b.cwr", "a.cwr"],
     &["cwr", "select", "--kind", "NWR", "--by-place", "a.cwr"],
     &["cwr", "select", "--state", "refused", "--answers", "b.cwr", "a.cwr"],
+    &["cwr", "select", "--kind", "NWR", "--as", "ACK", "a.cwr"],
     &["cwr", "select", "--state", "rejected", "--answers", "b.cwr", "-"],
     &["cwr", "split"],
     &["cwr", "split", "a.cwr", "part-"],
@@ -141,7 +143,7 @@ fn told(rt: &(impl Abort + AllocGlobal), words: &[&str]) -> Option<String> {
 
 /// Words that are wrong, and what is told of them.
 #[rattlefmt::skip]
-static TOLD: [(&[&str], &str); 13] = [
+static TOLD: [(&[&str], &str); 14] = [
     (&["cwr", "acks", "a.cwr", "--state"], "--sent <SENT>"),
     (&["cwr", "acks", "a.cwr", "--by-place"], "--sent <SENT>"),
     (&["cwr", "split", "-n", "1", "a.cwr"], "-o <PREFIX>"),
@@ -154,6 +156,7 @@ static TOLD: [(&[&str], &str); 13] = [
     (&["cwr", "acks", "a.cwr", "--sent", "b.cwr", "--state", "--status", "RJ"], "--state"),
     (&["cwr", "acks", "a.cwr", "--sent", "b.cwr", "--fail-on", "refused"], "accepted, pending, rejected, conflict, duplicate, claim-rejected, no-participation, unanswered"),
     (&["cwr", "select", "--state", "rejected", "a.cwr"], "--answers <ANSWERS>"),
+    (&["cwr", "select", "--kind", "NWR", "--as", "ACK", "a.cwr"], "possible values: NWR, REV"),
     (&["cwr", "select", "--state", "rejected", "--answers", "b.cwr"], "read twice"),
 ];
 

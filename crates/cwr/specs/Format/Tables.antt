@@ -3,6 +3,10 @@ use Rattle.std.specs.Prelude.{Bool, true, false, if◌then◌else◌, option_map
 use Rattle.cwr_shape.specs.declared.limits.Limits.{Limits}
 use Rattle.cwr_words.specs.declared.words.Kinds.{Kinds}
 use Rattle.cwr_words.specs.declared.words.SelectWords.{SelectWords}
+use Rattle.cwr_words.specs.declared.words.SentAs.{SentAs}
+use Rattle.cwr_words.specs.declared.words.SentAs.TheVariants as works_sent
+use Rattle.cwr_select.specs.declared.changes.WorkKind.{WorkKind}
+use Rattle.cwr_select.specs.declared.changes.WorkKind.TheVariants.{NewWork, RevisedWork}
 use Rattle.cwr_select.specs.declared.criteria.ByKind.{ByKind}
 use Rattle.cwr_transform.specs.declared.selections.Selection.{Selection}
 use Rattle.cwr_words.specs.declared.words.Rows.{Rows}
@@ -30,7 +34,7 @@ form_of true utf8 = Json (encoding_of utf8)
 form_of false true = Words (Characters Utf8)
 form_of false false = Words Bytes
 
--- how transactions are selected, within these limits, where nothing may follow them or something may
+-- the kinds by which transactions are chosen
 abbrev pub kinds_by : Kinds → ByKind
 kinds_by kinds = record {
   agreements = kinds.agreements;
@@ -39,6 +43,12 @@ kinds_by kinds = record {
   acknowledgements = kinds.acknowledgements;
 }
 
+-- what works are sent as
+abbrev pub work_kind_of : SentAs → WorkKind
+work_kind_of works_sent.NewWorks = NewWork
+work_kind_of works_sent.RevisedWorks = RevisedWork
+
+-- how transactions are selected, within these limits, where nothing may follow them or something may
 abbrev pub selection_of : Limits → Bool → SelectWords → Selection
 selection_of limits whole words = record {
   limits = limits;
@@ -51,5 +61,5 @@ selection_of limits whole words = record {
   kinds = option_map kinds_by words.kinds;
   party = words.party;
   others = words.others;
-  created = words.created;
+  changes = record { created = words.created; works = option_map work_kind_of words.sent_as };
 }

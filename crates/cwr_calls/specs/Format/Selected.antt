@@ -8,7 +8,8 @@ use Rattle.cwr_tools.specs.declared.verdicts.ToolFault.{ToolFault}
 use Rattle.cwr_tools.specs.declared.verdicts.ToolFault.TheVariants.{Refused, Truncated}
 use Rattle.cwr_select.specs.declared.reports.SelectReport.{SelectReport}
 use Rattle.cwr_select.specs.Format.Criteria.{has_place}
-use Rattle.cwr_select.specs.Format.Selections.{Choice, selected_count, selected_text}
+use Rattle.cwr_select.specs.Format.Selections.{Choice, selected, selected_count}
+use Rattle.cwr_select.specs.Format.Sent.{text_of}
 use Rattle.cwr_calls.specs.declared.selecting.CwrPlace.{CwrPlace}
 use Rattle.cwr_calls.specs.declared.verdicts.CwrVerdict.{CwrVerdict}
 use Rattle.cwr_calls.specs.Format.Answers.{IsOutOfRange}
@@ -46,4 +47,4 @@ TellsSelected records groups transaction text places old new count told =
     × (count ≡ 0) × (new ≡ old))
     ⊎ ((listed : List (ℕ × ℕ)) × (v : TransmissionValue) × (n : ℕ) × IsPermutation (places_in places) listed
     × IsAccepted (limit_values records groups transaction) text v n × (told ≡ selected_in_c (selected_count (at_places listed) v))
-    × CopiesOut (selected_text (at_places listed) v) old new count)
+    × CopiesOut (text_of (selected (at_places listed) v)) old new count)

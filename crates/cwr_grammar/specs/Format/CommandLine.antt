@@ -133,7 +133,7 @@ abbrev pub select : Shape
 select = subcommand (codes "select")
     (reads ++ option (codes "works") ∷ option (codes "places") ∷ option (codes "kind") ∷ option (codes "party") ∷ option (codes "state")
     ∷ options (codes "answers") ∷ flag (codes "by-place") ∷ flag (codes "not") ∷ option (codes "created") ∷ flag (codes "same-created")
-    ∷ flag (codes "new") ∷ fail_on ∷ file ∷ written (codes "OUT") ∷ [])
+    ∷ option (codes "as") ∷ flag (codes "new") ∷ fail_on ∷ file ∷ written (codes "OUT") ∷ [])
 
 abbrev pub manual : Shape
 manual = subcommand (codes "manual") []

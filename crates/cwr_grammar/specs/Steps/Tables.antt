@@ -23,6 +23,7 @@ abbrev pub rule_of_form : Text → Form → Rule
 rule_of_form id forms.Flag = flag id
 rule_of_form id (forms.Limit least most without) = record (option_or id without.now) { parser = Some (between least most) }
 rule_of_form id forms.Level = option id
+rule_of_form id forms.WorkKind = option id
 rule_of_form id (forms.Names name) = options id
 rule_of_form id (forms.NamesBeside name other) = options id
 rule_of_form id (forms.StatusesWithout other) = options id

@@ -8,14 +8,14 @@ use Rattle.cwr_shape.specs.declared.limits.Limits.{Limits}
 use Rattle.cwr_values.specs.Format.Values.{TransmissionValue}
 use Rattle.cwr_judge.specs.Format.Ends.{IsAccepted}
 use Rattle.cwr_decode.specs.Format.Runs.{TakesFront}
-use Rattle.cwr_moments.specs.declared.moments.Moment.{Moment}
 use Rattle.cwr_tools.specs.declared.verdicts.ToolFault.{ToolFault}
 use Rattle.cwr_tools.specs.declared.verdicts.ToolFault.TheVariants as tool_faults
 use Rattle.cwr_parts.specs.Format.Splitting.{CountsSplitReader, CountsSplitWriter}
 use Rattle.cwr_select.specs.declared.reports.SelectReport.{SelectReport}
-use Rattle.cwr_select.specs.Format.Created.{created_at}
 use Rattle.cwr_select.specs.Format.Selecting.{Selects, select_report}
-use Rattle.cwr_select.specs.Format.Selections.{Choice, selected_count, selected_text}
+use Rattle.cwr_select.specs.declared.changes.Changes.{Changes}
+use Rattle.cwr_select.specs.Format.Selections.{Choice, selected_count}
+use Rattle.cwr_select.specs.Format.Sent.{sent_text}
 use Rattle.cwr_files.specs.Format.Files.{counted_on}
 use Rattle.cwr_endings.specs.declared.endings.Look.{Look}
 use Rattle.cwr_endings.specs.declared.endings.Look.TheVariants as looks
@@ -46,13 +46,13 @@ looked limits None mid after v look t l = tt
 looked limits (Some text) mid after v look t l =
     (length t.input, t.front.0, after, subst (λ (m : Option (List ℕ)). IsLook m after look) t.front.1 l)
 
-run_by : {W : Type 0} (limits : Limits) (created : Option Moment) (choice : Choice) (before mid after : Option (List ℕ))
+run_by : {W : Type 0} (limits : Limits) (changes : Changes) (choice : Choice) (before mid after : Option (List ℕ))
     (contents : W → Option (List ℕ)) (old new : W) (outcome : Result SelectReport ToolFault) (lacks : Bool) (look : Look)
-    → Selects limits created choice before mid (contents old) (contents new) outcome
+    → Selects limits changes choice before mid (contents old) (contents new) outcome
     → LooksAfterSelecting mid after (with_memory outcome lacks) look
-    → WritesBy limits created choice before contents old new (with_memory outcome lacks) look (is_empty (with_memory outcome lacks))
-run_by limits created choice before mid after contents old new (Ok report) true look h l = tt
-run_by limits created choice before mid after contents old new (Ok report) false look h l = record {
+    → WritesBy limits changes choice before contents old new (with_memory outcome lacks) look (is_empty (with_memory outcome lacks))
+run_by limits changes choice before mid after contents old new (Ok report) true look h l = tt
+run_by limits changes choice before mid after contents old new (Ok report) false look h l = record {
   judged = record {
     value = h.value;
     some = λ e. enough report choice h.value h.reported e;
@@ -60,42 +60,42 @@ run_by limits created choice before mid after contents old new (Ok report) false
   };
   written = h.written;
 }
-run_by limits created choice before mid after contents old new (Err tool_faults.Reader) lacks look h l = tt
-run_by limits created choice before mid after contents old new (Err (tool_faults.Writer n)) lacks look h l = tt
-run_by limits created choice before mid after contents old new (Err tool_faults.Memory) lacks look h l = tt
-run_by limits created choice before mid after contents old new (Err (tool_faults.Refused r)) lacks look h l = tt
-run_by limits created choice before mid after contents old new (Err (tool_faults.Truncated n)) lacks look h l = tt
-run_by limits created choice before mid after contents old new (Err tool_faults.Output) lacks look h l = h
-run_by limits created choice before mid after contents old new (Err (tool_faults.Limit k)) lacks look h l = tt
+run_by limits changes choice before mid after contents old new (Err tool_faults.Reader) lacks look h l = tt
+run_by limits changes choice before mid after contents old new (Err (tool_faults.Writer n)) lacks look h l = tt
+run_by limits changes choice before mid after contents old new (Err tool_faults.Memory) lacks look h l = tt
+run_by limits changes choice before mid after contents old new (Err (tool_faults.Refused r)) lacks look h l = tt
+run_by limits changes choice before mid after contents old new (Err (tool_faults.Truncated n)) lacks look h l = tt
+run_by limits changes choice before mid after contents old new (Err tool_faults.Output) lacks look h l = h
+run_by limits changes choice before mid after contents old new (Err (tool_faults.Limit k)) lacks look h l = tt
 
-pub run_judged : {W : Type 0} (limits : Limits) (created : Option Moment) (choice : Choice) (before mid after : Option (List ℕ))
+pub run_judged : {W : Type 0} (limits : Limits) (changes : Changes) (choice : Choice) (before mid after : Option (List ℕ))
     (contents : W → Option (List ℕ)) (old new : W) (outcome ended : Result SelectReport ToolFault) (lacks empty : Bool) (look : Look)
-    → Selects limits created choice before mid (contents old) (contents new) outcome → ended ≡ with_memory outcome lacks
+    → Selects limits changes choice before mid (contents old) (contents new) outcome → ended ≡ with_memory outcome lacks
     → empty ≡ is_empty ended → LooksAfterSelecting mid after ended look
-    → WritesBy limits created choice before contents old new ended look empty
-run_judged limits created choice before mid after contents old new outcome ended lacks empty look h e s l =
-    subst (λ (b : Bool). WritesBy limits created choice before contents old new ended look b) (sym s)
-    (subst (λ (o : Result SelectReport ToolFault). WritesBy limits created choice before contents old new o look (is_empty o)) (sym e)
-    (run_by limits created choice before mid after contents old new outcome lacks look h
+    → WritesBy limits changes choice before contents old new ended look empty
+run_judged limits changes choice before mid after contents old new outcome ended lacks empty look h e s l =
+    subst (λ (b : Bool). WritesBy limits changes choice before contents old new ended look b) (sym s)
+    (subst (λ (o : Result SelectReport ToolFault). WritesBy limits changes choice before contents old new o look (is_empty o)) (sym e)
+    (run_by limits changes choice before mid after contents old new outcome lacks look h
     (subst (λ (o : Result SelectReport ToolFault). LooksAfterSelecting mid after o look) e l)))
 
-judged_by : {W : Type 0} (limits : Limits) (created : Option Moment) (choice : Choice) (left : Option (List ℕ))
+judged_by : {W : Type 0} (limits : Limits) (changes : Changes) (choice : Choice) (left : Option (List ℕ))
     (contents : W → Option (List ℕ)) (old new : W) (look : Look) (empty : Bool) (outcome : Result SelectReport ToolFault)
-    → WritesBy limits created choice left contents old new outcome look empty → JudgesBy limits choice left outcome look empty
-judged_by limits created choice left contents old new look empty (Ok report) h = h.judged
-judged_by limits created choice left contents old new look empty (Err tool_faults.Reader) h = tt
-judged_by limits created choice left contents old new look empty (Err (tool_faults.Writer n)) h = tt
-judged_by limits created choice left contents old new look empty (Err tool_faults.Memory) h = tt
-judged_by limits created choice left contents old new look empty (Err (tool_faults.Refused r)) h = tt
-judged_by limits created choice left contents old new look empty (Err (tool_faults.Truncated n)) h = tt
-judged_by limits created choice left contents old new look empty (Err tool_faults.Output) h = h
-judged_by limits created choice left contents old new look empty (Err (tool_faults.Limit k)) h = tt
+    → WritesBy limits changes choice left contents old new outcome look empty → JudgesBy limits choice left outcome look empty
+judged_by limits changes choice left contents old new look empty (Ok report) h = h.judged
+judged_by limits changes choice left contents old new look empty (Err tool_faults.Reader) h = tt
+judged_by limits changes choice left contents old new look empty (Err (tool_faults.Writer n)) h = tt
+judged_by limits changes choice left contents old new look empty (Err tool_faults.Memory) h = tt
+judged_by limits changes choice left contents old new look empty (Err (tool_faults.Refused r)) h = tt
+judged_by limits changes choice left contents old new look empty (Err (tool_faults.Truncated n)) h = tt
+judged_by limits changes choice left contents old new look empty (Err tool_faults.Output) h = h
+judged_by limits changes choice left contents old new look empty (Err (tool_faults.Limit k)) h = tt
 
-pub is_judged : {W : Type 0} (limits : Limits) (created : Option Moment) (choice : Choice) (left : Option (List ℕ))
-    (contents : W → Option (List ℕ)) (old new : W) (s : Selected) → JudgesSelection limits created choice left contents old new s
+pub is_judged : {W : Type 0} (limits : Limits) (changes : Changes) (choice : Choice) (left : Option (List ℕ))
+    (contents : W → Option (List ℕ)) (old new : W) (s : Selected) → JudgesSelection limits changes choice left contents old new s
     → JudgesSelected limits choice left s
-is_judged limits created choice left contents old new s h =
-    judged_by limits created choice left contents old new s.look s.is_empty s.outcome h
+is_judged limits changes choice left contents old new s h =
+    judged_by limits changes choice left contents old new s.look s.is_empty s.outcome h
 
 -- ---- how often a device failed
 
@@ -184,18 +184,18 @@ from_known limits whole None v look lone h = tt
 from_known limits whole (Some text) v look lone h = (h.0, h.1, λ w. lone w (Some (drop h.0 text)) h.2 h.3)
 
 -- so the text that is kept is the one that is asked for
-pub kept_text : {W : Type 0} (limits : Limits) (wanted : Wanted) (created : Option Moment) (choice : Choice) (left : Option (List ℕ))
+pub kept_text : {W : Type 0} (limits : Limits) (wanted : Wanted) (changes : Changes) (choice : Choice) (left : Option (List ℕ))
     (contents : W → Option (List ℕ)) (old new : W) (s : Selected) (final : Option (List ℕ))
-    → JudgesSelection limits created choice left contents old new s → keeps_selected wanted s ≡ true → contents old ≡ Some []
+    → JudgesSelection limits changes choice left contents old new s → keeps_selected wanted s ≡ true → contents old ≡ Some []
     → Keeps (contents new) final
-    → (text : List ℕ) × (final ≡ Some text) × IsSelectionFrom limits wanted.whole created choice left text
-kept_text limits wanted created choice left contents old new s final judged kept fresh keeps_it = by s.outcome judged kept where
-  by : (outcome : Result SelectReport ToolFault) → WritesBy limits created choice left contents old new outcome s.look s.is_empty
+    → (text : List ℕ) × (final ≡ Some text) × IsSelectionFrom limits wanted.whole changes choice left text
+kept_text limits wanted changes choice left contents old new s final judged kept fresh keeps_it = by s.outcome judged kept where
+  by : (outcome : Result SelectReport ToolFault) → WritesBy limits changes choice left contents old new outcome s.look s.is_empty
       → keeps outcome (status_where false wanted s) ≡ true
-      → (text : List ℕ) × (final ≡ Some text) × IsSelectionFrom limits wanted.whole created choice left text
+      → (text : List ℕ) × (final ≡ Some text) × IsSelectionFrom limits wanted.whole changes choice left text
   by (Ok report) h k =
       let so = wanted_so false wanted s k in
-      let text : List ℕ = selected_text choice (created_at created h.judged.value) in (
+      let text : List ℕ = sent_text changes choice h.judged.value in (
         text,
         kept_whole (contents old) (contents new) final text fresh h.written keeps_it,
         record {

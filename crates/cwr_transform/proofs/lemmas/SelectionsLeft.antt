@@ -3,13 +3,13 @@ use Rattle.std.proofs.Common.{◌≡◌, ◌||◌, inl, inr, ℕ, ◌+◌, ◌�
 use Rattle.std.specs.Prelude.{Result, Ok, Err, if◌then◌else◌}
 use Rattle.cwr_devices.specs.Format.Failures.{most_failures, one_more_failure}
 use Rattle.cwr_shape.specs.declared.limits.Limits.{Limits}
-use Rattle.cwr_moments.specs.declared.moments.Moment.{Moment}
 use Rattle.cwr_tools.specs.declared.verdicts.ToolFault.{ToolFault}
 use Rattle.cwr_tools.specs.declared.verdicts.ToolFault.TheVariants as tool_faults
 use Rattle.cwr_parts.specs.Format.Splitting.{CountsSplitWriter}
 use Rattle.cwr_select.specs.declared.reports.SelectReport.{SelectReport}
-use Rattle.cwr_select.specs.Format.Created.{created_at}
-use Rattle.cwr_select.specs.Format.Selections.{Choice, selected_text}
+use Rattle.cwr_select.specs.declared.changes.Changes.{Changes}
+use Rattle.cwr_select.specs.Format.Selections.{Choice}
+use Rattle.cwr_select.specs.Format.Sent.{sent_text}
 use Rattle.cwr_files.specs.declared.faults.Fault.TheVariants as faults
 use Rattle.cwr_files.specs.declared.faults.Name.{Name}
 use Rattle.cwr_files.specs.declared.faults.Told.{Told}
@@ -139,10 +139,10 @@ fault_by wanted look false short found e = good_fault wanted look found (short_f
 
 -- ---- how it ends
 
-module _ (limits : Limits) (wanted : Wanted) (created : Option Moment) (choice : Choice) (left : Option (List ℕ)) (s : Selected)
+module _ (limits : Limits) (wanted : Wanted) (changes : Changes) (choice : Choice) (left : Option (List ℕ)) (s : Selected)
     (ending : Result Status Stop) where
   abbrev Ends : Result Status Stop → Type 0
-  Ends other = EndsAsSelection limits wanted.whole created choice left other
+  Ends other = EndsAsSelection limits wanted.whole changes choice left other
 
   -- with that status
   with_status : (report : SelectReport) (o : Option Status) → selected_status wanted s ≡ o → JudgesBy limits choice left (Ok report) s.look s.is_empty
@@ -150,7 +150,7 @@ module _ (limits : Limits) (wanted : Wanted) (created : Option Moment) (choice :
   with_status report (Some statuses.Good) is h e =
       let so = wanted_so s.is_missing wanted s (subst (λ (o : Option Status). is_good o ≡ true) (sym is) refl) in
       subst Ends (sym e) (
-        selected_text choice (created_at created h.value),
+        sent_text changes choice h.value,
         record {
           value = h.value;
           some = h.some so.0;

@@ -5,7 +5,7 @@ use Rattle.std.specs.Prelude.{IfSome, IsSome, option_map, Result, Ok, Err, if◌
 use Rattle.std.specs.Option.{option_map_or}
 use Rattle.cwr_lines.specs.Format.Records.{RecordValue}
 use Rattle.cwr_shape.specs.declared.limits.Limits.{Limits}
-use Rattle.cwr_moments.specs.declared.moments.Moment.{Moment}
+use Rattle.cwr_select.specs.declared.changes.Changes.{Changes}
 use Rattle.cwr_select.specs.declared.criteria.ByKind.{ByKind}
 use Rattle.cwr_select.specs.Format.Criteria.{has_kind, has_number, has_party, has_place, number_cell, significant}
 use Rattle.std.specs.Str.{bytes_eq}
@@ -153,18 +153,18 @@ listed_same others numbers of_works places of_places answered kinds party h k =
     (ap (λ (x : Bool). x && (option_map_or (λ list. has_place list group place) answered true && (option_map_or (λ by. has_kind by t) kinds true && option_map_or (λ number. has_party number t) party true)))
     (place_same group place places of_places k)))
 
-from_some : (limits : Limits) (whole : Bool) (created : Option Moment) (choice : Choice) (left : Option (List ℕ)) (text : List ℕ)
-    → IsSelectionFrom limits whole created choice left text
-    → IfSome left (λ known. IsSelectionFrom limits whole created choice (Some known) text)
-from_some limits whole created choice None text h = tt
-from_some limits whole created choice (Some known) text h = h
+from_some : (limits : Limits) (whole : Bool) (changes : Changes) (choice : Choice) (left : Option (List ℕ)) (text : List ℕ)
+    → IsSelectionFrom limits whole changes choice left text
+    → IfSome left (λ known. IsSelectionFrom limits whole changes choice (Some known) text)
+from_some limits whole changes choice None text h = tt
+from_some limits whole changes choice (Some known) text h = h
 
 pub at_names : (s : Selection) (answered : Option (List (ℕ × ℕ))) (held : Option Texts) (standard : Option (List ℕ))
     (works : Option (List (List ℕ))) (places : Option (List (ℕ × ℕ))) (party : Option (List ℕ)) (left : Option (List ℕ)) (text : List ℕ)
     → ReadsList number_in held standard (option_map (λ name. name.now) s.works) works
     → ReadsList place_in held standard (option_map (λ name. name.now) s.places) places
     → party ≡ option_map (λ number. significant number.now) s.party → IsLeftOf held standard (option_map (λ name. name.now) s.file) left
-    → IsSelectionFrom s.limits s.wanted.whole s.created (asked_choice s.others works places answered s.kinds party) left text
+    → IsSelectionFrom s.limits s.wanted.whole s.changes (asked_choice s.others works places answered s.kinds party) left text
     → IsSelectionAt s answered held standard text
 at_names s answered held standard works places party left text numbered placed who opened h =
     let asked : Option (List ℕ) = option_map (λ number. significant number.now) s.party in
@@ -178,9 +178,9 @@ at_names s answered held standard works places party left text numbered placed w
       by_numbers = numbered.1;
       by_places = placed.1;
       of = if_read held standard (option_map (λ name. name.now) s.file) left
-          (λ known. IsSelectionFrom s.limits s.wanted.whole s.created choice (Some known) text) opened
-          (subst (λ (c : Choice). IfSome left (λ known. IsSelectionFrom s.limits s.wanted.whole s.created c (Some known) text)) same
-          (from_some s.limits s.wanted.whole s.created (asked_choice s.others works places answered s.kinds party) left text h));
+          (λ known. IsSelectionFrom s.limits s.wanted.whole s.changes choice (Some known) text) opened
+          (subst (λ (c : Choice). IfSome left (λ known. IsSelectionFrom s.limits s.wanted.whole s.changes c (Some known) text)) same
+          (from_some s.limits s.wanted.whole s.changes (asked_choice s.others works places answered s.kinds party) left text h));
     }
 
 -- ---- where nothing changed
@@ -211,8 +211,8 @@ selected_as (Some out) old failures is other ending texts new so h =
 
 pub ends_as : (s : Selection) (answered : Option (List (ℕ × ℕ))) (held : Option Texts) (standard : Option (List ℕ)) (choice : Choice)
     (left : Option (List ℕ)) (ending : Result Status Stop)
-    → ((text : List ℕ) → IsSelectionFrom s.limits s.wanted.whole s.created choice left text → IsSelectionAt s answered held standard text)
-    → EndsAsSelection s.limits s.wanted.whole s.created choice left ending → EndsAsSelectionAt s answered held standard ending
+    → ((text : List ℕ) → IsSelectionFrom s.limits s.wanted.whole s.changes choice left text → IsSelectionAt s answered held standard text)
+    → EndsAsSelection s.limits s.wanted.whole s.changes choice left ending → EndsAsSelectionAt s answered held standard ending
 ends_as s answered held standard choice left (Ok statuses.Good) so h = (h.0, so h.0 h.1)
 ends_as s answered held standard choice left (Ok statuses.Refused) so h = tt
 ends_as s answered held standard choice left (Ok statuses.CommandLine) so h = tt

@@ -4,11 +4,11 @@ use Rattle.std.specs.Option.{option_map_or}
 use Rattle.cwr_shape.specs.declared.limits.Limits.{Limits}
 use Rattle.cwr_values.specs.Format.Values.{TransmissionValue}
 use Rattle.cwr_judge.specs.Format.Ends.{IsAccepted}
-use Rattle.cwr_moments.specs.declared.moments.Moment.{Moment}
 use Rattle.cwr_select.specs.declared.criteria.ByKind.{ByKind}
-use Rattle.cwr_select.specs.Format.Created.{created_at}
 use Rattle.cwr_select.specs.Format.Criteria.{has_kind, has_number, has_party, has_place, significant}
-use Rattle.cwr_select.specs.Format.Selections.{Choice, selected_count, selected_text}
+use Rattle.cwr_select.specs.declared.changes.Changes.{Changes}
+use Rattle.cwr_select.specs.Format.Selections.{Choice, selected_count}
+use Rattle.cwr_select.specs.Format.Sent.{sent_text}
 use Rattle.cwr_endings.specs.declared.endings.Status.{Status}
 use Rattle.cwr_endings.specs.declared.endings.Status.TheVariants as statuses
 use Rattle.cwr_endings.specs.declared.stops.Stop.{Stop}
@@ -39,25 +39,25 @@ asked_choice others numbers places answered kinds party group place t =
 
 -- ---- what is written
 
--- The text is the canonical one of what is selected of a transmission, as created at the moment where there is one, and something is. Where what
+-- The text is the canonical one of what is selected of a transmission, with the changes, and something is. Where what
 -- is left of the input is known, that is accepted as the transmission, and nothing follows it there where nothing may.
-pub record IsSelectionFrom (limits : Limits) (whole : Bool) (created : Option Moment) (choice : Choice) (left : Option (List ℕ))
+pub record IsSelectionFrom (limits : Limits) (whole : Bool) (changes : Changes) (choice : Choice) (left : Option (List ℕ))
     (text : List ℕ) : Type 0 where
   pub value : TransmissionValue
   pub some : 0 < selected_count choice value
-  pub text_is : text ≡ selected_text choice (created_at created value)
+  pub text_is : text ≡ sent_text changes choice value
   pub from : IfSome left (λ known. (n : ℕ) × IsAccepted limits known value n × (whole ≡ true → drop n known ≡ []))
 
 -- ---- how it ends
 
 -- A selection ends well only where there is such a text.
-abbrev pub EndsAsSelection : Limits → Bool → Option Moment → Choice → Option (List ℕ) → Result Status Stop → Type 0
-EndsAsSelection limits whole created choice left (Ok statuses.Good) =
-    (text : List ℕ) × IsSelectionFrom limits whole created choice left text
-EndsAsSelection limits whole created choice left (Ok statuses.Refused) = Unit {0}
-EndsAsSelection limits whole created choice left (Ok statuses.CommandLine) = Unit {0}
-EndsAsSelection limits whole created choice left (Ok statuses.Fault) = ⊥
-EndsAsSelection limits whole created choice left (Err stop) = Unit {0}
+abbrev pub EndsAsSelection : Limits → Bool → Changes → Choice → Option (List ℕ) → Result Status Stop → Type 0
+EndsAsSelection limits whole changes choice left (Ok statuses.Good) =
+    (text : List ℕ) × IsSelectionFrom limits whole changes choice left text
+EndsAsSelection limits whole changes choice left (Ok statuses.Refused) = Unit {0}
+EndsAsSelection limits whole changes choice left (Ok statuses.CommandLine) = Unit {0}
+EndsAsSelection limits whole changes choice left (Ok statuses.Fault) = ⊥
+EndsAsSelection limits whole changes choice left (Err stop) = Unit {0}
 
 -- ---- by what the words name
 
@@ -69,7 +69,7 @@ pub record IsSelectionAt (s : Selection) (answered : Option (List (ℕ × ℕ)))
   pub by_numbers : IsListed number_in held standard (option_map (λ name. name.now) s.works) numbers
   pub by_places : IsListed place_in held standard (option_map (λ name. name.now) s.places) places
   pub of : IfRead held standard (option_map (λ name. name.now) s.file) (λ known.
-      IsSelectionFrom s.limits s.wanted.whole s.created
+      IsSelectionFrom s.limits s.wanted.whole s.changes
       (asked_choice s.others numbers places answered s.kinds (option_map (λ number. significant number.now) s.party)) (Some known) text)
 
 -- it ends well only where there is one

@@ -5,12 +5,12 @@ use Rattle.cwr_devices.specs.Format.Failures.{one_more_failure}
 use Rattle.cwr_shape.specs.declared.limits.Limits.{Limits}
 use Rattle.cwr_values.specs.Format.Values.{TransmissionValue}
 use Rattle.cwr_judge.specs.Format.Ends.{IsAccepted}
-use Rattle.cwr_moments.specs.declared.moments.Moment.{Moment}
 use Rattle.cwr_tools.specs.declared.verdicts.ToolFault.{ToolFault}
 use Rattle.cwr_tools.specs.declared.verdicts.ToolFault.TheVariants as tool_faults
 use Rattle.cwr_select.specs.declared.reports.SelectReport.{SelectReport}
-use Rattle.cwr_select.specs.Format.Created.{created_at}
-use Rattle.cwr_select.specs.Format.Selections.{Choice, selected_count, selected_text}
+use Rattle.cwr_select.specs.declared.changes.Changes.{Changes}
+use Rattle.cwr_select.specs.Format.Selections.{Choice, selected_count}
+use Rattle.cwr_select.specs.Format.Sent.{sent_text}
 use Rattle.cwr_files.specs.declared.faults.Fault.{Fault}
 use Rattle.cwr_files.specs.declared.faults.Fault.TheVariants as faults
 use Rattle.cwr_files.specs.declared.faults.Told.{Told}
@@ -94,22 +94,22 @@ abbrev pub JudgesSelected : Limits → Choice → Option (List ℕ) → Selected
 JudgesSelected limits choice left s = JudgesBy limits choice left s.outcome s.look s.is_empty
 
 -- and its text is written
-pub record HasWritten {W : Type 0} (limits : Limits) (created : Option Moment) (choice : Choice) (left : Option (List ℕ))
+pub record HasWritten {W : Type 0} (limits : Limits) (changes : Changes) (choice : Choice) (left : Option (List ℕ))
     (contents : W → Option (List ℕ)) (old new : W) (look : Look) (empty : Bool) : Type 0 where
   pub judged : HasJudged limits choice left look empty
-  pub written : Appends (contents old) (contents new) (selected_text choice (created_at created judged.value))
+  pub written : Appends (contents old) (contents new) (sent_text changes choice judged.value)
 
-abbrev pub WritesBy : {W : Type 0} → Limits → Option Moment → Choice → Option (List ℕ) → (W → Option (List ℕ)) → W → W
+abbrev pub WritesBy : {W : Type 0} → Limits → Changes → Choice → Option (List ℕ) → (W → Option (List ℕ)) → W → W
     → Result SelectReport ToolFault → Look → Bool → Type 0
-WritesBy limits created choice left contents old new (Ok report) look empty =
-    HasWritten limits created choice left contents old new look empty
-WritesBy limits created choice left contents old new (Err tool_faults.Output) look empty = ⊥
-WritesBy limits created choice left contents old new (Err fault) look empty = Unit {0}
+WritesBy limits changes choice left contents old new (Ok report) look empty =
+    HasWritten limits changes choice left contents old new look empty
+WritesBy limits changes choice left contents old new (Err tool_faults.Output) look empty = ⊥
+WritesBy limits changes choice left contents old new (Err fault) look empty = Unit {0}
 
-abbrev pub JudgesSelection : {W : Type 0} → Limits → Option Moment → Choice → Option (List ℕ) → (W → Option (List ℕ)) → W → W → Selected
+abbrev pub JudgesSelection : {W : Type 0} → Limits → Changes → Choice → Option (List ℕ) → (W → Option (List ℕ)) → W → W → Selected
     → Type 0
-JudgesSelection limits created choice left contents old new s =
-    WritesBy limits created choice left contents old new s.outcome s.look s.is_empty
+JudgesSelection limits changes choice left contents old new s =
+    WritesBy limits changes choice left contents old new s.outcome s.look s.is_empty
 
 -- ---- how often a device failed
 

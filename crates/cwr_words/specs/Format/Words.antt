@@ -32,6 +32,8 @@ use Rattle.cwr_words.specs.declared.words.LintWords.{LintWords}
 use Rattle.cwr_words.specs.declared.words.RenumberWords.{RenumberWords}
 use Rattle.cwr_words.specs.declared.words.AnsweredWords.{AnsweredWords}
 use Rattle.cwr_words.specs.declared.words.SelectWords.{SelectWords}
+use Rattle.cwr_words.specs.declared.words.SentAs.{SentAs}
+use Rattle.cwr_words.specs.declared.words.SentAs.TheVariants as works_sent
 use Rattle.cwr_words.specs.declared.words.ShowWords.{ShowWords}
 use Rattle.cwr_words.specs.declared.words.SplitWords.{SplitWords}
 use Rattle.cwr_words.specs.declared.words.WriteWords.{WriteWords}
@@ -306,6 +308,18 @@ abbrev pub party_given : Option (List ℕ) → Option (Option (List ℕ))
 party_given None = Some None
 party_given (Some text) = if is_party text then Some (Some text) else None
 
+-- what works are sent as, by the letters of their headers
+abbrev pub works_named : List ℕ → Option SentAs
+works_named letters =
+    if bytes_eq letters (codes "NWR") then Some works_sent.NewWorks
+    else if bytes_eq letters (codes "REV") then Some works_sent.RevisedWorks
+    else None
+
+-- What the option's letters say, or nothing without the option. There is no answer where they are those of another header.
+abbrev pub works_given : Option (List ℕ) → Option (Option SentAs)
+works_given None = Some None
+works_given (Some letters) = option_map (λ works. Some works) (works_named letters)
+
 -- a word says which transactions are selected
 abbrev pub asks_for_some : Given → Bool
 asks_for_some given =
@@ -341,7 +355,7 @@ is_dated given =
     else is_some (given.first (codes "created")) || is_none (named_out (given.first (codes "OUT")))
 
 -- Some transactions of the file FILE to the file OUT: those whose numbers or places stand in the files that these options name, that have one
--- of these kinds, that name that party, and that became so; or with that flag all others.
+-- of these kinds, that name that party, and that became so; or with that flag all others. Their works are sent as an option says.
 pub record IsSelectionOf (given : Given) (words : SelectWords) : Type 0 where
   pub file : option_map (λ f. f.now) words.file ≡ given.first (codes "FILE")
   pub out : option_map (λ f. f.now) words.out ≡ named_out (given.first (codes "OUT"))
@@ -354,6 +368,7 @@ pub record IsSelectionOf (given : Given) (words : SelectWords) : Type 0 where
   pub answered : IsAnsweredBy given words.answered
   pub others : IsFlagOf given (codes "not") words.others
   pub created : IsCreatedBy (given.first (codes "created")) words.created
+  pub sent_as : works_given (given.first (codes "as")) ≡ Some words.sent_as
   pub some : asks_for_some given ≡ true
   pub dated : is_dated given ≡ true
 

@@ -7,11 +7,11 @@ use Rattle.cwr_transform.proofs.selections.run.Goals as goal
 
 pub returns-clause-judges : goal.returns-clause-judges
 returns-clause-judges g c =
-    from_source (λ (known : Option (List ℕ)). WritesBy c.args.selection.now.limits c.args.selection.now.created
+    from_source (λ (known : Option (List ℕ)). WritesBy c.args.selection.now.limits c.args.selection.now.changes
     (g.C.Chooses.choice c.args.choice.now) known g.W.Target.contents c.args.writer c.select_viewed-writer.result.0 c.with_memory-outcome.result
     c.look_after-look.result c.is_empty.result) (remaining_of g.S.Reader.Read.remaining g.I.Read.remaining) c.args.input
     c.new-reader.result.inner _ c.new-reader.ensures.inner c.new-reader.ensures.ahead
-    (run_judged c.args.selection.now.limits c.args.selection.now.created (g.C.Chooses.choice c.args.choice.now) _ _ _ g.W.Target.contents
+    (run_judged c.args.selection.now.limits c.args.selection.now.changes (g.C.Chooses.choice c.args.choice.now) _ _ _ g.W.Target.contents
     c.args.writer c.select_viewed-writer.result.0 c.select_viewed-writer.result.1 c.with_memory-outcome.result c.lacks_memory.result
     c.is_empty.result c.look_after-look.result c.select_viewed-writer.ensures.selects c.with_memory-outcome.ensures
     c.is_empty.ensures c.look_after-look.ensures.look)

@@ -54,7 +54,7 @@ returns-clause-files g c =
     let out : Option (List ℕ) = option_map (λ name. name.now) s.out in
     let choice = asked_choice s.others (option_map (λ list. list.values) c.in-Ok.lists.works)
     (option_map (λ list. list.values) c.in-Ok.lists.places) answered s.kinds c.in-Some.party in
-    let is : List ℕ → Type 0 = IsSelectionFrom s.limits s.wanted.whole s.created choice left in
+    let is : List ℕ → Type 0 = IsSelectionFrom s.limits s.wanted.whole s.changes choice left in
     let other : List ℕ → Type 0 = IsSelectionAt s answered held standard in
     let placed : ReadsList place_in held standard (option_map (λ name. name.now) s.places)
     (option_map (λ list. list.values) c.in-Ok.lists.places)

@@ -14,7 +14,7 @@ use Rattle.cwr_transform.proofs.selections.select_to_file.Goals as goal
 
 pub returns-in-Ok-put-clause-ends : goal.returns-in-Ok-put-clause-ends
 returns-in-Ok-put-clause-ends g c =
-    select_ends c.args.selection.now.limits c.args.selection.now.wanted c.args.selection.now.created (g.C.Chooses.choice c.args.choice.now)
+    select_ends c.args.selection.now.limits c.args.selection.now.wanted c.args.selection.now.changes (g.C.Chooses.choice c.args.choice.now)
     (remaining_of g.S.Reader.Read.remaining g.I.Read.remaining c.args.input) c.in-Ok.file.selected c.ending.result _ _
     c.in-Ok.ensures.judged c.ending.ensures
 
@@ -26,7 +26,7 @@ returns-in-Ok-put-clause-files g c =
     let s2 = c.write_selected.new.store in
     let out : List ℕ = c.args.out.now in
     let left : Option (List ℕ) = remaining_of g.S.Reader.Read.remaining g.I.Read.remaining c.args.input in
-    let is : List ℕ → Type 0 = IsSelectionFrom c.args.selection.now.limits c.args.selection.now.wanted.whole c.args.selection.now.created
+    let is : List ℕ → Type 0 = IsSelectionFrom c.args.selection.now.limits c.args.selection.now.wanted.whole c.args.selection.now.changes
     (g.C.Chooses.choice c.args.choice.now) left in
     writes_on (g.S.Store.held s0) (g.S.Store.held s1) (g.S.Store.held s2) _ c.refuse_out.ensures.kept
     (turns_so (g.S.Store.held s1) (g.S.Store.held s2) _ _
@@ -45,7 +45,7 @@ returns-in-Err-put-clause-files g c =
     let s2 = c.write_selected.new.store in
     let out : List ℕ = c.args.out.now in
     let left : Option (List ℕ) = remaining_of g.S.Reader.Read.remaining g.I.Read.remaining c.args.input in
-    let is : List ℕ → Type 0 = IsSelectionFrom c.args.selection.now.limits c.args.selection.now.wanted.whole c.args.selection.now.created
+    let is : List ℕ → Type 0 = IsSelectionFrom c.args.selection.now.limits c.args.selection.now.wanted.whole c.args.selection.now.changes
     (g.C.Chooses.choice c.args.choice.now) left in
     let selected = c.in-Ok.file.selected in
     let untold : c.in-Err-put.stop ≡ stops.Output
@@ -67,7 +67,7 @@ returns-in-Err-write_selected-clause-files g c =
     let s2 = c.write_selected.new.store in
     let out : List ℕ = c.args.out.now in
     let left : Option (List ℕ) = remaining_of g.S.Reader.Read.remaining g.I.Read.remaining c.args.input in
-    let is : List ℕ → Type 0 = IsSelectionFrom c.args.selection.now.limits c.args.selection.now.wanted.whole c.args.selection.now.created
+    let is : List ℕ → Type 0 = IsSelectionFrom c.args.selection.now.limits c.args.selection.now.wanted.whole c.args.selection.now.changes
     (g.C.Chooses.choice c.args.choice.now) left in
     writes_on (g.S.Store.held s0) (g.S.Store.held s1) (g.S.Store.held s2) _ c.refuse_out.ensures.kept
     (turns_so (g.S.Store.held s1) (g.S.Store.held s2) _ _

@@ -7,7 +7,7 @@ use Rattle.cwr_transform.proofs.selections.select_to_output.Goals as goal
 pub returns-clause-ends : goal.returns-clause-ends
 returns-clause-ends g c =
     let left : Option (List ℕ) = remaining_of g.S.Reader.Read.remaining g.I.Read.remaining c.args.input in
-    select_ends c.args.selection.now.limits c.args.selection.now.wanted c.args.selection.now.created (g.C.Chooses.choice c.args.choice.now)
+    select_ends c.args.selection.now.limits c.args.selection.now.wanted c.args.selection.now.changes (g.C.Chooses.choice c.args.choice.now)
     left c.run-output.result.0 c.ending-ended.result _ _
-    (is_judged c.args.selection.now.limits c.args.selection.now.created (g.C.Chooses.choice c.args.choice.now) left g.W.Target.contents
+    (is_judged c.args.selection.now.limits c.args.selection.now.changes (g.C.Chooses.choice c.args.choice.now) left g.W.Target.contents
     c.args.output c.run-output.result.1 c.run-output.result.0 c.run-output.ensures.judges) c.ending-ended.ensures

@@ -38,7 +38,7 @@ returns-in-Err-settle-clause-files g c =
     let s2 = c.run-writer.new.store in
     let s3 = c.settle.new.store in
     let selected = c.run-writer.result.0 in
-    let is : List ℕ → Type 0 = IsSelectionFrom c.args.selection.now.limits c.args.selection.now.wanted.whole c.args.selection.now.created
+    let is : List ℕ → Type 0 = IsSelectionFrom c.args.selection.now.limits c.args.selection.now.wanted.whole c.args.selection.now.changes
     (g.C.Chooses.choice c.args.choice.now) (remaining_of g.S.Reader.Read.remaining g.I.Read.remaining c.args.input) in
     let begun : Begins made (g.S.Store.making s1) (g.S.Store.held s0) (g.S.Store.held s1)
     = turns_so (g.S.Store.held s0) (g.S.Store.held s1) _ _ (λ texts new h. h.0) (c.in-Ok.ensures.begun none) in
@@ -58,7 +58,7 @@ returns-in-Err-settle-clause-files g c =
 
 pub returns-in-Ok-settle-clause-judged : goal.returns-in-Ok-settle-clause-judged
 returns-in-Ok-settle-clause-judged g c =
-    is_judged c.args.selection.now.limits c.args.selection.now.created (g.C.Chooses.choice c.args.choice.now) _
+    is_judged c.args.selection.now.limits c.args.selection.now.changes (g.C.Chooses.choice c.args.choice.now) _
     (written_to g.S.Writer.Write.contents) c.in-Ok-gathered.writer c.run-writer.result.1 c.run-writer.result.0 c.run-writer.ensures.judges
 
 pub returns-in-Ok-settle-clause-files : goal.returns-in-Ok-settle-clause-files
@@ -72,7 +72,7 @@ returns-in-Ok-settle-clause-files g c =
     let selected = c.run-writer.result.0 in
     let written = c.take_back-written.result.1 in
     let left : Option (List ℕ) = remaining_of g.S.Reader.Read.remaining g.I.Read.remaining c.args.input in
-    let is : List ℕ → Type 0 = IsSelectionFrom c.args.selection.now.limits c.args.selection.now.wanted.whole c.args.selection.now.created
+    let is : List ℕ → Type 0 = IsSelectionFrom c.args.selection.now.limits c.args.selection.now.wanted.whole c.args.selection.now.changes
     (g.C.Chooses.choice c.args.choice.now) left in
     let begun : Begins made (g.S.Store.making s1) (g.S.Store.held s0) (g.S.Store.held s1)
     = turns_so (g.S.Store.held s0) (g.S.Store.held s1) _ _ (λ texts new h. h.0) (c.in-Ok.ensures.begun none) in
@@ -95,7 +95,7 @@ returns-in-Ok-settle-clause-files g c =
     (g.S.Store.failures s3) (g.S.Store.held s0) (g.S.Store.held s2) (g.S.Store.held s3) c.is_wanted-is_kept.result c.in-Ok.ensures.named on
     (λ le lt. few_selected selected.outcome selected.look (times_failed written) (g.S.Store.failures s0) (g.S.Store.failures s2)
     (g.S.Store.failures s3) reads writes le lt)
-    (λ keeps whole fresh. kept_text c.args.selection.now.limits c.args.selection.now.wanted c.args.selection.now.created
+    (λ keeps whole fresh. kept_text c.args.selection.now.limits c.args.selection.now.wanted c.args.selection.now.changes
     (g.C.Chooses.choice c.args.choice.now) left (written_to g.S.Writer.Write.contents) c.in-Ok-gathered.writer c.run-writer.result.1 selected
     (g.S.Writer.Write.contents (writer_in written)) c.run-writer.ensures.judges (sym c.is_wanted-is_kept.ensures ∙ keeps) fresh
     (c.take_back-written.ensures.whole whole))
