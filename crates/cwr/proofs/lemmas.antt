@@ -10,6 +10,8 @@ pub mod Leaves
 pub mod Renumberings
 -- A run has the status of a fault only where something failed.
 pub mod Failing
+-- A run that may write a file has the status of a fault only where something failed.
+pub mod FailsOuts
 -- A selection by what became of transactions, or by other words alone.
 pub mod Selecting
 -- How a run over acknowledgements ends, by how many words it has.

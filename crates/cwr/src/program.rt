@@ -1,15 +1,17 @@
 //! The program between its words and its devices.
 
-ghost use Rattle.std.specs.Prelude.{IfOk, codes, count_by, unwrap_or, ◌≡◌, ◌≢◌, ◌<◌, ◌≤◌, length, map, option_map, true, false, None, OnOk};
+ghost use Rattle.std.specs.Prelude.{IfOk, codes, count_by, unwrap_or, ◌≡◌, ◌≢◌, ◌<◌, ◌≤◌, length, map, option_map, true, false, None, IfSome, OnErr, OnOk};
 ghost use Rattle.std.specs.Option.{is_some};
 ghost use Rattle.std.specs.IoError.{error_kind};
 ghost use Rattle.std.specs.declared.io.ErrorKind.TheVariants.{OutOfMemory as lacks_memory};
 ghost use Rattle.clap.specs.Values.{kind_of};
 ghost use Rattle.cwr.specs.Format.Endings.{AreStandardTwice, EndsAsAnswers, EndsAsData, EndsAsManual, EndsOnFiles, EndsOnWork, fault_status, status_code};
-ghost use Rattle.cwr.specs.Format.Failures.{FailsAsData, FailsOnFiles, FailsSo, FailsWork};
+ghost use Rattle.cwr.specs.Format.Failures.{FailsOnFiles, FailsWork, OfOne};
 ghost use Rattle.cwr.specs.Format.Files.{LeavesOut, LeavesWork, RunsRenumbering, RunsTask, RunsWords};
-ghost use Rattle.cwr.specs.Steps.Tells.{CountsData, CountsWork, HandsOnData, HandsOnWork, TellsAsked, TellsData, TellsFiles, TellsJudged, TellsQuietRead, TellsQuietly, TellsRead, TellsWork};
+ghost use Rattle.cwr.specs.Steps.Tells.{CountsData, CountsWork, HandsOnData, HandsOnWork, TellsAnswers, TellsAsked, TellsData, TellsFiles, TellsJudged, TellsQuietRead, TellsQuietly, TellsRead, TellsWork};
 ghost use Rattle.cwr_devices.specs.Format.Failures.{most_failures};
+ghost use Rattle.cwr_endings.specs.Format.Endings.{IsRefusedOut};
+ghost use Rattle.cwr_endings.specs.Format.Failures.{FailsOut, FailsSo};
 ghost use Rattle.cwr_files.specs.Format.Faults.{IfErr};
 ghost use Rattle.cwr_files.specs.Format.Files.{Turns};
 ghost use Rattle.cwr_files.specs.Format.Inputs.{IsThereOrRead, is_standard};
@@ -249,6 +251,8 @@ fn asked_by(alloc: Global, task: &Task<'_>, fail_on: Option<Level>) -> Asked
 
 /// Whether the transmission may be written to where the words say.
 fn refuse_written<'a, S: Store>(store: &mut S, words: &WriteWords<'a>) -> Result<(), Fault<'a>>
+    ensures refused { IfErr result (λ fault. IfSome words.now.out (λ out. IsRefusedOut (Name.File out) false fault)) }
+    ensures free { words.now.out ≡ None → OnErr result ⊥ }
     ensures kept { S.held store.new ≡ S.held store.old }
     ensures making { S.making store.new ≡ S.making store.old }
     ensures failures { HasKeptCount (S.failures store.old) (S.failures store.new) }
@@ -275,6 +279,8 @@ fn import_lines<'a, S: Store, I: Read + Drop, P: Pace, W: Target + Drop, E: Writ
         (I.remaining standard) result.1 }
     ensures files { S.making store.old ≡ None → LeavesWork task.now.limits task.now.whole (Work.Write words.now)
         (S.held store.old) (I.remaining standard) (S.failures store.old) (S.failures store.new) result.1 (S.held store.new) }
+    ensures failed { FailsWork (Work.Write words.now) (S.making store.old) (S.held store.old) (S.held store.new) result.1
+        (S.failures store.old) (S.failures store.new) }
 {
     let import = Import {
         limits: task.limits,
@@ -312,6 +318,8 @@ fn split_input<'a, S: Store, I: Read + Drop, P: Pace, W: Target + Drop, E: Write
         (I.remaining standard) result.1 }
     ensures files { S.making store.old ≡ None → LeavesWork task.now.limits task.now.whole (Work.Split words.now)
         (S.held store.old) (I.remaining standard) (S.failures store.old) (S.failures store.new) result.1 (S.held store.new) }
+    ensures failed { FailsWork (Work.Split words.now) (S.making store.old) (S.held store.old) (S.held store.new) result.1
+        (S.failures store.old) (S.failures store.new) }
 {
     let cut = Cut {
         limits: task.limits,
@@ -344,6 +352,8 @@ fn join_inputs<'a, S: Store, I: Read + Drop, P: Pace, W: Target + Drop, E: Write
         (I.remaining standard) result.1 }
     ensures files { S.making store.old ≡ None → LeavesWork task.now.limits task.now.whole (Work.Join words.now)
         (S.held store.old) (I.remaining standard) (S.failures store.old) (S.failures store.new) result.1 (S.held store.new) }
+    ensures failed { FailsWork (Work.Join words.now) (S.making store.old) (S.held store.old) (S.held store.new) result.1
+        (S.failures store.old) (S.failures store.new) }
 {
     let union = Union {
         limits: task.limits,
@@ -371,8 +381,10 @@ fn renumber<'a, S: Store, I: Read + Drop, P: Pace, W: Target + Drop, E: Write>(
     output: W,
     error: &mut E,
 ) -> (W, Result<Status, Stop<'a>>)
-    ensures { RunsRenumbering renumbered_text task.now.limits task.now.whole (Work.Renumber words.now) (I.remaining standard)
+    ensures runs { RunsRenumbering renumbered_text task.now.limits task.now.whole (Work.Renumber words.now) (I.remaining standard)
         (S.held store.old) (S.held store.new) (S.making store.old) (S.failures store.old) (S.failures store.new) result.1 }
+    ensures failed { FailsWork (Work.Renumber words.now) (S.making store.old) (S.held store.old) (S.held store.new) result.1
+        (S.failures store.old) (S.failures store.new) }
 {
     let repair = Repair {
         limits: task.limits,
@@ -615,7 +627,8 @@ fn write_data<'a, S: Store, I: Read + Drop, P: Pace, W: Target + Drop, E: Write>
         (I.remaining standard) (option_map (λ n. n.now) name.entry) (is_some out.entry) result.1 }
     ensures told { TellsData (is_some out.entry) telling.entry asked.now.limits (S.held store.old)
         (I.remaining standard) (option_map (λ n. n.now) name.entry) W.contents lines result.0 result.1 }
-    ensures failed { FailsAsData (is_some out.entry) result.1 (S.failures store.old) (S.failures store.new) }
+    ensures failed { FailsOut out.entry (S.making store.old) (S.held store.old) (S.held store.new) result.1 (S.failures store.old)
+        (S.failures store.new) }
     ensures output { CountsData (is_some out.entry) result.1 (W.failures lines) (W.failures result.0) }
     ensures handed_on { HandsOnData (is_some out.entry) result.1 (W.handed_on result.0) }
     ensures files { is_data telling.entry ≡ true → S.making store.old ≡ None → Turns (S.held store.old) (S.held store.new)
@@ -736,8 +749,18 @@ fn tell_answers<'a, S: Store, I: Read + Drop, P: Pace, W: Target + Drop, E: Writ
 ) -> (W, Result<Status, Stop<'a>>)
     requires limits { asked.now.limits ≡ answering.now.limits }
     requires wanted { asked.now.wanted ≡ record { whole = answering.now.whole; fail_on = None } }
+    requires lines { asked.now.quiet ≡ false }
     ensures ends { EndsAsAnswers answering.now.limits answering.now.whole answering.now.fail_on (S.held store.old) (I.remaining standard)
         (map (λ name. name.now) answering.now.files.now) (map (λ name. name.now) answering.now.sent.now) result.1 }
+    ensures told { OfOne (map (λ name. name.now) answering.now.files.now) (map (λ name. name.now) answering.now.sent.now)
+        (λ name. TellsAnswers answering.now.form answering.now.statuses.now answering.now.limits (S.held store.old) (I.remaining standard) name
+        W.contents lines result.0 result.1) }
+    ensures failed { OfOne (map (λ name. name.now) answering.now.files.now) (map (λ name. name.now) answering.now.sent.now)
+        (λ name. FailsSo result.1 (S.failures store.old) (S.failures store.new)) }
+    ensures output { OfOne (map (λ name. name.now) answering.now.files.now) (map (λ name. name.now) answering.now.sent.now)
+        (λ name. CountsOutput result.1 (W.failures lines) (W.failures result.0)) }
+    ensures handed_on { OfOne (map (λ name. name.now) answering.now.files.now) (map (λ name. name.now) answering.now.sent.now)
+        (λ name. OnOk result.1 (W.handed_on result.0 ≡ true)) }
     ensures kept { S.held store.new ≡ S.held store.old }
 {
     match answering.sent {
@@ -759,8 +782,18 @@ fn tell_unmatched<'a, S: Store, I: Read + Drop, P: Pace, W: Target + Drop, E: Wr
     requires limits { asked.now.limits ≡ answering.now.limits }
     requires wanted { asked.now.wanted ≡ record { whole = answering.now.whole; fail_on = None } }
     requires unsent { length answering.now.sent.now < 1 }
+    requires lines { asked.now.quiet ≡ false }
     ensures ends { EndsAsAnswers answering.now.limits answering.now.whole answering.now.fail_on (S.held store.old) (I.remaining standard)
         (map (λ name. name.now) answering.now.files.now) (map (λ name. name.now) answering.now.sent.now) result.1 }
+    ensures told { OfOne (map (λ name. name.now) answering.now.files.now) (map (λ name. name.now) answering.now.sent.now)
+        (λ name. TellsAnswers answering.now.form answering.now.statuses.now answering.now.limits (S.held store.old) (I.remaining standard) name
+        W.contents lines result.0 result.1) }
+    ensures failed { OfOne (map (λ name. name.now) answering.now.files.now) (map (λ name. name.now) answering.now.sent.now)
+        (λ name. FailsSo result.1 (S.failures store.old) (S.failures store.new)) }
+    ensures output { OfOne (map (λ name. name.now) answering.now.files.now) (map (λ name. name.now) answering.now.sent.now)
+        (λ name. CountsOutput result.1 (W.failures lines) (W.failures result.0)) }
+    ensures handed_on { OfOne (map (λ name. name.now) answering.now.files.now) (map (λ name. name.now) answering.now.sent.now)
+        (λ name. OnOk result.1 (W.handed_on result.0 ≡ true)) }
     ensures kept { S.held store.new ≡ S.held store.old }
 {
     let told = Telling::Answers {
@@ -820,7 +853,8 @@ fn show_records<'a, S: Store, I: Read + Drop, P: Pace, W: Target + Drop, E: Writ
         (I.remaining standard) result.1 }
     ensures told { TellsWork task.now.limits task.now.whole (Work.Show words.now) (S.held store.old) (I.remaining standard)
         W.contents W.failures lines result.0 (S.failures store.old) (S.failures store.new) result.1 }
-    ensures failed { FailsWork (Work.Show words.now) result.1 (S.failures store.old) (S.failures store.new) }
+    ensures failed { FailsWork (Work.Show words.now) (S.making store.old) (S.held store.old) (S.held store.new) result.1
+        (S.failures store.old) (S.failures store.new) }
     ensures output { CountsOutput result.1 (W.failures lines) (W.failures result.0) }
     ensures handed_on { OnOk result.1 (W.handed_on result.0 ≡ true) }
     ensures kept { S.held store.new ≡ S.held store.old }
@@ -847,7 +881,8 @@ fn tell_faults<'a, S: Store, I: Read + Drop, P: Pace, W: Target + Drop, E: Write
         (I.remaining standard) result.1 }
     ensures told { TellsWork task.now.limits task.now.whole (Work.Lint words.now) (S.held store.old) (I.remaining standard)
         W.contents W.failures lines result.0 (S.failures store.old) (S.failures store.new) result.1 }
-    ensures failed { FailsWork (Work.Lint words.now) result.1 (S.failures store.old) (S.failures store.new) }
+    ensures failed { FailsWork (Work.Lint words.now) (S.making store.old) (S.held store.old) (S.held store.new) result.1
+        (S.failures store.old) (S.failures store.new) }
     ensures output { CountsOutput result.1 (W.failures lines) (W.failures result.0) }
     ensures handed_on { OnOk result.1 (W.handed_on result.0 ≡ true) }
     ensures kept { S.held store.new ≡ S.held store.old }
@@ -887,7 +922,8 @@ fn advise<'a, S: Store, I: Read + Drop, P: Pace, W: Target + Drop, E: Write>(
         (I.remaining standard) result.1 }
     ensures told { TellsWork task.now.limits task.now.whole (Work.Advise words.now) (S.held store.old) (I.remaining standard)
         W.contents W.failures lines result.0 (S.failures store.old) (S.failures store.new) result.1 }
-    ensures failed { FailsWork (Work.Advise words.now) result.1 (S.failures store.old) (S.failures store.new) }
+    ensures failed { FailsWork (Work.Advise words.now) (S.making store.old) (S.held store.old) (S.held store.new) result.1
+        (S.failures store.old) (S.failures store.new) }
     ensures output { CountsOutput result.1 (W.failures lines) (W.failures result.0) }
     ensures handed_on { OnOk result.1 (W.handed_on result.0 ≡ true) }
     ensures kept { S.held store.new ≡ S.held store.old }
@@ -919,7 +955,8 @@ fn write_json<'a, S: Store, I: Read + Drop, P: Pace, W: Target + Drop, E: Write>
         (I.remaining standard) result.1 }
     ensures told { TellsWork task.now.limits task.now.whole (Work.Json words.now) (S.held store.old) (I.remaining standard)
         W.contents W.failures lines result.0 (S.failures store.old) (S.failures store.new) result.1 }
-    ensures failed { FailsWork (Work.Json words.now) result.1 (S.failures store.old) (S.failures store.new) }
+    ensures failed { FailsWork (Work.Json words.now) (S.making store.old) (S.held store.old) (S.held store.new) result.1
+        (S.failures store.old) (S.failures store.new) }
     ensures output { CountsWork (Work.Json words.now) result.1 (W.failures lines) (W.failures result.0) }
     ensures handed_on { HandsOnWork (Work.Json words.now) result.1 (W.handed_on result.0) }
     ensures files { S.making store.old ≡ None → LeavesWork task.now.limits task.now.whole (Work.Json words.now)
@@ -951,7 +988,8 @@ fn write_table<'a, S: Store, I: Read + Drop, P: Pace, W: Target + Drop, E: Write
         (I.remaining standard) result.1 }
     ensures told { TellsWork task.now.limits task.now.whole (Work.Csv words.now) (S.held store.old) (I.remaining standard)
         W.contents W.failures lines result.0 (S.failures store.old) (S.failures store.new) result.1 }
-    ensures failed { FailsWork (Work.Csv words.now) result.1 (S.failures store.old) (S.failures store.new) }
+    ensures failed { FailsWork (Work.Csv words.now) (S.making store.old) (S.held store.old) (S.held store.new) result.1
+        (S.failures store.old) (S.failures store.new) }
     ensures output { CountsWork (Work.Csv words.now) result.1 (W.failures lines) (W.failures result.0) }
     ensures handed_on { HandsOnWork (Work.Csv words.now) result.1 (W.handed_on result.0) }
     ensures files { S.making store.old ≡ None → LeavesWork task.now.limits task.now.whole (Work.Csv words.now)
@@ -981,6 +1019,12 @@ fn tell_acks<'a, S: Store, I: Read + Drop, P: Pace, W: Target + Drop, E: Write>(
 ) -> (W, Result<Status, Stop<'a>>)
     ensures ends { EndsOnWork task.now.limits task.now.whole (Work.Acks words.now) (S.held store.old)
         (I.remaining standard) result.1 }
+    ensures told { TellsWork task.now.limits task.now.whole (Work.Acks words.now) (S.held store.old) (I.remaining standard)
+        W.contents W.failures lines result.0 (S.failures store.old) (S.failures store.new) result.1 }
+    ensures failed { FailsWork (Work.Acks words.now) (S.making store.old) (S.held store.old) (S.held store.new) result.1
+        (S.failures store.old) (S.failures store.new) }
+    ensures output { CountsWork (Work.Acks words.now) result.1 (W.failures lines) (W.failures result.0) }
+    ensures handed_on { HandsOnWork (Work.Acks words.now) result.1 (W.handed_on result.0) }
     ensures kept { S.held store.new ≡ S.held store.old }
 {
     let asked = asked_by(alloc, task, None);
@@ -1076,8 +1120,9 @@ fn perform<'a, S: Store, I: Read + Drop, P: Pace, W: Target + Drop, E: Write>(
         result.1 }
     ensures told { TellsWork task.now.limits task.now.whole task.now.work (S.held store.old) (I.remaining standard)
         W.contents W.failures lines result.0 (S.failures store.old) (S.failures store.new) result.1 }
-    // The status of a fault comes only where a file failed, or there was no memory.
-    ensures failed { FailsWork task.now.work result.1 (S.failures store.old) (S.failures store.new) }
+    // The status of a fault comes only where a file failed, or none can be made, or there was no memory.
+    ensures failed { FailsWork task.now.work (S.making store.old) (S.held store.old) (S.held store.new) result.1
+        (S.failures store.old) (S.failures store.new) }
     ensures output { CountsWork task.now.work result.1 (W.failures lines) (W.failures result.0) }
     ensures handed_on { HandsOnWork task.now.work result.1 (W.handed_on result.0) }
     ensures files { S.making store.old ≡ None → LeavesWork task.now.limits task.now.whole task.now.work

@@ -1,10 +1,7 @@
 -- A run has the status of a fault only where something failed.
-use Rattle.std.proofs.Common.{◌≡◌, ◌≢◌, ℕ, ◌<◌, ◌≤◌, Bool, true, false, List, [], ◌∷◌, length, map, Option, Some, Bor, refl, sym, subst, arith, inl, inr}
+use Rattle.std.proofs.Common.{None, ◌≡◌, ◌≢◌, ℕ, ◌<◌, ◌≤◌, Bool, List, [], ◌∷◌, length, map, Option, Some, Bor, refl, sym, subst, arith, inl, inr}
 use Rattle.std.specs.Prelude.{IfOk, Result, Ok, Err}
 use Rattle.std.specs.List.{AllZip}
-use Rattle.std.specs.Option.{is_some}
-use Rattle.std.proofs.lemmas.Option.{none-some}
-use Rattle.cwr_devices.specs.Format.Failures.{most_failures, one_more_failure}
 use Rattle.cwr_shape.specs.declared.limits.Limits.{Limits}
 use Rattle.cwr_words.specs.declared.words.Work.{Work}
 use Rattle.cwr_words.specs.declared.words.Work.TheVariants.{Check, Show, Explain, Lint, Advise, Json, Csv, Acks, Write, Split}
@@ -13,8 +10,8 @@ use Rattle.cwr_files.specs.declared.faults.Fault.{Fault}
 use Rattle.cwr_files.specs.declared.faults.Fault.TheVariants as faults
 use Rattle.cwr_files.specs.declared.faults.Name.TheVariants as names
 use Rattle.cwr_files.specs.Format.Files.{Texts}
-use Rattle.cwr_files.specs.Format.Inputs.{IsUnopenedBy}
-use Rattle.cwr_files.proofs.lemmas.Unopened.{by_unopened}
+use Rattle.cwr_files.specs.Steps.NewFiles.{HasKeptCount}
+use Rattle.cwr_files.proofs.lemmas.Counts.{counted_kept, counted_then_kept, kept_then_counted, kept_then_kept, one_counted, same_count}
 use Rattle.cwr_endings.specs.declared.endings.Look.{Look}
 use Rattle.cwr_endings.specs.declared.endings.Look.TheVariants as looks
 use Rattle.cwr_endings.specs.declared.endings.Status.{Status}
@@ -30,55 +27,25 @@ use Rattle.cwr_reports.specs.Format.Endings.{EndsOnEach, EndsOnInput}
 use Rattle.cwr_reports.specs.Steps.Looks.{IsJudged, IsRead}
 use Rattle.cwr_reports.specs.Steps.Marked.{CountsEnd, CountsEnds, CountsOutput, HasStatus, IsPiece, IsUnopened, Piece, TellsEach, status_in, worst_from}
 use Rattle.cwr_reports.specs.Steps.Tellings.{CountsStop}
-use Rattle.cwr.specs.Format.Failures.{FailsAsData, FailsEach, FailsMore, FailsOnFiles, FailsSo, FailsWork, IsFaultOfOne}
+use Rattle.cwr_endings.specs.Format.Failures.{FailsOut, FailsSo}
+use Rattle.cwr.specs.Format.Failures.{FailsEach, FailsOnFiles, FailsWork, IsFaultOfOne, OfOne}
 
--- ---- counts
+-- ---- a look at what follows
 
--- no fewer calls failed, where the count isn't the highest
-abbrev FailsNoFewer : ℕ → ℕ → Type 0
-FailsNoFewer old now = now < most_failures → old ≤ now
-
-same_fails : (old now : ℕ) → now ≡ old → FailsNoFewer old now
-same_fails old now e = λ lt. omega (arith, e)
-
-pub one_fails : (old now : ℕ) → now ≡ one_more_failure old → FailsMore old now
-one_fails old now e = λ lt. omega (arith, e, lt)
-
-more_fails : (old now : ℕ) → FailsMore old now → FailsNoFewer old now
-more_fails old now h = λ lt. let more : old < now = h lt in omega (arith, more)
-
-then_more : (old mid now : ℕ) → FailsNoFewer old mid → FailsMore mid now → FailsMore old now
-then_more old mid now h k = λ lt.
-    let later : mid < now = k lt in
-    let before : old ≤ mid = h (omega (arith, lt, later)) in
-    omega (arith, later, before)
-
-more_then : (old mid now : ℕ) → FailsMore old mid → FailsNoFewer mid now → FailsMore old now
-more_then old mid now h k = λ lt.
-    let later : mid ≤ now = k lt in
-    let before : old < mid = h (omega (arith, lt, later)) in
-    omega (arith, later, before)
-
-then_no_fewer : (old mid now : ℕ) → FailsNoFewer old mid → FailsNoFewer mid now → FailsNoFewer old now
-then_no_fewer old mid now h k = λ lt.
-    let later : mid ≤ now = k lt in
-    let before : old ≤ mid = h (omega (arith, lt, later)) in
-    omega (arith, later, before)
-
-looked_fails : (look : Look) (old now : ℕ) → CountsLook look old now → FailsNoFewer old now
-looked_fails (looks.Found trailing) old now h = same_fails old now h
-looked_fails looks.Failed old now h = more_fails old now (one_fails old now h)
-looked_fails looks.Unasked old now h = same_fails old now h
+looked_fails : (look : Look) (old now : ℕ) → CountsLook look old now → HasKeptCount old now
+looked_fails (looks.Found trailing) old now h = same_count old now h
+looked_fails looks.Failed old now h = counted_kept old now (one_counted old now h)
+looked_fails looks.Unasked old now h = same_count old now h
 
 -- ---- a fault that is counted
 
 -- it is, where others fail before it
-fault_then : (fault : Fault) (old mid now : ℕ) → FailsNoFewer old mid → IsFaultOfOne fault mid now → IsFaultOfOne fault old now
+fault_then : (fault : Fault) (old mid now : ℕ) → HasKeptCount old mid → IsFaultOfOne fault mid now → IsFaultOfOne fault old now
 fault_then (faults.Open names.StandardInput reason) old mid now h k = tt
-fault_then (faults.Open names.StandardOutput reason) old mid now h k = then_more old mid now h k
-fault_then (faults.Open (names.File name) reason) old mid now h k = then_more old mid now h k
-fault_then (faults.Open (names.Part prefix number) reason) old mid now h k = then_more old mid now h k
-fault_then (faults.Read told) old mid now h k = then_more old mid now h k
+fault_then (faults.Open names.StandardOutput reason) old mid now h k = kept_then_counted old mid now h k
+fault_then (faults.Open (names.File name) reason) old mid now h k = kept_then_counted old mid now h k
+fault_then (faults.Open (names.Part prefix number) reason) old mid now h k = kept_then_counted old mid now h k
+fault_then (faults.Read told) old mid now h k = kept_then_counted old mid now h k
 fault_then faults.Memory old mid now h k = tt
 fault_then (faults.Write told) old mid now h k = absurd k
 fault_then (faults.Output of reason) old mid now h k = absurd k
@@ -89,12 +56,12 @@ fault_then (faults.IsOther of) old mid now h k = absurd k
 fault_then (faults.IsLate of) old mid now h k = absurd k
 
 -- and where others fail after it
-then_fault : (fault : Fault) (old mid now : ℕ) → IsFaultOfOne fault old mid → FailsNoFewer mid now → IsFaultOfOne fault old now
+then_fault : (fault : Fault) (old mid now : ℕ) → IsFaultOfOne fault old mid → HasKeptCount mid now → IsFaultOfOne fault old now
 then_fault (faults.Open names.StandardInput reason) old mid now k h = tt
-then_fault (faults.Open names.StandardOutput reason) old mid now k h = more_then old mid now k h
-then_fault (faults.Open (names.File name) reason) old mid now k h = more_then old mid now k h
-then_fault (faults.Open (names.Part prefix number) reason) old mid now k h = more_then old mid now k h
-then_fault (faults.Read told) old mid now k h = more_then old mid now k h
+then_fault (faults.Open names.StandardOutput reason) old mid now k h = counted_then_kept old mid now k h
+then_fault (faults.Open (names.File name) reason) old mid now k h = counted_then_kept old mid now k h
+then_fault (faults.Open (names.Part prefix number) reason) old mid now k h = counted_then_kept old mid now k h
+then_fault (faults.Read told) old mid now k h = counted_then_kept old mid now k h
 then_fault faults.Memory old mid now k h = tt
 then_fault (faults.Write told) old mid now k h = absurd k
 then_fault (faults.Output of reason) old mid now k h = absurd k
@@ -107,10 +74,10 @@ then_fault (faults.IsLate of) old mid now k h = absurd k
 -- of one file
 end_fault : (fault : Fault) (old now : ℕ) → CountsEnd (Err fault) old now → IsFaultOfOne fault old now
 end_fault (faults.Open names.StandardInput reason) old now h = tt
-end_fault (faults.Open names.StandardOutput reason) old now h = one_fails old now h
-end_fault (faults.Open (names.File name) reason) old now h = one_fails old now h
-end_fault (faults.Open (names.Part prefix number) reason) old now h = one_fails old now h
-end_fault (faults.Read told) old now h = one_fails old now h
+end_fault (faults.Open names.StandardOutput reason) old now h = one_counted old now h
+end_fault (faults.Open (names.File name) reason) old now h = one_counted old now h
+end_fault (faults.Open (names.Part prefix number) reason) old now h = one_counted old now h
+end_fault (faults.Read told) old now h = one_counted old now h
 end_fault faults.Memory old now h = tt
 end_fault (faults.Write told) old now h = absurd h
 end_fault (faults.Output of reason) old now h = absurd h
@@ -120,14 +87,14 @@ end_fault (faults.IsTwice of) old now h = absurd h
 end_fault (faults.IsOther of) old now h = absurd h
 end_fault (faults.IsLate of) old now h = absurd h
 
-end_fails : (end : Result Judgement Fault) (old now : ℕ) → CountsEnd end old now → FailsNoFewer old now
+end_fails : (end : Result Judgement Fault) (old now : ℕ) → CountsEnd end old now → HasKeptCount old now
 end_fails (Ok judgement) old now h = looked_fails judgement.look old now h
-end_fails (Err (faults.Open names.StandardInput reason)) old now h = same_fails old now h
-end_fails (Err (faults.Open names.StandardOutput reason)) old now h = more_fails old now (one_fails old now h)
-end_fails (Err (faults.Open (names.File name) reason)) old now h = more_fails old now (one_fails old now h)
-end_fails (Err (faults.Open (names.Part prefix number) reason)) old now h = more_fails old now (one_fails old now h)
-end_fails (Err (faults.Read told)) old now h = more_fails old now (one_fails old now h)
-end_fails (Err faults.Memory) old now h = same_fails old now h
+end_fails (Err (faults.Open names.StandardInput reason)) old now h = same_count old now h
+end_fails (Err (faults.Open names.StandardOutput reason)) old now h = counted_kept old now (one_counted old now h)
+end_fails (Err (faults.Open (names.File name) reason)) old now h = counted_kept old now (one_counted old now h)
+end_fails (Err (faults.Open (names.Part prefix number) reason)) old now h = counted_kept old now (one_counted old now h)
+end_fails (Err (faults.Read told)) old now h = counted_kept old now (one_counted old now h)
+end_fails (Err faults.Memory) old now h = same_count old now h
 end_fails (Err (faults.Write told)) old now h = absurd h
 end_fails (Err (faults.Output of reason)) old now h = absurd h
 end_fails (Err (faults.IsInput of)) old now h = absurd h
@@ -136,10 +103,10 @@ end_fails (Err (faults.IsTwice of)) old now h = absurd h
 end_fails (Err (faults.IsOther of)) old now h = absurd h
 end_fails (Err (faults.IsLate of)) old now h = absurd h
 
-ends_fail : (pieces : List Piece) (old now : ℕ) → CountsEnds pieces old now → FailsNoFewer old now
-ends_fail [] old now h = same_fails old now h
+ends_fail : (pieces : List Piece) (old now : ℕ) → CountsEnds pieces old now → HasKeptCount old now
+ends_fail [] old now h = same_count old now h
 ends_fail (piece ∷ pieces) old now h =
-    then_no_fewer old h.0 now (end_fails piece.end old h.0 h.1) (ends_fail pieces h.0 now h.2)
+    kept_then_kept old h.0 now (end_fails piece.end old h.0 h.1) (ends_fail pieces h.0 now h.2)
 
 -- ---- of several files
 
@@ -160,7 +127,7 @@ no_worse statuses.Good statuses.Refused not read = λ e. cc e
 no_worse statuses.Good statuses.Good not read = not
 
 -- a file failed, or one after it
-next_failed : (end : Result Judgement Fault) (status : Status) (old mid now : ℕ) → CountsEnd end old mid → FailsNoFewer mid now
+next_failed : (end : Result Judgement Fault) (status : Status) (old mid now : ℕ) → CountsEnd end old mid → HasKeptCount mid now
     → status ≢ statuses.Fault → IfOk end IsJudged
     → (worse_status status (status_in end) ≢ statuses.Fault → (fault : Fault) × IsFaultOfOne fault mid now)
     → (fault : Fault) × IsFaultOfOne fault old now
@@ -218,13 +185,6 @@ module _ (asked : Asked) (explained : Bool) (held : Option Texts) (standard : Op
 
 -- ---- one input
 
--- what couldn't be opened, where standard input is there
-pub unopened_fails : {I : Type 0} → (name : Option (List ℕ)) (input : I) (old now : ℕ) (fault : Fault)
-    → IsUnopenedBy name (Some input) old now fault → FailsSo (Err (stops.Fault fault)) old now
-unopened_fails name input old now fault h =
-    by_unopened name (Some input) old now (λ (f : Fault). FailsSo (Err (stops.Fault f)) old now)
-    (λ is gone same. absurd (none-some input (sym gone))) (λ of reason is word counted. one_fails old now counted) fault h
-
 stopped_fails : (advice : Option (Bool × ℕ)) (limits : Limits) (wanted : Wanted) (left : Option (List ℕ)) (ending : Result Status Stop)
     (old now out out_now : ℕ) → IfOk ending IsRead → EndsOnInput advice limits wanted left ending → CountsStop ending old now out out_now
     → FailsSo ending old now
@@ -233,7 +193,7 @@ stopped_fails advice limits wanted left (Ok statuses.Refused) old now out out_no
 stopped_fails advice limits wanted left (Ok statuses.CommandLine) old now out out_now read ends h = tt
 stopped_fails advice limits wanted left (Ok statuses.Fault) old now out out_now read ends h = absurd read
 stopped_fails advice limits wanted left (Err stops.Output) old now out out_now read ends h = tt
-stopped_fails advice limits wanted left (Err (stops.Fault (faults.Read told))) old now out out_now read ends h = one_fails old now h.0
+stopped_fails advice limits wanted left (Err (stops.Fault (faults.Read told))) old now out out_now read ends h = one_counted old now h.0
 stopped_fails advice limits wanted left (Err (stops.Fault faults.Memory)) old now out out_now read ends h = tt
 stopped_fails advice limits wanted left (Err (stops.Fault (faults.Open of reason))) old now out out_now read ends h = absurd ends
 stopped_fails advice limits wanted left (Err (stops.Fault (faults.Write told))) old now out out_now read ends h = absurd ends
@@ -286,27 +246,38 @@ each_fails (name ∷ other ∷ names) ending old now enough h = h
 
 -- ---- no memory to begin
 
-data_unbegun : (to_file : Bool) (old now : ℕ) → FailsAsData to_file (Err (stops.Fault faults.Memory)) old now
-data_unbegun false old now = tt
-data_unbegun true old now = tt
+out_unbegun : (out : Option (Bor (List ℕ))) (making : Option (List ℕ)) (held after : Option Texts) (old now : ℕ)
+    → FailsOut out making held after (Err (stops.Fault faults.Memory)) old now
+out_unbegun None making held after old now = tt
+out_unbegun (Some out) making held after old now = tt
 
 files_unbegun : (them : List (List ℕ)) (old now : ℕ) → FailsOnFiles them (Err (stops.Fault faults.Memory)) old now
 files_unbegun [] old now = tt
 files_unbegun (name ∷ []) old now = tt
 files_unbegun (name ∷ other ∷ more) old now = tt
 
-pub unbegun_fails : (work : Work) (old now : ℕ) → FailsWork work (Err (stops.Fault faults.Memory)) old now
-unbegun_fails (Check judging) old now = files_unbegun (map (λ name. name.now) judging.files.items) old now
-unbegun_fails (Explain judging) old now = files_unbegun (map (λ name. name.now) judging.files.items) old now
-unbegun_fails (Show words) old now = tt
-unbegun_fails (Lint words) old now = files_unbegun (map (λ name. name.now) words.files.items) old now
-unbegun_fails (Advise words) old now = files_unbegun (map (λ name. name.now) words.judging.files.items) old now
-unbegun_fails (Json words) old now = data_unbegun (is_some words.out) old now
-unbegun_fails (Csv words) old now = data_unbegun (is_some words.out) old now
-unbegun_fails (Acks words) old now = tt
-unbegun_fails (Write words) old now = tt
-unbegun_fails (Split words) old now = tt
-unbegun_fails (Join words) old now = tt
-unbegun_fails (Renumber words) old now = tt
-unbegun_fails (Select words) old now = tt
-unbegun_fails Manual old now = tt
+answers_unbegun : (them sent : List (List ℕ)) (old now : ℕ) → OfOne them sent (λ name. FailsSo (Err (stops.Fault faults.Memory)) old now)
+answers_unbegun [] [] old now = tt
+answers_unbegun (name ∷ []) [] old now = tt
+answers_unbegun (name ∷ other ∷ more) [] old now = tt
+answers_unbegun [] (one ∷ sent) old now = tt
+answers_unbegun (name ∷ []) (one ∷ sent) old now = tt
+answers_unbegun (name ∷ other ∷ more) (one ∷ sent) old now = tt
+
+pub unbegun_fails : (work : Work) (making : Option (List ℕ)) (held after : Option Texts) (old now : ℕ)
+    → FailsWork work making held after (Err (stops.Fault faults.Memory)) old now
+unbegun_fails (Check judging) making held after old now = files_unbegun (map (λ name. name.now) judging.files.items) old now
+unbegun_fails (Explain judging) making held after old now = files_unbegun (map (λ name. name.now) judging.files.items) old now
+unbegun_fails (Show words) making held after old now = tt
+unbegun_fails (Lint words) making held after old now = files_unbegun (map (λ name. name.now) words.files.items) old now
+unbegun_fails (Advise words) making held after old now = files_unbegun (map (λ name. name.now) words.judging.files.items) old now
+unbegun_fails (Json words) making held after old now = out_unbegun words.out making held after old now
+unbegun_fails (Csv words) making held after old now = out_unbegun words.out making held after old now
+unbegun_fails (Acks words) making held after old now =
+    answers_unbegun (map (λ name. name.now) words.files.items) (map (λ name. name.now) words.sent.items) old now
+unbegun_fails (Write words) making held after old now = out_unbegun words.out making held after old now
+unbegun_fails (Split words) making held after old now = λ quiet known plain. tt
+unbegun_fails (Join words) making held after old now = tt
+unbegun_fails (Renumber words) making held after old now = out_unbegun words.out making held after old now
+unbegun_fails (Select words) making held after old now = tt
+unbegun_fails Manual making held after old now = tt

@@ -1,43 +1,24 @@
 -- What failed where a run of a work ends as one that did.
-use Rattle.std.specs.Prelude.{◌<◌, ℕ, Bool, true, false, List, [], ◌∷◌, map, Result, Ok, Err}
-use Rattle.std.specs.Option.{is_some}
-use Rattle.cwr_devices.specs.Format.Failures.{most_failures}
+use Rattle.std.specs.Prelude.{◌≡◌, ℕ, List, [], ◌∷◌, map, Option, None, Some, IsSome, Result, Ok, Err}
 use Rattle.cwr_words.specs.declared.words.Work.{Work}
-use Rattle.cwr_words.specs.declared.words.Work.TheVariants.{Check, Show, Explain, Lint, Advise, Json, Csv}
+use Rattle.cwr_words.specs.declared.words.Work.TheVariants.{Check, Show, Explain, Lint, Advise, Json, Csv, Acks, Write, Split, Join, Renumber}
 use Rattle.cwr_files.specs.declared.faults.Fault.{Fault}
 use Rattle.cwr_files.specs.declared.faults.Fault.TheVariants as faults
 use Rattle.cwr_files.specs.declared.faults.Name.TheVariants.{StandardInput}
+use Rattle.cwr_files.specs.Format.Files.{Texts}
 use Rattle.cwr_endings.specs.declared.endings.Status.{Status}
 use Rattle.cwr_endings.specs.declared.endings.Status.TheVariants as statuses
 use Rattle.cwr_endings.specs.declared.stops.Stop.{Stop}
 use Rattle.cwr_endings.specs.declared.stops.Stop.TheVariants as stops
+use Rattle.cwr_endings.specs.Format.Failures.{FailsOut, FailsSo, FailsToJoin, IsFaultOfRead, UnlessRead}
+use Rattle.cwr_transform.specs.Format.Splits.{FailsToCut}
 
--- more calls failed, where the count isn't the highest
-abbrev pub FailsMore : ℕ → ℕ → Type 0
-FailsMore old now = now < most_failures → old < now
-
--- what was to be read couldn't be opened, or it failed, which is counted; or there was no memory
-abbrev pub IsFaultOfRead : Fault → ℕ → ℕ → Type 0
-IsFaultOfRead (faults.Open StandardInput reason) old now = ⊥
-IsFaultOfRead (faults.Open of reason) old now = FailsMore old now
-IsFaultOfRead (faults.Read told) old now = FailsMore old now
-IsFaultOfRead faults.Memory old now = Unit {0}
-IsFaultOfRead fault old now = ⊥
-
--- So it is where a report on one input ends as what failed does, where so many failures were counted before it and after it. Of standard output
--- nothing is said here.
-abbrev pub FailsSo : Result Status Stop → ℕ → ℕ → Type 0
-FailsSo (Ok statuses.Fault) old now = ⊥
-FailsSo (Ok status) old now = Unit {0}
-FailsSo (Err stops.Output) old now = Unit {0}
-FailsSo (Err (stops.Fault fault)) old now = IsFaultOfRead fault old now
-
--- so it is of one of several inputs, or standard input, which is there once, was read already
+-- an input couldn't be opened, or it failed, or there was no memory; or it is standard input, which is there once, and was read already
 abbrev pub IsFaultOfOne : Fault → ℕ → ℕ → Type 0
 IsFaultOfOne (faults.Open StandardInput reason) old now = Unit {0}
 IsFaultOfOne fault old now = IsFaultOfRead fault old now
 
--- and where a report on several ends as what failed does, or standard input was named twice
+-- so it is where a report on several ends as what failed does, or standard input was named twice
 abbrev pub FailsEach : Result Status Stop → ℕ → ℕ → Type 0
 FailsEach (Ok statuses.Fault) old now = (fault : Fault) × IsFaultOfOne fault old now
 FailsEach (Ok status) old now = Unit {0}
@@ -50,19 +31,29 @@ FailsOnFiles [] ending old now = FailsSo ending old now
 FailsOnFiles (name ∷ []) ending old now = FailsSo ending old now
 FailsOnFiles (name ∷ other ∷ names) ending old now = FailsEach ending old now
 
--- so it is of data that are written to standard output; of those that are written to a file nothing is said here
-abbrev pub FailsAsData : Bool → Result Status Stop → ℕ → ℕ → Type 0
-FailsAsData false ending old now = FailsSo ending old now
-FailsAsData true ending old now = Unit {0}
+-- It is so of acknowledgements in one input that are matched with nothing. Of several, and of those that are matched with what was sent, nothing
+-- is said.
+abbrev pub OfOne : List (List ℕ) → List (List ℕ) → (Option (List ℕ) → Type 0) → Type 0
+OfOne [] [] is = is None
+OfOne (name ∷ []) [] is = is (Some name)
+OfOne names sent is = Unit {0}
 
 -- A run of the work that ends as what failed does had a fault which is counted, where so many failures of files were counted before it and after
--- it, or there was no memory. Of acknowledgements, and of runs that write files, nothing is said here.
-abbrev pub FailsWork : Work → Result Status Stop → ℕ → ℕ → Type 0
-FailsWork (Check judging) ending old now = FailsOnFiles (map (λ name. name.now) judging.files.items) ending old now
-FailsWork (Explain judging) ending old now = FailsOnFiles (map (λ name. name.now) judging.files.items) ending old now
-FailsWork (Show words) ending old now = FailsSo ending old now
-FailsWork (Lint words) ending old now = FailsOnFiles (map (λ name. name.now) words.files.items) ending old now
-FailsWork (Advise words) ending old now = FailsOnFiles (map (λ name. name.now) words.judging.files.items) ending old now
-FailsWork (Json words) ending old now = FailsAsData (is_some words.out) ending old now
-FailsWork (Csv words) ending old now = FailsAsData (is_some words.out) ending old now
-FailsWork work ending old now = Unit {0}
+-- it, and this lay under names then, or no such file can be made, or there was no memory. Of a split it is said where it is known what lay under
+-- names, and its first part is created when the transmission was. Of selections nothing is said here, and of numbers that are put right nothing
+-- of an input that fails.
+abbrev pub FailsWork : Work → Option (List ℕ) → Option Texts → Option Texts → Result Status Stop → ℕ → ℕ → Type 0
+FailsWork (Check judging) making held after ending old now = FailsOnFiles (map (λ name. name.now) judging.files.items) ending old now
+FailsWork (Explain judging) making held after ending old now = FailsOnFiles (map (λ name. name.now) judging.files.items) ending old now
+FailsWork (Show words) making held after ending old now = FailsSo ending old now
+FailsWork (Lint words) making held after ending old now = FailsOnFiles (map (λ name. name.now) words.files.items) ending old now
+FailsWork (Advise words) making held after ending old now = FailsOnFiles (map (λ name. name.now) words.judging.files.items) ending old now
+FailsWork (Json words) making held after ending old now = FailsOut words.out making held after ending old now
+FailsWork (Csv words) making held after ending old now = FailsOut words.out making held after ending old now
+FailsWork (Acks words) making held after ending old now =
+    OfOne (map (λ name. name.now) words.files.items) (map (λ name. name.now) words.sent.items) (λ name. FailsSo ending old now)
+FailsWork (Write words) making held after ending old now = FailsOut words.out making held after ending old now
+FailsWork (Split words) making held after ending old now = making ≡ None → IsSome held → words.created ≡ None → FailsToCut ending old now
+FailsWork (Join words) making held after ending old now = FailsToJoin words.out making held after ending old now
+FailsWork (Renumber words) making held after ending old now = UnlessRead ending (FailsOut words.out making held after ending old now)
+FailsWork work making held after ending old now = Unit {0}

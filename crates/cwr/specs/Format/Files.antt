@@ -98,7 +98,7 @@ pub record RunsTask (renumbered : List ℕ → List ℕ) (task : Task) (standard
   pub ending : Result Status Stop
   pub ends : EndsOnWork task.limits task.whole task.work before standard ending
   pub status_is : status ≡ ending_status ending
-  pub fails : FailsWork task.work ending old now
+  pub fails : FailsWork task.work making before after ending old now
   pub files : making ≡ None → LeavesWork task.limits task.whole task.work before standard old now ending after
   pub renumbers : RunsRenumbering renumbered task.limits task.whole task.work standard before after making old now ending
 

@@ -3,9 +3,11 @@ use denote.Ref.{Bor}
 use Rattle.std.specs.Prelude.{◌≡◌, ◌<◌, ℕ, Bool, true, false, List, [], ◌∷◌, map, Option, Some, None, option_map, Result, Ok, Err, OnOk, codes}
 use Rattle.std.specs.Option.{is_some}
 use Rattle.cwr_devices.specs.Format.Failures.{most_failures}
+use Rattle.cwr_fields.specs.declared.message_codes.TransactionStatus.{TransactionStatus}
 use Rattle.cwr_shape.specs.declared.limits.Limits.{Limits}
 use Rattle.cwr_words.specs.declared.words.Work.{Work}
-use Rattle.cwr_words.specs.declared.words.Work.TheVariants.{Check, Show, Explain, Lint, Advise, Json, Csv}
+use Rattle.cwr_words.specs.declared.words.Work.TheVariants.{Check, Show, Explain, Lint, Advise, Json, Csv, Acks}
+use Rattle.cwr_acks.specs.declared.forms.Form.{Form}
 use Rattle.cwr_files.specs.Format.Files.{Texts}
 use Rattle.cwr_files.specs.Format.Inputs.{shown_name}
 use Rattle.cwr_files.specs.Steps.Inputs.{IsLeftOf}
@@ -19,7 +21,8 @@ use Rattle.cwr_reports.specs.declared.tellings.Telling.TheVariants as tellings
 use Rattle.cwr_reports.specs.Format.Endings.{telling_by}
 use Rattle.cwr_reports.specs.Steps.Marked.{CountsOutput, TellsEach, WritesLines}
 use Rattle.cwr_reports.specs.Steps.Tellings.{TellsLines}
-use Rattle.cwr.specs.Format.Tables.{encoding_of, table_of}
+use Rattle.cwr.specs.Format.Failures.{OfOne}
+use Rattle.cwr.specs.Format.Tables.{encoding_of, form_of, table_of}
 
 -- of what was read under a word, the lines that are asked for were written, where the run came to its end
 abbrev pub TellsRead : {W : Type 0} → Telling → Limits → Option Texts → Option (List ℕ) → Option (List ℕ) → (W → Option (List ℕ)) → W → W
@@ -98,8 +101,16 @@ abbrev pub TellsData : {W : Type 0} → Bool → Telling → Limits → Option T
 TellsData false telling limits held standard name contents old new ending = TellsRead telling limits held standard name contents old new ending
 TellsData true telling limits held standard name contents old new ending = Unit {0}
 
+-- so was what acknowledgements of these statuses say, or all without one
+abbrev pub TellsAnswers : {W : Type 0} → Form → List TransactionStatus → Limits → Option Texts → Option (List ℕ) → Option (List ℕ)
+    → (W → Option (List ℕ)) → W → W → Result Status Stop → Type 0
+TellsAnswers form statuses limits held standard name contents old new (Ok status) =
+    (of : Bor (List TransactionStatus)) × (of.now ≡ statuses)
+    × TellsRead (tellings.Answers form of) limits held standard name contents old new (Ok status)
+TellsAnswers form statuses limits held standard name contents old new (Err stop) = Unit {0}
+
 -- What a run of the work has written, within these limits, and where nothing may follow a transmission or something may; and how many failures
--- of files were counted meanwhile. Of acknowledgements, and of runs that write files, nothing is said here.
+-- of files were counted meanwhile. Of runs that write files nothing is said here.
 abbrev pub TellsWork : {W : Type 0} → Limits → Bool → Work → Option Texts → Option (List ℕ) → (W → Option (List ℕ)) → (W → ℕ) → W → W
     → ℕ → ℕ → Result Status Stop → Type 0
 TellsWork limits whole (Check judging) held standard contents failures old new count count_now ending =
@@ -122,6 +133,9 @@ TellsWork limits whole (Json words) held standard contents failures old new coun
 TellsWork limits whole (Csv words) held standard contents failures old new count count_now ending =
     TellsData (is_some words.out) (tellings.Rows (encoding_of words.utf8) (table_of words.rows)) limits held standard
     (option_map (λ name. name.now) words.file) contents old new ending
+TellsWork limits whole (Acks words) held standard contents failures old new count count_now ending =
+    OfOne (map (λ name. name.now) words.files.items) (map (λ name. name.now) words.sent.items)
+    (λ name. TellsAnswers (form_of words.as_json words.utf8) words.statuses.items limits held standard name contents old new ending)
 TellsWork limits whole work held standard contents failures old new count count_now ending = Unit {0}
 
 -- ---- what is handed on
@@ -139,6 +153,8 @@ HandsOnWork (Lint words) ending handed_on = OnOk ending (handed_on ≡ true)
 HandsOnWork (Advise words) ending handed_on = OnOk ending (handed_on ≡ true)
 HandsOnWork (Json words) ending handed_on = HandsOnData (is_some words.out) ending handed_on
 HandsOnWork (Csv words) ending handed_on = HandsOnData (is_some words.out) ending handed_on
+HandsOnWork (Acks words) ending handed_on =
+    OfOne (map (λ name. name.now) words.files.items) (map (λ name. name.now) words.sent.items) (λ name. OnOk ending (handed_on ≡ true))
 HandsOnWork work ending handed_on = Unit {0}
 
 -- ---- what failed
@@ -156,4 +172,6 @@ CountsWork (Lint words) ending out out_now = CountsOutput ending out out_now
 CountsWork (Advise words) ending out out_now = CountsOutput ending out out_now
 CountsWork (Json words) ending out out_now = CountsData (is_some words.out) ending out out_now
 CountsWork (Csv words) ending out out_now = CountsData (is_some words.out) ending out out_now
+CountsWork (Acks words) ending out out_now =
+    OfOne (map (λ name. name.now) words.files.items) (map (λ name. name.now) words.sent.items) (λ name. CountsOutput ending out out_now)
 CountsWork work ending out out_now = Unit {0}

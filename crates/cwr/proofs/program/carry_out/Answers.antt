@@ -15,7 +15,8 @@ returns-in_default g c = record {
   ends = unbegun c.args.task.now.limits c.args.task.now.whole c.args.task.now.work (g.S.Store.held c.args.store.now)
       (g.I.Read.remaining c.args.standard);
   status_is = c.report.ensures;
-  fails = unbegun_fails c.args.task.now.work (g.S.Store.failures c.args.store.now) (g.S.Store.failures c.args.store.now);
+  fails = unbegun_fails c.args.task.now.work (g.S.Store.making c.args.store.now) (g.S.Store.held c.args.store.now)
+      (g.S.Store.held c.args.store.now) (g.S.Store.failures c.args.store.now) (g.S.Store.failures c.args.store.now);
   files = λ none. unbegun_leaves c.args.task.now.limits c.args.task.now.whole c.args.task.now.work (g.S.Store.held c.args.store.now)
       (g.I.Read.remaining c.args.standard) (g.S.Store.failures c.args.store.now) (g.S.Store.failures c.args.store.now);
   renumbers = unbegun_renumbers renumbered_text c.args.task.now.limits c.args.task.now.whole c.args.task.now.work

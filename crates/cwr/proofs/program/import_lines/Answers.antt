@@ -7,6 +7,7 @@ use Rattle.cwr_endings.proofs.lemmas.Outs.{turns_so, writes_as, writes_on, write
 use Rattle.cwr_transform.specs.Format.Imports.{IsImportOf}
 use Rattle.cwr.specs.Format.Endings.{import_of}
 use Rattle.cwr.specs.Format.Files.{IsImportAt, LeavesOut}
+use Rattle.cwr.proofs.lemmas.FailsOuts.{no_out_fails, out_fails, out_refused, out_unopened}
 use Rattle.cwr.proofs.lemmas.Leaves.{import_at}
 use Rattle.cwr.proofs.lemmas.WorkEnds.{file_written, output_written}
 use Rattle.cwr.proofs.program.import_lines.Goals as goal
@@ -56,3 +57,42 @@ returns-in-Some-clause-files g c =
     (writes_as out (g.S.Store.failures s2) (g.S.Store.failures s3) is other ending texts new
     (λ text has. import_at limits words c.encoding_of.result (g.S.Store.held s0) standard name left text c.encoding_of.ensures opened has) h))
     (c.import_file-ended.ensures.files (c.open_input.ensures.making ∙ c.refuse_written.ensures.making ∙ none))))
+
+pub returns-in-Err-clause-failed : goal.returns-in-Err-clause-failed
+returns-in-Err-clause-failed g c =
+    let s0 = c.args.store.now in
+    let s1 = c.refuse_written.new.store in
+    out_refused (g.S.Store.making s0) (g.S.Store.held s0) (g.S.Store.held s1) c.args.words.now.out c.in-Err.fault (g.S.Store.failures s0)
+    (g.S.Store.failures s1) c.in-Err.ensures.refused c.in-Err.ensures.free
+
+pub returns-in-Err-open_input-clause-failed : goal.returns-in-Err-open_input-clause-failed
+returns-in-Err-open_input-clause-failed g c =
+    let s0 = c.args.store.now in
+    let s1 = c.refuse_written.new.store in
+    let s2 = c.open_input.new.store in
+    out_unopened (g.S.Store.making s0) (g.S.Store.held s0) (g.S.Store.held s2)
+    (option_map (λ n. n.now) c.args.words.now.file) c.args.standard c.args.words.now.out c.in-Err-open_input.fault
+    (g.S.Store.failures s0) (g.S.Store.failures s1) (g.S.Store.failures s2) c.refuse_written.ensures.failures
+    c.in-Err-open_input.ensures.unopened
+
+pub returns-in-Some-clause-failed : goal.returns-in-Some-clause-failed
+returns-in-Some-clause-failed g c =
+    let s0 = c.args.store.now in
+    let s2 = c.open_input.new.store in
+    let s3 = c.import_file-ended.new.store in
+    let kept : HasKeptCount (g.S.Store.failures s0) (g.S.Store.failures s2)
+    = subst (λ (n : ℕ). HasKeptCount (g.S.Store.failures s0) n) (sym c.in-Ok.ensures.opened) c.refuse_written.ensures.failures in
+    out_fails (g.S.Store.making s0) (g.S.Store.held s0) (g.S.Store.held s3) c.args.words.now.out c.in-Some.name (g.S.Store.making s2)
+    (g.S.Store.held s2) c.import_file-ended.result (g.S.Store.failures s0) (g.S.Store.failures s2) (g.S.Store.failures s3) c.in-Some.is
+    (c.open_input.ensures.making ∙ c.refuse_written.ensures.making) (c.open_input.ensures.kept ∙ c.refuse_written.ensures.kept) kept
+    c.import_file-ended.ensures.failed
+
+pub returns-in-None-clause-failed : goal.returns-in-None-clause-failed
+returns-in-None-clause-failed g c =
+    let s0 = c.args.store.now in
+    let s2 = c.open_input.new.store in
+    let s3 = c.import_input.new.store in
+    let kept : HasKeptCount (g.S.Store.failures s0) (g.S.Store.failures s2)
+    = subst (λ (n : ℕ). HasKeptCount (g.S.Store.failures s0) n) (sym c.in-Ok.ensures.opened) c.refuse_written.ensures.failures in
+    no_out_fails (g.S.Store.making s0) (g.S.Store.held s0) (g.S.Store.held s3) c.args.words.now.out c.import_input.result.1
+    (g.S.Store.failures s0) (g.S.Store.failures s2) (g.S.Store.failures s3) c.in-None.is kept c.import_input.ensures.failed

@@ -1,4 +1,8 @@
-use Rattle.std.proofs.Common.{List, ℕ, Bor, map, length, subst}
+use Rattle.std.proofs.Common.{List, ℕ, Bor, map, length, sym, subst}
+use Rattle.std.specs.Prelude.{Err}
+use Rattle.cwr_files.specs.declared.faults.Fault.{Fault}
+use Rattle.cwr_endings.specs.declared.stops.Stop.TheVariants as stops
+use Rattle.cwr_endings.specs.Format.Failures.{FailsToJoin}
 use Rattle.cwr_endings.specs.declared.endings.Wanted.{Wanted}
 use Rattle.cwr.specs.Format.Endings.{EndsAsUnion}
 use Rattle.cwr.proofs.lemmas.WorkEnds.{union_ends}
@@ -23,3 +27,9 @@ returns-clause-ends g c =
     })
     (length c.as_slice-files.result.now) c.args.task.now.limits c.wanted_by.result (g.S.Store.held c.args.store.now) (g.I.Read.remaining c.args.standard)
     (map (λ name. name.now) c.as_slice-files.result.now) c.join_files.result.1 c.join_files.ensures.ends c.join_files.ensures.status))
+
+pub returns-in-Err-clause-failed : goal.returns-in-Err-clause-failed
+returns-in-Err-clause-failed g c =
+    let s = c.args.store.now in
+    subst (λ (f : Fault). FailsToJoin c.args.words.now.out (g.S.Store.making s) (g.S.Store.held s) (g.S.Store.held s) (Err (stops.Fault f))
+    (g.S.Store.failures s) (g.S.Store.failures s)) (sym c.in-Err.ensures.0) tt

@@ -1,7 +1,8 @@
 use Rattle.std.specs.Prelude.{option_map}
 use Rattle.cwr_files.specs.Steps.Inputs.{remaining_of}
 use Rattle.cwr_reports.specs.Format.Endings.{advice_in}
-use Rattle.cwr.proofs.lemmas.Failing.{alone_fails, output_counted, unopened_fails}
+use Rattle.cwr_endings.proofs.lemmas.Fails.{unopened_fails}
+use Rattle.cwr.proofs.lemmas.Failing.{alone_fails, output_counted}
 use Rattle.cwr.proofs.lemmas.Several.{quiet_read}
 use Rattle.cwr.proofs.program.report_file.Goals as goal
 
@@ -28,4 +29,5 @@ returns-in-Ok-clause-output g c =
 
 pub returns-clause-failed : goal.returns-clause-failed
 returns-clause-failed g c =
-    unopened_fails _ c.args.standard (g.S.Store.failures c.args.store.now) (g.S.Store.failures c.open_input.new.store) c.in-Err.fault c.in-Err.ensures.unopened
+    unopened_fails (option_map (λ n. n.now) c.args.name) c.args.standard c.in-Err.fault (g.S.Store.failures c.args.store.now)
+    (g.S.Store.failures c.open_input.new.store) c.in-Err.ensures.unopened

@@ -1,9 +1,11 @@
-use Rattle.std.proofs.Common.{ℕ, List, Option, inl, subst, ◌∙◌}
-use Rattle.std.specs.Prelude.{Err, Some}
-use Rattle.cwr_files.specs.Format.Files.{Same, Turns}
+use Rattle.std.proofs.Common.{ℕ, List, Option, inl, sym, subst, ◌∙◌}
+use Rattle.std.specs.Prelude.{Err, Some, IsSome}
+use Rattle.cwr_files.specs.Format.Files.{Same, Texts, Turns}
 use Rattle.cwr_files.specs.Steps.Inputs.{remaining_of}
 use Rattle.cwr_endings.specs.declared.stops.Stop.TheVariants as stops
 use Rattle.cwr_endings.proofs.lemmas.Outs.{stays, turns_so, writes_on}
+use Rattle.cwr_transform.specs.Format.Splits.{FailsToCut}
+use Rattle.cwr_transform.proofs.lemmas.SplitFails.{unopened_cut}
 use Rattle.cwr.specs.Format.Files.{LeavesCutOf}
 use Rattle.cwr.proofs.lemmas.Leaves.{cut_at}
 use Rattle.cwr.proofs.program.split_input.Goals as goal
@@ -34,3 +36,14 @@ returns-in-Err-clause-files g c =
     let held = g.S.Store.held c.args.store.now in
     turns_so held (g.S.Store.held c.open_input.new.store) Same _ (λ texts new same. inl same)
     (stays held (g.S.Store.held c.open_input.new.store) c.open_input.ensures.kept)
+
+pub returns-in-Err-clause-failed : goal.returns-in-Err-clause-failed
+returns-in-Err-clause-failed g c = λ quiet known plain.
+    unopened_cut (Some c.args.words.now.file.now) c.args.standard c.in-Err.fault (g.S.Store.failures c.args.store.now)
+    (g.S.Store.failures c.open_input.new.store) c.in-Err.ensures.unopened
+
+pub returns-clause-failed : goal.returns-clause-failed
+returns-clause-failed g c = λ quiet known plain.
+    subst (λ (n : ℕ). FailsToCut c.split_file.result.1 n (g.S.Store.failures c.split_file.new.store)) c.in-Ok.ensures.opened
+    (c.split_file.ensures.failed (c.open_input.ensures.making ∙ quiet)
+    (subst (λ (t : Option Texts). IsSome t) (sym c.open_input.ensures.kept) known) plain)
