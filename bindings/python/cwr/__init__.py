@@ -8,7 +8,7 @@
             print(record["last name"], record.share("pr share"))   # DOE 33.05 (percent)
     print(cwr.explain("CW240001PB_052.V21"))
     text = cwr.write(records)                         # with all numbers made
-    text = cwr.select("CW240001PB_052.V21", lambda transaction: transaction.kind == "NWR")
+    text = cwr.select("CW240001PB_052.V21", lambda transaction: transaction.header.kind == "NWR")
     print(cwr.summary("CW240001PB_052.V21").columns())  # groups, transactions by type, records by kind, shares, ...
 
 A source is a path, or bytes that are there already. Sizes are bytes, numbers of records and fields count from 1, shares are in

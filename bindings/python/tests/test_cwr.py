@@ -595,7 +595,7 @@ class Summaries(unittest.TestCase):
             count[f"records_{record.kind}"] += 1
             count["groups"] += record.kind == "GRH"
         for transaction in document:
-            kind = transaction.kind
+            kind = transaction.header.kind
             count[f"transactions_{kind}"] += 1
             if kind == "ACK":
                 count[f"acknowledgements_{transaction.header['transaction status']}"] += 1

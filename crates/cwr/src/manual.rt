@@ -450,7 +450,10 @@ COMMANDS
               ANSWERS. It may stand more than once. Where FILE or one of them
               is refused or cut off, its verdict goes to standard error,
               nothing is written, and the status is 1. So it is with `--whole`
-              where bytes follow it.
+              where bytes follow it. Where some of them answer none of FILE's
+              transactions, agree with several, or name no date and time,
+              standard error tells how many: look first whether these are the
+              answers to FILE.
 
        --by-place
               With `--state`, as in `cwr acks`: the acknowledgements may

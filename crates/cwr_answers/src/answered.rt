@@ -13,12 +13,12 @@ ghost use Rattle.cwr_answers.specs.Steps.Seeking.{ReadsEach, ReadsIfGood, judged
 
 use crate::answers::tell_named;
 use cwr_acks::{Form, Manner, acks};
-use cwr_delivery::Delivery;
+use cwr_delivery::{Delivery, Tally};
 use cwr_devices::{Counted, ReadAhead};
 use cwr_endings::{
     Judgement, Look, Status, Wanted, judgement_of, look_after, tell_following, tell_unanswering,
 };
-use cwr_files::{Fault, Input, Pace, Store, Told, end_input, open_input};
+use cwr_files::{Fault, Input, Name, Pace, Store, Told, end_input, open_input};
 use cwr_sent::{Sent, read_sent};
 use cwr_shape::Limits;
 use cwr_state_rows::places_with;
@@ -184,7 +184,7 @@ fn read_each<'a, S: Store, I: Read + Drop, P: Pace, E: Write>(
         match judgement.status {
             Status::Good => {
                 tell_following(error, told.name, &judgement.look);
-                tell_unanswering(error, told.name, &judgement, count, true);
+                tell_unanswering(error, told.name, &judgement, count, false);
             }
             _ => {
                 tell_named(error, told.name, &judgement.verdict);
@@ -194,6 +194,22 @@ fn read_each<'a, S: Store, I: Read + Drop, P: Pace, E: Write>(
         }
     }
     Ok(delivery)
+}
+
+/// Tells on standard error how many acknowledgements answer no transaction of what was sent, agree with several, or have no key, where any do.
+/// What standard error doesn't take is lost.
+fn tell_unsent<E: Write>(error: &mut E, sent: &str, tally: Tally) {
+    if tally.unsent == 0 && tally.unclear == 0 && tally.unkeyed == 0 {
+        return;
+    }
+    let _ = writeln!(
+        error,
+        "cwr: {}: acknowledgements that answer none of its transactions: unsent {} unclear {} unkeyed {}",
+        Name::File(sent),
+        tally.unsent,
+        tally.unclear,
+        tally.unkeyed
+    );
 }
 
 /// The places of the transactions that have one of the states that are sought: that of the group, from 1, and that in it, from 0. What was
@@ -221,10 +237,18 @@ pub fn answered_places<'a, S: Store, I: Read + Drop, P: Pace, E: Write>(
     let Ok(()) = delivery.add(sent) else {
         return Err(Unsought::Fault(Fault::Memory));
     };
-    let Some(delivery) = read_each(store, answered, Some(delivery), standard, &mut *pace, error)?
+    let Some(delivery) = read_each(
+        store,
+        answered,
+        Some(delivery),
+        standard,
+        &mut *pace,
+        &mut *error,
+    )?
     else {
         return Err(Unsought::Fault(Fault::Memory));
     };
+    tell_unsent(error, answered.sent, delivery.tally());
     match places_with(answered.alloc, &delivery, &answered.states) {
         Ok(places) => Ok(places),
         Err(_) => Err(Unsought::Fault(Fault::Memory)),
