@@ -194,15 +194,7 @@ pub extern "C" fn cwr_summary(
     ensures told { TellsSummary records groups transaction text.now numbers.old numbers.new result verdict.new }
     ensures out_of_range { IsOutOfRange records groups transaction → verdict.new ≡ ended 4 }
 {
-    sum_text(
-        alloc,
-        text,
-        records,
-        groups,
-        transaction,
-        numbers,
-        verdict,
-    )
+    sum_text(alloc, text, records, groups, transaction, numbers, verdict)
 }
 
 /// Writes the canonical text of the transmission whose records the lines carry into the room, as far as there is any. The

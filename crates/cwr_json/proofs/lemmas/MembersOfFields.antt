@@ -134,6 +134,7 @@ members_filled enc r filled i is h blank =
         ∙ sym (members_more enc r n (omega (arith, within))) ∙ ap (members_before enc r) number
     next n false e h within before =
         let last : filled ≡ suc n = omega (arith, h, ltb-false filled (suc n) e) in ap (members_before enc r) last
+
     up : (n : ℕ) → filled ≤ n → n ≤ length (layout r.kind) → members_before enc r filled ≡ members_before enc r n
     up zero h within = let none : filled ≡ zero = omega (arith, h) in ap (members_before enc r) none
     up (suc n) h within =

@@ -137,6 +137,7 @@ labelled_filled r filled all i is h blank = ap (labelled_cells r) is ∙ up all 
         (sym (labelled_blank r (suc n) (blank (suc n) (ltb-true filled (suc n) e))))
     next n false e h before =
         let last : filled ≡ suc n = omega (arith, h, ltb-false filled (suc n) e) in ap (labelled_cells r) last
+
     up : (n : ℕ) → filled ≤ n → labelled_cells r filled ≡ labelled_cells r n
     up zero h = let none : filled ≡ zero = omega (arith, h) in ap (labelled_cells r) none
     up (suc n) h = next n (nat_lt filled (suc n)) refl h (up n)

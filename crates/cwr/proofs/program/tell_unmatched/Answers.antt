@@ -76,7 +76,9 @@ returns-in-len1-clause-told g c =
     c.args.lines c.report_file-in-len1.result.0 c.report_file-in-len1.result.1)
     c.in-len1.len_at_least c.in-len1.len_below c.requires.unsent
     (answers_told c.args.answering.now.form c.args.answering.now.statuses c.args.answering.now.limits c.args.asked.now.limits (g.S.Store.held
-    c.args.store.now) (g.I.Read.remaining c.args.standard) (Some (get_or c.args.answering.now.files.now 0 (record { ref_ptr = (0, 0); now = []
+    c.args.store.now) (g.I.Read.remaining c.args.standard) (Some (get_or c.args.answering.now.files.now 0 (record {
+      ref_ptr = (0, 0);
+      now = [];
     })).now) g.W.Target.contents
     c.args.lines c.report_file-in-len1.result.0 c.report_file-in-len1.result.1 c.requires.limits (c.report_file-in-len1.ensures.told
     c.requires.lines))

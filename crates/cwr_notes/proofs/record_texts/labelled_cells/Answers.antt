@@ -12,8 +12,14 @@ pub bounds-labels-from : goal.bounds-labels-from
 bounds-labels-from g c =
     let same : length (layout c.args.kind) ≡ length (layout c.args.shown.now.kind) =
     ap (λ (kind : Kind). length (layout kind)) c.requires in
-    omega (arith, c.loop-before-test.true, c.filled_fields-before-end.ensures.most, same, c.from.ensures,
-    as_many_labels c.args.kind c.labels-labels.result.now c.labels-labels.ensures)
+    omega (
+      arith,
+      c.loop-before-test.true,
+      c.filled_fields-before-end.ensures.most,
+      same,
+      c.from.ensures,
+      as_many_labels c.args.kind c.labels-labels.result.now c.labels-labels.ensures,
+    )
 
 pub labelled_field-requires-clause-label : goal.labelled_field-requires-clause-label
 labelled_field-requires-clause-label g c =
