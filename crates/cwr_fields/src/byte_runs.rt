@@ -226,11 +226,11 @@ fn without_two(text: &[u8]) -> &[u8]
     front
 }
 
-/// The text without its trailing spaces. They are looked for thirty-two at a time, then eight, four, two and one.
+/// The text without its trailing spaces. They are looked for eight at a time, then four, two and one.
 pub fn trimmed(text: &[u8]) -> &[u8]
     ensures { result.now ≡ trimmed text.now }
 {
-    let mut rest = without_two(without_four(without_eights(without_lanes(text))));
+    let mut rest = without_two(without_four(without_eights(text)));
     while let [front @ .., last] = rest {
         if *last != b' ' {
             break;
@@ -238,6 +238,13 @@ pub fn trimmed(text: &[u8]) -> &[u8]
         rest = front;
     }
     rest
+}
+
+/// The same, for a text that may end with many spaces, as a line does: they are looked for thirty-two at a time first.
+pub fn trimmed_line(line: &[u8]) -> &[u8]
+    ensures { result.now ≡ trimmed line.now }
+{
+    trimmed(without_lanes(line))
 }
 
 /// Whether the cell is the number's last decimal digits, as many as it is wide, with leading zeros.

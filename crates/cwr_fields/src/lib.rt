@@ -36,7 +36,7 @@ pub use agreement_codes::{
     AgreementType, InclusionExclusion, PostTermCollectionStatus, PriorRoyaltyStatus,
     SalesManufactureClause,
 };
-pub use byte_runs::{first_control, is_spaces, spells, trimmed};
+pub use byte_runs::{first_control, is_spaces, spells, trimmed, trimmed_line};
 pub use cell_types::{CellFault, CellType, Word};
 pub use cells::{fits, fits_plain, is_plain, width_of};
 pub use coded::Coded;

@@ -13,7 +13,7 @@ use crate::carried_fields::carried_field;
 use crate::drafts::carries;
 use crate::lines::part;
 use arrayvec::ArrayVec;
-use cwr_fields::{Cell, Field, Kind, field, fields, trimmed};
+use cwr_fields::{Cell, Field, Kind, field, fields, trimmed_line};
 use std::fmt::{self, Debug};
 use std::marker::Model;
 
@@ -247,7 +247,7 @@ impl<'a> RecordRef<'a> {
             (λ cell. IsTrue (is_spaces cell)) }
         ensures fits { IsRecord self.now }
     {
-        let end = trimmed(self.line).len();
+        let end = trimmed_line(self.line).len();
         let mut filled = fields(kind);
         while filled > 0 && starts_behind(kind, filled, end) {
             filled -= 1;

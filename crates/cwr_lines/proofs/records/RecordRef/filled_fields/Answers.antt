@@ -20,7 +20,7 @@ loop-filled-preserved c =
     let same : c.args.kind ≡ c.self.inside.kind = c.requires ∙ sym (ap (λ (r : RecordValue). r.kind) c.self.view_is) in
     let there : IsSomeAnd (field_with_start c.args.kind c.loop-filled.filled) (λ p. length (trimmed line) ≤ p.0) =
     subst (λ (text : List ℕ). IsSomeAnd (field_with_start c.args.kind c.loop-filled.filled) (λ p. length text ≤ p.0))
-    c.trimmed-end.ensures (c.starts_behind.ensures c.if-starts_behind.true) in (
+    c.trimmed_line-end.ensures (c.starts_behind.ensures c.if-starts_behind.true) in (
       omega (arith, c.loop-filled.invariant.0),
       λ j h. blank_from c.args.self.now c.loop-filled.filled j c.loop-filled.invariant.1
           (blank_here c.args.kind line c.loop-filled.filled c.args.self.now (ap (λ (k : Kind). record_in k line) same ∙ c.self.view_is) there) h,
