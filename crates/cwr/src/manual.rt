@@ -266,6 +266,83 @@ COMMANDS
               as ISO 8859-1, and where HDR of a FILE or of SENT names UTF-8,
               standard error says that.
 
+   cwr summary [OPTIONS] [FILE]...
+       Tells what stands in transmissions, in numbers and with digests. Each
+       has a block of lines: its name, and below it, indented, a line for each
+       column in which something other than 0 stands. Of several files a block
+       of sums over the good ones comes last, `SUMS`. A file that fails has
+       the verdict `FAILED` and no number, and doesn't stop the others. The
+       status is that of `cwr check`. Of an input that is refused or ends too
+       early the numbers are those of what comes before that, up to the last
+       transaction that is whole there. Each input is read to its end. Memory
+       also holds the type and ID of each sender, once.
+
+       --csv  Writes a table (RFC 4180, UTF-8): a heading with all columns,
+              and a row for each file. What isn't known or isn't asked for is
+              blank, and so is the name of the sums.
+
+       --json
+              Writes lines of JSON with the same members, an object for each
+              file. Counts and shares are numbers, and what is blank is null.
+
+       --no-digest
+              Leaves out `sha256` and `canonical_sha256`, which take longer
+              than all else.
+
+       --advice
+              Counts the advice, too, that `cwr advise --all` tells.
+
+       --quiet
+              Tells the sums alone, of one file too.
+
+       The columns, in their order:
+
+       file   The input's name. Then `bytes`, how many bytes it has,
+              `bytes_after`, how many of them stand after a good transmission,
+              and `sha256`, the SHA-256 digest of all of them.
+
+       canonical_sha256
+              The digest of what `cwr join -o OUT FILE` writes: the
+              transmission in full width, with its numbers. It is the same of
+              the same transmission, whatever its line ends and trailing
+              spaces are.
+
+       verdict
+              The line with which `cwr check` ends; of the sums that on
+              several files.
+
+       sender_type
+              With `sender_id`, `sender_name`, `creation_date`,
+              `creation_time` and `transmission_date`, HDR's cells.
+
+       groups
+              With `transactions`, `transactions_AGR` to `transactions_ACK`,
+              `records`, and `records_HDR` to `records_XRF`, how many there
+              are, and how many of each type.
+
+       works  NWR and REV transactions, then by their version type as
+              `works_ORI` and `works_MOD`. Then `agreements`, and
+              `acknowledgements`, also by their statuses as
+              `acknowledgements_CO` to `acknowledgements_RC`. The copy in an
+              acknowledgement is no work, but its records count as records.
+
+       findings
+              Then by their levels as `findings_T`, `findings_R` and
+              `findings_F`; and so pieces of advice as `advice_T`, `advice_R`
+              and `advice_F`.
+
+       controlled_pr
+              The performing right's shares of SPU and SWR in works added up,
+              in percent, and `others_pr` those of OPU and OWR. They are for
+              control, and are no money. Then `works_without_pr`, in how many
+              works each such share is blank, and `works_off_pr`, in how many
+              they add up to neither 0 nor about 100 percent. So for `mr` and
+              `sr`.
+
+       senders
+              How many senders, by type and ID, the good files have; of one
+              file 1, and 0 without HDR.
+
    cwr write [OPTIONS] [FILE]
        Writes the transmission that lines of JSON are, with all its numbers.
        FILE has lines as `cwr json` writes them. How it ended goes to standard
@@ -822,6 +899,37 @@ EXAMPLES
              cell      line 6, SWR ipi name number: 00014107383
              advice    this is no IPI name number: it has eleven digits, of which the last two check the others; look it up again
            GOOD groups 1 transactions 1 records 10
+
+       What stands in a file, in numbers?
+
+           $ cwr summary --no-digest works.cwr
+           works.cwr
+             bytes                1599
+             verdict              GOOD groups 2 transactions 3 records 12
+             sender_type          PB
+             sender_id            123456789
+             sender_name          MUSIC HOUSE
+             creation_date        20240102
+             creation_time        101500
+             transmission_date    20240103
+             groups               2
+             transactions         3
+             transactions_NWR     1
+             transactions_REV     2
+             records              12
+             records_HDR          1
+             records_GRH          2
+             records_GRT          2
+             records_TRL          1
+             records_NWR          1
+             records_REV          2
+             records_SWR          3
+             works                3
+             works_ORI            3
+             works_without_pr     3
+             works_without_mr     3
+             works_without_sr     3
+             senders              1
 
        A compressed file, through a pipe:
 

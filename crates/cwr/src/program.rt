@@ -40,6 +40,7 @@ use cwr_json::Encoding;
 use cwr_reports::{Asked, Telling, export, report_input, report_several, telling_of};
 use cwr_select::{ByKind, ByPlace, Changes, Listed, WorkKind};
 use cwr_shape::Level;
+use cwr_summaries::{Summing, summarize};
 use cwr_tables::Table;
 use cwr_terminal::{Style, Styled};
 use cwr_transform::{
@@ -48,8 +49,8 @@ use cwr_transform::{
 };
 use cwr_words::{
     AcksWords, AdviseWords, CsvWords, JoinWords, JsonWords, Judging, Kinds, LintWords,
-    RenumberWords, Rows, SelectWords, SentAs, ShowWords, SplitWords, Task, Work, WriteWords,
-    task_of,
+    RenumberWords, Rows, SelectWords, SentAs, ShowWords, SplitWords, SummaryWords, Task, Work,
+    WriteWords, task_of,
 };
 use std::alloc::Global;
 use std::cell::Cell;
@@ -1044,6 +1045,48 @@ fn tell_acks<'a, S: Store, I: Read + Drop, P: Pace, W: Target + Drop, E: Write>(
     tell_answers(store, &asked, &answering, standard, pace, lines, error)
 }
 
+/// The form in which rows are put.
+fn form_of_rows(words: &SummaryWords<'_>) -> cwr_summary_rows::Form {
+    match (words.as_csv, words.as_json) {
+        (true, _) => cwr_summary_rows::Form::Csv,
+        (false, true) => cwr_summary_rows::Form::Json,
+        (false, false) => cwr_summary_rows::Form::Words,
+    }
+}
+
+/// Sums up transmissions.
+fn sum_up<'a, S: Store, I: Read + Drop, P: Pace, W: Target + Drop, E: Write>(
+    store: &mut S,
+    alloc: Global,
+    task: &Task<'a>,
+    words: &SummaryWords<'a>,
+    standard: I,
+    pace: &mut P,
+    lines: W,
+    error: &mut E,
+) -> (W, Result<Status, Stop<'a>>)
+    ensures ends { EndsOnWork task.now.limits task.now.whole (Work.Summary words.now) (S.held store.old)
+        (I.remaining standard) result.1 }
+    ensures handed_on { OnOk result.1 (W.handed_on result.0 ≡ true) }
+    ensures kept { S.held store.new ≡ S.held store.old }
+{
+    let quiet = words.quiet;
+    let summing = Summing {
+        alloc,
+        limits: task.limits,
+        whole: task.whole,
+        form: form_of_rows(words),
+        digests: !words.undigested,
+        advised: words.advised,
+        quiet,
+        files: words.files.as_slice(),
+    };
+    if let Err(fault) = refuse_twice(summing.files) {
+        return (lines, Err(Stop::Fault(fault)));
+    }
+    summarize(store, &summing, standard, pace, lines, error)
+}
+
 /// Judges transmissions, and explains what is found where that is asked for.
 fn judge_by<'a, S: Store, I: Read + Drop, P: Pace, W: Target + Drop, E: Write>(
     store: &mut S,
@@ -1147,6 +1190,7 @@ fn perform<'a, S: Store, I: Read + Drop, P: Pace, W: Target + Drop, E: Write>(
         Work::Json(words) => write_json(store, alloc, task, words, standard, pace, lines, error),
         Work::Csv(words) => write_table(store, alloc, task, words, standard, pace, lines, error),
         Work::Acks(words) => tell_acks(store, alloc, task, words, standard, pace, lines, error),
+        Work::Summary(words) => sum_up(store, alloc, task, words, standard, pace, lines, error),
         Work::Write(words) => import_lines(store, alloc, task, words, standard, pace, lines, error),
         Work::Split(words) => split_input(store, alloc, task, words, standard, pace, lines, error),
         Work::Join(words) => join_inputs(store, alloc, task, words, standard, pace, lines, error),

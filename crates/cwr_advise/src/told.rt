@@ -48,7 +48,7 @@ impl AdviceCounts {
     }
 
     /// How many pieces came from a rule.
-    fn of(&self, rule: AdviceRule) -> u64
+    pub fn of(&self, rule: AdviceRule) -> u64
         ensures { result ≡ slice_index self.now (place_of_rule rule) }
     {
         self.counts[rule.place()]

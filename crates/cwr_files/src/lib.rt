@@ -35,3 +35,4 @@ pub use shown_names::{ShellWord, Shown, input_name, shown_name};
 pub use stamps::Stamped;
 pub use stores::{Found, Store, Unmade};
 pub use system_store::SystemStore;
+pub use taken_texts::{Piece, TakenText};

@@ -7,7 +7,7 @@ use std::marker::Model;
 
 /// All bytes that were taken so far.
 #[derive(Drop)]
-pub(crate) struct TakenText {
+pub struct TakenText {
     pub ghost text: { List ℕ },
 }
 
@@ -17,13 +17,13 @@ impl Model for TakenText {
 
 /// Bytes that are taken.
 #[derive(Clone, Copy, Drop)]
-pub(crate) struct Piece<'a> {
-    pub(crate) bytes: &'a [u8],
+pub struct Piece<'a> {
+    pub bytes: &'a [u8],
 }
 
 impl TakenText {
     /// None were.
-    pub(crate) fn new() -> TakenText
+    pub fn new() -> TakenText
         ensures { result.text ≡ [] }
     {
         TakenText {}
@@ -31,7 +31,7 @@ impl TakenText {
 
     /// These were too.
     #[inline(always)]
-    pub(crate) fn and(&self, _piece: &Piece<'_>) -> TakenText
+    pub fn and(&self, _piece: &Piece<'_>) -> TakenText
         ensures { result.text ≡ self.now.text ++ _piece.now.bytes.now }
     {
         TakenText {}

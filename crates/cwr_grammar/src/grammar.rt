@@ -52,6 +52,15 @@ pub const STATUS: &str = "status";
 /// The id of the flag that asks for lines of JSON.
 pub const AS_JSON: &str = "json";
 
+/// The name of the subcommand that sums up.
+pub const SUMMARY: &str = "summary";
+
+/// The id of the flag that asks for a table.
+pub const AS_CSV: &str = "csv";
+
+/// The id of the flag that leaves out digests.
+pub const NO_DIGEST: &str = "no-digest";
+
 /// The name of the subcommand that reads JSON.
 pub const WRITE: &str = "write";
 
@@ -218,6 +227,8 @@ enum Form {
     StatusesWithout(&'static str),
     /// `--ID`, only beside the option of that id.
     FlagBeside(&'static str),
+    /// `--ID`, but not beside the option of that id.
+    FlagWithout(&'static str),
     /// `--ID NAME`, where NAME is this, only beside the option of that id.
     NameBeside {
         name: &'static str,
@@ -268,7 +279,8 @@ impl Form {
     /// The id of the word that may not stand beside it.
     fn in_place_of(self) -> Option<&'static str> {
         match self {
-            Form::InPlace { other, .. } | Form::StatusesWithout(other) => Some(other),
+            Form::InPlace { other, .. } | Form::StatusesWithout(other) | Form::FlagWithout(other) =>
+                Some(other),
             _ => None,
         }
     }
@@ -532,6 +544,36 @@ const ANSWERED: [Word; 8] = [
     MANY,
 ];
 
+/// The words of a summary.
+const SUMMED: [Word; 6] = [
+    Word {
+        id: AS_CSV,
+        form: Form::FlagWithout(AS_JSON),
+        help: "Writes a table (CSV), a row for each transmission",
+    },
+    Word {
+        id: AS_JSON,
+        form: Form::Flag,
+        help: "Writes lines of JSON, an object for each transmission",
+    },
+    Word {
+        id: NO_DIGEST,
+        form: Form::Flag,
+        help: "Leaves out the SHA-256 digests, which take longer than all else",
+    },
+    Word {
+        id: ADVICE,
+        form: Form::Flag,
+        help: "Counts the advice, too, that cwr advise tells",
+    },
+    Word {
+        id: QUIET,
+        form: Form::Flag,
+        help: "Tells the sums alone",
+    },
+    MANY,
+];
+
 /// The words of the import.
 const IMPORTED: [Word; 4] = [
     Word {
@@ -772,6 +814,12 @@ const READINGS: &[Subcommand] = &[
         common: Common::Reading,
         own: &ANSWERED,
     },
+    Subcommand {
+        name: SUMMARY,
+        about: "Tells what stands in transmissions, in numbers and with digests",
+        common: Common::Reading,
+        own: &SUMMED,
+    },
 ];
 
 /// Those that write transmissions, and the last one.
@@ -925,7 +973,7 @@ fn formed<'a>(alloc: Global, id: &'static str, form: Form) -> Arg<'a>
     ensures local { result.global ≡ false }
 {
     match form {
-        Form::Flag | Form::FlagBeside(_) => flag(alloc, id),
+        Form::Flag | Form::FlagBeside(_) | Form::FlagWithout(_) => flag(alloc, id),
         Form::Limit {
             least,
             most,
@@ -1163,6 +1211,7 @@ Examples: cwr check works.cwr
           cwr csv works works.cwr
           cwr acks acknowledgement.cwr
           cwr acks --sent works.cwr --state acknowledgement.cwr
+          cwr summary works.cwr acknowledgement.cwr
           cwr split --new -n 1000 works.cwr -o part-
           cwr join --new -o whole.cwr part-00000001 part-00000002";
 

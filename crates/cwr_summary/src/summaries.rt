@@ -1,6 +1,6 @@
 //! Summaries: the sums over the items of a transmission.
 
-ghost use Rattle.std.specs.Prelude.{◌≡◌, ◌<◌, ◌∷◌, ◌++◌, [], List, flat_map, length, map, replicate, slice_index, take, true, OnOk, OnErr};
+ghost use Rattle.std.specs.Prelude.{◌≡◌, ◌<◌, ◌+◌, ◌-◌, ◌^◌, ℕ, min, ◌∷◌, ◌++◌, [], List, flat_map, length, map, replicate, slice_index, take, true, OnOk, OnErr};
 ghost use Rattle.cwr_findings.specs.Format.Findings.{findings};
 ghost use Rattle.cwr_findings.specs.Format.Headers.{is_work};
 ghost use Rattle.cwr_lines.specs.Format.Records.{RecordValue};
@@ -93,6 +93,16 @@ impl Summary {
     {
         let place = column.place();
         self.numbers[place] = self.numbers[place].saturating_add(amount);
+    }
+
+    /// Adds the numbers of another one. They stay at `u64::MAX`.
+    pub fn add_all(&mut self, other: &Summary)
+        ensures { (i : ℕ) → slice_index self.new.numbers i
+            ≡ min (slice_index self.old.numbers i + slice_index other.now.numbers i) (2 ^ 64 - 1) }
+    {
+        for i in 0..COLUMNS {
+            self.numbers[i] = self.numbers[i].saturating_add(other.numbers[i]);
+        }
     }
 
     /// Adds what a header says of which type its transaction is.

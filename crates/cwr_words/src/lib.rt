@@ -5,6 +5,6 @@ mod words;
 
 pub use words::{
     AcksWords, AdviseWords, AnsweredWords, Colouring, CsvWords, JoinWords, JsonWords, Judging,
-    Kinds, LintWords, RenumberWords, Rows, SelectWords, SentAs, ShowWords, SplitWords, Task, Work,
-    WriteWords, task_of,
+    Kinds, LintWords, RenumberWords, Rows, SelectWords, SentAs, ShowWords, SplitWords,
+    SummaryWords, Task, Work, WriteWords, task_of,
 };

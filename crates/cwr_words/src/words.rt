@@ -10,7 +10,7 @@ ghost use Rattle.cwr_shape.specs.Format.Ranges.{limit_values};
 ghost use Rattle.cwr_moments.specs.Format.Moments.{moment_text};
 ghost use Rattle.cwr_grammar.specs.Format.CommandLine.{grammar};
 ghost use Rattle.cwr_words.specs.Format.Words.{AskFor, Asks, IsAnswer, IsLevelOf, IsPlainCheck, IsProgressOf, IsRenumberingOf, IsShowOf, IsSplitOf, IsTableOf, IsTaskOf};
-ghost use Rattle.cwr_words.specs.Format.Words.{AreBeside, AreLimitsOf, AreNamesOf, AreNamesOfJoin, AreStatusesOf, AreValuesOf, IsAcksOf, IsAdviceOf, IsCreatedBy, IsExportOf, IsImportOf, IsLintOf, IsJoinOf, IsJoinOfNames, IsJudgingOf, IsNumber, IsAnsweredBy, IsSelectionOf, IsWorkOf, are_answers_whole, asks_for_some, colouring_given, colouring_named, is_dated, is_file_named, is_given, is_party, kinds_given, kinds_in, level_given, level_named, named_out, party_given, rows_named, states_given, with_kind, works_given, works_named, written_in, written_once};
+ghost use Rattle.cwr_words.specs.Format.Words.{AreBeside, AreLimitsOf, AreNamesOf, AreNamesOfJoin, AreStatusesOf, AreValuesOf, IsAcksOf, IsAdviceOf, IsCreatedBy, IsExportOf, IsImportOf, IsLintOf, IsJoinOf, IsJoinOfNames, IsJudgingOf, IsNumber, IsAnsweredBy, IsSelectionOf, IsSummaryOf, IsWorkOf, are_answers_whole, asks_for_some, colouring_given, colouring_named, is_dated, is_file_named, is_given, is_party, kinds_given, kinds_in, level_given, level_named, named_out, party_given, rows_named, states_given, with_kind, works_given, works_named, written_in, written_once};
 ghost use Rattle.cwr_words.specs.Steps.Matches.{given_by};
 
 use clap::error::ErrorKind;
@@ -124,6 +124,23 @@ pub struct AcksWords<'a> {
     pub statuses: Vec<TransactionStatus>,
     /// Cells in UTF-8 are shown as their texts.
     pub utf8: bool,
+}
+
+/// What the words of `cwr summary` ask for.
+#[derive(Debug, PartialEq, Eq, Drop)]
+pub struct SummaryWords<'a> {
+    /// The names of the transmissions' files, in their order; without one standard input is read.
+    pub files: Vec<&'a str>,
+    /// As a table.
+    pub as_csv: bool,
+    /// As lines of JSON.
+    pub as_json: bool,
+    /// Without digests.
+    pub undigested: bool,
+    /// Advice is counted.
+    pub advised: bool,
+    /// The sums alone are told.
+    pub quiet: bool,
 }
 
 /// What the words of `cwr write` ask for.
@@ -269,6 +286,8 @@ pub enum Work<'a> {
     Csv(CsvWords<'a>),
     /// What the acknowledgements of transmissions say is told.
     Acks(AcksWords<'a>),
+    /// What stands in transmissions is told in numbers.
+    Summary(SummaryWords<'a>),
     /// A transmission is written from lines of JSON.
     Write(WriteWords<'a>),
     /// A transmission is cut into parts.
@@ -469,6 +488,28 @@ fn lint_in<'a>(alloc: Global, given: &ArgMatches<'a>) -> Result<Option<LintWords
         explained: flag_in(given, grammar::EXPLAINED),
         advised,
         all,
+    }))
+}
+
+/// The work of a summary. `None` where it is wanted both as a table and as lines of JSON.
+fn summary_in<'a>(
+    alloc: Global,
+    given: &ArgMatches<'a>,
+) -> Result<Option<SummaryWords<'a>>, AllocError>
+    ensures { IfOk result (IsAnswer (IsSummaryOf (given_by (found_of given.now)))) }
+{
+    let as_csv = flag_in(given, grammar::AS_CSV);
+    let as_json = flag_in(given, grammar::AS_JSON);
+    if as_csv && as_json {
+        return Ok(None);
+    }
+    Ok(Some(SummaryWords {
+        files: names_in(alloc, given)?,
+        as_csv,
+        as_json,
+        undigested: flag_in(given, grammar::NO_DIGEST),
+        advised: flag_in(given, grammar::ADVICE),
+        quiet: flag_in(given, grammar::QUIET),
     }))
 }
 
@@ -987,6 +1028,8 @@ fn work_in<'a>(
         Ok(table_in(given).map(Work::Csv))
     } else if name == grammar::ACKS {
         Ok(acks_in(alloc, given)?.map(Work::Acks))
+    } else if name == grammar::SUMMARY {
+        Ok(summary_in(alloc, given)?.map(Work::Summary))
     } else if name == grammar::WRITE {
         Ok(import_in(given).map(Work::Write))
     } else if name == grammar::JOIN {

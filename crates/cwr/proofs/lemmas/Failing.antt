@@ -4,7 +4,7 @@ use Rattle.std.specs.Prelude.{IfOk, Result, Ok, Err}
 use Rattle.std.specs.List.{AllZip}
 use Rattle.cwr_shape.specs.declared.limits.Limits.{Limits}
 use Rattle.cwr_words.specs.declared.words.Work.{Work}
-use Rattle.cwr_words.specs.declared.words.Work.TheVariants.{Check, Show, Explain, Lint, Advise, Json, Csv, Acks, Write, Split}
+use Rattle.cwr_words.specs.declared.words.Work.TheVariants.{Check, Show, Explain, Lint, Advise, Json, Csv, Acks, Summary, Write, Split}
 use Rattle.cwr_words.specs.declared.words.Work.TheVariants.{Join, Renumber, Select, Manual}
 use Rattle.cwr_files.specs.declared.faults.Fault.{Fault}
 use Rattle.cwr_files.specs.declared.faults.Fault.TheVariants as faults
@@ -275,6 +275,7 @@ unbegun_fails (Json words) making held after old now = out_unbegun words.out mak
 unbegun_fails (Csv words) making held after old now = out_unbegun words.out making held after old now
 unbegun_fails (Acks words) making held after old now =
     answers_unbegun (map (λ name. name.now) words.files.items) (map (λ name. name.now) words.sent.items) old now
+unbegun_fails (Summary words) making held after old now = tt
 unbegun_fails (Write words) making held after old now = out_unbegun words.out making held after old now
 unbegun_fails (Split words) making held after old now = λ quiet known plain. tt
 unbegun_fails (Join words) making held after old now = tt

@@ -8,7 +8,7 @@ use Rattle.cwr_json.specs.declared.encodings.Encoding.{Encoding}
 use Rattle.cwr_words.specs.declared.words.Task.{Task}
 use Rattle.cwr_words.specs.declared.words.WriteWords.{WriteWords}
 use Rattle.cwr_words.specs.declared.words.Work.{Work}
-use Rattle.cwr_words.specs.declared.words.Work.TheVariants.{Check, Show, Explain, Lint, Advise, Json, Csv, Acks, Write, Split}
+use Rattle.cwr_words.specs.declared.words.Work.TheVariants.{Check, Show, Explain, Lint, Advise, Json, Csv, Acks, Summary, Write, Split}
 use Rattle.cwr_words.specs.declared.words.Work.TheVariants.{Join, Renumber, Select, Manual}
 use Rattle.cwr_words.specs.Format.Words.{AskFor}
 use Rattle.cwr_files.specs.declared.faults.Fault.TheVariants.{Memory}
@@ -54,6 +54,7 @@ unbegun_leaves limits whole (Json words) held standard old now =
 unbegun_leaves limits whole (Csv words) held standard old now =
     out_turns (option_map (λ name. name.now) words.out) old now _ held
 unbegun_leaves limits whole (Acks words) held standard old now = stays held held refl
+unbegun_leaves limits whole (Summary words) held standard old now = stays held held refl
 unbegun_leaves limits whole (Write words) held standard old now =
     out_turns (option_map (λ name. name.now) words.out) old now _ held
 unbegun_leaves limits whole (Split words) held standard old now =

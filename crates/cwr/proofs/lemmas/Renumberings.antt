@@ -4,7 +4,7 @@ use Rattle.std.specs.Prelude.{Result, Ok, Err, IfOk, IfSome, option_map}
 use Rattle.cwr_shape.specs.declared.limits.Limits.{Limits}
 use Rattle.cwr_words.specs.declared.words.RenumberWords.{RenumberWords}
 use Rattle.cwr_words.specs.declared.words.Work.{Work}
-use Rattle.cwr_words.specs.declared.words.Work.TheVariants.{Check, Show, Explain, Lint, Advise, Json, Csv, Acks, Write, Split}
+use Rattle.cwr_words.specs.declared.words.Work.TheVariants.{Check, Show, Explain, Lint, Advise, Json, Csv, Acks, Summary, Write, Split}
 use Rattle.cwr_words.specs.declared.words.Work.TheVariants.{Join, Renumber, Select, Manual}
 use Rattle.cwr_files.specs.declared.faults.Fault.TheVariants as faults
 use Rattle.cwr_files.specs.Format.Files.{Texts, Turns}
@@ -111,6 +111,7 @@ unbegun_renumbers renumbered limits whole (Advise words) standard held making ol
 unbegun_renumbers renumbered limits whole (Json words) standard held making old now = tt
 unbegun_renumbers renumbered limits whole (Csv words) standard held making old now = tt
 unbegun_renumbers renumbered limits whole (Acks words) standard held making old now = tt
+unbegun_renumbers renumbered limits whole (Summary words) standard held making old now = tt
 unbegun_renumbers renumbered limits whole (Write words) standard held making old now = tt
 unbegun_renumbers renumbered limits whole (Split words) standard held making old now = tt
 unbegun_renumbers renumbered limits whole (Join words) standard held making old now = tt

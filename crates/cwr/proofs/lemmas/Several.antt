@@ -19,7 +19,7 @@ use Rattle.cwr_reports.specs.Steps.Marked.{TellsEach, TellsQuiet}
 use Rattle.cwr.specs.Format.Endings.{EndsOnFiles, EndsOnSeveral}
 use Rattle.cwr.specs.Steps.Tells.{TellsFiles, TellsJudged, TellsQuietRead, TellsQuietly, word_of}
 
-of_each : (advice : Option (Bool × ℕ)) (limits : Limits) (wanted : Wanted) (held : Option Texts) (standard : Option (List ℕ))
+pub of_each : (advice : Option (Bool × ℕ)) (limits : Limits) (wanted : Wanted) (held : Option Texts) (standard : Option (List ℕ))
     (names : List (List ℕ)) (ending : Result Status Stop) → EndsOnEach advice limits wanted held standard names ending
     → EndsOnSeveral advice limits wanted held standard names ending
 of_each advice limits wanted held standard names (Ok status) ends = ends

@@ -5,7 +5,7 @@ use Rattle.std.specs.Option.{is_some}
 use Rattle.cwr_shape.specs.declared.limits.Limits.{Limits}
 use Rattle.cwr_states.specs.declared.state_sets.States.{States}
 use Rattle.cwr_words.specs.declared.words.Work.{Work}
-use Rattle.cwr_words.specs.declared.words.Work.TheVariants.{Check, Show, Explain, Lint, Advise, Json, Csv, Acks, Write, Split}
+use Rattle.cwr_words.specs.declared.words.Work.TheVariants.{Check, Show, Explain, Lint, Advise, Json, Csv, Acks, Summary, Write, Split}
 use Rattle.cwr_words.specs.declared.words.Work.TheVariants.{Join, Renumber, Select, Manual}
 use Rattle.cwr_files.specs.declared.faults.Fault.TheVariants.{Memory}
 use Rattle.cwr_files.specs.Format.Files.{Texts}
@@ -51,6 +51,7 @@ unbegun limits whole (Csv words) held standard =
     of_data limits (record { whole = whole; fail_on = None }) held standard (option_map (λ name. name.now) words.file) (is_some words.out)
 unbegun limits whole (Acks words) held standard =
     of_answers limits whole words.fail_on held standard (map (λ name. name.now) words.files.items) (map (λ name. name.now) words.sent.items)
+unbegun limits whole (Summary words) held standard = tt
 unbegun limits whole (Write words) held standard = tt
 unbegun limits whole (Split words) held standard = tt
 unbegun limits whole (Join words) held standard = tt

@@ -5,7 +5,7 @@ use Rattle.std.specs.Option.{is_some}
 use Rattle.cwr_shape.specs.declared.limits.Limits.{Limits}
 use Rattle.cwr_states.specs.declared.state_sets.States.{States}
 use Rattle.cwr_words.specs.declared.words.Work.{Work}
-use Rattle.cwr_words.specs.declared.words.Work.TheVariants.{Check, Show, Explain, Lint, Advise, Json, Csv, Acks, Write, Split}
+use Rattle.cwr_words.specs.declared.words.Work.TheVariants.{Check, Show, Explain, Lint, Advise, Json, Csv, Acks, Summary, Write, Split}
 use Rattle.cwr_words.specs.declared.words.Work.TheVariants.{Join, Renumber, Select, Manual}
 use Rattle.cwr_words.specs.declared.words.WriteWords.{WriteWords}
 use Rattle.cwr_files.specs.declared.faults.Fault.{Fault}
@@ -20,6 +20,7 @@ use Rattle.cwr_endings.specs.declared.stops.Stop.TheVariants as stops
 use Rattle.cwr_endings.specs.Format.Endings.{IsStatusOn}
 use Rattle.cwr_reports.specs.Format.Endings.{EndsAsExportOf, EndsOnEach, EndsOnRead}
 use Rattle.cwr_answers.specs.Format.Endings.{EndsOnAnswers}
+use Rattle.cwr_summaries.specs.Format.Summed.{summed}
 use Rattle.cwr_transform.specs.declared.imports.Import.{Import}
 use Rattle.cwr_transform.specs.Format.Imports.{IsImportStatus}
 use Rattle.cwr_transform.specs.Format.Joins.{IsStatusOfJoin}
@@ -123,6 +124,8 @@ EndsOnWork limits whole (Csv words) held standard ending =
 EndsOnWork limits whole (Acks words) held standard ending =
     EndsAsAnswers limits whole words.fail_on held standard (map (λ name. name.now) words.files.items)
     (map (λ name. name.now) words.sent.items) ending
+EndsOnWork limits whole (Summary words) held standard ending =
+    EndsOnSeveral None limits (record { whole = whole; fail_on = None }) held standard (summed (map (λ name. name.now) words.files.items)) ending
 EndsOnWork limits whole (Write words) held standard ending = EndsAsWriting limits words held standard ending
 EndsOnWork limits whole (Split words) held standard ending =
     EndsAsCut limits (record { whole = whole; fail_on = words.fail_on }) held standard words.file.now ending

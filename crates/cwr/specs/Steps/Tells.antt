@@ -6,7 +6,7 @@ use Rattle.cwr_devices.specs.Format.Failures.{most_failures}
 use Rattle.cwr_fields.specs.declared.message_codes.TransactionStatus.{TransactionStatus}
 use Rattle.cwr_shape.specs.declared.limits.Limits.{Limits}
 use Rattle.cwr_words.specs.declared.words.Work.{Work}
-use Rattle.cwr_words.specs.declared.words.Work.TheVariants.{Check, Show, Explain, Lint, Advise, Json, Csv, Acks}
+use Rattle.cwr_words.specs.declared.words.Work.TheVariants.{Check, Show, Explain, Lint, Advise, Json, Csv, Acks, Summary}
 use Rattle.cwr_acks.specs.declared.forms.Form.{Form}
 use Rattle.cwr_files.specs.Format.Files.{Texts}
 use Rattle.cwr_files.specs.Format.Inputs.{shown_name}
@@ -155,6 +155,7 @@ HandsOnWork (Json words) ending handed_on = HandsOnData (is_some words.out) endi
 HandsOnWork (Csv words) ending handed_on = HandsOnData (is_some words.out) ending handed_on
 HandsOnWork (Acks words) ending handed_on =
     OfOne (map (λ name. name.now) words.files.items) (map (λ name. name.now) words.sent.items) (λ name. OnOk ending (handed_on ≡ true))
+HandsOnWork (Summary words) ending handed_on = OnOk ending (handed_on ≡ true)
 HandsOnWork work ending handed_on = Unit {0}
 
 -- ---- what failed

@@ -111,6 +111,10 @@ acks = subcommand (codes "acks")
     (reads ++ options (codes "sent") ∷ flag (codes "json") ∷ flag (codes "by-place") ∷ flag (codes "state") ∷ fail_on
     ∷ options (codes "status") ∷ flag (codes "utf8") ∷ files ∷ [])
 
+abbrev pub summary : Shape
+summary = subcommand (codes "summary")
+    (reads ++ flag (codes "csv") ∷ flag (codes "json") ∷ flag (codes "no-digest") ∷ flag (codes "advice") ∷ flag (codes "quiet") ∷ files ∷ [])
+
 abbrev pub write : Shape
 write = subcommand (codes "write")
     (limits ++ shows ++ number_or (codes "line") 1 1000000000 (codes "64000000") ∷ flag (codes "utf8") ∷ written (codes "OUT") ∷ file ∷ [])
@@ -140,7 +144,7 @@ manual = subcommand (codes "manual") []
 
 -- those that read transmissions and tell of them
 unfoldable pub readings : List Shape
-readings = check ∷ show ∷ explain ∷ lint ∷ advise ∷ json ∷ csv ∷ acks ∷ []
+readings = check ∷ show ∷ explain ∷ lint ∷ advise ∷ json ∷ csv ∷ acks ∷ summary ∷ []
 
 -- those that write transmissions, and the last one
 unfoldable pub writings : List Shape

@@ -28,6 +28,7 @@ rule_of_form id (forms.Names name) = options id
 rule_of_form id (forms.NamesBeside name other) = options id
 rule_of_form id (forms.StatusesWithout other) = options id
 rule_of_form id (forms.FlagBeside other) = flag id
+rule_of_form id (forms.FlagWithout other) = flag id
 rule_of_form id (forms.NameBeside name other) = option id
 rule_of_form id (forms.Letter short) = letter id short
 rule_of_form id (forms.Short short name) = letter id short

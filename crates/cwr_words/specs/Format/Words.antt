@@ -29,6 +29,7 @@ use Rattle.cwr_words.specs.declared.words.JoinWords.{JoinWords}
 use Rattle.cwr_words.specs.declared.words.JsonWords.{JsonWords}
 use Rattle.cwr_words.specs.declared.words.Kinds.{Kinds}
 use Rattle.cwr_words.specs.declared.words.LintWords.{LintWords}
+use Rattle.cwr_words.specs.declared.words.SummaryWords.{SummaryWords}
 use Rattle.cwr_words.specs.declared.words.RenumberWords.{RenumberWords}
 use Rattle.cwr_words.specs.declared.words.AnsweredWords.{AnsweredWords}
 use Rattle.cwr_words.specs.declared.words.SelectWords.{SelectWords}
@@ -41,7 +42,7 @@ use Rattle.cwr_words.specs.declared.words.Rows.{Rows}
 use Rattle.cwr_words.specs.declared.words.Rows.TheVariants.{Records, Works}
 use Rattle.cwr_words.specs.declared.words.Task.{Task}
 use Rattle.cwr_words.specs.declared.words.Work.{Work}
-use Rattle.cwr_words.specs.declared.words.Work.TheVariants.{Check, Show, Explain, Lint, Advise, Json, Csv, Acks, Write, Split}
+use Rattle.cwr_words.specs.declared.words.Work.TheVariants.{Check, Show, Explain, Lint, Advise, Json, Csv, Acks, Summary, Write, Split}
 use Rattle.cwr_words.specs.declared.words.Work.TheVariants.{Join, Renumber, Select, Manual}
 
 -- What a command line gives: under each id the first of its texts, that text as flags and numbers are read, and all of them.
@@ -175,6 +176,15 @@ IsLintOf given words =
     AreNamesOf given (map (λ name. name.now) words.files.items) × IsFlagOf given (codes "quiet") words.quiet
     × IsFlagOf given (codes "explain") words.explained × IsFlagOf given (codes "advice") words.advised × IsFlagOf given (codes "all") words.all
     × (words.all ≡ true → words.advised ≡ true)
+
+-- what stands in the transmissions of the files FILE, as a table or as lines of JSON where that flag is given, not both, without digests where
+-- that one is, with advice where that one is, and with the sums alone where that one is
+abbrev pub IsSummaryOf : Given → SummaryWords → Type 0
+IsSummaryOf given words =
+    AreNamesOf given (map (λ name. name.now) words.files.items) × IsFlagOf given (codes "csv") words.as_csv
+    × IsFlagOf given (codes "json") words.as_json × IsFlagOf given (codes "no-digest") words.undigested
+    × IsFlagOf given (codes "advice") words.advised × IsFlagOf given (codes "quiet") words.quiet
+    × (words.as_csv ≡ true → words.as_json ≡ false)
 
 -- advice on the transmissions of the files FILE, with what the options of a judgement say, all of it where that flag is given, where the
 -- numbers of so many works are kept as that option says
@@ -384,6 +394,7 @@ IsWorkOf name given (Advise words) = (bytes_eq name (codes "advise") ≡ true) �
 IsWorkOf name given (Json words) = (bytes_eq name (codes "json") ≡ true) × IsExportOf given words
 IsWorkOf name given (Csv words) = (bytes_eq name (codes "csv") ≡ true) × IsTableOf given words
 IsWorkOf name given (Acks words) = (bytes_eq name (codes "acks") ≡ true) × IsAcksOf given words
+IsWorkOf name given (Summary words) = (bytes_eq name (codes "summary") ≡ true) × IsSummaryOf given words
 IsWorkOf name given (Write words) = (bytes_eq name (codes "write") ≡ true) × IsImportOf given words
 IsWorkOf name given (Split words) = (bytes_eq name (codes "split") ≡ true) × IsSplitOf given words
 IsWorkOf name given (Join words) = (bytes_eq name (codes "join") ≡ true) × IsJoinOf given words

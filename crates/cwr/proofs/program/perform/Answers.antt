@@ -12,6 +12,14 @@ returns-in-Show-clause-files g c =
     (g.S.Store.held c.show_records.new.store)) (sym c.in-Show.is)
     (stays (g.S.Store.held c.args.store.now) (g.S.Store.held c.show_records.new.store) c.show_records.ensures.kept)
 
+pub returns-in-Summary-clause-files : goal.returns-in-Summary-clause-files
+returns-in-Summary-clause-files g c =
+    λ none. subst
+    (λ (w : Work). LeavesWork c.args.task.now.limits c.args.task.now.whole w (g.S.Store.held c.args.store.now) (g.I.Read.remaining c.args.standard)
+    (g.S.Store.failures c.args.store.now) (g.S.Store.failures c.sum_up.new.store) c.sum_up.result.1
+    (g.S.Store.held c.sum_up.new.store)) (sym c.in-Summary.is)
+    (stays (g.S.Store.held c.args.store.now) (g.S.Store.held c.sum_up.new.store) c.sum_up.ensures.kept)
+
 pub returns-in-Json-clause-files : goal.returns-in-Json-clause-files
 returns-in-Json-clause-files g c =
     λ none. subst

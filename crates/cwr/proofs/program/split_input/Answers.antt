@@ -1,8 +1,7 @@
 use Rattle.std.proofs.Common.{ℕ, List, Option, inl, sym, subst, ◌∙◌}
-use Rattle.std.specs.Prelude.{Err, Some, IsSome}
+use Rattle.std.specs.Prelude.{Some, IsSome}
 use Rattle.cwr_files.specs.Format.Files.{Same, Texts, Turns}
 use Rattle.cwr_files.specs.Steps.Inputs.{remaining_of}
-use Rattle.cwr_endings.specs.declared.stops.Stop.TheVariants as stops
 use Rattle.cwr_endings.proofs.lemmas.Outs.{stays, turns_so, writes_on}
 use Rattle.cwr_transform.specs.Format.Splits.{FailsToCut}
 use Rattle.cwr_transform.proofs.lemmas.SplitFails.{unopened_cut}

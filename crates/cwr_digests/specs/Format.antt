@@ -1,0 +1,2 @@
+-- Digests that are there or not.
+pub mod Digests

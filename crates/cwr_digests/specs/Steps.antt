@@ -1,0 +1,2 @@
+-- What a hasher holds of what is read.
+pub mod Digested

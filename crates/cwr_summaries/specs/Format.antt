@@ -1,0 +1,2 @@
+-- Inputs that are summed up.
+pub mod Summed
