@@ -1,6 +1,6 @@
 //! The program between its words and its devices.
 
-ghost use Rattle.std.specs.Prelude.{IfOk, codes, count_by, unwrap_or, ◌≡◌, ◌≢◌, ◌<◌, ◌≤◌, length, map, option_map, true, false, None, IfSome, OnErr, OnOk};
+ghost use Rattle.std.specs.Prelude.{IfOk, codes, count_by, unwrap_or, ◌≡◌, ◌≢◌, ◌<◌, ◌≤◌, length, map, option_map, true, false, None, IfSome, IsSome, OnErr, OnOk};
 ghost use Rattle.std.specs.Option.{is_some};
 ghost use Rattle.std.specs.IoError.{error_kind};
 ghost use Rattle.std.specs.declared.io.ErrorKind.TheVariants.{OutOfMemory as lacks_memory};
@@ -497,6 +497,7 @@ fn answered_by<'a, S: Store, I: Read + Drop, P: Pace, E: Write>(
 ) -> Result<Option<Listed<(u32, u32)>>, Unsought<'a>>
     ensures answered { (input : I) → IsThereOrRead input standard.old → IfOk result (λ places. AreAnsweredBy task.now.limits
         (option_map (λ name. name.now) words.now.file) words.now.answered (S.held store.old) (I.remaining input) places) }
+    ensures asked { OnErr result (IsSome words.now.answered) }
     ensures kept { S.held store.new ≡ S.held store.old }
     ensures making { S.making store.new ≡ S.making store.old }
     ensures failures { OnOk result (S.failures store.new ≡ S.failures store.old) }

@@ -30,3 +30,7 @@ pub mod CreatedItems
 pub mod SentWorks
 -- The items of a transmission whose works are sent as new or as revised ones are its items, as they are sent.
 pub mod SentItems
+-- Values that are kept each once are in order, and no others.
+pub mod DistinctValues
+-- A transmission that was read has few items.
+pub mod FewItems

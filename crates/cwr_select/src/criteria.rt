@@ -34,8 +34,8 @@ fn filled_number(number: &[u8]) -> [u8; NUMBER]
     cell
 }
 
-/// The number of a transaction.
-fn number_of(transaction: &Transaction) -> [u8; NUMBER]
+/// The number of a transaction by which it may be chosen, filled up with spaces to the width of the widest.
+pub fn number_of(transaction: &Transaction) -> [u8; NUMBER]
     ensures { result ≡ number_cell transaction.now }
 {
     match transaction.record(0) {

@@ -1,7 +1,7 @@
 //! Values that are asked for.
 
 ghost use Rattle.std.specs.Prelude.{◌≡◌, ◌<◌, IfSome, IsPermutation, is_some, length, true};
-ghost use Rattle.std.specs.List.{HoldsAt, list_any};
+ghost use Rattle.std.specs.List.{HoldsAt, IsDistinct, list_any};
 
 use std::marker::Model;
 
@@ -29,6 +29,24 @@ impl<T: Ord + Drop> Listed<T> {
         let mut values = values;
         values.sort_unstable();
         Listed { values }
+    }
+
+    /// These values, each once.
+    pub fn each_once(values: Vec<T>) -> Listed<T>
+        ensures same { (x : T) → list_any (λ y. T.eq y x) result ≡ list_any (λ y. T.eq y x) values.items }
+        ensures distinct { IsDistinct T.eq result }
+    {
+        let mut values = values;
+        values.sort_unstable();
+        values.dedup();
+        Listed { values }
+    }
+
+    /// How many they are.
+    pub fn len(&self) -> usize
+        ensures { result ≡ length self.now }
+    {
+        self.values.len()
     }
 
     /// Where the value stands among them, in their order. `None` where it is none of them.

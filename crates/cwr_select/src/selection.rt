@@ -7,17 +7,18 @@ ghost use Rattle.cwr_parts.specs.Steps.Joined.{reading_fault};
 ghost use Rattle.cwr_parts.specs.Format.Splitting.{CountsSplitReader, CountsSplitWriter};
 ghost use Rattle.cwr_select.specs.Format.Selecting.{Selects, SelectsAccepted};
 ghost use Rattle.cwr_select.specs.Steps.Held.{none_held};
-ghost use Rattle.cwr_select.specs.Steps.Selecting.{LeavesSelected, SelectsItems};
+ghost use Rattle.cwr_select.specs.Steps.Selecting.{HasFewItems, LeavesSelected, SelectsItems};
 
 use crate::changes::Changes;
 use crate::choices::Chooses;
 use crate::headers::created_item;
 use crate::reports::SelectReport;
 use crate::selecting::Selecting;
+use crate::viewing::SelectViewer;
 use cwr_decode::{ReadFault, Reading};
 use cwr_devices::{Source, Target};
 use cwr_shape::Limits;
-use cwr_tools::{Blind, ToolFault, Viewer};
+use cwr_tools::{Blind, ToolFault};
 use std::alloc::Global;
 
 /// What the fault of a reading is reported as.
@@ -33,7 +34,7 @@ fn reading_fault(fault: ReadFault) -> ToolFault
 }
 
 /// Reads a transmission item by item, up to its end or a fault, and writes what is chosen but TRL.
-fn select_items<R: Source, W: Target, C: Chooses, V: Viewer>(
+fn select_items<R: Source, W: Target, C: Chooses, V: SelectViewer>(
     alloc: Global,
     limits: Limits,
     reader: &mut R,
@@ -50,7 +51,8 @@ fn select_items<R: Source, W: Target, C: Chooses, V: Viewer>(
     ensures selects { SelectsItems limits changes (C.choice choice.now) W.contents W.failures
         (R.remaining reader.old) (R.remaining reader.new) result selecting.old selecting.new }
     ensures seen { OnOk result
-        (SeesText limits V.has_seen (R.remaining reader.old) viewer.old viewer.new) }
+        ((first : V) → SeesText limits (V.has_seen first) (R.remaining reader.old) viewer.old viewer.new) }
+    ensures few { OnOk result (HasFewItems limits (R.remaining reader.old)) }
     ensures failures { CountsSplitReader result (R.failures reader.old) (R.failures reader.new) }
 {
     let mut reading = Reading::new(alloc, limits, reader);
@@ -113,7 +115,7 @@ pub fn select<R: Source, W: Target + Drop, C: Chooses>(
 }
 
 /// Selects as `select` does. The viewer sees the items of the input while they are read.
-pub fn select_viewed<R: Source, W: Target + Drop, C: Chooses, V: Viewer>(
+pub fn select_viewed<R: Source, W: Target + Drop, C: Chooses, V: SelectViewer>(
     alloc: Global,
     limits: Limits,
     reader: &mut R,
@@ -135,7 +137,9 @@ pub fn select_viewed<R: Source, W: Target + Drop, C: Chooses, V: Viewer>(
         (λ report. 0 < report.selected → W.handed_on result.0 ≡ true) }
     // Where the text is accepted, it saw the items of its transmission.
     ensures seen { OnOk result.1
-        (SeesText limits V.has_seen (R.remaining reader.old) viewer.old viewer.new) }
+        ((first : V) → SeesText limits (V.has_seen first) (R.remaining reader.old) viewer.old viewer.new) }
+    // These are few.
+    ensures few { OnOk result.1 (HasFewItems limits (R.remaining reader.old)) }
 {
     let mut selecting = Selecting::new(writer, limits);
     match select_items(

@@ -36,3 +36,11 @@ pub mod SplitFails
 pub mod JoinFails
 -- What failed where putting numbers right ends as one that did.
 pub mod RepairFails
+-- What is noted of the values of lists while others come, one after another.
+pub mod SoughtValues
+-- What is seen of a transmission while some of its transactions are selected comes item by item.
+pub mod SelectionsSeen
+-- The status of a selection is right of its text.
+pub mod SelectionStatuses
+-- The status of a selection is that of what the words name.
+pub mod StatusesNamed

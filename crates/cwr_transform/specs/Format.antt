@@ -2,6 +2,7 @@
 pub mod Imports
 pub mod Joins
 pub mod Lists
+pub mod Missing
 pub mod Openings
 pub mod Repairs
 pub mod Selections

@@ -2,5 +2,7 @@
 pub mod Joins
 pub mod Lists
 pub mod Repairs
+pub mod SelectViews
 pub mod Selections
+pub mod Sought
 pub mod Splits

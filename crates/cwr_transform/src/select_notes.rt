@@ -69,30 +69,6 @@ fn put_each<W: Target>(
     Ok(())
 }
 
-/// Whether no transaction has a number of a list.
-pub(crate) fn lacks_number(text: &[u8], sought: &SoughtNumbers<'_>) -> bool {
-    for line in unmarked(text).split(|b| *b == b'\n') {
-        if let Some(number) = number_cell(entry_of(line)) {
-            if sought.lacks(&number) {
-                return true;
-            }
-        }
-    }
-    false
-}
-
-/// Whether no transaction has a place of a list.
-pub(crate) fn lacks_place(text: &[u8], sought: &SoughtPlaces<'_>) -> bool {
-    for line in unmarked(text).split(|b| *b == b'\n') {
-        if let Some(place) = place_in(entry_of(line)) {
-            if sought.lacks(place) {
-                return true;
-            }
-        }
-    }
-    false
-}
-
 /// Puts the lines of the numbers of a list, each once.
 pub(crate) fn put_numbers<W: Target>(
     text: &[u8],

@@ -1,25 +1,28 @@
 //! Transactions of a transmission that are selected, as one of their own.
 
-ghost use Rattle.std.specs.Prelude.{◌≡◌, None, IfOk, IfSome, OnOk, option_map};
+ghost use Rattle.std.specs.Prelude.{◌≡◌, [], None, IfNone, IfOk, IfSome, OnOk, option_map};
+ghost use Rattle.std.specs.Str.{bytes_eq};
 ghost use Rattle.cwr_parts.specs.Format.Splitting.{CountsSplitWriter};
 ghost use Rattle.cwr_files.specs.Format.Faults.{IfErr};
 ghost use Rattle.cwr_files.specs.Format.Files.{Turns};
 ghost use Rattle.cwr_files.specs.Format.Inputs.{IsThereOrRead};
 ghost use Rattle.cwr_files.specs.Steps.Inputs.{remaining_of, standard_left};
 ghost use Rattle.cwr_select.specs.Format.Criteria.{significant};
-ghost use Rattle.cwr_transform.specs.Format.Selections.{EndsAsSelection, EndsAsSelectionAt, IsSelectionAt, IsSelectionFrom, LeavesSelection, WritesSelection, asked_choice};
+ghost use Rattle.cwr_transform.specs.Format.Selections.{EndsAsSelection, EndsAsSelectionAt, HasSelectStatus, HasSelectStatusAt, IsNoParty, IsSelectionAt, IsSelectionFrom, LeavesSelection, WritesSelection, asked_choice, other_moment};
 ghost use Rattle.cwr_transform.specs.Format.Lists.{number_in, place_in};
+ghost use Rattle.cwr_transform.specs.Format.Missing.{same_place};
 ghost use Rattle.cwr_transform.specs.Steps.Lists.{IsThereForList, ReadsList, SaysText, standard_after_list};
-ghost use Rattle.cwr_transform.specs.Steps.Selections.{CountsLookAfter, CountsSelecting, EndsSelected, JudgesSelected, JudgesSelection, LeavesSelected, LooksAfterSelecting, is_empty, keeps_selected, selected_status, status_where, with_memory};
+ghost use Rattle.cwr_transform.specs.Steps.Selections.{CountsLookAfter, CountsSelecting, EndsSelected, JudgesSelected, JudgesSelection, LeavesSelected, LooksAfterSelecting, ReadsNeither, ReadsNone, SaysNone, SeesSelected, asked_by, is_empty, keeps_selected, selected_status, status_where, with_memory};
+ghost use Rattle.cwr_transform.specs.Steps.SelectViews.{has_seen};
+ghost use Rattle.cwr_transform.specs.Steps.Sought.{AreOnce, HasNoted, numbers_sought, places_sought};
 
 use crate::join_inputs::name_of;
 use crate::lists::{Entry, NumberCell, Place, Untaken, read_list, values_in};
 use crate::select_notes::{
-    lacks_number, lacks_place, put_numbers, put_places, put_selected, tell_blanked, tell_line,
-    tell_none, tell_same_moment,
+    put_numbers, put_places, put_selected, tell_blanked, tell_line, tell_none, tell_same_moment,
 };
 use crate::select_views::SelectView;
-use crate::sought::{SoughtNumbers, SoughtPlaces};
+use crate::sought::Sought;
 use cwr_devices::{Counted, Pen, ReadAhead, Sink, SinkFault, Source, Target};
 use cwr_endings::{
     Look, Status, Stop, Wanted, ended_by, good_status, hand_on, look_beyond, refuse_out, settle,
@@ -36,7 +39,7 @@ use cwr_select::{
 };
 use cwr_shape::Limits;
 use cwr_tools::ToolFault;
-use std::alloc::{AllocError, Global};
+use std::alloc::Global;
 use std::io::{Read, Write};
 
 /// How transactions are selected.
@@ -69,8 +72,7 @@ pub struct Selection<'a> {
 #[derive(Drop)]
 struct ReadList<T: Ord + Drop> {
     text: Vec<u8>,
-    /// How many values it has, and these in order.
-    count: usize,
+    /// The values that it has, each once.
     values: Listed<T>,
 }
 
@@ -95,13 +97,13 @@ fn list_of<'a, T: Entry + Ord>(
     text: Vec<u8>,
     name: &'a str,
 ) -> Result<ReadList<T>, Unlisted<'a>>
-    ensures { IfOk result (λ list. SaysText T.reads text.items list.values) }
+    ensures says { IfOk result (λ list. SaysText T.eq T.reads text.items list.values) }
+    ensures none { SaysNone T.reads text.items result }
 {
     match values_in(alloc, text.as_slice()) {
         Ok(values) => Ok(ReadList {
             text,
-            count: values.len(),
-            values: Listed::new(values),
+            values: Listed::each_once(values),
         }),
         Err(Untaken::Line(line)) => Err(Unlisted::Line(name, line, T::expected())),
         Err(Untaken::Memory) => Err(Unlisted::Fault(Fault::Memory)),
@@ -115,9 +117,11 @@ fn read_values<'a, T: Entry + Ord, S: Store, I: Read + Drop>(
     name: Option<&'a str>,
     standard: &mut Option<I>,
 ) -> Result<Option<ReadList<T>>, Unlisted<'a>>
-    ensures listed { IfOk result (λ list. ReadsList T.reads (S.held store.old) (standard_left I.remaining standard.old)
+    ensures listed { IfOk result (λ list. ReadsList T.eq T.reads (S.held store.old) (standard_left I.remaining standard.old)
         (option_map (λ n. n.now) name.entry) (option_map (λ l. l.values) list)) }
     ensures there { OnOk result (IsThereForList (option_map (λ n. n.now) name.entry) standard.old) }
+    ensures none { ReadsNone T.reads (S.held store.old) (standard_left I.remaining standard.old) (option_map (λ n. n.now) name.entry)
+        (IsThereForList (option_map (λ n. n.now) name.entry) standard.old) result }
     ensures standard { standard.new ≡ standard_after_list (option_map (λ n. n.now) name.entry) standard.old }
     ensures failures { OnOk result (S.failures store.new ≡ S.failures store.old) }
     ensures kept { S.held store.new ≡ S.held store.old }
@@ -142,14 +146,21 @@ fn read_lists<'a, S: Store, I: Read + Drop>(
     selection: &Selection<'a>,
     standard: &mut Option<I>,
 ) -> Result<Lists, Unlisted<'a>>
-    ensures works { IfOk result (λ lists. ReadsList number_in (S.held store.old) (standard_left I.remaining standard.old)
+    ensures works { IfOk result (λ lists. ReadsList bytes_eq number_in (S.held store.old) (standard_left I.remaining standard.old)
         (option_map (λ n. n.now) selection.now.works) (option_map (λ l. l.values) lists.works)) }
-    ensures places { IfOk result (λ lists. ReadsList place_in (S.held store.old)
+    ensures places { IfOk result (λ lists. ReadsList same_place place_in (S.held store.old)
         (standard_left I.remaining (standard_after_list (option_map (λ n. n.now) selection.now.works) standard.old))
         (option_map (λ n. n.now) selection.now.places) (option_map (λ l. l.values) lists.places)) }
     ensures first { OnOk result (IsThereForList (option_map (λ n. n.now) selection.now.works) standard.old) }
     ensures there { OnOk result (IsThereForList (option_map (λ n. n.now) selection.now.places)
         (standard_after_list (option_map (λ n. n.now) selection.now.works) standard.old)) }
+    // A line of one of them is none only where it is so of what that says.
+    ensures none { ReadsNeither (S.held store.old) (standard_left I.remaining standard.old)
+        (standard_left I.remaining (standard_after_list (option_map (λ n. n.now) selection.now.works) standard.old))
+        (option_map (λ n. n.now) selection.now.works) (option_map (λ n. n.now) selection.now.places)
+        (IsThereForList (option_map (λ n. n.now) selection.now.works) standard.old)
+        (IsThereForList (option_map (λ n. n.now) selection.now.places)
+        (standard_after_list (option_map (λ n. n.now) selection.now.works) standard.old)) result }
     ensures standard { OnOk result (standard.new ≡ standard_after_list (option_map (λ n. n.now) selection.now.places)
         (standard_after_list (option_map (λ n. n.now) selection.now.works) standard.old)) }
     ensures failures { OnOk result (S.failures store.new ≡ S.failures store.old) }
@@ -222,20 +233,14 @@ fn asked_for<'l, 'a>(
     }
 }
 
-/// What is sought, of which nothing was found so far.
-fn sought_in<'l>(
-    alloc: Global,
-    lists: &'l Lists,
-) -> Result<(Option<SoughtNumbers<'l>>, Option<SoughtPlaces<'l>>), AllocError> {
-    let numbers = match &lists.works {
-        Some(list) => Some(SoughtNumbers::new(alloc, &list.values, list.count)?),
+/// The values of a list, if there is one.
+fn listed_in<T: Ord + Drop>(list: &Option<ReadList<T>>) -> Option<&Listed<T>>
+    ensures { option_map (λ l. l.now) result ≡ option_map (λ l. l.values) list.now }
+{
+    match list {
+        Some(list) => Some(&list.values),
         None => None,
-    };
-    let places = match &lists.places {
-        Some(list) => Some(SoughtPlaces::new(alloc, &list.values, list.count)?),
-        None => None,
-    };
-    Ok((numbers, places))
+    }
 }
 
 /// What came of a run.
@@ -289,19 +294,6 @@ impl Selected<'_> {
     }
 }
 
-/// Whether something of the lists is missing.
-fn is_missing<C>(lists: &Lists, view: &SelectView<'_, C>) -> bool {
-    let lacks_works = match (&lists.works, &view.numbers) {
-        (Some(list), Some(sought)) => lacks_number(list.text.as_slice(), sought),
-        _ => false,
-    };
-    let lacks_places = match (&lists.places, &view.places) {
-        (Some(list), Some(sought)) => lacks_place(list.text.as_slice(), sought),
-        _ => false,
-    };
-    lacks_works || lacks_places
-}
-
 /// What a selection comes to for which memory was refused, or not.
 fn with_memory(
     outcome: Result<SelectReport, ToolFault>,
@@ -341,13 +333,16 @@ fn run<'a, S: Store, I: Read + Drop, P: Pace + Drop, W: Target + Drop, C: Choose
     store: &mut S,
     alloc: Global,
     selection: &Selection<'_>,
-    lists: &Lists,
     choice: &C,
     view: &mut SelectView<'_, C>,
     input: Input<'a, S::Reader, I, P>,
     writer: W,
     error: &mut E,
 ) -> (Selected<'a>, W)
+    requires fresh { has_seen C.choice view.old view.old [] }
+    requires same { view.old.choice.now ≡ choice.now }
+    ensures sees { SeesSelected (asked_by selection.now.limits selection.now.wanted C.choice view.old)
+        (remaining_of S.Reader.remaining I.remaining input.entry) result.0 }
     ensures judges { JudgesSelection selection.now.limits selection.now.changes (C.choice choice.now)
         (remaining_of S.Reader.remaining I.remaining input.entry) W.contents writer result.1 result.0 }
     ensures failures { CountsSplitWriter result.0.outcome (W.failures writer) (W.failures result.1) }
@@ -375,7 +370,7 @@ fn run<'a, S: Store, I: Read + Drop, P: Pace + Drop, W: Target + Drop, C: Choose
         found: view.findings.count.reaches(selection.wanted.fail_on),
         is_same_moment: view.is_same_moment,
         is_empty: is_empty(&outcome),
-        is_missing: is_missing(lists, view),
+        is_missing: view.sought.lacks_one(),
         read,
     };
     (selected, writer)
@@ -398,10 +393,10 @@ fn put_lines<W: Target, C>(
         }
     };
     put_selected(report, sink)?;
-    if let (Some(list), Some(sought)) = (&lists.works, &mut view.numbers) {
+    if let (Some(list), Some(sought)) = (&lists.works, &mut view.sought.numbers) {
         put_numbers(list.text.as_slice(), sought, sink)?;
     }
-    if let (Some(list), Some(sought)) = (&lists.places, &mut view.places) {
+    if let (Some(list), Some(sought)) = (&lists.places, &mut view.sought.places) {
         put_places(list.text.as_slice(), sought, sink)?;
     }
     Ok(())
@@ -423,7 +418,7 @@ fn tell<E: Write, C>(
     } else if selected.is_empty {
         tell_none(error);
     } else {
-        tell_blanked(error, view.blanked.as_slice());
+        tell_blanked(error, view.blanked.groups.as_slice());
         if is_kept {
             tell_findings(error, name, &view.findings.count, status_by(selected.found));
         } else if selected.found {
@@ -463,13 +458,16 @@ fn write_selected<'a, S: Store, I: Read + Drop, P: Pace + Drop, C: Chooses, E: W
     store: &mut S,
     alloc: Global,
     selection: &Selection<'a>,
-    lists: &Lists,
     choice: &C,
     view: &mut SelectView<'_, C>,
     input: Input<'a, S::Reader, I, P>,
     out: &'a str,
     error: &mut E,
 ) -> Result<SelectedFile<'a>, Fault<'a>>
+    requires fresh { has_seen C.choice view.old view.old [] }
+    requires same { view.old.choice.now ≡ choice.now }
+    ensures sees { IfOk result (λ file. SeesSelected (asked_by selection.now.limits selection.now.wanted C.choice view.old)
+        (remaining_of S.Reader.remaining I.remaining input.entry) file.selected) }
     ensures judged { IfOk result (λ file. JudgesSelected selection.now.limits (C.choice choice.now)
         (remaining_of S.Reader.remaining I.remaining input.entry) file.selected) }
     ensures files { S.making store.old ≡ None → Turns (S.held store.old) (S.held store.new)
@@ -490,7 +488,6 @@ fn write_selected<'a, S: Store, I: Read + Drop, P: Pace + Drop, C: Chooses, E: W
         store,
         alloc,
         selection,
-        lists,
         choice,
         &mut *view,
         input,
@@ -553,6 +550,10 @@ fn select_to_file<'a, S: Store, I: Read + Drop, P: Pace + Drop, W: Target, C: Ch
     lines: W,
     error: &mut E,
 ) -> (W, Result<Status, Stop<'a>>)
+    requires fresh { has_seen C.choice view.old view.old [] }
+    requires same { view.old.choice.now ≡ choice.now }
+    ensures status { HasSelectStatus (asked_by selection.now.limits selection.now.wanted C.choice view.old)
+        (remaining_of S.Reader.remaining I.remaining input.entry) result.1 }
     ensures ends { EndsAsSelection selection.now.limits selection.now.wanted.whole selection.now.changes (C.choice choice.now)
         (remaining_of S.Reader.remaining I.remaining input.entry) result.1 }
     ensures files { S.making store.old ≡ None → Turns (S.held store.old) (S.held store.new)
@@ -565,7 +566,7 @@ fn select_to_file<'a, S: Store, I: Read + Drop, P: Pace + Drop, W: Target, C: Ch
         return (lines, Err(Stop::Fault(fault)));
     }
     let file = match write_selected(
-        store, alloc, selection, lists, choice, &mut *view, input, out, error,
+        store, alloc, selection, choice, &mut *view, input, out, error,
     ) {
         Ok(file) => file,
         Err(fault) => return (lines, Err(Stop::Fault(fault))),
@@ -612,6 +613,10 @@ fn select_to_output<
     output: W,
     error: &mut E,
 ) -> (W, Result<Status, Stop<'a>>)
+    requires fresh { has_seen C.choice view.old view.old [] }
+    requires same { view.old.choice.now ≡ choice.now }
+    ensures status { HasSelectStatus (asked_by selection.now.limits selection.now.wanted C.choice view.old)
+        (remaining_of S.Reader.remaining I.remaining input.entry) result.1 }
     ensures ends { EndsAsSelection selection.now.limits selection.now.wanted.whole selection.now.changes (C.choice choice.now)
         (remaining_of S.Reader.remaining I.remaining input.entry) result.1 }
     ensures kept { S.held store.new ≡ S.held store.old }
@@ -620,7 +625,6 @@ fn select_to_output<
         store,
         alloc,
         selection,
-        lists,
         choice,
         &mut *view,
         input,
@@ -644,12 +648,20 @@ fn select_by<'a, S: Store, I: Read + Drop, P: Pace + Drop, W: Target + Drop, C: 
     selection: &Selection<'a>,
     lists: &Lists,
     choice: &C,
-    numbers: Option<SoughtNumbers<'_>>,
-    places: Option<SoughtPlaces<'_>>,
+    sought: Sought<'_>,
     input: Input<'a, S::Reader, I, P>,
     output: W,
     error: &mut E,
 ) -> (W, Result<Status, Stop<'a>>)
+    requires { HasNoted (numbers_sought sought) (places_sought sought) [] sought }
+    ensures status { HasSelectStatus (record {
+      limits = selection.now.limits;
+      wanted = selection.now.wanted;
+      moment = other_moment (option_map (λ name. name.now) selection.now.out) selection.now.changes;
+      choice = C.choice choice.now;
+      numbers = numbers_sought sought.entry;
+      places = places_sought sought.entry;
+    }) (remaining_of S.Reader.remaining I.remaining input.entry) result.1 }
     ensures ends { EndsAsSelection selection.now.limits selection.now.wanted.whole selection.now.changes (C.choice choice.now)
         (remaining_of S.Reader.remaining I.remaining input.entry) result.1 }
     ensures files { S.making store.old ≡ None → Turns (S.held store.old) (S.held store.new)
@@ -659,19 +671,13 @@ fn select_by<'a, S: Store, I: Read + Drop, P: Pace + Drop, W: Target + Drop, C: 
 {
     match selection.out {
         Some(out) => {
-            let mut view = SelectView::new(
-                alloc,
-                choice,
-                selection.changes.created,
-                numbers,
-                places,
-            );
+            let mut view = SelectView::new(alloc, choice, selection.changes.created, sought);
             select_to_file(
                 store, alloc, selection, lists, choice, &mut view, input, out, output, error,
             )
         }
         None => {
-            let mut view = SelectView::new(alloc, choice, None, numbers, places);
+            let mut view = SelectView::new(alloc, choice, None, sought);
             select_to_output(
                 store, alloc, selection, lists, choice, &mut view, input, output, error,
             )
@@ -691,6 +697,17 @@ fn select_input<'a, S: Store, I: Read + Drop, P: Pace + Drop, W: Target + Drop, 
     output: W,
     error: &mut E,
 ) -> (W, Result<Status, Stop<'a>>)
+    requires works { AreOnce bytes_eq (option_map (λ list. list.values) lists.now.works) }
+    requires places { AreOnce same_place (option_map (λ list. list.values) lists.now.places) }
+    ensures status { HasSelectStatus (record {
+      limits = selection.now.limits;
+      wanted = selection.now.wanted;
+      moment = other_moment (option_map (λ name. name.now) selection.now.out) selection.now.changes;
+      choice = asked_choice selection.now.others (option_map (λ list. list.values) lists.now.works)
+          (option_map (λ list. list.values) lists.now.places) (option_map (λ by. by.0.now) answered.entry) selection.now.kinds party.entry;
+      numbers = option_map (λ list. list.values) lists.now.works;
+      places = option_map (λ list. list.values) lists.now.places;
+    }) (remaining_of S.Reader.remaining I.remaining input.entry) result.1 }
     ensures ends { EndsAsSelection selection.now.limits selection.now.wanted.whole selection.now.changes
         (asked_choice selection.now.others (option_map (λ list. list.values) lists.now.works)
         (option_map (λ list. list.values) lists.now.places) (option_map (λ by. by.0.now) answered.entry) selection.now.kinds party.entry)
@@ -702,12 +719,12 @@ fn select_input<'a, S: Store, I: Read + Drop, P: Pace + Drop, W: Target + Drop, 
         (option_map (λ list. list.values) lists.now.places) (option_map (λ by. by.0.now) answered.entry) selection.now.kinds party.entry)
         (remaining_of S.Reader.remaining I.remaining input.entry)) result.1) }
 {
-    let Ok((numbers, places)) = sought_in(alloc, lists) else {
+    let Ok(sought) = Sought::new(alloc, listed_in(&lists.works), listed_in(&lists.places)) else {
         return (output, Err(Stop::Fault(Fault::Memory)));
     };
     let choice = asked_for(selection, lists, answered, party);
     let answer = select_by(
-        store, alloc, selection, lists, &choice, numbers, places, input, output, error,
+        store, alloc, selection, lists, &choice, sought, input, output, error,
     );
     let Turned {
         choice: Both(_, Both(_, Both(_, Both(_, _)))),
@@ -718,7 +735,8 @@ fn select_input<'a, S: Store, I: Read + Drop, P: Pace + Drop, W: Target + Drop, 
 
 /// Who chooses by the party of that number, if one is named. `None` where that is no number.
 fn party_of<'a>(number: Option<&'a str>) -> Option<Option<ByParty<'a>>>
-    ensures { IfSome result (λ party. party ≡ option_map (λ n. significant n.now) number.entry) }
+    ensures some { IfSome result (λ party. party ≡ option_map (λ n. significant n.now) number.entry) }
+    ensures none { IfNone result (IsNoParty (option_map (λ n. n.now) number.entry)) }
 {
     match number {
         Some(number) => match ByParty::new(number.as_bytes()) {
@@ -744,6 +762,9 @@ pub fn select_file<'a, S: Store, I: Read + Drop, P: Pace + Drop, W: Target + Dro
     // It ends well only where something is selected of what the words name.
     ensures ends { (input : I) → IsThereOrRead input standard.old
         → EndsAsSelectionAt selection.now (option_map (λ by. by.0.now) answered.entry) (S.held store.old) (I.remaining input) result.1 }
+    // It has the status of that.
+    ensures status { (input : I) → IsThereOrRead input standard.old
+        → HasSelectStatusAt selection.now (option_map (λ by. by.0.now) answered.entry) (S.held store.old) (I.remaining input) result.1 }
     // Where it ends well the file holds the canonical text of that, and nothing else changed. So it is, or nothing changed, where it is
     // refused: something of a list may be missing. Else nothing changed.
     ensures files { S.making store.old ≡ None → (input : I) → IsThereOrRead input standard.old

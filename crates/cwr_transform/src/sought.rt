@@ -1,7 +1,15 @@
 //! What is sought in a transmission of which some transactions are selected: the numbers and the places of lists.
 
+ghost use Rattle.std.specs.Prelude.{◌≡◌, ◌==◌, ◌<◌, ◌++◌, ◌∷◌, ℕ, List, Option, [], IfOk, option_map, slice_set, true};
+ghost use Rattle.std.specs.List.{IsDistinct, list_any};
+ghost use Rattle.std.specs.Str.{bytes_eq};
+ghost use Rattle.cwr_lines.specs.Format.Records.{RecordValue};
+ghost use Rattle.cwr_transform.specs.Format.Missing.{Placed, same_place};
+ghost use Rattle.cwr_transform.specs.Steps.Sought.{AreNoted, AreOnce, HasNoted, NotesNumbers, NotesPlaces, lacks_noted, lacks_sought, noted_numbers};
+
 use crate::lists::{NumberCell, Place};
-use cwr_select::Listed;
+use cwr_select::{Listed, number_of};
+use cwr_values::Transaction;
 use std::alloc::{AllocError, Global};
 
 /// What stands for a number that was told, in the place of a count of transactions.
@@ -44,13 +52,31 @@ pub(crate) struct SoughtNumbers<'a> {
     pub(crate) lacks_memory: bool,
 }
 
+/// Whether one of the counts is 0.
+fn has_zero(counts: &[u32]) -> bool
+    ensures { result ≡ list_any (λ count. count == 0) counts.now }
+{
+    counts.iter().any(|count| *count == 0)
+}
+
+/// Whether one isn't found.
+fn has_unfound(found: &[bool]) -> bool
+    ensures { result ≡ lacks_noted found.now }
+{
+    found.iter().any(|it| !*it)
+}
+
 impl<'a> SoughtNumbers<'a> {
-    /// So many numbers, before the first transaction.
+    /// Before the first transaction.
     pub(crate) fn new(
         alloc: Global,
         listed: &'a Listed<NumberCell>,
-        count: usize,
-    ) -> Result<SoughtNumbers<'a>, AllocError> {
+    ) -> Result<SoughtNumbers<'a>, AllocError>
+        requires { IsDistinct bytes_eq listed.now }
+        ensures listed { IfOk result (λ s. s.listed.now ≡ listed.now) }
+        ensures noted { IfOk result (λ s. AreNoted bytes_eq listed.now (noted_numbers s) []) }
+    {
+        let count = listed.len();
         let mut firsts = Vec::new(alloc);
         firsts.reserve_exact(count)?;
         firsts.resize(count, 0)?;
@@ -65,52 +91,59 @@ impl<'a> SoughtNumbers<'a> {
     }
 
     /// The transactions that come are those of the next group.
-    pub(crate) fn open_group(&mut self) {
-        if self.starts.push(self.count).is_err() {
-            self.lacks_memory = true;
-        }
+    pub(crate) fn open_group(&mut self)
+        ensures listed { self.new.listed ≡ self.old.listed }
+        ensures noted { noted_numbers self.new ≡ noted_numbers self.old }
+    {
+        let is_kept = self.starts.push(self.count).is_ok();
+        self.lacks_memory = self.lacks_memory || !is_kept;
     }
 
-    /// The next transaction has that number, or none.
-    pub(crate) fn take(&mut self, number: Option<NumberCell>) {
-        self.count = self.count.saturating_add(1);
-        let Some(number) = number else {
+    /// The transaction that was counted last has the number at that place among those of the list.
+    fn note(&mut self, at: usize)
+        requires { 0 < self.old.count }
+        ensures listed { self.new.listed ≡ self.old.listed }
+        ensures noted { noted_numbers self.new ≡ slice_set (noted_numbers self.old) at true }
+    {
+        if at >= self.firsts.len() {
             return;
-        };
-        let Some(at) = self.listed.place(&number) else {
-            return;
-        };
-        let Some(first) = self.firsts.get_mut(at) else {
-            return;
-        };
-        if *first == 0 {
-            *first = self.count;
+        }
+        if self.firsts[at] == 0 {
+            self.firsts[at] = self.count;
             return;
         }
         let further = Further {
             number: at,
             count: self.count,
         };
-        if self.further.push(further).is_err() {
-            self.lacks_memory = true;
+        let is_kept = self.further.push(further).is_ok();
+        self.lacks_memory = self.lacks_memory || !is_kept;
+    }
+
+    /// The next transaction has that number.
+    pub(crate) fn take(&mut self, number: &NumberCell)
+        ensures listed { self.new.listed ≡ self.old.listed }
+        ensures noted { (xs : List (List ℕ)) → AreNoted bytes_eq self.old.listed.now (noted_numbers self.old) xs
+            → AreNoted bytes_eq self.old.listed.now (noted_numbers self.new) (xs ++ number.now ∷ []) }
+    {
+        self.count = self.count.saturating_add(1);
+        match self.listed.place(number) {
+            Some(at) => self.note(at),
+            None => {}
         }
+    }
+
+    /// Whether a number of the list is none of the transactions'.
+    fn lacks_one(&self) -> bool
+        ensures { result ≡ lacks_noted (noted_numbers self.now) }
+    {
+        has_zero(self.firsts.as_slice())
     }
 
     /// No transaction comes any more.
     pub(crate) fn end(&mut self) {
         self.further
             .sort_unstable_by_key(|further| (further.number, further.count));
-    }
-
-    /// Whether no transaction has the number of the list.
-    pub(crate) fn lacks(&self, number: &NumberCell) -> bool {
-        let Some(at) = self.listed.place(number) else {
-            return false;
-        };
-        match self.firsts.get(at) {
-            Some(first) => *first == 0,
-            None => false,
-        }
     }
 
     /// Where the transaction of that count stands.
@@ -176,40 +209,174 @@ pub(crate) struct SoughtPlaces<'a> {
 }
 
 impl<'a> SoughtPlaces<'a> {
-    /// So many places, of which none was found so far.
+    /// Before the first transaction.
     pub(crate) fn new(
         alloc: Global,
         listed: &'a Listed<Place>,
-        count: usize,
-    ) -> Result<SoughtPlaces<'a>, AllocError> {
+    ) -> Result<SoughtPlaces<'a>, AllocError>
+        requires { IsDistinct same_place listed.now }
+        ensures listed { IfOk result (λ s. s.listed.now ≡ listed.now) }
+        ensures noted { IfOk result (λ s. AreNoted same_place listed.now s.found.items []) }
+    {
+        let count = listed.len();
         let mut found = Vec::new(alloc);
         found.reserve_exact(count)?;
         found.resize(count, false)?;
         Ok(SoughtPlaces { listed, found })
     }
 
-    /// Whether no transaction has the place of the list.
-    pub(crate) fn lacks(&self, place: Place) -> bool {
-        let Some(at) = self.listed.place(&place) else {
-            return false;
-        };
-        match self.found.get(at) {
-            Some(found) => !*found,
-            None => false,
-        }
+    /// Whether a place of the list is none of the transactions'.
+    fn lacks_one(&self) -> bool
+        ensures { result ≡ lacks_noted self.now.found.items }
+    {
+        has_unfound(self.found.as_slice())
     }
 
     /// A transaction has the place. The answer is whether that is sought, and wasn't found or told before.
-    pub(crate) fn take(&mut self, place: Place) -> bool {
+    pub(crate) fn take(&mut self, place: Place) -> bool
+        ensures listed { self.new.listed ≡ self.old.listed }
+        ensures noted { (xs : List (ℕ × ℕ)) → AreNoted same_place self.old.listed.now self.old.found.items xs
+            → AreNoted same_place self.old.listed.now self.new.found.items (xs ++ place ∷ []) }
+    {
         let Some(at) = self.listed.place(&place) else {
             return false;
         };
-        match self.found.get_mut(at) {
-            Some(found) => {
-                let is_new = !*found;
-                *found = true;
-                is_new
-            }
+        if at >= self.found.len() {
+            return false;
+        }
+        let is_new = !self.found[at];
+        self.found[at] = true;
+        is_new
+    }
+}
+
+/// What is sought of lists, where there are any.
+#[derive(Drop)]
+pub(crate) struct Sought<'a> {
+    pub(crate) numbers: Option<SoughtNumbers<'a>>,
+    pub(crate) places: Option<SoughtPlaces<'a>>,
+}
+
+/// The numbers of a list, before the first transaction.
+fn numbers_in<'a>(
+    alloc: Global,
+    listed: Option<&'a Listed<NumberCell>>,
+) -> Result<Option<SoughtNumbers<'a>>, AllocError>
+    requires { AreOnce bytes_eq (option_map (λ l. l.now) listed) }
+    ensures { IfOk result (NotesNumbers (option_map (λ l. l.now) listed.entry) []) }
+{
+    match listed {
+        Some(listed) => match SoughtNumbers::new(alloc, listed) {
+            Ok(sought) => Ok(Some(sought)),
+            Err(fault) => Err(fault),
+        },
+        None => Ok(None),
+    }
+}
+
+/// The places of a list, before the first transaction.
+fn places_in<'a>(
+    alloc: Global,
+    listed: Option<&'a Listed<Place>>,
+) -> Result<Option<SoughtPlaces<'a>>, AllocError>
+    requires { AreOnce same_place (option_map (λ l. l.now) listed) }
+    ensures { IfOk result (NotesPlaces (option_map (λ l. l.now) listed.entry) []) }
+{
+    match listed {
+        Some(listed) => match SoughtPlaces::new(alloc, listed) {
+            Ok(sought) => Ok(Some(sought)),
+            Err(fault) => Err(fault),
+        },
+        None => Ok(None),
+    }
+}
+
+/// Notes which number a transaction has, where numbers are sought.
+fn take_number(numbers: &mut Option<SoughtNumbers<'_>>, transaction: &Transaction)
+    ensures { (listed : Option (List (List ℕ))) (ps : List Placed) (group place : ℕ) → NotesNumbers listed ps numbers.old
+        → NotesNumbers listed (ps ++ record { group = group; place = place; records = transaction.now } ∷ []) numbers.new }
+{
+    match numbers {
+        Some(numbers) => numbers.take(&number_of(transaction)),
+        None => {}
+    }
+}
+
+/// Notes which place a transaction has, where places are sought.
+fn take_place(places: &mut Option<SoughtPlaces<'_>>, group: u32, place: u32)
+    ensures { (listed : Option (List (ℕ × ℕ))) (ps : List Placed) (records : List RecordValue) → NotesPlaces listed ps places.old
+        → NotesPlaces listed (ps ++ record { group = group; place = place; records = records } ∷ []) places.new }
+{
+    match places {
+        Some(places) => {
+            let _ = places.take((group, place));
+        }
+        None => {}
+    }
+}
+
+impl<'a> Sought<'a> {
+    /// What is sought of these lists, before the first transaction.
+    pub(crate) fn new(
+        alloc: Global,
+        numbers: Option<&'a Listed<NumberCell>>,
+        places: Option<&'a Listed<Place>>,
+    ) -> Result<Sought<'a>, AllocError>
+        requires numbers { AreOnce bytes_eq (option_map (λ l. l.now) numbers) }
+        requires places { AreOnce same_place (option_map (λ l. l.now) places) }
+        ensures numbers { IfOk result (λ s. NotesNumbers (option_map (λ l. l.now) numbers.entry) [] s.numbers) }
+        ensures places { IfOk result (λ s. NotesPlaces (option_map (λ l. l.now) places.entry) [] s.places) }
+    {
+        let numbers = match numbers_in(alloc, numbers) {
+            Ok(numbers) => numbers,
+            Err(fault) => return Err(fault),
+        };
+        match places_in(alloc, places) {
+            Ok(places) => Ok(Sought { numbers, places }),
+            Err(fault) => Err(fault),
+        }
+    }
+
+    /// The transactions that come are those of the next group.
+    pub(crate) fn open_group(&mut self)
+        ensures { (numbers : Option (List (List ℕ))) (places : Option (List (ℕ × ℕ))) (ps : List Placed)
+            → HasNoted numbers places ps self.old → HasNoted numbers places ps self.new }
+    {
+        match &mut self.numbers {
+            Some(numbers) => numbers.open_group(),
+            None => {}
+        }
+    }
+
+    /// The next transaction has that place.
+    pub(crate) fn take(&mut self, group: u32, place: u32, transaction: &Transaction)
+        ensures { (numbers : Option (List (List ℕ))) (places : Option (List (ℕ × ℕ))) (ps : List Placed)
+            → HasNoted numbers places ps self.old
+            → HasNoted numbers places (ps ++ record { group = group; place = place; records = transaction.now } ∷ []) self.new }
+    {
+        take_number(&mut self.numbers, transaction);
+        take_place(&mut self.places, group, place);
+    }
+
+    /// Whether a number or a place of a list is none of the transactions'.
+    pub(crate) fn lacks_one(&self) -> bool
+        ensures { result ≡ lacks_sought self.now }
+    {
+        let lacks_number = match &self.numbers {
+            Some(numbers) => numbers.lacks_one(),
+            None => false,
+        };
+        let lacks_place = match &self.places {
+            Some(places) => places.lacks_one(),
+            None => false,
+        };
+        lacks_number || lacks_place
+    }
+
+    /// Whether memory was refused for what is noted.
+    pub(crate) fn lacks_memory(&self) -> bool {
+        match &self.numbers {
+            Some(numbers) => numbers.lacks_memory,
             None => false,
         }
     }

@@ -1,6 +1,8 @@
 -- A selection by what became of transactions, or by other words alone.
-use Rattle.std.proofs.Common.{ℕ, List, Option, Some, None, inl}
-use Rattle.std.specs.Prelude.{Result, Ok, Err}
+use Rattle.std.proofs.Common.{ℕ, Bool, List, Option, Some, None, inl}
+use Rattle.std.specs.Prelude.{option_map, Result, Ok, Err}
+use Rattle.cwr_shape.specs.declared.limits.Limits.{Limits}
+use Rattle.cwr_words.specs.declared.words.SelectWords.{SelectWords}
 use Rattle.cwr_files.specs.Format.Files.{Same, Texts, Turns}
 use Rattle.cwr_files.specs.Steps.NewFiles.{HasKeptCount}
 use Rattle.cwr_files.proofs.lemmas.Outs.{leaves_same}
@@ -9,9 +11,11 @@ use Rattle.cwr_endings.specs.declared.endings.Status.TheVariants as statuses
 use Rattle.cwr_endings.specs.declared.stops.Stop.{Stop}
 use Rattle.cwr_endings.proofs.lemmas.Outs.{turns_so}
 use Rattle.cwr_transform.specs.declared.selections.Selection.{Selection}
-use Rattle.cwr_transform.specs.Format.Selections.{EndsAsSelectionAt, IsSelectionAt, LeavesSelection}
+use Rattle.cwr_transform.specs.Format.Selections.{EndsAsSelectionAt, HasSelectStatusAt, IsSelectionAt, LeavesSelection}
 use Rattle.cwr_transform.proofs.lemmas.SelectionsLeft.{selection_since}
 use Rattle.cwr.specs.Format.Endings.{EndsWellAs}
+use Rattle.cwr.specs.Format.Selected.{AreAnsweredBy, HasSelectedStatus}
+use Rattle.cwr.specs.Format.Tables.{selection_of}
 
 -- it ends well only where there is a text
 pub ends_well : (s : Selection) (places : Option (List (ℕ × ℕ))) (held : Option Texts) (standard : Option (List ℕ)) (is : List ℕ → Type 0)
@@ -35,3 +39,12 @@ pub unsought_same : (out : Option (List ℕ)) (old now : ℕ) (is : List ℕ →
 unsought_same None old now is held after h = h
 unsought_same (Some out) old now is held after h =
     turns_so held after Same _ (λ texts new same. inl (leaves_same out old now texts new same)) h
+
+-- the status is that of the selection by these places
+pub selected_status : (limits : Limits) (whole : Bool) (words : SelectWords) (held : Option Texts) (standard : Option (List ℕ))
+    (places : Option (List (ℕ × ℕ))) (ending : Result Status Stop)
+    → AreAnsweredBy limits (option_map (λ name. name.now) words.file) words.answered held standard places
+    → HasSelectStatusAt (selection_of limits whole words) places held standard ending
+    → HasSelectedStatus limits whole words held standard ending
+selected_status limits whole words held standard places (Ok status) answered h = inl (places, answered, h)
+selected_status limits whole words held standard places (Err stop) answered h = tt

@@ -56,5 +56,5 @@ unbegun limits whole (Write words) held standard = tt
 unbegun limits whole (Split words) held standard = tt
 unbegun limits whole (Join words) held standard = tt
 unbegun limits whole (Renumber words) held standard = tt
-unbegun limits whole (Select words) held standard = tt
+unbegun limits whole (Select words) held standard = (tt, tt)
 unbegun limits whole Manual held standard = tt

@@ -1,11 +1,14 @@
 -- What is selected by the words of a selection.
-use Rattle.std.specs.Prelude.{◌≡◌, ℕ, Bool, List, map, Option, Some, None, IsPermutation, codes, option_map, unwrap_or}
+use Rattle.std.specs.Prelude.{◌≡◌, ◌⊎◌, ℕ, Bool, List, map, Option, Some, None, IsSome, IsPermutation, codes, option_map, unwrap_or, Result, Ok, Err}
 use Rattle.cwr_shape.specs.declared.limits.Limits.{Limits}
 use Rattle.cwr_words.specs.declared.words.AnsweredWords.{AnsweredWords}
 use Rattle.cwr_words.specs.declared.words.SelectWords.{SelectWords}
 use Rattle.cwr_files.specs.Format.Files.{Texts}
 use Rattle.cwr_answers.specs.Format.Answered.{AreAnswered}
-use Rattle.cwr_transform.specs.Format.Selections.{IsSelectionAt}
+use Rattle.cwr_endings.specs.declared.endings.Status.{Status}
+use Rattle.cwr_endings.specs.declared.endings.Status.TheVariants as statuses
+use Rattle.cwr_endings.specs.declared.stops.Stop.{Stop}
+use Rattle.cwr_transform.specs.Format.Selections.{HasSelectStatusAt, IsSelectionAt}
 use Rattle.cwr.specs.Format.Tables.{selection_of}
 
 -- The places are those of the transactions of the file that became so, in whatever order, or none where no word asks what became of them.
@@ -21,3 +24,12 @@ pub record IsSelectedBy (limits : Limits) (whole : Bool) (words : SelectWords) (
   pub places : Option (List (ℕ × ℕ))
   pub answered : AreAnsweredBy limits (option_map (λ name. name.now) words.file) words.answered held standard places
   pub of : IsSelectionAt (selection_of limits whole words) places held standard text
+
+-- A run that ends with a status has that of the selection by such places; or it is refused, where words ask what became of transactions and a
+-- transmission that says so isn't good. Which one isn't is not said here.
+abbrev pub HasSelectedStatus : Limits → Bool → SelectWords → Option Texts → Option (List ℕ) → Result Status Stop → Type 0
+HasSelectedStatus limits whole words held standard (Ok status) =
+    ((places : Option (List (ℕ × ℕ))) × AreAnsweredBy limits (option_map (λ name. name.now) words.file) words.answered held standard places
+    × HasSelectStatusAt (selection_of limits whole words) places held standard (Ok status))
+    ⊎ (IsSome words.answered × (status ≡ statuses.Refused))
+HasSelectedStatus limits whole words held standard (Err stop) = Unit {0}

@@ -1,11 +1,12 @@
 -- A selection while it is written: what items do to it, and how it ends.
-use Rattle.std.specs.Prelude.{◌≡◌, ◌≢◌, ◌⊎◌, ℕ, true, false, map, List, [], ◌∷◌, ◌++◌, Option, Some, is_some, Result, Ok, Err}
+use Rattle.std.specs.Prelude.{◌≡◌, ◌≢◌, ◌⊎◌, ◌≤◌, ℕ, true, false, map, length, List, [], ◌∷◌, ◌++◌, Option, Some, IfSome, is_some, Result, Ok, Err}
 use Rattle.std.specs.Io.KnownBytes.{Appends}
 use Rattle.cwr_devices.specs.Format.Failures.{one_more_failure}
 use Rattle.cwr_shape.specs.declared.limits.Limits.{Limits}
 use Rattle.cwr_values.specs.declared.items.Item.{Item}
 use Rattle.cwr_values.specs.declared.items.Item.TheVariants.{Transaction, Ended}
 use Rattle.cwr_values.specs.Format.Values.{TransmissionValue, IsTransmission, FitsIn}
+use Rattle.cwr_judge.specs.Format.Ends.{IsAccepted}
 use Rattle.cwr_judge.specs.Format.Items.{records_in, value_items}
 use Rattle.cwr_decode.specs.declared.readings.ReadFault.{ReadFault}
 use Rattle.cwr_decode.specs.declared.readings.ReadFault.TheVariants as read_faults
@@ -222,3 +223,10 @@ LeavesSelected limits changes choice before after contents old new (Limit limit)
 LeavesSelected limits changes choice before after contents old new Output = ⊥
 LeavesSelected limits changes choice before after contents old new fault =
     SelectsUpTo limits changes choice fault contents before after old new
+
+-- ---- how many items there are
+
+-- where the text is accepted, its transmission has at most so many
+abbrev pub HasFewItems : Limits → Option (List ℕ) → Type 0
+HasFewItems limits before =
+    IfSome before (λ text. (v : TransmissionValue) (n : ℕ) → IsAccepted limits text v n → length (value_items v) ≤ 199999998)

@@ -1,6 +1,6 @@
 -- What is selected is chosen by what the words name.
 use mathlib.Core.Path.{fun_ext}
-use Rattle.std.proofs.Common.{◌≡◌, ◌==◌, true≢false, ℕ, Bool, true, false, not, ◌&&◌, List, Option, Some, None, refl, sym, ap, ap₂, subst, ◌∙◌, inl, inr}
+use Rattle.std.proofs.Common.{◌≡◌, true≢false, ℕ, Bool, true, false, not, ◌&&◌, List, Option, Some, None, refl, sym, ap, ap₂, subst, ◌∙◌, inl, inr}
 use Rattle.std.specs.Prelude.{IfSome, IsSome, option_map, Result, Ok, Err, if◌then◌else◌}
 use Rattle.std.specs.Option.{option_map_or}
 use Rattle.cwr_lines.specs.Format.Records.{RecordValue}
@@ -10,7 +10,6 @@ use Rattle.cwr_select.specs.declared.criteria.ByKind.{ByKind}
 use Rattle.cwr_select.specs.Format.Criteria.{has_kind, has_number, has_party, has_place, number_cell, significant}
 use Rattle.std.specs.Str.{bytes_eq}
 use Rattle.std.proofs.lemmas.Option.{none-some}
-use Rattle.std.proofs.lemmas.List.Sorted.{list_any-IsPermutation}
 use Rattle.cwr_select.specs.Format.Selections.{Choice}
 use Rattle.cwr_files.specs.Format.Files.{Same, Texts, Turns}
 use Rattle.cwr_files.specs.Format.Inputs.{IfReadAt, IsThereOrRead, is_standard}
@@ -25,7 +24,8 @@ use Rattle.cwr_endings.proofs.lemmas.Outs.{out_same, turns_so, writes_as}
 use Rattle.cwr_transform.specs.declared.selections.Selection.{Selection}
 use Rattle.cwr_transform.specs.Format.Selections.{EndsAsSelection, EndsAsSelectionAt, IsSelectionAt, IsSelectionFrom, LeavesSelection, asked_choice}
 use Rattle.cwr_transform.specs.Format.Lists.{all_read, entries_in, number_in, place_in}
-use Rattle.cwr_transform.specs.Steps.Lists.{ArePermuted, IsThereForList, ReadsList, ReadsText, SaysText, standard_after_list}
+use Rattle.cwr_transform.specs.Format.Missing.{same_place}
+use Rattle.cwr_transform.specs.Steps.Lists.{AreListedOnce, IsThereForList, ReadsList, ReadsText, SaysText, standard_after_list}
 
 -- ---- who chooses
 
@@ -66,7 +66,7 @@ pub lists_lent : {I : Type 0} (works places : Option (List ℕ)) (input : I) (st
 lists_lent works places input standard lent =
     after_lent places input (standard_after_list works standard) (after_lent works input standard lent)
 
-read_lent : {I : Type 0} (b : Bool) (held : Option Texts) (of_standard : I → Option (List ℕ)) (input : I) (standard : Option I)
+pub read_lent : {I : Type 0} (b : Bool) (held : Option Texts) (of_standard : I → Option (List ℕ)) (input : I) (standard : Option I)
     (name : List ℕ) (is : List ℕ → Type 0) → IsThereOrRead input standard → IsThereFor b standard
     → IfReadAt b held (standard_left of_standard standard) name is → IfReadAt b held (of_standard input) name is
 read_lent true held of_standard input None name is lent there h = absurd (true≢false (sym there))
@@ -78,9 +78,10 @@ read_lent {I} true held of_standard input (Some other) name is lent there h =
 read_lent false held of_standard input standard name is lent there h = h
 
 -- what a text says that was read is what the list says
-pub listed_so : {A : Type 0} (reads : List ℕ → Option A) (held : Option Texts) (standard : Option (List ℕ)) (name bytes : List ℕ)
-    (values : List A) → ReadsText held standard name bytes → SaysText reads bytes values → ReadsList reads held standard (Some name) (Some values)
-listed_so reads held standard name bytes values r s = (
+pub listed_so : {A : Type 0} (same : A → A → Bool) (reads : List ℕ → Option A) (held : Option Texts) (standard : Option (List ℕ))
+    (name bytes : List ℕ) (values : List A) → ReadsText held standard name bytes → SaysText same reads bytes values
+    → ReadsList same reads held standard (Some name) (Some values)
+listed_so same reads held standard name bytes values r s = (
   Some s.0,
   (refl, if_read held standard (Some name) r.0 (λ text. all_read reads (entries_in text) ≡ Some s.0) r.1 (known r.0 r.2)),
   s.2,
@@ -90,11 +91,12 @@ listed_so reads held standard name bytes values r s = (
   known (Some text) h = subst (λ (t : List ℕ). all_read reads (entries_in t) ≡ Some s.0) h s.1
 
 -- what was read of a list is what the word names
-pub listed_lent : {I A : Type 0} (reads : List ℕ → Option A) (held : Option Texts) (of_standard : I → Option (List ℕ)) (input : I)
+pub listed_lent : {I A : Type 0} (same : A → A → Bool) (reads : List ℕ → Option A) (held : Option Texts)
+    (of_standard : I → Option (List ℕ)) (input : I)
     (standard : Option I) (name : Option (List ℕ)) (values : Option (List A)) → IsThereOrRead input standard → IsThereForList name standard
-    → ReadsList reads held (standard_left of_standard standard) name values → ReadsList reads held (of_standard input) name values
-listed_lent reads held of_standard input standard None values lent there h = h
-listed_lent reads held of_standard input standard (Some name) values lent there h = (
+    → ReadsList same reads held (standard_left of_standard standard) name values → ReadsList same reads held (of_standard input) name values
+listed_lent same reads held of_standard input standard None values lent there h = h
+listed_lent same reads held of_standard input standard (Some name) values lent there h = (
   h.0,
   (
     h.1.0,
@@ -127,24 +129,24 @@ left_named {I} of_standard standard first works places now held name left begun 
       by None t k = alone now lent t k
       by (Some word) t k = left_lent (is_standard (Some word)) held of_standard standard now word left lent t k
 
--- ---- the lists, in whatever order
+-- ---- the lists, each value of which is kept once
 
-number_same : (t : List RecordValue) (listed values : Option (List (List ℕ))) → ArePermuted listed values
+number_same : (t : List RecordValue) (listed values : Option (List (List ℕ))) → AreListedOnce bytes_eq listed values
     → option_map_or (λ list. has_number list t) values true ≡ option_map_or (λ list. has_number list t) listed true
 number_same t None None h = refl
 number_same t None (Some ys) h = absurd h
 number_same t (Some xs) None h = absurd h
-number_same t (Some xs) (Some ys) h = sym (list_any-IsPermutation (λ number. bytes_eq number (number_cell t)) xs ys h)
+number_same t (Some xs) (Some ys) h = h.members (number_cell t)
 
-place_same : (group place : ℕ) (listed values : Option (List (ℕ × ℕ))) → ArePermuted listed values
+place_same : (group place : ℕ) (listed values : Option (List (ℕ × ℕ))) → AreListedOnce same_place listed values
     → option_map_or (λ list. has_place list group place) values true ≡ option_map_or (λ list. has_place list group place) listed true
 place_same group place None None h = refl
 place_same group place None (Some ys) h = absurd h
 place_same group place (Some xs) None h = absurd h
-place_same group place (Some xs) (Some ys) h = sym (list_any-IsPermutation (λ p. p.0 == group && p.1 == place) xs ys h)
+place_same group place (Some xs) (Some ys) h = h.members (group, place)
 
-listed_same : (others : Bool) (numbers of_works : Option (List (List ℕ))) (places of_places answered : Option (List (ℕ × ℕ)))
-    (kinds : Option ByKind) (party : Option (List ℕ)) → ArePermuted numbers of_works → ArePermuted places of_places
+pub listed_same : (others : Bool) (numbers of_works : Option (List (List ℕ))) (places of_places answered : Option (List (ℕ × ℕ)))
+    (kinds : Option ByKind) (party : Option (List ℕ)) → AreListedOnce bytes_eq numbers of_works → AreListedOnce same_place places of_places
     → asked_choice others of_works of_places answered kinds party ≡ asked_choice others numbers places answered kinds party
 listed_same others numbers of_works places of_places answered kinds party h k =
     fun_ext λ group. fun_ext λ place. fun_ext λ t.
@@ -161,8 +163,8 @@ from_some limits whole changes choice (Some known) text h = h
 
 pub at_names : (s : Selection) (answered : Option (List (ℕ × ℕ))) (held : Option Texts) (standard : Option (List ℕ))
     (works : Option (List (List ℕ))) (places : Option (List (ℕ × ℕ))) (party : Option (List ℕ)) (left : Option (List ℕ)) (text : List ℕ)
-    → ReadsList number_in held standard (option_map (λ name. name.now) s.works) works
-    → ReadsList place_in held standard (option_map (λ name. name.now) s.places) places
+    → ReadsList bytes_eq number_in held standard (option_map (λ name. name.now) s.works) works
+    → ReadsList same_place place_in held standard (option_map (λ name. name.now) s.places) places
     → party ≡ option_map (λ number. significant number.now) s.party → IsLeftOf held standard (option_map (λ name. name.now) s.file) left
     → IsSelectionFrom s.limits s.wanted.whole s.changes (asked_choice s.others works places answered s.kinds party) left text
     → IsSelectionAt s answered held standard text

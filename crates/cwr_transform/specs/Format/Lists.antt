@@ -69,3 +69,8 @@ abbrev pub IsListed : {A : Type 0} → (List ℕ → Option A) → Option Texts 
 IsListed reads held standard None values = values ≡ None
 IsListed reads held standard (Some name) values =
     IsSome values × IfRead held standard (Some name) (λ text. all_read reads (entries_in text) ≡ values)
+
+-- a line of the list of that name says nothing of it, where one is named
+abbrev pub IsNoList : {A : Type 0} → (List ℕ → Option A) → Option Texts → Option (List ℕ) → Option (List ℕ) → Type 0
+IsNoList reads held standard None = ⊥
+IsNoList reads held standard (Some name) = IfRead held standard (Some name) (λ text. all_read reads (entries_in text) ≡ None)

@@ -1,5 +1,6 @@
 -- A list while its lines are read.
-use Rattle.std.specs.Prelude.{◌≡◌, IfSome, IsPermutation, ℕ, nat_lt, length, List, ◌++◌, Option, Some, None, option_map, if◌then◌else◌}
+use Rattle.std.specs.Prelude.{◌≡◌, IfSome, ℕ, Bool, nat_lt, length, List, ◌++◌, Option, Some, None, option_map, if◌then◌else◌}
+use Rattle.std.specs.List.{IsDistinct, list_any}
 use Rattle.cwr_files.specs.Format.Files.{Texts}
 use Rattle.cwr_files.specs.Format.Inputs.{is_standard}
 use Rattle.cwr_files.specs.Steps.Inputs.{IsLeftOf, IsThereFor, standard_after}
@@ -28,18 +29,24 @@ abbrev pub standard_after_list : {I : Type 0} → Option (List ℕ) → Option I
 standard_after_list None standard = standard
 standard_after_list (Some name) standard = standard_after (is_standard (Some name)) standard
 
--- these are the others, in whatever order
-abbrev pub ArePermuted : {A : Type 0} → Option (List A) → Option (List A) → Type 0
-ArePermuted None None = Unit {0}
-ArePermuted None (Some ys) = ⊥
-ArePermuted (Some xs) None = ⊥
-ArePermuted (Some xs) (Some ys) = IsPermutation xs ys
+-- the one list has just the values that the other has, and each of them once
+pub record HasOnce {A : Type 0} (same : A → A → Bool) (listed values : List A) : Type 0 where
+  pub members : (x : A) → list_any (λ y. same y x) values ≡ list_any (λ y. same y x) listed
+  pub distinct : IsDistinct same values
+
+-- so it is where there is a list
+abbrev pub AreListedOnce : {A : Type 0} → (A → A → Bool) → Option (List A) → Option (List A) → Type 0
+AreListedOnce same None None = Unit {0}
+AreListedOnce same None (Some ys) = ⊥
+AreListedOnce same (Some xs) None = ⊥
+AreListedOnce same (Some xs) (Some ys) = HasOnce same xs ys
 
 -- the values are what a text says
-abbrev pub SaysText : {A : Type 0} → (List ℕ → Option A) → List ℕ → List A → Type 0
-SaysText {A} reads text values = (listed : List A) × (all_read reads (entries_in text) ≡ Some listed) × IsPermutation listed values
+abbrev pub SaysText : {A : Type 0} → (A → A → Bool) → (List ℕ → Option A) → List ℕ → List A → Type 0
+SaysText {A} same reads text values = (listed : List A) × (all_read reads (entries_in text) ≡ Some listed) × HasOnce same listed values
 
 -- they are what the list of that name says
-abbrev pub ReadsList : {A : Type 0} → (List ℕ → Option A) → Option Texts → Option (List ℕ) → Option (List ℕ) → Option (List A) → Type 0
-ReadsList {A} reads held standard name values =
-    (listed : Option (List A)) × IsListed reads held standard name listed × ArePermuted listed values
+abbrev pub ReadsList : {A : Type 0} → (A → A → Bool) → (List ℕ → Option A) → Option Texts → Option (List ℕ) → Option (List ℕ)
+    → Option (List A) → Type 0
+ReadsList {A} same reads held standard name values =
+    (listed : Option (List A)) × IsListed reads held standard name listed × AreListedOnce same listed values

@@ -1,10 +1,11 @@
 -- What came of a run that selects, and what it leaves.
-use Rattle.std.specs.Prelude.{◌≡◌, ◌<◌, ◌+◌, ◌==◌, ◌||◌, ℕ, Bool, true, false, if◌then◌else◌, List, drop, Option, Some, None, IfSome, Result, Ok, Err}
+use Rattle.std.specs.Prelude.{◌≡◌, ◌⊎◌, ◌<◌, ◌+◌, ◌==◌, ◌||◌, ℕ, Bool, true, false, if◌then◌else◌, List, drop, Option, Some, None, IfSome, Result, Ok, Err}
 use Rattle.std.specs.Io.KnownBytes.{Appends}
 use Rattle.cwr_devices.specs.Format.Failures.{one_more_failure}
 use Rattle.cwr_shape.specs.declared.limits.Limits.{Limits}
 use Rattle.cwr_values.specs.Format.Values.{TransmissionValue}
-use Rattle.cwr_judge.specs.Format.Ends.{IsAccepted}
+use Rattle.cwr_judge.specs.Format.Ends.{IsAccepted, IsRefused, IsTruncated}
+use Rattle.cwr_tools.specs.Format.Watching.{any_from}
 use Rattle.cwr_tools.specs.declared.verdicts.ToolFault.{ToolFault}
 use Rattle.cwr_tools.specs.declared.verdicts.ToolFault.TheVariants as tool_faults
 use Rattle.cwr_select.specs.declared.reports.SelectReport.{SelectReport}
@@ -24,9 +25,19 @@ use Rattle.cwr_endings.specs.declared.stops.Stop.{Stop}
 use Rattle.cwr_endings.specs.declared.stops.Stop.TheVariants as stops
 use Rattle.cwr_endings.specs.Format.Endings.{EndsAfterFault, SettlesOut, WritesOut}
 use Rattle.cwr_endings.specs.Steps.Looks.{CountsLook, IsLook, good_status}
+use Rattle.cwr_transform.specs.declared.select_views.SelectView.{SelectView}
+use Rattle.cwr_transform.specs.declared.selections.Lists.{Lists}
+use Rattle.cwr_transform.specs.declared.selections.ReadList.{ReadList}
 use Rattle.cwr_transform.specs.declared.selections.Selected.{Selected}
 use Rattle.cwr_transform.specs.declared.selections.SelectedFile.{SelectedFile}
+use Rattle.cwr_transform.specs.declared.selections.Unlisted.{Unlisted}
+use Rattle.cwr_transform.specs.declared.selections.Unlisted.TheVariants as unlisted
+use Rattle.cwr_transform.specs.Format.Lists.{all_read, entries_in, number_in, place_in}
+use Rattle.cwr_transform.specs.Format.Missing.{chosen_of, is_created_at, is_missing, placed}
+use Rattle.cwr_transform.specs.Format.Selections.{Asking}
 use Rattle.cwr_transform.specs.Steps.Joins.{faults_of}
+use Rattle.cwr_transform.specs.Steps.Lists.{ReadsText}
+use Rattle.cwr_transform.specs.Steps.Sought.{numbers_sought, places_sought}
 
 -- ---- what came of it
 
@@ -144,3 +155,68 @@ abbrev pub LeavesSelected : Wanted → List ℕ → ℕ → ℕ → (List ℕ �
 LeavesSelected wanted out old now is (Ok file) texts new =
     SettlesOut out (old + selected_faults file.selected.outcome file.selected.look) now is (keeps_selected wanted file.selected) texts new
 LeavesSelected wanted out old now is (Err fault) texts new = WritesOut out old now is (Err (stops.Fault fault)) texts new
+
+-- ---- lists of which a line is none
+
+-- what was read says nothing of a list
+abbrev pub SaysNone : {A : Type 0} → (List ℕ → Option A) → List ℕ → Result (ReadList A) Unlisted → Type 0
+SaysNone reads text (Ok list) = Unit {0}
+SaysNone reads text (Err (unlisted.Line name line expected)) = all_read reads (entries_in text) ≡ None
+SaysNone reads text (Err (unlisted.Fault fault)) = Unit {0}
+
+-- it was read under the word, which names a list
+abbrev pub ReadsNoList : {A : Type 0} → (List ℕ → Option A) → Option Texts → Option (List ℕ) → Option (List ℕ) → Type 0
+ReadsNoList reads held standard None = ⊥
+ReadsNoList reads held standard (Some name) =
+    (text : List ℕ) × ReadsText held standard name text × (all_read reads (entries_in text) ≡ None)
+
+-- standard input is there, where it is read
+abbrev pub ReadsNone : {A : Type 0} → (List ℕ → Option A) → Option Texts → Option (List ℕ) → Option (List ℕ) → Type 0
+    → Result (Option (ReadList A)) Unlisted → Type 0
+ReadsNone reads held standard name there (Ok list) = Unit {0}
+ReadsNone reads held standard name there (Err (unlisted.Line of line expected)) = ReadsNoList reads held standard name × there
+ReadsNone reads held standard name there (Err (unlisted.Fault fault)) = Unit {0}
+
+-- so it is of one of two lists
+abbrev pub ReadsNeither : Option Texts → Option (List ℕ) → Option (List ℕ) → Option (List ℕ) → Option (List ℕ) → Type 0 → Type 0
+    → Result Lists Unlisted → Type 0
+ReadsNeither held standard left works places first second (Ok lists) = Unit {0}
+ReadsNeither held standard left works places first second (Err (unlisted.Line of line expected)) =
+    (ReadsNoList number_in held standard works × first) ⊎ (ReadsNoList place_in held left places × second)
+ReadsNeither held standard left works places first second (Err (unlisted.Fault fault)) = Unit {0}
+
+-- ---- what was seen of the transmission
+
+-- what is asked of it, by a view that has seen nothing so far
+abbrev pub asked_by : {C : Type 0} → Limits → Wanted → (C → Choice) → SelectView C → Asking
+asked_by limits wanted choice view = record {
+  limits = limits;
+  wanted = wanted;
+  moment = view.created;
+  choice = choice view.choice.now;
+  numbers = numbers_sought view.sought;
+  places = places_sought view.sought;
+}
+
+-- the text is accepted as a transmission of which it is known whether it has each of what is asked
+pub record SeesAll (a : Asking) (text : List ℕ) (look : Look) (same missing found empty : Bool) : Type 0 where
+  pub value : TransmissionValue
+  pub count : ℕ
+  pub accepted : IsAccepted a.limits text value count
+  pub after : Option (List ℕ)
+  pub looked : IsLook (Some (drop count text)) after look
+  pub moment : same ≡ is_created_at a.moment value.opening
+  pub lacks : missing ≡ is_missing a.numbers a.places value
+  pub finds : found ≡ any_from a.wanted.fail_on (chosen_of a.choice (placed value))
+  pub none : empty ≡ (selected_count a.choice value == 0)
+
+-- or it is refused or truncated, where the bytes of the input are known
+abbrev pub SeesBy : Asking → Option (List ℕ) → Result SelectReport ToolFault → Look → Bool → Bool → Bool → Bool → Type 0
+SeesBy a left (Ok report) look same missing found empty = IfSome left (λ text. SeesAll a text look same missing found empty)
+SeesBy a left (Err (tool_faults.Refused refusal)) look same missing found empty = IfSome left (λ text. IsRefused a.limits text refusal)
+SeesBy a left (Err (tool_faults.Truncated records)) look same missing found empty = IfSome left (λ text. IsTruncated a.limits text records)
+SeesBy a left (Err (tool_faults.Limit limit)) look same missing found empty = ⊥
+SeesBy a left (Err fault) look same missing found empty = Unit {0}
+
+abbrev pub SeesSelected : Asking → Option (List ℕ) → Selected → Type 0
+SeesSelected a left s = SeesBy a left s.outcome s.look s.is_same_moment s.is_missing s.found s.is_empty

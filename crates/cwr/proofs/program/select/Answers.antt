@@ -1,14 +1,14 @@
-use Rattle.std.proofs.Common.{◌≡◌, ℕ, List, Option, inl, refl, subst, ◌∙◌}
+use Rattle.std.proofs.Common.{◌≡◌, ℕ, List, Option, inl, inr, refl, subst, ◌∙◌}
 use Rattle.std.specs.Prelude.{option_map}
 use Rattle.cwr_files.specs.Format.Files.{Texts, Turns}
 use Rattle.cwr_endings.specs.declared.stops.Stop.TheVariants as stops
 use Rattle.cwr_endings.proofs.lemmas.Outs.{stays, turns_so, writes_on}
 use Rattle.cwr_transform.specs.declared.selections.Selection.{Selection}
-use Rattle.cwr_transform.specs.Format.Selections.{EndsAsSelectionAt, IsSelectionAt, LeavesSelection}
+use Rattle.cwr_transform.specs.Format.Selections.{EndsAsSelectionAt, HasSelectStatusAt, IsSelectionAt, LeavesSelection}
 use Rattle.cwr_transform.proofs.lemmas.SelectionsNamed.{selected_as, stopped_same}
 use Rattle.cwr.specs.Format.Selected.{AreAnsweredBy, IsSelectedBy}
 use Rattle.cwr.specs.Format.Tables.{selection_of}
-use Rattle.cwr.proofs.lemmas.Selecting.{ends_well, selecting_since, unsought_same}
+use Rattle.cwr.proofs.lemmas.Selecting.{ends_well, selected_status, selecting_since, unsought_same}
 use Rattle.cwr.proofs.program.select.Goals as goal
 
 pub returns-clause-ends : goal.returns-clause-ends
@@ -21,15 +21,28 @@ returns-clause-ends g c =
     places = subst (λ (h : Option Texts). AreAnsweredBy c.args.task.now.limits (option_map (λ name. name.now) c.args.words.now.file)
     c.args.words.now.answered h standard places) c.refuse_answers.ensures.kept
     (c.in-Ok.ensures.answered c.args.standard (inl refl)) in
-    ends_well s places held standard (IsSelectedBy c.args.task.now.limits c.args.task.now.whole c.args.words.now held standard)
-    c.select_file.result.1 (λ text h. record { places = places; answered = answered; of = h })
-    (subst (λ (s : Selection). EndsAsSelectionAt s places held standard c.select_file.result.1)
-    c.selection_by-selection.ensures
-    (subst (λ (h : Option Texts). EndsAsSelectionAt c.selection_by-selection.result places h standard c.select_file.result.1)
-    (c.answered_by.ensures.kept ∙ c.refuse_answers.ensures.kept)
-    (subst (λ (p : Option (List (ℕ × ℕ))). EndsAsSelectionAt c.selection_by-selection.result p (g.S.Store.held c.answered_by.new.store)
-    standard c.select_file.result.1) c.by_places.ensures
-    (c.select_file.ensures.ends c.args.standard (c.answered_by.ensures.standard c.args.standard (inl refl))))))
+    let limits = c.args.task.now.limits in
+    let whole = c.args.task.now.whole in
+    let words = c.args.words.now in (
+      ends_well s places held standard (IsSelectedBy limits whole words held standard) c.select_file.result.1
+          (λ text h. record { places = places; answered = answered; of = h })
+          (subst (λ (s : Selection). EndsAsSelectionAt s places held standard c.select_file.result.1) c.selection_by-selection.ensures
+          (subst (λ (h : Option Texts). EndsAsSelectionAt c.selection_by-selection.result places h standard c.select_file.result.1)
+          (c.answered_by.ensures.kept ∙ c.refuse_answers.ensures.kept)
+          (subst (λ (p : Option (List (ℕ × ℕ))). EndsAsSelectionAt c.selection_by-selection.result p
+          (g.S.Store.held c.answered_by.new.store) standard c.select_file.result.1) c.by_places.ensures
+          (c.select_file.ensures.ends c.args.standard (c.answered_by.ensures.standard c.args.standard (inl refl)))))),
+      selected_status limits whole words held standard places c.select_file.result.1 answered
+          (subst (λ (s : Selection). HasSelectStatusAt s places held standard c.select_file.result.1) c.selection_by-selection.ensures
+          (subst (λ (h : Option Texts). HasSelectStatusAt c.selection_by-selection.result places h standard c.select_file.result.1)
+          (c.answered_by.ensures.kept ∙ c.refuse_answers.ensures.kept)
+          (subst (λ (p : Option (List (ℕ × ℕ))). HasSelectStatusAt c.selection_by-selection.result p
+          (g.S.Store.held c.answered_by.new.store) standard c.select_file.result.1) c.by_places.ensures
+          (c.select_file.ensures.status c.args.standard (c.answered_by.ensures.standard c.args.standard (inl refl)))))),
+    )
+
+pub returns-in-Err-Refused-clause-ends : goal.returns-in-Err-Refused-clause-ends
+returns-in-Err-Refused-clause-ends g c = (tt, inr (c.in-Err-Refused.ensures.asked, refl))
 
 pub returns-clause-files : goal.returns-clause-files
 returns-clause-files g c =

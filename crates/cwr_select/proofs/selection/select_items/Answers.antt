@@ -1,13 +1,14 @@
 use Rattle.std.proofs.Common.{rules, refl, sym, ap, subst, ◌∙◌, arith}
 use Rattle.std.specs.Prelude.{Result, Ok, Err, Option}
 use Rattle.cwr_decode.specs.Steps.Runs.{HasReadAll}
-use Rattle.cwr_decode.proofs.lemmas.ItemsReadSoFar.{none_read, nothing_read_yet}
+use Rattle.cwr_decode.proofs.lemmas.ItemsReadSoFar.{fewer_left, none_read, nothing_read_yet}
 use Rattle.cwr_tools.specs.declared.verdicts.ToolFault.{ToolFault}
 use Rattle.cwr_tools.specs.Steps.Verdicts.{StopsAfter}
 use Rattle.cwr_tools.proofs.lemmas.ReportsOn.{same_fault, stops_after}
 use Rattle.cwr_tools.proofs.lemmas.Viewed.{sees_more, sees_none, sees_text}
 use Rattle.cwr_values.specs.declared.items.Item.{Item}
 use Rattle.cwr_select.specs.Steps.Selecting.{MayTake, SelectsItems}
+use Rattle.cwr_select.proofs.lemmas.FewItems.{few_read}
 use Rattle.cwr_select.proofs.lemmas.SelectingOn.{few_handed_out, item_taken, may_take, next_item, none_yet, opens_so}
 use Rattle.cwr_select.proofs.lemmas.SelectionsEnded.{all_selected, item_refused, reading_stopped}
 use Rattle.cwr_select.proofs.selection.select_items.Goals as goal
@@ -25,7 +26,7 @@ items-init g c =
           none_yet c.args.limits c.args.changes (g.C.Chooses.choice c.args.choice.now) c.new-reading.result.decoder
           (g.R.Source.remaining c.args.reader.now) (g.R.Source.remaining c.new-reading.result.reader.now) g.W.Target.contents
           g.W.Target.failures c.args.selecting.now reading c.requires.unfailed c.requires.held;
-      seen = sees_none g.V.Viewer.has_seen c.args.viewer.now;
+      seen = λ first. sees_none (g.V.SelectViewer.has_seen first) c.args.viewer.now;
       failures = ap g.R.Source.failures new.kept;
       same = refl;
     }
@@ -106,8 +107,8 @@ items-preserved g c =
           c.in_ok-spent-in-Ok-Some.ensures.writes
           c.in_ok-spent-in-Ok-Some.ensures.held;
       seen =
-          sees_more g.V.Viewer.has_seen c.args.viewer.now c.items.viewer c.see.new.self c.items.invariant.selecting.given
-          c.in-Ok-Some.item c.items.invariant.seen c.see.ensures;
+          λ first. sees_more (g.V.SelectViewer.has_seen first) c.args.viewer.now c.items.viewer c.see.new.self
+          c.items.invariant.selecting.given c.in-Ok-Some.item (c.items.invariant.seen first) (c.see.ensures first);
       failures = c.in-Ok-Some.ensures.failures ∙ c.items.invariant.failures;
       same = c.in-Ok-Some.ensures.same_reference ∙ c.items.invariant.same;
     }
@@ -158,8 +159,19 @@ returns-in-Ok-None-clause-seen g c =
     = none_read c.args.limits c.items.reading.decoder c.next_item_after.new.self.decoder (g.R.Source.remaining c.args.reader.now)
     _ _ c.items.invariant.selecting.given c.in-Ok-None.field-0 _ c.in-Ok-None.field-0-is
     c.items.invariant.selecting.reading c.in-Ok-None.ensures.reads c.in-Ok-None.ensures.again (λ e. ap g.R.Source.remaining e) in
-    sees_text c.args.limits g.V.Viewer.has_seen (g.R.Source.remaining c.args.reader.now) _ c.args.viewer.now c.items.viewer
-    c.items.invariant.selecting.given all c.items.invariant.seen
+    λ first. sees_text c.args.limits (g.V.SelectViewer.has_seen first) (g.R.Source.remaining c.args.reader.now) _ c.args.viewer.now
+    c.items.viewer c.items.invariant.selecting.given all (c.items.invariant.seen first)
+
+pub returns-in-Ok-None-clause-few : goal.returns-in-Ok-None-clause-few
+returns-in-Ok-None-clause-few g c =
+    let all : HasReadAll c.args.limits (g.R.Source.remaining c.args.reader.now)
+    (g.R.Source.remaining c.next_item_after.new.self.reader.now) c.items.invariant.selecting.given
+    = none_read c.args.limits c.items.reading.decoder c.next_item_after.new.self.decoder (g.R.Source.remaining c.args.reader.now)
+    _ _ c.items.invariant.selecting.given c.in-Ok-None.field-0 _ c.in-Ok-None.field-0-is
+    c.items.invariant.selecting.reading c.in-Ok-None.ensures.reads c.in-Ok-None.ensures.again (λ e. ap g.R.Source.remaining e) in
+    few_read c.args.limits (g.R.Source.remaining c.args.reader.now) _ c.items.invariant.selecting.given all
+    (fewer_left c.args.limits c.items.reading.decoder (g.R.Source.remaining c.args.reader.now) _ c.items.invariant.selecting.given
+    c.items.invariant.selecting.reading)
 
 pub returns-in-Err-clause-selects : goal.returns-in-Err-clause-selects
 returns-in-Err-clause-selects g c =

@@ -7,7 +7,7 @@ abbrev pub invariant-items : goal.invariant-items
 invariant-items g l = record {
   selecting : IsSelecting l.fn.limits l.changes (g.C.Chooses.choice l.choice) l.reading.decoder (g.R.Source.remaining l.fn.reader)
       (g.R.Source.remaining l.reading.reader.now) g.W.Target.contents g.W.Target.failures l.handed_out l.fn.selecting l.selecting;
-  seen : SeesItems g.V.Viewer.has_seen l.fn.viewer l.viewer selecting.given;
+  seen : (first : g.row.V.Denot) → SeesItems (g.V.SelectViewer.has_seen first) l.fn.viewer l.viewer selecting.given;
   failures : g.R.Source.failures l.reading.reader.now ≡ g.R.Source.failures l.fn.reader;
   same : l.reading.reader.ghost_name ≡ l.initial.reading.reader.ghost_name;
 }

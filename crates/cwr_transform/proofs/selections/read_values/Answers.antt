@@ -8,8 +8,8 @@ use Rattle.cwr_transform.proofs.selections.read_values.Goals as goal
 pub returns-in-Ok-list_of-clause-listed : goal.returns-in-Ok-list_of-clause-listed
 returns-in-Ok-list_of-clause-listed g c =
     subst
-    (λ (n : Option (Bor (List ℕ))). ReadsList g.T.Entry.reads (g.S.Store.held c.args.store.now)
+    (λ (n : Option (Bor (List ℕ))). ReadsList g.T.PartialEq.eq g.T.Entry.reads (g.S.Store.held c.args.store.now)
     (standard_left g.I.Read.remaining c.args.standard.now) (option_map (λ m. m.now) n) (Some c.in-Ok-list_of.list.values))
     (sym c.in-Some.is)
-    (listed_so g.T.Entry.reads (g.S.Store.held c.args.store.now) (standard_left g.I.Read.remaining c.args.standard.now) c.in-Some.name.now
-    c.in-Ok.text.items c.in-Ok-list_of.list.values c.in-Ok.ensures.text c.in-Ok-list_of.ensures)
+    (listed_so g.T.PartialEq.eq g.T.Entry.reads (g.S.Store.held c.args.store.now) (standard_left g.I.Read.remaining c.args.standard.now) c.in-Some.name.now
+    c.in-Ok.text.items c.in-Ok-list_of.list.values c.in-Ok.ensures.text c.in-Ok-list_of.ensures.says)

@@ -1,10 +1,15 @@
-use Rattle.std.proofs.Common.{subst}
+use Rattle.std.proofs.Common.{ℕ, List, [], Option, sym, subst, ◌∙◌}
+use Rattle.std.specs.Str.{bytes_eq}
 use Rattle.cwr_select.specs.Format.Selections.{Choice}
 use Rattle.cwr_files.specs.Format.Files.{Turns}
 use Rattle.cwr_files.specs.Steps.Inputs.{remaining_of}
 use Rattle.std.specs.Prelude.{option_map}
 use Rattle.cwr_transform.specs.Format.Selections.{EndsAsSelection, IsSelectionFrom, LeavesSelection}
+use Rattle.cwr_transform.specs.Format.Missing.{same_place}
+use Rattle.cwr_transform.specs.Steps.Sought.{AreOnce}
+use Rattle.cwr_transform.proofs.lemmas.SelectionStatuses.{asked_listed}
 use Rattle.cwr_transform.proofs.lemmas.SelectionsNamed.{asked_same}
+use Rattle.cwr_transform.proofs.lemmas.SoughtValues.{noted_so, numbers_listed, places_listed}
 use Rattle.cwr_transform.proofs.selections.select_input.Goals as goal
 
 pub returns-clause-ends : goal.returns-clause-ends
@@ -27,3 +32,23 @@ returns-clause-files g c =
     (asked_same (λ by. by.0.now) (λ by. by.0.now) _ _ _ _ _ _ _ _ _ _ _ _ c.asked_for-choice.ensures.works c.asked_for-choice.ensures.places
     c.asked_for-choice.ensures.answered c.asked_for-choice.ensures.kinds c.asked_for-choice.ensures.party c.asked_for-choice.ensures.others)
     (c.select_by-answer.ensures.files none)
+
+pub new-requires-clause-numbers : goal.new-requires-clause-numbers
+new-requires-clause-numbers g c =
+    subst (λ (l : Option (List (List ℕ))). AreOnce bytes_eq l) (sym c.listed_in.ensures) c.requires.works
+
+pub new-requires-clause-places : goal.new-requires-clause-places
+new-requires-clause-places g c =
+    subst (λ (l : Option (List (ℕ × ℕ))). AreOnce same_place l) (sym c.listed_in-2.ensures) c.requires.places
+
+pub select_by-answer-requires : goal.select_by-answer-requires
+select_by-answer-requires g c =
+    noted_so _ _ [] c.in-Ok.sought c.in-Ok.ensures.numbers c.in-Ok.ensures.places
+
+pub returns-clause-status : goal.returns-clause-status
+returns-clause-status g c =
+    asked_listed c.args.selection.now.limits c.args.selection.now.wanted _ _ _ _ _ _ _
+    (asked_same (λ by. by.0.now) (λ by. by.0.now) _ _ _ _ _ _ _ _ _ _ _ _ c.asked_for-choice.ensures.works c.asked_for-choice.ensures.places
+    c.asked_for-choice.ensures.answered c.asked_for-choice.ensures.kinds c.asked_for-choice.ensures.party c.asked_for-choice.ensures.others)
+    (numbers_listed _ [] c.in-Ok.sought.numbers c.in-Ok.ensures.numbers ∙ c.listed_in.ensures)
+    (places_listed _ [] c.in-Ok.sought.places c.in-Ok.ensures.places ∙ c.listed_in-2.ensures) _ _ c.select_by-answer.ensures.status

@@ -8,7 +8,8 @@ use Rattle.cwr_endings.specs.declared.stops.Stop.TheVariants as stops
 use Rattle.cwr_endings.specs.Format.Endings.{WritesOut}
 use Rattle.cwr_endings.proofs.lemmas.Outs.{settled_untold, turns_so, writes_on, writes_since}
 use Rattle.cwr_transform.specs.Format.Selections.{IsSelectionFrom}
-use Rattle.cwr_transform.specs.Steps.Selections.{keeps_selected, selected_faults}
+use Rattle.cwr_transform.specs.Steps.Selections.{asked_by, keeps_selected, selected_faults}
+use Rattle.cwr_transform.proofs.lemmas.SelectionStatuses.{status_ends}
 use Rattle.cwr_transform.proofs.lemmas.SelectionsLeft.{select_ends, select_leaves, selection_since}
 use Rattle.cwr_transform.proofs.selections.select_to_file.Goals as goal
 
@@ -74,3 +75,9 @@ returns-in-Err-write_selected-clause-files g c =
     (λ texts new h. inl (writes_since out (g.S.Store.failures s0) (g.S.Store.failures s1) (g.S.Store.failures s2) is
     (Err (stops.Fault c.in-Err-write_selected.fault)) texts new c.refuse_out.ensures.failures h))
     (c.in-Err-write_selected.ensures.files (c.refuse_out.ensures.making ∙ none)))
+
+pub returns-in-Ok-put-clause-status : goal.returns-in-Ok-put-clause-status
+returns-in-Ok-put-clause-status g c =
+    status_ends (asked_by c.args.selection.now.limits c.args.selection.now.wanted g.C.Chooses.choice c.args.view.now)
+    (remaining_of g.S.Reader.Read.remaining g.I.Read.remaining c.args.input) c.in-Ok.file.selected c.ending.result _ _
+    c.in-Ok.ensures.sees c.ending.ensures
