@@ -1,6 +1,6 @@
 //! Transactions of a transmission that are selected, as one of their own.
 
-ghost use Rattle.std.specs.Prelude.{◌≡◌, [], None, IfNone, IfOk, IfSome, OnOk, option_map};
+ghost use Rattle.std.specs.Prelude.{◌≡◌, [], None, Some, IfNone, IfOk, IfSome, OnOk, map, option_map};
 ghost use Rattle.std.specs.Str.{bytes_eq};
 ghost use Rattle.cwr_parts.specs.Format.Splitting.{CountsSplitWriter};
 ghost use Rattle.cwr_files.specs.Format.Faults.{IfErr};
@@ -8,7 +8,7 @@ ghost use Rattle.cwr_files.specs.Format.Files.{Turns};
 ghost use Rattle.cwr_files.specs.Format.Inputs.{IsThereOrRead};
 ghost use Rattle.cwr_files.specs.Steps.Inputs.{remaining_of, standard_left};
 ghost use Rattle.cwr_select.specs.Format.Criteria.{significant};
-ghost use Rattle.cwr_transform.specs.Format.Selections.{EndsAsSelection, EndsAsSelectionAt, HasSelectStatus, HasSelectStatusAt, IsNoParty, IsSelectionAt, IsSelectionFrom, LeavesSelection, WritesSelection, asked_choice, other_moment};
+ghost use Rattle.cwr_transform.specs.Format.Selections.{EndsAsSelection, EndsAsSelectionAt, HasSelectStatus, HasSelectStatusAt, IsApart, IsNoParty, IsSelectionAt, IsSelectionFrom, LeavesSelection, WritesSelection, asked_choice, other_moment, words_read};
 ghost use Rattle.cwr_transform.specs.Format.Lists.{number_in, place_in};
 ghost use Rattle.cwr_transform.specs.Format.Missing.{same_place};
 ghost use Rattle.cwr_transform.specs.Steps.Lists.{IsThereForList, ReadsList, SaysText, standard_after_list};
@@ -554,6 +554,7 @@ fn select_to_file<'a, S: Store, I: Read + Drop, P: Pace + Drop, W: Target, C: Ch
     requires same { view.old.choice.now ≡ choice.now }
     ensures status { HasSelectStatus (asked_by selection.now.limits selection.now.wanted C.choice view.old)
         (remaining_of S.Reader.remaining I.remaining input.entry) result.1 }
+    ensures apart { IsApart (Some out.now) (words_read selection.now) (S.held store.old) result.1 }
     ensures ends { EndsAsSelection selection.now.limits selection.now.wanted.whole selection.now.changes (C.choice choice.now)
         (remaining_of S.Reader.remaining I.remaining input.entry) result.1 }
     ensures files { S.making store.old ≡ None → Turns (S.held store.old) (S.held store.new)
@@ -584,7 +585,9 @@ fn select_to_file<'a, S: Store, I: Read + Drop, P: Pace + Drop, W: Target, C: Ch
 }
 
 /// The words that name the inputs of a selection.
-fn inputs_of<'a>(selection: &Selection<'a>) -> [&'a str; 3] {
+fn inputs_of<'a>(selection: &Selection<'a>) -> [&'a str; 3]
+    ensures { map (λ word. word.now) result ≡ words_read selection.now }
+{
     let file = selection.file.unwrap_or(DASH);
     [
         file,
@@ -662,6 +665,7 @@ fn select_by<'a, S: Store, I: Read + Drop, P: Pace + Drop, W: Target + Drop, C: 
       numbers = numbers_sought sought.entry;
       places = places_sought sought.entry;
     }) (remaining_of S.Reader.remaining I.remaining input.entry) result.1 }
+    ensures apart { IsApart (option_map (λ name. name.now) selection.now.out) (words_read selection.now) (S.held store.old) result.1 }
     ensures ends { EndsAsSelection selection.now.limits selection.now.wanted.whole selection.now.changes (C.choice choice.now)
         (remaining_of S.Reader.remaining I.remaining input.entry) result.1 }
     ensures files { S.making store.old ≡ None → Turns (S.held store.old) (S.held store.new)
@@ -708,6 +712,7 @@ fn select_input<'a, S: Store, I: Read + Drop, P: Pace + Drop, W: Target + Drop, 
       numbers = option_map (λ list. list.values) lists.now.works;
       places = option_map (λ list. list.values) lists.now.places;
     }) (remaining_of S.Reader.remaining I.remaining input.entry) result.1 }
+    ensures apart { IsApart (option_map (λ name. name.now) selection.now.out) (words_read selection.now) (S.held store.old) result.1 }
     ensures ends { EndsAsSelection selection.now.limits selection.now.wanted.whole selection.now.changes
         (asked_choice selection.now.others (option_map (λ list. list.values) lists.now.works)
         (option_map (λ list. list.values) lists.now.places) (option_map (λ by. by.0.now) answered.entry) selection.now.kinds party.entry)
@@ -765,6 +770,8 @@ pub fn select_file<'a, S: Store, I: Read + Drop, P: Pace + Drop, W: Target + Dro
     // It has the status of that.
     ensures status { (input : I) → IsThereOrRead input standard.old
         → HasSelectStatusAt selection.now (option_map (λ by. by.0.now) answered.entry) (S.held store.old) (I.remaining input) result.1 }
+    // The file is none of what it reads.
+    ensures apart { IsApart (option_map (λ name. name.now) selection.now.out) (words_read selection.now) (S.held store.old) result.1 }
     // Where it ends well the file holds the canonical text of that, and nothing else changed. So it is, or nothing changed, where it is
     // refused: something of a list may be missing. Else nothing changed.
     ensures files { S.making store.old ≡ None → (input : I) → IsThereOrRead input standard.old

@@ -1,5 +1,5 @@
 -- What a selection writes of a text, and how it ends.
-use Rattle.std.specs.Prelude.{◌≡◌, ◌≢◌, ◌⊎◌, ◌<◌, ◌&&◌, ℕ, Bool, true, false, not, if◌then◌else◌, List, [], drop, length, Option, Some, None, IfSome, IsTrue, option_map, Result, Ok, Err}
+use Rattle.std.specs.Prelude.{◌≡◌, ◌≢◌, ◌⊎◌, ◌<◌, ◌&&◌, ℕ, Bool, true, false, not, if◌then◌else◌, List, [], ◌∷◌, drop, length, codes, Option, Some, None, IfSome, IsTrue, option_map, unwrap_or, Result, Ok, Err}
 use Rattle.std.specs.Char.{is_ascii_digit}
 use Rattle.std.specs.List.{list_all}
 use Rattle.std.specs.Option.{option_map_or}
@@ -18,7 +18,7 @@ use Rattle.cwr_endings.specs.declared.endings.Status.{Status}
 use Rattle.cwr_endings.specs.declared.endings.Status.TheVariants as statuses
 use Rattle.cwr_endings.specs.declared.endings.Wanted.{Wanted}
 use Rattle.cwr_endings.specs.declared.stops.Stop.{Stop}
-use Rattle.cwr_endings.specs.Format.Endings.{WritesOut}
+use Rattle.cwr_endings.specs.Format.Endings.{IsNoInput, WritesOut}
 use Rattle.cwr_files.specs.Format.Files.{Same, Texts}
 use Rattle.cwr_files.specs.Format.Inputs.{IfRead}
 use Rattle.cwr_files.specs.Format.NewFiles.{HoldsNew}
@@ -183,3 +183,17 @@ HasSelectStatusAt s answered held standard (Ok statuses.CommandLine) =
     ⊎ IsNoList place_in held standard (option_map (λ name. name.now) s.places)))
 HasSelectStatusAt s answered held standard (Ok status) = IsSelectStatusAt s answered held standard status
 HasSelectStatusAt s answered held standard (Err stop) = Unit {0}
+
+-- ---- what OUT isn't
+
+-- the words that name what is read: the transmission, standard input where no word names one, and the lists
+abbrev pub words_read : Selection → List (List ℕ)
+words_read s =
+    let file : List ℕ = unwrap_or (option_map (λ name. name.now) s.file) (codes "-") in
+    file ∷ unwrap_or (option_map (λ name. name.now) s.works) file ∷ unwrap_or (option_map (λ name. name.now) s.places) file ∷ []
+
+-- Where a run ends well, or as refused, what lay under the name of the file that it writes, if something did, is none of what these words name.
+abbrev pub IsApart : Option (List ℕ) → List (List ℕ) → Option Texts → Result Status Stop → Type 0
+IsApart (Some out) words held (Ok statuses.Good) = IfSome held (IsNoInput out words)
+IsApart (Some out) words held (Ok statuses.Refused) = IfSome held (IsNoInput out words)
+IsApart out words held ending = Unit {0}
