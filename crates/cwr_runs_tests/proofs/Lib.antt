@@ -1,1 +1,2 @@
 mod WorkedNumbers
+mod WorkedSelections

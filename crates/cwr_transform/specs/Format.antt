@@ -7,3 +7,4 @@ pub mod Openings
 pub mod Repairs
 pub mod Selections
 pub mod Splits
+pub mod Told

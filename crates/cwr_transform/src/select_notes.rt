@@ -1,5 +1,9 @@
 //! What is told of a selection: how many transactions are selected, and what of the lists is missing, or is there several times.
 
+ghost use Rattle.cwr_devices.specs.Steps.Pens.{Adds};
+ghost use Rattle.cwr_devices.specs.Steps.Sinks.{PutsText};
+ghost use Rattle.cwr_transform.specs.Format.Told.{missing_number, missing_place, place_text, selected_line, twice_line};
+
 use crate::lists::{Place, entry_of, place_in, unmarked};
 use crate::sought::{SoughtNumbers, SoughtPlaces, Standing};
 use cwr_devices::{Pen, Sink, SinkFault, Target};
@@ -7,8 +11,10 @@ use cwr_files::Name;
 use cwr_select::{SelectReport, number_cell};
 use std::io::Write;
 
-/// Adds a place to a line.
-fn add_place<W: Target>(place: Place, pen: &mut Pen<'_, W>) {
+/// Adds the place that ends a line.
+fn add_place<W: Target>(place: Place, pen: &mut Pen<'_, W>)
+    ensures { Adds W.contents W.failures (place_text place) pen.old pen.new }
+{
     pen.words(" group ");
     pen.number(place.0 as u64);
     pen.words(" transaction ");
@@ -16,35 +22,79 @@ fn add_place<W: Target>(place: Place, pen: &mut Pen<'_, W>) {
     pen.words("\n");
 }
 
-/// Puts the line that says how many transactions are selected.
-pub(crate) fn put_selected<W: Target>(
-    report: SelectReport,
-    sink: &mut Sink<W>,
-) -> Result<(), SinkFault> {
-    let mut pen = Pen::new(sink);
+/// Adds the line that says how many transactions are selected.
+fn add_selected<W: Target>(report: SelectReport, pen: &mut Pen<'_, W>)
+    ensures { Adds W.contents W.failures (selected_line report) pen.old pen.new }
+{
     pen.words("SELECTED ");
     pen.number(report.selected as u64);
     pen.words(" of ");
     pen.number(report.transactions as u64);
     pen.words("\n");
+}
+
+/// Puts the line that says how many transactions are selected.
+pub(crate) fn put_selected<W: Target>(
+    report: SelectReport,
+    sink: &mut Sink<W>,
+) -> Result<(), SinkFault>
+    ensures { PutsText W.contents W.failures (selected_line report) result sink.old sink.new }
+{
+    let mut pen = Pen::new(sink);
+    add_selected(report, &mut pen);
     pen.end()
 }
 
-/// Puts the line of a number that no transaction has.
-fn put_missing<W: Target>(number: &[u8], sink: &mut Sink<W>) -> Result<(), SinkFault> {
-    let mut pen = Pen::new(sink);
+/// Adds the line of a number that no transaction has.
+fn add_missing<W: Target>(number: &[u8], pen: &mut Pen<'_, W>)
+    ensures { Adds W.contents W.failures (missing_number number.now) pen.old pen.new }
+{
     pen.words("MISSING ");
     pen.text(number);
     pen.words("\n");
+}
+
+/// Puts the line of a number that no transaction has.
+fn put_missing<W: Target>(number: &[u8], sink: &mut Sink<W>) -> Result<(), SinkFault>
+    ensures { PutsText W.contents W.failures (missing_number number.now) result sink.old sink.new }
+{
+    let mut pen = Pen::new(sink);
+    add_missing(number, &mut pen);
     pen.end()
 }
 
-/// Puts the line of a number that several transactions have, for the one at that place.
-fn put_twice<W: Target>(number: &[u8], place: Place, sink: &mut Sink<W>) -> Result<(), SinkFault> {
-    let mut pen = Pen::new(sink);
+/// Adds the line of a number that several transactions have, for the one at that place.
+fn add_twice<W: Target>(number: &[u8], place: Place, pen: &mut Pen<'_, W>)
+    ensures { Adds W.contents W.failures (twice_line number.now place) pen.old pen.new }
+{
     pen.words("TWICE ");
     pen.text(number);
-    add_place(place, &mut pen);
+    add_place(place, pen);
+}
+
+/// Puts the line of a number that several transactions have, for the one at that place.
+fn put_twice<W: Target>(number: &[u8], place: Place, sink: &mut Sink<W>) -> Result<(), SinkFault>
+    ensures { PutsText W.contents W.failures (twice_line number.now place) result sink.old sink.new }
+{
+    let mut pen = Pen::new(sink);
+    add_twice(number, place, &mut pen);
+    pen.end()
+}
+
+/// Adds the line of a place that no transaction has.
+fn add_missing_place<W: Target>(place: Place, pen: &mut Pen<'_, W>)
+    ensures { Adds W.contents W.failures (missing_place place) pen.old pen.new }
+{
+    pen.words("MISSING");
+    add_place(place, pen);
+}
+
+/// Puts the line of a place that no transaction has.
+fn put_missing_place<W: Target>(place: Place, sink: &mut Sink<W>) -> Result<(), SinkFault>
+    ensures { PutsText W.contents W.failures (missing_place place) result sink.old sink.new }
+{
+    let mut pen = Pen::new(sink);
+    add_missing_place(place, &mut pen);
     pen.end()
 }
 
@@ -101,10 +151,7 @@ pub(crate) fn put_places<W: Target>(
             continue;
         };
         if sought.take(place) {
-            let mut pen = Pen::new(sink);
-            pen.words("MISSING");
-            add_place(place, &mut pen);
-            pen.end()?;
+            put_missing_place(place, sink)?;
         }
     }
     Ok(())

@@ -1,0 +1,5 @@
+use Rattle.cwr_devices.proofs.lemmas.Adding.{adds_both}
+use Rattle.cwr_transform.proofs.select_notes.add_twice.Goals as goal
+
+pub returns : goal.returns
+returns g c = adds_both c.words.ensures (adds_both c.text.ensures c.add_place.ensures)
