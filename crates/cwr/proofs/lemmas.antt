@@ -16,3 +16,7 @@ pub mod FailsOuts
 pub mod Selecting
 -- How a run over acknowledgements ends, by how many words it has.
 pub mod Answering
+-- What a writer that came back has is what was told to it.
+pub mod CameBack
+-- An import is written to standard output where no file is named.
+pub mod Printed

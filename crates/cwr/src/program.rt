@@ -1,15 +1,18 @@
 //! The program between its words and its devices.
 
-ghost use Rattle.std.specs.Prelude.{IfOk, codes, count_by, unwrap_or, ◌≡◌, ◌≢◌, ◌<◌, ◌≤◌, length, map, option_map, true, false, None, IfSome, IsSome, OnErr, OnOk};
+ghost use Rattle.std.specs.Prelude.{IfOk, codes, count_by, unwrap_or, ◌≡◌, ◌≢◌, ◌<◌, ◌≤◌, length, map, option_map, true, false, None, Some, IfSome, IsSome, OnErr, OnOk};
 ghost use Rattle.std.specs.Option.{is_some};
 ghost use Rattle.std.specs.IoError.{error_kind};
 ghost use Rattle.std.specs.declared.io.ErrorKind.TheVariants.{OutOfMemory as lacks_memory};
 ghost use Rattle.clap.specs.Values.{kind_of};
 ghost use Rattle.cwr.specs.Format.Endings.{AreStandardTwice, EndsAsAnswers, EndsAsData, EndsAsManual, EndsOnFiles, EndsOnWork, fault_status, status_code};
-ghost use Rattle.cwr.specs.Format.Failures.{FailsOnFiles, FailsWork, OfOne};
+ghost use Rattle.cwr.specs.Format.Failures.{FailsOnFiles, FailsWork, OfOne, one_of};
 ghost use Rattle.cwr.specs.Format.Files.{LeavesOut, LeavesWork, RunsRenumbering, RunsTask, RunsWords};
-ghost use Rattle.cwr.specs.Steps.Tells.{CountsData, CountsWork, HandsOnData, HandsOnWork, TellsAnswers, TellsAsked, TellsData, TellsFiles, TellsJudged, TellsQuietRead, TellsQuietly, TellsRead, TellsWork};
+ghost use Rattle.cwr.specs.Steps.Tells.{CountsData, CountsWork, HandsOnData, HandsOnWork, TellsAnswers, TellsAsked, TellsBack, TellsData, TellsFiles, TellsJudged, TellsOut, TellsQuietRead, TellsQuietly, TellsRead, TellsWork};
+ghost use Rattle.cwr.specs.Steps.Cleared.{cleared_output};
+ghost use Rattle.cwr_terminal.specs.Steps.Held.{output_of};
 ghost use Rattle.cwr_devices.specs.Format.Failures.{most_failures};
+ghost use Rattle.cwr_answers.specs.Format.Failures.{FailsOnAnswers};
 ghost use Rattle.cwr_endings.specs.Format.Endings.{IsRefusedOut};
 ghost use Rattle.cwr_endings.specs.Format.Failures.{FailsOut, FailsSo};
 ghost use Rattle.cwr_files.specs.Format.Faults.{IfErr};
@@ -33,8 +36,8 @@ use cwr_answers::{Answered, Answering, Unsought, answered_places, match_answers}
 use cwr_devices::{Sink, Target};
 use cwr_endings::{Status, Stop, Wanted, hand_on, refuse_out};
 use cwr_files::{
-    DASH, Fault, Name, Pace, Progress, ShellWord, Store, gathered, is_standard, open_input,
-    shown_name, tell_fault, told_of,
+    DASH, Fault, Gatherer, Name, Pace, Progress, ShellWord, Store, is_standard, open_input,
+    shown_name, tell_fault,
 };
 use cwr_json::Encoding;
 use cwr_reports::{Asked, Telling, export, report_input, report_several, telling_of};
@@ -59,8 +62,8 @@ use std::io;
 use std::io::{Read, Write};
 use std::time::Clock;
 
-/// Runs what the words ask for, the program's name first. The answer is the exit status. `terminal` is standard error once more, on
-/// which it is shown how far a long run is: where that is a terminal, or the words ask for it.
+/// Runs what the words ask for, the program's name first. The answer is the exit status, and standard output, where the run wasn't stopped.
+/// `terminal` is standard error once more, on which it is shown how far a long run is: where that is a terminal, or the words ask for it.
 pub fn run<
     F: Store,
     R: Clock + AllocGlobal,
@@ -78,12 +81,13 @@ pub fn run<
     mut error: E,
     terminal: T,
     terminals: Terminals,
-) -> u8
-    ensures few { result ≤ 3 }
+) -> (u8, Option<O>)
+    ensures few { result.0 ≤ 3 }
     // It is that of the task that the words ask for, by what lies under the names that they give, and on standard input, and so is what lies
-    // under names then; or they ask for none.
-    ensures runs { RunsWords renumbered_text (map S.text words.now) (I.remaining input) (F.held store.old) (F.held store.new)
-        (F.making store.old) (F.failures store.old) (F.failures store.new) result }
+    // under names then, and what was written to standard output; or they ask for none, and nothing was written there.
+    ensures runs { RunsWords renumbered_text (TellsOut O.contents terminals output result.1 (F.held store.old) (I.remaining input)
+        (F.failures store.old) (F.failures store.new)) (result.1 ≡ Some output) (map S.text words.now) (I.remaining input) (F.held store.old)
+        (F.held store.new) (F.making store.old) (F.failures store.old) (F.failures store.new) result.0 }
 {
     match task_of(rt.alloc(), words) {
         Ok(task) => {
@@ -94,7 +98,7 @@ pub fn run<
             let output = Styled::new(output, style);
             let wanted = task.progress.unwrap_or(terminals.error);
             let mut progress = Progress::new(rt, terminal, wanted, terminals.input);
-            let status = carry_out(
+            let (status, output) = carry_out(
                 store,
                 rt.alloc(),
                 &task,
@@ -103,12 +107,23 @@ pub fn run<
                 output,
                 &mut error,
             );
-            code_of(status)
+            (code_of(status), taken_out(output))
         }
         Err(answer) => {
             let file = file_in_place(store, words, &answer);
-            code_of(answer_words(error, &answer, file, help_style(&terminals)))
+            let status = answer_words(error, &answer, file, help_style(&terminals));
+            (code_of(status), Some(output))
         }
+    }
+}
+
+/// Standard output itself, where it came back.
+fn taken_out<O>(output: Option<Styled<Cleared<'_, O>>>) -> Option<O>
+    ensures { result ≡ option_map (λ it. cleared_output (output_of it)) output.entry }
+{
+    match output {
+        Some(output) => Some(output.into_inner().into_inner()),
+        None => None,
     }
 }
 
@@ -278,6 +293,9 @@ fn import_lines<'a, S: Store, I: Read + Drop, P: Pace, W: Target + Drop, E: Writ
 ) -> (W, Result<Status, Stop<'a>>)
     ensures ends { EndsOnWork task.now.limits task.now.whole (Work.Write words.now) (S.held store.old)
         (I.remaining standard) result.1 }
+    ensures told { TellsWork task.now.limits task.now.whole (Work.Write words.now) (S.held store.old) (I.remaining standard)
+        W.contents W.failures output result.0 (S.failures store.old) (S.failures store.new) result.1 }
+    ensures handed_on { HandsOnWork (Work.Write words.now) result.1 (W.handed_on result.0) }
     ensures files { S.making store.old ≡ None → LeavesWork task.now.limits task.now.whole (Work.Write words.now)
         (S.held store.old) (I.remaining standard) (S.failures store.old) (S.failures store.new) result.1 (S.held store.new) }
     ensures failed { FailsWork (Work.Write words.now) (S.making store.old) (S.held store.old) (S.held store.new) result.1
@@ -739,6 +757,18 @@ fn judge<'a, S: Store, I: Read + Drop, P: Pace, W: Target + Drop, E: Write>(
     }
 }
 
+/// The name of the one input of acknowledgements that are matched with nothing, or none of it for standard input, where there is one.
+fn alone<'a>(answering: &Answering<'_, 'a>) -> Option<Option<&'a str>>
+    ensures { option_map (λ name. option_map (λ n. n.now) name) result ≡ one_of (map (λ name. name.now) answering.now.files.now)
+        (map (λ name. name.now) answering.now.sent.now) }
+{
+    match (answering.files, answering.sent) {
+        ([], []) => Some(None),
+        ([file], []) => Some(Some(*file)),
+        _ => None,
+    }
+}
+
 /// Tells what the acknowledgements of files say, or those on standard input, or what became of what was sent.
 fn tell_answers<'a, S: Store, I: Read + Drop, P: Pace, W: Target + Drop, E: Write>(
     store: &mut S,
@@ -752,48 +782,16 @@ fn tell_answers<'a, S: Store, I: Read + Drop, P: Pace, W: Target + Drop, E: Writ
     requires limits { asked.now.limits ≡ answering.now.limits }
     requires wanted { asked.now.wanted ≡ record { whole = answering.now.whole; fail_on = None } }
     requires lines { asked.now.quiet ≡ false }
-    ensures ends { EndsAsAnswers answering.now.limits answering.now.whole answering.now.fail_on (S.held store.old) (I.remaining standard)
+    ensures ends { EndsAsAnswers answering.now.limits answering.now.whole answering.now.by_place answering.now.fail_on (S.held store.old)
+        (I.remaining standard)
         (map (λ name. name.now) answering.now.files.now) (map (λ name. name.now) answering.now.sent.now) result.1 }
     ensures told { OfOne (map (λ name. name.now) answering.now.files.now) (map (λ name. name.now) answering.now.sent.now)
         (λ name. TellsAnswers answering.now.form answering.now.statuses.now answering.now.limits (S.held store.old) (I.remaining standard) name
         W.contents lines result.0 result.1) }
     ensures failed { OfOne (map (λ name. name.now) answering.now.files.now) (map (λ name. name.now) answering.now.sent.now)
         (λ name. FailsSo result.1 (S.failures store.old) (S.failures store.new)) }
-    ensures output { OfOne (map (λ name. name.now) answering.now.files.now) (map (λ name. name.now) answering.now.sent.now)
-        (λ name. CountsOutput result.1 (W.failures lines) (W.failures result.0)) }
-    ensures handed_on { OfOne (map (λ name. name.now) answering.now.files.now) (map (λ name. name.now) answering.now.sent.now)
-        (λ name. OnOk result.1 (W.handed_on result.0 ≡ true)) }
-    ensures kept { S.held store.new ≡ S.held store.old }
-{
-    match answering.sent {
-        [] => tell_unmatched(store, asked, answering, standard, pace, lines, error),
-        _ => match_answers(store, answering, standard, pace, lines, error),
-    }
-}
-
-/// Tells what the acknowledgements of files say, or those on standard input, where they are matched with nothing.
-fn tell_unmatched<'a, S: Store, I: Read + Drop, P: Pace, W: Target + Drop, E: Write>(
-    store: &mut S,
-    asked: &Asked,
-    answering: &Answering<'_, 'a>,
-    standard: I,
-    pace: &mut P,
-    lines: W,
-    error: &mut E,
-) -> (W, Result<Status, Stop<'a>>)
-    requires limits { asked.now.limits ≡ answering.now.limits }
-    requires wanted { asked.now.wanted ≡ record { whole = answering.now.whole; fail_on = None } }
-    requires unsent { length answering.now.sent.now < 1 }
-    requires lines { asked.now.quiet ≡ false }
-    ensures ends { EndsAsAnswers answering.now.limits answering.now.whole answering.now.fail_on (S.held store.old) (I.remaining standard)
-        (map (λ name. name.now) answering.now.files.now) (map (λ name. name.now) answering.now.sent.now) result.1 }
-    ensures told { OfOne (map (λ name. name.now) answering.now.files.now) (map (λ name. name.now) answering.now.sent.now)
-        (λ name. TellsAnswers answering.now.form answering.now.statuses.now answering.now.limits (S.held store.old) (I.remaining standard) name
-        W.contents lines result.0 result.1) }
-    ensures failed { OfOne (map (λ name. name.now) answering.now.files.now) (map (λ name. name.now) answering.now.sent.now)
-        (λ name. FailsSo result.1 (S.failures store.old) (S.failures store.new)) }
-    ensures output { OfOne (map (λ name. name.now) answering.now.files.now) (map (λ name. name.now) answering.now.sent.now)
-        (λ name. CountsOutput result.1 (W.failures lines) (W.failures result.0)) }
+    ensures stopped { FailsOnAnswers result.1 (S.failures store.old) (S.failures store.new) }
+    ensures output { CountsOutput result.1 (W.failures lines) (W.failures result.0) }
     ensures handed_on { OfOne (map (λ name. name.now) answering.now.files.now) (map (λ name. name.now) answering.now.sent.now)
         (λ name. OnOk result.1 (W.handed_on result.0 ≡ true)) }
     ensures kept { S.held store.new ≡ S.held store.old }
@@ -802,19 +800,9 @@ fn tell_unmatched<'a, S: Store, I: Read + Drop, P: Pace, W: Target + Drop, E: Wr
         form: answering.form,
         statuses: answering.statuses,
     };
-    match answering.files {
-        [] => report_file(store, asked, told, None, standard, pace, lines, error),
-        [file] => report_file(
-            store,
-            asked,
-            told,
-            Some(*file),
-            standard,
-            pace,
-            lines,
-            error,
-        ),
-        _ => match_answers(store, answering, standard, pace, lines, error),
+    match alone(answering) {
+        Some(name) => report_file(store, asked, told, name, standard, pace, lines, error),
+        None => match_answers(store, answering, standard, pace, lines, error),
     }
 }
 
@@ -1120,7 +1108,7 @@ fn judge_by<'a, S: Store, I: Read + Drop, P: Pace, W: Target + Drop, E: Write>(
     )
 }
 
-/// Does what is asked for, and tells of a fault. The answer is the status.
+/// Does what is asked for, and tells of a fault. The answer is the status, and standard output, where the work wasn't stopped.
 fn carry_out<'a, S: Store, I: Read + Drop, P: Pace, O: Write + Drop, E: Write>(
     store: &mut S,
     alloc: Global,
@@ -1129,23 +1117,28 @@ fn carry_out<'a, S: Store, I: Read + Drop, P: Pace, O: Write + Drop, E: Write>(
     pace: &mut P,
     output: O,
     error: &mut E,
-) -> Status
+) -> (Status, Option<O>)
     // It is the status of what came of the work, by what lies under the names that the words give, and on standard input; and what lies
-    // there then is what such a run leaves.
-    ensures { RunsTask renumbered_text task.now (I.remaining standard) (S.held store.old) (S.held store.new) (S.making store.old)
-        (S.failures store.old) (S.failures store.new) result }
+    // there then is what such a run leaves, and what was written to standard output is what it tells.
+    ensures { RunsTask renumbered_text (TellsBack task.now.limits task.now.whole task.now.work (S.held store.old) (I.remaining standard)
+        (O.contents output) (option_map O.contents result.1) (S.failures store.old) (S.failures store.new)) task.now (I.remaining standard)
+        (S.held store.old) (S.held store.new) (S.making store.old) (S.failures store.old) (S.failures store.new) result.0 }
 {
-    let Ok(lines) = gathered(alloc, output, Name::StandardOutput) else {
-        return report(error, &Fault::Memory);
+    let Ok(lines) = Gatherer::new(alloc, output, Name::StandardOutput) else {
+        return (report(error, &Fault::Memory), None);
     };
     let (lines, ended) = perform(store, alloc, task, standard, pace, lines, error);
     match ended {
-        Ok(status) => status,
-        Err(Stop::Output) => report(error, &Fault::Write(told_of(lines))),
-        Err(Stop::Fault(fault)) => {
+        Ok(status) => (status, Some(lines.into_inner())),
+        Err(Stop::Output) => {
+            let told = lines.told();
             // What is left is written before that is told.
             drop(lines);
-            report(error, &fault)
+            (report(error, &Fault::Write(told)), None)
+        }
+        Err(Stop::Fault(fault)) => {
+            drop(lines);
+            (report(error, &fault), None)
         }
     }
 }

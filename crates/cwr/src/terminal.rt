@@ -1,5 +1,6 @@
 //! A terminal on which it is shown how far a run is, while lines are written to it too.
 
+ghost use Rattle.std.specs.Prelude.{◌≡◌};
 ghost use Rattle.cwr.specs.Steps.Cleared.{plain_unless};
 
 use std::cell::Cell;
@@ -56,13 +57,29 @@ pub(crate) struct Cleared<'s, O> {
 }
 
 impl<'s, O> Cleared<'s, O> {
+    ghost use Rattle.cwr.specs.Steps.Cleared.{cleared_output, clears};
+
     /// Nothing was written so far.
-    pub(crate) fn new(output: O, is_terminal: bool, is_shown: &'s Cell<bool>) -> Cleared<'s, O> {
+    pub(crate) fn new(output: O, is_terminal: bool, is_shown: &'s Cell<bool>) -> Cleared<'s, O>
+        ensures output { cleared_output result ≡ output }
+        ensures terminal { clears result ≡ is_terminal }
+    {
         Cleared {
             output,
             is_terminal,
             is_shown,
         }
+    }
+}
+
+impl<'s, O> Cleared<'s, O> {
+    ghost use Rattle.cwr.specs.Steps.Cleared.{cleared_output};
+
+    /// The output itself.
+    pub(crate) fn into_inner(self) -> O
+        ensures { result ≡ cleared_output self.entry }
+    {
+        self.output
     }
 }
 

@@ -1,3 +1,4 @@
 -- What is promised, in the words of the format.
 pub mod Answered
 pub mod Endings
+pub mod Failures

@@ -1,16 +1,24 @@
 //! Acknowledgements of one or several transmissions, matched with what was sent.
 
-ghost use Rattle.std.specs.Prelude.{◌≡◌, ◌≢◌, List, ℕ, Option, None, map, option_map, true, IfOk, IfSome, OnOk};
-ghost use Rattle.cwr_sent.specs.Format.SentRows.{IsFresh};
-ghost use Rattle.cwr_states.specs.Format.StateSets.{no_states};
+ghost use Rattle.std.specs.Prelude.{◌≡◌, ◌≢◌, List, [], ◌∷◌, ℕ, Option, None, Some, codes, map, option_map, unwrap_or, IfOk, IfSome, OnOk};
+ghost use Rattle.cwr_values.specs.Format.Values.{TransmissionValue};
+ghost use Rattle.cwr_sent.specs.Format.SentFacts.{content_of};
+ghost use Rattle.cwr_sent.specs.Format.SentRows.{IsFresh, content_in};
+ghost use Rattle.cwr_acks.specs.Format.AckLines.{Matched};
+ghost use Rattle.cwr_acks.specs.Steps.AckSteps.{IsKept, held_if};
 ghost use Rattle.cwr_files.specs.Format.Faults.{IfErr};
 ghost use Rattle.cwr_files.specs.Steps.Inputs.{remaining_of};
 ghost use Rattle.cwr_endings.specs.Format.Endings.{IsStatusBy};
 ghost use Rattle.cwr_reports.specs.Format.Endings.{Counts, EndsOnEach, EndsOnRead};
 ghost use Rattle.cwr_reports.specs.Steps.Looks.{IsJudged};
+ghost use Rattle.cwr_reports.specs.Steps.Marked.{CountsOutput};
 ghost use Rattle.cwr_reports.specs.Steps.Several.{IsFirst};
-ghost use Rattle.cwr_answers.specs.Format.Endings.{EndsOnAnswers, IsStatusByStates, standard_inputs, wanted_of};
-ghost use Rattle.cwr_answers.specs.Steps.Reading.{AreShown, CountsOne, EndsAllSent, EndsByStates, EndsOnFiles, EndsOnSums, EndsSent, IsMemory, IsShown, IsStanding, IsUnreadOrUntold, IsUntold, StandsAfterRead, TellsSo};
+ghost use Rattle.cwr_reports.specs.Steps.Tellings.{CountsInput, CountsWriting, IsStopOf};
+ghost use Rattle.cwr_answers.specs.Format.Answered.{IsAcceptedAt};
+ghost use Rattle.cwr_answers.specs.Format.Endings.{EndsOnAnswers, standard_inputs, wanted_of, words_of};
+ghost use Rattle.cwr_answers.specs.Format.Failures.{FailsOnAnswers};
+ghost use Rattle.cwr_answers.specs.Steps.Reading.{AreShown, CountsOne, CountsSent, EndsAllSent, EndsByStates, EndsOnFiles, EndsOnSums, EndsSent, HasSent, IsMemory, IsShown, IsStanding, IsStatusKept, IsUnreadOrUntold, IsUntold, StandsAfterRead, TellsSo};
+ghost use Rattle.cwr_answers.specs.Steps.Seeking.{ReadsAllIfGood, ReadsEach, ReadsIfGood, ReadsNextIfGood};
 
 use cwr_acks::{Answers, Form, Manner, acks, put_rest};
 use cwr_delivery::Delivery;
@@ -100,6 +108,10 @@ fn sent_of<'a, S: Store, I: Read + Drop, P: Pace, E: Write>(
         name.entry.now result }
     ensures first { (first : Option (List ℕ)) → IsFirst I.remaining standard.old first → IsFirst I.remaining standard.new first }
     ensures fresh { IfOk result (λ read. IfOk read IsFresh) }
+    ensures sent { (first : Option (List ℕ)) → IsFirst I.remaining standard.old first → IfOk result (λ read. IfOk read (λ sent.
+        (v : TransmissionValue) × IsAcceptedAt answering.now.limits (S.held store.old) first name.entry.now v
+        × (content_in sent ≡ content_of v))) }
+    ensures failed { CountsSent result (S.failures store.old) (S.failures store.new) }
     ensures kept { S.held store.new ≡ S.held store.old }
 {
     let input = match open_input(store, Some(name), standard, &mut *pace) {
@@ -137,6 +149,10 @@ fn delivery_of<'a, S: Store, I: Read + Drop, P: Pace, E: Write>(
         first (map (λ name. name.now) answering.now.sent.now) result }
     ensures first { (first : Option (List ℕ)) → IsFirst I.remaining standard.old first → IsFirst I.remaining standard.new first }
     ensures stands { IfOk result (λ read. IfOk read IsStanding) }
+    // It keeps what was sent.
+    ensures sent { (first : Option (List ℕ)) → IsFirst I.remaining standard.old first → IfOk result (λ read. IfOk read
+        (HasSent answering.now.limits answering.now.by_place (S.held store.old) first (map (λ name. name.now) answering.now.sent.now))) }
+    ensures failed { CountsSent result (S.failures store.old) (S.failures store.new) }
     ensures kept { S.held store.new ≡ S.held store.old }
 {
     if answering.sent.is_empty() {
@@ -247,7 +263,8 @@ struct Reading<W: Target> {
 
 /// Why the run ends where an input failed so.
 fn stop_of<'a>(fault: ToolFault, told: Told<'a>) -> Stop<'a>
-    ensures { IsUnreadOrUntold result }
+    ensures unread { IsUnreadOrUntold result }
+    ensures stop { IsStopOf told.entry fault result }
 {
     match fault {
         ToolFault::Reader => Stop::Fault(Fault::Read(told)),
@@ -271,6 +288,11 @@ fn read_source<R: Source, W: Target + Drop>(
     ensures judges { IfOk result.3 (λ judgement. IfSome (R.remaining reader.old) (λ text. IsStatusBy (Counts None) answering.now.limits
         (wanted_of answering.now.whole) text judgement.status)) }
     ensures read { IfOk result.3 IsJudged }
+    // Where it is good, what it says is kept.
+    ensures answers { (matched : Option Matched) → IsKept (held_if delivery) matched []
+        → ReadsIfGood answering.now.limits (R.remaining reader.old) matched (held_if result.1) result.3 }
+    ensures reader_failures { CountsInput result.3 (R.failures reader.old) (R.failures reader.new) }
+    ensures writer_failures { CountsWriting result.3 (W.failures lines) (W.failures result.0) }
     ensures stands { StandsAfterRead result.3 result.1 }
 {
     let (lines, delivery, more, outcome) = acks(
@@ -306,6 +328,10 @@ fn read_input<'a, S: Store, I: Read + Drop, P: Pace + Drop, W: Target + Drop>(
     ensures judges { IfOk result.1 (λ judgement. IfSome (remaining_of S.Reader.remaining I.remaining input.entry)
         (λ text. IsStatusBy (Counts None) answering.now.limits (wanted_of answering.now.whole) text judgement.status)) }
     ensures read { IfOk result.1 IsJudged }
+    ensures answers { (matched : Option Matched) → IsKept (held_if reading.delivery) matched [] → ReadsIfGood answering.now.limits
+        (remaining_of S.Reader.remaining I.remaining input.entry) matched (held_if result.0.delivery) result.1 }
+    ensures reader_failures { CountsInput result.1 (S.failures store.old) (S.failures store.new) }
+    ensures writer_failures { CountsWriting result.1 (W.failures reading.lines) (W.failures result.0.lines) }
     ensures stands { StandsAfterRead result.1 result.0.delivery }
     ensures kept { S.held store.new ≡ S.held store.old }
 {
@@ -346,6 +372,11 @@ fn read_alone<'a, S: Store, I: Read + Drop, P: Pace, W: Target + Drop, E: Write>
     requires stands { IsStanding reading.delivery }
     ensures ends { (first : Option (List ℕ)) → IsFirst I.remaining standard.old first → EndsOnRead None answering.now.limits
         (wanted_of answering.now.whole) (S.held store.old) first (option_map (λ n. n.now) name.entry) result.1 }
+    ensures answers { (first : Option (List ℕ)) → IsFirst I.remaining standard.old first → (matched : Option Matched)
+        → IsKept (held_if reading.delivery) matched [] → ReadsAllIfGood answering.now.limits (S.held store.old) first
+        (unwrap_or (option_map (λ n. n.now) name.entry) (codes "-") ∷ []) matched (held_if result.0.delivery) result.1 }
+    ensures failed { FailsOnAnswers result.1 (S.failures store.old) (S.failures store.new) }
+    ensures output { CountsOutput result.1 (W.failures reading.lines) (W.failures result.0.lines) }
     ensures kept { S.held store.new ≡ S.held store.old }
 {
     let input = match open_input(store, name, standard, &mut *pace) {
@@ -388,8 +419,12 @@ fn read_next<'a, S: Store, I: Read + Drop, P: Pace, W: Target + Drop, E: Write>(
     // Its status was counted, or that of a fault.
     ensures counted { (first : Option (List ℕ)) → IsFirst I.remaining standard.old first → CountsOne answering.now.limits answering.now.whole
         (S.held store.old) first name.entry.now sums.old.status sums.new.status result.1 }
+    ensures answers { (first : Option (List ℕ)) → IsFirst I.remaining standard.old first → (matched : Option Matched)
+        → IsKept (held_if reading.delivery) matched [] → OnOk result.1 (ReadsNextIfGood answering.now.limits (S.held store.old) first
+        name.entry.now matched (held_if result.0.delivery) sums.old.status sums.new.status) }
     ensures first { (first : Option (List ℕ)) → IsFirst I.remaining standard.old first → IsFirst I.remaining standard.new first }
     ensures stands { OnOk result.1 (IsStanding result.0.delivery) }
+    ensures output { CountsOutput result.1 (W.failures reading.lines) (W.failures result.0.lines) }
     ensures kept { S.held store.new ≡ S.held store.old }
 {
     let input = match open_input(store, Some(name), standard, &mut *pace) {
@@ -457,6 +492,11 @@ fn read_several<'a, S: Store, I: Read + Drop, P: Pace, W: Target + Drop, E: Writ
     requires stands { IsStanding reading.delivery }
     ensures ends { (first : Option (List ℕ)) → IsFirst I.remaining standard.old first → EndsOnSums answering.now.limits answering.now.whole
         (S.held store.old) first (map (λ name. name.now) answering.now.files.now) result.1 }
+    ensures answers { (first : Option (List ℕ)) → IsFirst I.remaining standard.old first → (matched : Option Matched)
+        → IsKept (held_if reading.delivery) matched [] → IfOk result.1 (λ sums. sums.status ≡ Status.Good
+        → ReadsEach answering.now.limits (S.held store.old) first (map (λ name. name.now) answering.now.files.now) matched
+        (held_if result.0.delivery)) }
+    ensures output { CountsOutput result.1 (W.failures reading.lines) (W.failures result.0.lines) }
     ensures kept { S.held store.new ≡ S.held store.old }
 {
     let mut reading = reading;
@@ -480,7 +520,9 @@ fn end_lines<'a, W: Target + Drop>(
     subjects: &Subjects,
     reading: Reading<W>,
 ) -> (Reading<W>, Result<(), Stop<'a>>)
-    ensures { IfErr result.1 IsUntold }
+    ensures untold { IfErr result.1 IsUntold }
+    ensures same { result.0.delivery ≡ reading.delivery }
+    ensures output { CountsOutput result.1 (W.failures reading.lines) (W.failures result.0.lines) }
 {
     let Reading {
         lines,
@@ -513,6 +555,11 @@ fn read_each<'a, S: Store, I: Read + Drop, P: Pace, W: Target + Drop, E: Write>(
     requires stands { IsStanding reading.delivery }
     ensures ends { (first : Option (List ℕ)) → IsFirst I.remaining standard.old first → EndsOnEach None answering.now.limits
         (wanted_of answering.now.whole) (S.held store.old) first (map (λ name. name.now) answering.now.files.now) result.1 }
+    ensures answers { (first : Option (List ℕ)) → IsFirst I.remaining standard.old first → (matched : Option Matched)
+        → IsKept (held_if reading.delivery) matched [] → ReadsAllIfGood answering.now.limits (S.held store.old) first
+        (map (λ name. name.now) answering.now.files.now) matched (held_if result.0.delivery) result.1 }
+    ensures failed { FailsOnAnswers result.1 (S.failures store.old) (S.failures store.new) }
+    ensures output { CountsOutput result.1 (W.failures reading.lines) (W.failures result.0.lines) }
     ensures kept { S.held store.new ≡ S.held store.old }
 {
     let (reading, read) = read_several(store, answering, subjects, standard, pace, reading, error);
@@ -549,6 +596,12 @@ fn read_all<'a, S: Store, I: Read + Drop, P: Pace, W: Target + Drop, E: Write>(
     requires stands { IsStanding reading.delivery }
     ensures ends { (first : Option (List ℕ)) → IsFirst I.remaining standard.old first → EndsOnFiles answering.now.limits answering.now.whole
         (S.held store.old) first (map (λ name. name.now) answering.now.files.now) result.1 }
+    // Where all are good, what they say is kept.
+    ensures answers { (first : Option (List ℕ)) → IsFirst I.remaining standard.old first → (matched : Option Matched)
+        → IsKept (held_if reading.delivery) matched [] → ReadsAllIfGood answering.now.limits (S.held store.old) first
+        (words_of (map (λ name. name.now) answering.now.files.now)) matched (held_if result.0.delivery) result.1 }
+    ensures failed { FailsOnAnswers result.1 (S.failures store.old) (S.failures store.new) }
+    ensures output { CountsOutput result.1 (W.failures reading.lines) (W.failures result.0.lines) }
     ensures kept { S.held store.new ≡ S.held store.old }
 {
     match answering.files {
@@ -575,7 +628,8 @@ fn status_by(
     delivery: &Option<Delivery>,
     status: Status,
 ) -> Result<Status, Fault<'static>>
-    ensures states { IfOk result (IsStatusByStates answering.now.fail_on status) }
+    ensures states { IfOk result (IsStatusKept answering.now.fail_on delivery.now status) }
+    ensures others { status ≢ Status.Good → IfOk result (λ now. now ≡ status) }
     ensures memory { IfErr result IsMemory }
 {
     let Some(delivery) = delivery else {
@@ -606,8 +660,11 @@ fn tell_lines<'a, S: Store, I: Read + Drop, P: Pace, W: Target + Drop, E: Write>
     error: &mut E,
 ) -> (W, Result<Status, Stop<'a>>)
     requires stands { IsStanding delivery }
-    ensures ends { (first : Option (List ℕ)) → IsFirst I.remaining standard.old first → EndsByStates answering.now.limits answering.now.whole
-        answering.now.fail_on (S.held store.old) first (map (λ name. name.now) answering.now.files.now) result.1 }
+    ensures ends { (first : Option (List ℕ)) → IsFirst I.remaining standard.old first → (matched : Option Matched)
+        → IsKept (held_if delivery) matched [] → EndsByStates answering.now.limits answering.now.whole answering.now.fail_on
+        (S.held store.old) first (map (λ name. name.now) answering.now.files.now) matched result.1 }
+    ensures failed { FailsOnAnswers result.1 (S.failures store.old) (S.failures store.new) }
+    ensures output { CountsOutput result.1 (W.failures lines) (W.failures result.0) }
     ensures kept { S.held store.new ≡ S.held store.old }
 {
     let subjects = match subjects_of(answering) {
@@ -663,7 +720,8 @@ fn put_table<'a, W: Target>(
     delivery: &Delivery,
     lines: W,
 ) -> (W, Result<(), Stop<'a>>)
-    ensures { IfErr result.1 IsUntold }
+    ensures untold { IfErr result.1 IsUntold }
+    ensures output { CountsOutput result.1 (W.failures lines) (W.failures result.0) }
 {
     let mut sink = Sink::new(lines);
     match put_rows(answering.alloc, form, names, delivery, &mut sink) {
@@ -682,16 +740,22 @@ fn form_of_rows(answering: &Answering<'_, '_>) -> cwr_state_rows::Form {
 }
 
 /// Writes the table of what became of each transaction that was sent, and on standard error how many have which state. The writer comes
-/// back, and whether a row has one of the states that end the run as a refusal does.
+/// back, and how a run ends that read all with that status: as with a refusal where a row has one of the states that fail it.
 fn write_table<'a, W: Target, E: Write>(
     answering: &Answering<'_, 'a>,
-    delivery: &Delivery,
+    delivery: &Option<Delivery>,
+    status: Status,
     lines: W,
     error: &mut E,
-) -> (W, Result<bool, Stop<'a>>)
-    ensures states { IfOk result.1 (λ fails. fails ≡ true → answering.now.fail_on ≢ no_states) }
+) -> (W, Result<Status, Stop<'a>>)
+    ensures states { IfOk result.1 (IsStatusKept answering.now.fail_on delivery.now status) }
+    ensures others { status ≢ Status.Good → IfOk result.1 (λ now. now ≡ status) }
     ensures untold { IfErr result.1 IsUntold }
+    ensures output { CountsOutput result.1 (W.failures lines) (W.failures result.0) }
 {
+    let Some(delivery) = delivery else {
+        return (lines, Ok(status));
+    };
     let form = form_of_rows(answering);
     let names = match names_of_rows(answering.alloc, form, answering.sent) {
         Ok(names) => names,
@@ -710,7 +774,12 @@ fn write_table<'a, W: Target, E: Write>(
         &delivery.tally(),
         &mut Sink::new(Counted::new(error)),
     );
-    (lines, Ok(counts.has_any(&answering.fail_on)))
+    let fails = counts.has_any(&answering.fail_on);
+    if fails {
+        (lines, Ok(status.or_worse(Status::Refused)))
+    } else {
+        (lines, Ok(status))
+    }
 }
 
 /// Writes the table of what became of each transaction that was sent, once all acknowledgements are read. The writer comes back.
@@ -724,8 +793,11 @@ fn tell_table<'a, S: Store, I: Read + Drop, P: Pace, W: Target, E: Write>(
     error: &mut E,
 ) -> (W, Result<Status, Stop<'a>>)
     requires stands { IsStanding delivery }
-    ensures ends { (first : Option (List ℕ)) → IsFirst I.remaining standard.old first → EndsByStates answering.now.limits answering.now.whole
-        answering.now.fail_on (S.held store.old) first (map (λ name. name.now) answering.now.files.now) result.1 }
+    ensures ends { (first : Option (List ℕ)) → IsFirst I.remaining standard.old first → (matched : Option Matched)
+        → IsKept (held_if delivery) matched [] → EndsByStates answering.now.limits answering.now.whole answering.now.fail_on
+        (S.held store.old) first (map (λ name. name.now) answering.now.files.now) matched result.1 }
+    ensures failed { FailsOnAnswers result.1 (S.failures store.old) (S.failures store.new) }
+    ensures output { CountsOutput result.1 (W.failures lines) (W.failures result.0) }
     ensures kept { S.held store.new ≡ S.held store.old }
 {
     let reading = Reading {
@@ -744,14 +816,11 @@ fn tell_table<'a, S: Store, I: Read + Drop, P: Pace, W: Target, E: Write>(
         Err(Stop::Output) => return (lines, Err(Stop::Fault(Fault::Memory))),
         Err(Stop::Fault(fault)) => return (lines, Err(Stop::Fault(fault))),
     };
-    let Some(delivery) = reading.delivery else {
-        return (lines, Ok(status));
-    };
-    match write_table(answering, &delivery, lines, error) {
-        (lines, Ok(true)) => (lines, Ok(status.or_worse(Status::Refused))),
-        (lines, Ok(false)) => (lines, Ok(status)),
-        (lines, Err(stop)) => (lines, Err(stop)),
-    }
+    let Reading {
+        delivery,
+        ..
+    } = reading;
+    write_table(answering, &delivery, status, lines, error)
 }
 
 /// How many of the inputs are on standard input.
@@ -782,8 +851,12 @@ pub fn match_answers<'a, S: Store, I: Read + Drop, P: Pace, W: Target + Drop, E:
     lines: W,
     error: &mut E,
 ) -> (W, Result<Status, Stop<'a>>)
-    ensures ends { EndsOnAnswers answering.now.limits answering.now.whole answering.now.fail_on (S.held store.old) (I.remaining standard)
+    ensures ends { EndsOnAnswers answering.now.limits answering.now.whole answering.now.by_place answering.now.fail_on (S.held store.old) (I.remaining standard)
         (map (λ name. name.now) answering.now.files.now) (map (λ name. name.now) answering.now.sent.now) result.1 }
+    // What an input is told to have failed by is answered only where a failure was counted, or there was no memory.
+    ensures failed { FailsOnAnswers result.1 (S.failures store.old) (S.failures store.new) }
+    // Standard output's fault is answered only where that counted one more failure.
+    ensures output { CountsOutput result.1 (W.failures lines) (W.failures result.0) }
     ensures kept { S.held store.new ≡ S.held store.old }
 {
     if standard_inputs(answering) > 1 {

@@ -1,4 +1,5 @@
 -- What the code keeps, and what its calls do to that.
+pub mod Gatherers
 pub mod Gathering
 pub mod Inputs
 pub mod Markings

@@ -5,6 +5,7 @@
 mod faults;
 mod file_lines;
 mod fronts;
+mod gatherers;
 mod inputs;
 mod markings;
 mod memory_stores;
@@ -23,12 +24,13 @@ mod taken_writers;
 
 pub use faults::{Fault, Name, Reason, Told, tell_fault};
 pub use file_lines::{FileLines, Unmarked};
+pub use gatherers::Gatherer;
 pub use inputs::{DASH, Input, end_input, is_standard, open_input};
 pub use markings::Passing;
 pub use memory_stores::MemoryStore;
 pub use new_files::{NewFile, create_output, is_there};
 pub use numbered_files::{MadeFiles, MadeParts, NumberedFiles, Unsplit};
-pub use outputs::{Gathered, Output, Written, gathered, print, take_back, told_of};
+pub use outputs::{Gathered, Output, Written, gathered, print, take_back};
 pub use progress::{Pace, Paced, Progress, Unwatched};
 pub use same_files::{part_number, path_of_input};
 pub use shown_names::{ShellWord, Shown, input_name, shown_name};

@@ -14,7 +14,7 @@ use std::io;
 use std::io::{BufWriter, Write};
 
 /// How many bytes of output are gathered before they are written.
-const GATHERED: usize = 65_536;
+pub(crate) const GATHERED: usize = 65_536;
 
 /// A writer, with what is told of it where it fails.
 #[derive(Drop)]
@@ -41,7 +41,7 @@ impl<'a, O> Output<'a, O> {
     }
 
     /// What is known of the writer.
-    fn told(&self) -> Told<'a> {
+    pub(crate) fn told(&self) -> Told<'a> {
         Told {
             name: self.name,
             bytes: self.bytes,
@@ -53,7 +53,7 @@ impl<'a, O> Output<'a, O> {
 
 impl<'a, O> Output<'a, O> {
     /// The writer itself.
-    fn into_inner(self) -> O
+    pub(crate) fn into_inner(self) -> O
         ensures { result ≡ self.entry.output }
     {
         self.output
@@ -100,7 +100,7 @@ pub fn gathered<'a, O: Write + Drop>(
 }
 
 /// What is known of a writer that is given up. What is left in it is written, where that can be.
-pub fn told_of<'a, O: Write + Drop>(writer: Gathered<'a, O>) -> Told<'a> {
+pub(crate) fn told_of<'a, O: Write + Drop>(writer: Gathered<'a, O>) -> Told<'a> {
     writer.into_inner().get_ref().told()
 }
 

@@ -12,3 +12,5 @@ pub mod MarkedLines
 pub mod Pieces
 -- What failed where a run that writes data or a table to a file ends as one that did.
 pub mod ExportFails
+-- A writer of which the bytes were known has known ones once something is told to it.
+pub mod KnownBytes

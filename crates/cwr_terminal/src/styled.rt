@@ -43,6 +43,13 @@ impl<W> Styled<W> {
         }
     }
 
+    /// The output itself. What is held is lost.
+    pub fn into_inner(self) -> W
+        ensures { result ≡ output_of self }
+    {
+        self.output
+    }
+
     /// Appends what is written where the line that is held ends: it is shown, or the rest of it was handed on.
     fn push_end(&self, made: &mut Made, style: &Style)
         requires style { style_of self.now ≡ Some style.now }

@@ -44,3 +44,5 @@ pub mod SelectionsSeen
 pub mod SelectionStatuses
 -- The status of a selection is that of what the words name.
 pub mod StatusesNamed
+-- An import to an output writes the transmission that its lines are.
+pub mod ImportsWritten

@@ -1,12 +1,12 @@
 //! Transmissions that are written from lines of JSON.
 
-ghost use Rattle.std.specs.Prelude.{◌≡◌, None, IfOk};
+ghost use Rattle.std.specs.Prelude.{◌≡◌, None, IfOk, OnOk, true};
 ghost use Rattle.cwr_write.specs.Format.Imports.{CountsReaderFault, CountsWriterFault, WritesWhole};
 ghost use Rattle.cwr_files.specs.Format.Files.{Turns};
 ghost use Rattle.cwr_files.specs.Steps.Inputs.{remaining_of};
 ghost use Rattle.cwr_endings.specs.Format.Endings.{WritesOut};
 ghost use Rattle.cwr_endings.specs.Format.Failures.{FailsSo, FailsToWrite};
-ghost use Rattle.cwr_transform.specs.Format.Imports.{EndsAsFileImport, EndsAsImport, ImportEndsAs, IsImportOf, JudgesImport};
+ghost use Rattle.cwr_transform.specs.Format.Imports.{EndsAsFileImport, EndsAsImport, HandsOnImport, ImportEndsAs, IsImportOf, JudgesImport, WritesImport};
 
 use cwr_devices::{Counted, ReadAhead, Sink, Target};
 use cwr_endings::{Status, Stop, settle};
@@ -72,6 +72,7 @@ fn import_from<'a, S: Store, I: Read + Drop, P: Pace + Drop, W: Target>(
     ensures written { IfOk result.1 (λ w. WritesWhole import.now.encoding import.now.limits
         (remaining_of S.Reader.remaining I.remaining input.entry) W.contents writer result.0 w.bytes) }
     ensures failures { CountsWriterFault result.1 (W.failures writer) (W.failures result.0) }
+    ensures handed_on { OnOk result.1 (W.handed_on result.0 ≡ true) }
     ensures reads { CountsReaderFault result.1 (S.failures store.old) (S.failures store.new) }
     ensures kept { S.held store.new ≡ S.held store.old }
     ensures making { S.making store.new ≡ S.making store.old }
@@ -88,6 +89,18 @@ fn import_from<'a, S: Store, I: Read + Drop, P: Pace + Drop, W: Target>(
     (writer, outcome, end_input(store, reader))
 }
 
+/// Hands on what is left of what an output was given, where writing to it failed, if that can be.
+fn end_output<W: Target, A, B>(output: W, outcome: &Result<A, B>) -> W
+    ensures { OnOk outcome.now (result ≡ output) }
+{
+    if outcome.is_ok() {
+        return output;
+    }
+    let mut output = output;
+    let _ = output.flush();
+    output
+}
+
 /// Writes the transmission that the input's lines are to the output, which comes back.
 pub fn import_input<'a, S: Store, I: Read + Drop, P: Pace + Drop, W: Target, E: Write>(
     store: &mut S,
@@ -98,12 +111,14 @@ pub fn import_input<'a, S: Store, I: Read + Drop, P: Pace + Drop, W: Target, E: 
     error: &mut E,
 ) -> (W, Result<Status, Stop<'a>>)
     ensures ends { EndsAsImport import.now (remaining_of S.Reader.remaining I.remaining input.entry) result.1 }
+    ensures told { WritesImport import.now (remaining_of S.Reader.remaining I.remaining input.entry) W.contents output result.0 result.1 }
+    ensures handed_on { HandsOnImport result.1 (W.handed_on result.0) }
     ensures failed { FailsSo result.1 (S.failures store.old) (S.failures store.new) }
     ensures kept { S.held store.new ≡ S.held store.old }
 {
-    let (mut output, outcome, read) = import_from(store, alloc, import, input, output);
-    // What is left is written before that is told, where it can be.
-    let _ = output.flush();
+    let (output, outcome, read) = import_from(store, alloc, import, input, output);
+    // What is left is written before that is told.
+    let output = end_output(output, &outcome);
     tell_import(import, &outcome, error);
     (output, import_ending(outcome, read, Stop::Output))
 }

@@ -28,7 +28,8 @@ use Rattle.cwr_reports.specs.Steps.Looks.{IsJudged, IsRead}
 use Rattle.cwr_reports.specs.Steps.Marked.{CountsEnd, CountsEnds, CountsOutput, HasStatus, IsPiece, IsUnopened, Piece, TellsEach, status_in, worst_from}
 use Rattle.cwr_reports.specs.Steps.Tellings.{CountsStop}
 use Rattle.cwr_endings.specs.Format.Failures.{FailsOut, FailsSo}
-use Rattle.cwr.specs.Format.Failures.{FailsEach, FailsOnFiles, FailsWork, IsFaultOfOne, OfOne}
+use Rattle.cwr_answers.specs.Format.Failures.{IsFaultOfOne}
+use Rattle.cwr.specs.Format.Failures.{FailsEach, FailsOnFiles, FailsWork, OfOne}
 
 -- ---- a look at what follows
 
@@ -274,7 +275,7 @@ unbegun_fails (Advise words) making held after old now = files_unbegun (map (λ 
 unbegun_fails (Json words) making held after old now = out_unbegun words.out making held after old now
 unbegun_fails (Csv words) making held after old now = out_unbegun words.out making held after old now
 unbegun_fails (Acks words) making held after old now =
-    answers_unbegun (map (λ name. name.now) words.files.items) (map (λ name. name.now) words.sent.items) old now
+    (answers_unbegun (map (λ name. name.now) words.files.items) (map (λ name. name.now) words.sent.items) old now, tt)
 unbegun_fails (Summary words) making held after old now = tt
 unbegun_fails (Write words) making held after old now = out_unbegun words.out making held after old now
 unbegun_fails (Split words) making held after old now = λ quiet known plain. tt

@@ -24,14 +24,14 @@ of_data : (limits : Limits) (wanted : Wanted) (held : Option Texts) (standard na
 of_data limits wanted held standard name false = tt
 of_data limits wanted held standard name true = tt
 
-of_answers : (limits : Limits) (whole : Bool) (fail_on : States) (held : Option Texts) (standard : Option (List ℕ)) (names sent : List (List ℕ))
-    → EndsAsAnswers limits whole fail_on held standard names sent (Err (stops.Fault Memory))
-of_answers limits whole fail_on held standard [] [] = tt
-of_answers limits whole fail_on held standard (name ∷ []) [] = tt
-of_answers limits whole fail_on held standard (name ∷ other ∷ names) [] = tt
-of_answers limits whole fail_on held standard [] (one ∷ sent) = tt
-of_answers limits whole fail_on held standard (name ∷ []) (one ∷ sent) = tt
-of_answers limits whole fail_on held standard (name ∷ other ∷ names) (one ∷ sent) = tt
+of_answers : (limits : Limits) (whole by_place : Bool) (fail_on : States) (held : Option Texts) (standard : Option (List ℕ)) (names sent : List (List ℕ))
+    → EndsAsAnswers limits whole by_place fail_on held standard names sent (Err (stops.Fault Memory))
+of_answers limits whole by_place fail_on held standard [] [] = tt
+of_answers limits whole by_place fail_on held standard (name ∷ []) [] = tt
+of_answers limits whole by_place fail_on held standard (name ∷ other ∷ names) [] = tt
+of_answers limits whole by_place fail_on held standard [] (one ∷ sent) = tt
+of_answers limits whole by_place fail_on held standard (name ∷ []) (one ∷ sent) = tt
+of_answers limits whole by_place fail_on held standard (name ∷ other ∷ names) (one ∷ sent) = tt
 
 pub unbegun : (limits : Limits) (whole : Bool) (work : Work) (held : Option Texts) (standard : Option (List ℕ))
     → EndsOnWork limits whole work held standard (Err (stops.Fault Memory))
@@ -50,7 +50,7 @@ unbegun limits whole (Json words) held standard =
 unbegun limits whole (Csv words) held standard =
     of_data limits (record { whole = whole; fail_on = None }) held standard (option_map (λ name. name.now) words.file) (is_some words.out)
 unbegun limits whole (Acks words) held standard =
-    of_answers limits whole words.fail_on held standard (map (λ name. name.now) words.files.items) (map (λ name. name.now) words.sent.items)
+    of_answers limits whole words.by_place words.fail_on held standard (map (λ name. name.now) words.files.items) (map (λ name. name.now) words.sent.items)
 unbegun limits whole (Summary words) held standard = tt
 unbegun limits whole (Write words) held standard = tt
 unbegun limits whole (Split words) held standard = tt

@@ -51,15 +51,16 @@ abbrev pub EndsAsData : Option (Bool × ℕ) → Limits → Wanted → Option Te
 EndsAsData advice limits wanted held standard name false ending = EndsOnRead advice limits wanted held standard name ending
 EndsAsData advice limits wanted held standard name true ending = EndsAsExportOf advice limits wanted held standard name ending
 
--- The status of acknowledgements is that of the one text, or the worst of several. Where they are matched with what was sent it is that of a
--- refusal where one of that isn't accepted, and may be so where a state of what was sent ends a run; whether one does isn't said here.
-abbrev pub EndsAsAnswers : Limits → Bool → States → Option Texts → Option (List ℕ) → List (List ℕ) → List (List ℕ) → Result Status Stop
-    → Type 0
-EndsAsAnswers limits whole fail_on held standard [] [] ending =
+-- The status of acknowledgements is that of the one text, or the worst of several. Where they are matched with what was sent, by keys or by the
+-- place alone, it is that of a refusal where one of that isn't accepted, and where a row of what became of that has a state that ends a run so.
+abbrev pub EndsAsAnswers : Limits → Bool → Bool → States → Option Texts → Option (List ℕ) → List (List ℕ) → List (List ℕ)
+    → Result Status Stop → Type 0
+EndsAsAnswers limits whole by_place fail_on held standard [] [] ending =
     EndsOnRead None limits (record { whole = whole; fail_on = None }) held standard None ending
-EndsAsAnswers limits whole fail_on held standard (name ∷ []) [] ending =
+EndsAsAnswers limits whole by_place fail_on held standard (name ∷ []) [] ending =
     EndsOnRead None limits (record { whole = whole; fail_on = None }) held standard (Some name) ending
-EndsAsAnswers limits whole fail_on held standard names sent ending = EndsOnAnswers limits whole fail_on held standard names sent ending
+EndsAsAnswers limits whole by_place fail_on held standard names sent ending =
+    EndsOnAnswers limits whole by_place fail_on held standard names sent ending
 
 -- the manual is printed, or not taken, or there was no memory
 abbrev pub EndsAsManual : Result Status Stop → Type 0
@@ -122,7 +123,7 @@ EndsOnWork limits whole (Csv words) held standard ending =
     EndsAsData None limits (record { whole = whole; fail_on = None }) held standard (option_map (λ name. name.now) words.file)
     (is_some words.out) ending
 EndsOnWork limits whole (Acks words) held standard ending =
-    EndsAsAnswers limits whole words.fail_on held standard (map (λ name. name.now) words.files.items)
+    EndsAsAnswers limits whole words.by_place words.fail_on held standard (map (λ name. name.now) words.files.items)
     (map (λ name. name.now) words.sent.items) ending
 EndsOnWork limits whole (Summary words) held standard ending =
     EndsOnSeveral None limits (record { whole = whole; fail_on = None }) held standard (summed (map (λ name. name.now) words.files.items)) ending

@@ -4,19 +4,14 @@ use Rattle.cwr_words.specs.declared.words.Work.{Work}
 use Rattle.cwr_words.specs.declared.words.Work.TheVariants.{Check, Show, Explain, Lint, Advise, Json, Csv, Acks, Write, Split, Join, Renumber}
 use Rattle.cwr_files.specs.declared.faults.Fault.{Fault}
 use Rattle.cwr_files.specs.declared.faults.Fault.TheVariants as faults
-use Rattle.cwr_files.specs.declared.faults.Name.TheVariants.{StandardInput}
 use Rattle.cwr_files.specs.Format.Files.{Texts}
 use Rattle.cwr_endings.specs.declared.endings.Status.{Status}
 use Rattle.cwr_endings.specs.declared.endings.Status.TheVariants as statuses
 use Rattle.cwr_endings.specs.declared.stops.Stop.{Stop}
 use Rattle.cwr_endings.specs.declared.stops.Stop.TheVariants as stops
 use Rattle.cwr_endings.specs.Format.Failures.{FailsOut, FailsSo, FailsToJoin, IsFaultOfRead, UnlessRead}
+use Rattle.cwr_answers.specs.Format.Failures.{FailsOnAnswers, IsFaultOfOne}
 use Rattle.cwr_transform.specs.Format.Splits.{FailsToCut}
-
--- an input couldn't be opened, or it failed, or there was no memory; or it is standard input, which is there once, and was read already
-abbrev pub IsFaultOfOne : Fault → ℕ → ℕ → Type 0
-IsFaultOfOne (faults.Open StandardInput reason) old now = Unit {0}
-IsFaultOfOne fault old now = IsFaultOfRead fault old now
 
 -- so it is where a report on several ends as what failed does, or standard input was named twice
 abbrev pub FailsEach : Result Status Stop → ℕ → ℕ → Type 0
@@ -31,8 +26,13 @@ FailsOnFiles [] ending old now = FailsSo ending old now
 FailsOnFiles (name ∷ []) ending old now = FailsSo ending old now
 FailsOnFiles (name ∷ other ∷ names) ending old now = FailsEach ending old now
 
--- It is so of acknowledgements in one input that are matched with nothing. Of several, and of those that are matched with what was sent, nothing
--- is said.
+-- the one input of acknowledgements that are matched with nothing
+abbrev pub one_of : List (List ℕ) → List (List ℕ) → Option (Option (List ℕ))
+one_of [] [] = Some None
+one_of (name ∷ []) [] = Some (Some name)
+one_of names sent = None
+
+-- It is so of that one. Of several, and of those that are matched with what was sent, nothing is said.
 abbrev pub OfOne : List (List ℕ) → List (List ℕ) → (Option (List ℕ) → Type 0) → Type 0
 OfOne [] [] is = is None
 OfOne (name ∷ []) [] is = is (Some name)
@@ -52,6 +52,7 @@ FailsWork (Json words) making held after ending old now = FailsOut words.out mak
 FailsWork (Csv words) making held after ending old now = FailsOut words.out making held after ending old now
 FailsWork (Acks words) making held after ending old now =
     OfOne (map (λ name. name.now) words.files.items) (map (λ name. name.now) words.sent.items) (λ name. FailsSo ending old now)
+    × FailsOnAnswers ending old now
 FailsWork (Write words) making held after ending old now = FailsOut words.out making held after ending old now
 FailsWork (Split words) making held after ending old now = making ≡ None → IsSome held → words.created ≡ None → FailsToCut ending old now
 FailsWork (Join words) making held after ending old now = FailsToJoin words.out making held after ending old now

@@ -92,8 +92,8 @@ RunsRenumbering renumbered limits whole (Renumber words) standard before after m
 RunsRenumbering renumbered limits whole work standard before after making old now ending = Unit {0}
 
 -- What a run of the task comes to, where what is on standard input and lies under names is this: an end that the task may have, its status,
--- what failed where that is the status of a fault, and what lies under names then.
-pub record RunsTask (renumbered : List ℕ → List ℕ) (task : Task) (standard : Option (List ℕ)) (before after : Option Texts) (making : Option (List ℕ))
+-- what failed where that is the status of a fault, what lies under names then, and what is told where the run ends so.
+pub record RunsTask (renumbered : List ℕ → List ℕ) (tells : Result Status Stop → Type 0) (task : Task) (standard : Option (List ℕ)) (before after : Option Texts) (making : Option (List ℕ))
     (old now : ℕ) (status : Status) : Type 0 where
   pub ending : Result Status Stop
   pub ends : EndsOnWork task.limits task.whole task.work before standard ending
@@ -101,11 +101,13 @@ pub record RunsTask (renumbered : List ℕ → List ℕ) (task : Task) (standard
   pub fails : FailsWork task.work making before after ending old now
   pub files : making ≡ None → LeavesWork task.limits task.whole task.work before standard old now ending after
   pub renumbers : RunsRenumbering renumbered task.limits task.whole task.work standard before after making old now ending
+  pub told : tells ending
 
 -- A run of a command line ends with the number of a status that the task has which it asks for, and leaves what such a run does. Where it asks
--- for none, that is 2, or there is no memory to tell, which is 3: then nothing changed.
-abbrev pub RunsWords : (List ℕ → List ℕ) → List (List ℕ) → Option (List ℕ) → Option Texts → Option Texts → Option (List ℕ) → ℕ → ℕ → ℕ → Type 0
-RunsWords renumbered words standard before after making old now code =
-    ((task : Task) × (status : Status) × AskFor words task × RunsTask renumbered task standard before after making old now status
-    × (code ≡ status_code status))
-    ⊎ (Turns before after Same × (((code ≡ 2) × ((task : Task) → AskFor words task → ⊥)) ⊎ (code ≡ 3)))
+-- for none, that is 2, or there is no memory to tell, which is 3: then nothing changed, and nothing is told.
+abbrev pub RunsWords : (List ℕ → List ℕ) → (Task → Result Status Stop → Type 0) → Type 0 → List (List ℕ) → Option (List ℕ) → Option Texts
+    → Option Texts → Option (List ℕ) → ℕ → ℕ → ℕ → Type 0
+RunsWords renumbered tells untold words standard before after making old now code =
+    ((task : Task) × (status : Status) × AskFor words task
+    × RunsTask renumbered (tells task) task standard before after making old now status × (code ≡ status_code status))
+    ⊎ (Turns before after Same × untold × (((code ≡ 2) × ((task : Task) → AskFor words task → ⊥)) ⊎ (code ≡ 3)))

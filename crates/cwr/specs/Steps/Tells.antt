@@ -2,16 +2,19 @@
 use denote.Ref.{Bor}
 use Rattle.std.specs.Prelude.{◌≡◌, ◌<◌, ℕ, Bool, true, false, List, [], ◌∷◌, map, Option, Some, None, option_map, Result, Ok, Err, OnOk, codes}
 use Rattle.std.specs.Option.{is_some}
+use Rattle.std.specs.Io.KnownBytes.{Appends}
 use Rattle.cwr_devices.specs.Format.Failures.{most_failures}
 use Rattle.cwr_fields.specs.declared.message_codes.TransactionStatus.{TransactionStatus}
 use Rattle.cwr_shape.specs.declared.limits.Limits.{Limits}
+use Rattle.cwr_words.specs.declared.words.Task.{Task}
 use Rattle.cwr_words.specs.declared.words.Work.{Work}
-use Rattle.cwr_words.specs.declared.words.Work.TheVariants.{Check, Show, Explain, Lint, Advise, Json, Csv, Acks, Summary}
+use Rattle.cwr_words.specs.declared.words.Work.TheVariants.{Check, Show, Explain, Lint, Advise, Json, Csv, Acks, Summary, Write}
 use Rattle.cwr_acks.specs.declared.forms.Form.{Form}
 use Rattle.cwr_files.specs.Format.Files.{Texts}
 use Rattle.cwr_files.specs.Format.Inputs.{shown_name}
 use Rattle.cwr_files.specs.Steps.Inputs.{IsLeftOf}
 use Rattle.cwr_endings.specs.declared.endings.Status.{Status}
+use Rattle.cwr_endings.specs.declared.endings.Status.TheVariants as statuses
 use Rattle.cwr_endings.specs.declared.endings.Wanted.{Wanted}
 use Rattle.cwr_endings.specs.declared.judgements.Judgement.{Judgement}
 use Rattle.cwr_endings.specs.declared.stops.Stop.{Stop}
@@ -21,8 +24,13 @@ use Rattle.cwr_reports.specs.declared.tellings.Telling.TheVariants as tellings
 use Rattle.cwr_reports.specs.Format.Endings.{telling_by}
 use Rattle.cwr_reports.specs.Steps.Marked.{CountsOutput, TellsEach, WritesLines}
 use Rattle.cwr_reports.specs.Steps.Tellings.{TellsLines}
+use Rattle.cwr_transform.specs.declared.imports.Import.{Import}
+use Rattle.cwr.specs.declared.terminal.Terminals.{Terminals}
+use Rattle.cwr.specs.Format.Endings.{import_of}
 use Rattle.cwr.specs.Format.Failures.{OfOne}
+use Rattle.cwr.specs.Format.Files.{IsImportAt}
 use Rattle.cwr.specs.Format.Tables.{encoding_of, form_of, table_of}
+use Rattle.cwr.specs.Steps.Cleared.{plain_on}
 
 -- of what was read under a word, the lines that are asked for were written, where the run came to its end
 abbrev pub TellsRead : {W : Type 0} → Telling → Limits → Option Texts → Option (List ℕ) → Option (List ℕ) → (W → Option (List ℕ)) → W → W
@@ -109,8 +117,20 @@ TellsAnswers form statuses limits held standard name contents old new (Ok status
     × TellsRead (tellings.Answers form of) limits held standard name contents old new (Ok status)
 TellsAnswers form statuses limits held standard name contents old new (Err stop) = Unit {0}
 
+-- what is so where no file is named
+abbrev pub UnlessFile : Bool → Type 0 → Type 0
+UnlessFile false is = is
+UnlessFile true is = Unit {0}
+
+-- an import that ends well is written to standard output where no file is named
+abbrev pub TellsImport : {W : Type 0} → Bool → Import → Option Texts → Option (List ℕ) → Option (List ℕ) → (W → Option (List ℕ)) → W → W
+    → Result Status Stop → Type 0
+TellsImport to_file import held standard name contents old new (Ok statuses.Good) =
+    UnlessFile to_file ((text : List ℕ) × IsImportAt import held standard name text × Appends (contents old) (contents new) text)
+TellsImport to_file import held standard name contents old new ending = Unit {0}
+
 -- What a run of the work has written, within these limits, and where nothing may follow a transmission or something may; and how many failures
--- of files were counted meanwhile. Of runs that write files nothing is said here.
+-- of files were counted meanwhile. Of a run that writes files, and what it tells of them, nothing is said here.
 abbrev pub TellsWork : {W : Type 0} → Limits → Bool → Work → Option Texts → Option (List ℕ) → (W → Option (List ℕ)) → (W → ℕ) → W → W
     → ℕ → ℕ → Result Status Stop → Type 0
 TellsWork limits whole (Check judging) held standard contents failures old new count count_now ending =
@@ -136,6 +156,8 @@ TellsWork limits whole (Csv words) held standard contents failures old new count
 TellsWork limits whole (Acks words) held standard contents failures old new count count_now ending =
     OfOne (map (λ name. name.now) words.files.items) (map (λ name. name.now) words.sent.items)
     (λ name. TellsAnswers (form_of words.as_json words.utf8) words.statuses.items limits held standard name contents old new ending)
+TellsWork limits whole (Write words) held standard contents failures old new count count_now ending =
+    TellsImport (is_some words.out) (import_of limits words) held standard (option_map (λ name. name.now) words.file) contents old new ending
 TellsWork limits whole work held standard contents failures old new count count_now ending = Unit {0}
 
 -- ---- what is handed on
@@ -144,6 +166,11 @@ TellsWork limits whole work held standard contents failures old new count count_
 abbrev pub HandsOnData : Bool → Result Status Stop → Bool → Type 0
 HandsOnData false ending handed_on = OnOk ending (handed_on ≡ true)
 HandsOnData true ending handed_on = Unit {0}
+
+-- so is an import that ends well
+abbrev pub HandsOnWriting : Bool → Result Status Stop → Bool → Type 0
+HandsOnWriting to_file (Ok statuses.Good) handed_on = UnlessFile to_file (handed_on ≡ true)
+HandsOnWriting to_file ending handed_on = Unit {0}
 
 abbrev pub HandsOnWork : Work → Result Status Stop → Bool → Type 0
 HandsOnWork (Check judging) ending handed_on = OnOk ending (handed_on ≡ true)
@@ -156,6 +183,7 @@ HandsOnWork (Csv words) ending handed_on = HandsOnData (is_some words.out) endin
 HandsOnWork (Acks words) ending handed_on =
     OfOne (map (λ name. name.now) words.files.items) (map (λ name. name.now) words.sent.items) (λ name. OnOk ending (handed_on ≡ true))
 HandsOnWork (Summary words) ending handed_on = OnOk ending (handed_on ≡ true)
+HandsOnWork (Write words) ending handed_on = HandsOnWriting (is_some words.out) ending handed_on
 HandsOnWork work ending handed_on = Unit {0}
 
 -- ---- what failed
@@ -173,6 +201,29 @@ CountsWork (Lint words) ending out out_now = CountsOutput ending out out_now
 CountsWork (Advise words) ending out out_now = CountsOutput ending out out_now
 CountsWork (Json words) ending out out_now = CountsData (is_some words.out) ending out out_now
 CountsWork (Csv words) ending out out_now = CountsData (is_some words.out) ending out out_now
-CountsWork (Acks words) ending out out_now =
-    OfOne (map (λ name. name.now) words.files.items) (map (λ name. name.now) words.sent.items) (λ name. CountsOutput ending out out_now)
+CountsWork (Acks words) ending out out_now = CountsOutput ending out out_now
 CountsWork work ending out out_now = Unit {0}
+
+-- ---- what comes back
+
+-- the lines of a run were written to an output, after the bytes that it had, where these are known
+abbrev pub TellsOn : Limits → Bool → Work → Option Texts → Option (List ℕ) → Option (List ℕ) → Option (List ℕ) → ℕ → ℕ
+    → Result Status Stop → Type 0
+TellsOn limits whole work held standard None now count count_now ending = Unit {0}
+TellsOn limits whole work held standard (Some text) now count count_now ending =
+    TellsWork {W = Option (List ℕ)} limits whole work held standard (λ known. known) (λ known. 0) (Some text) now count count_now ending
+
+-- It comes back where the run has a status, with these; where the run was stopped it doesn't.
+abbrev pub TellsBack : Limits → Bool → Work → Option Texts → Option (List ℕ) → Option (List ℕ) → Option (Option (List ℕ)) → ℕ → ℕ
+    → Result Status Stop → Type 0
+TellsBack limits whole work held standard before (Some now) count count_now (Ok status) =
+    TellsOn limits whole work held standard before now count count_now (Ok status)
+TellsBack limits whole work held standard before None count count_now (Err stop) = Unit {0}
+TellsBack limits whole work held standard before back count count_now ending = ⊥
+
+-- so it is of standard output, where lines are written to it as they are
+abbrev pub TellsOut : {O : Type 0} → (O → Option (List ℕ)) → Terminals → O → Option O → Option Texts → Option (List ℕ) → ℕ → ℕ → Task
+    → Result Status Stop → Type 0
+TellsOut contents terminals output back held standard count count_now task ending =
+    TellsBack task.limits task.whole task.work held standard (plain_on terminals task (contents output))
+    (option_map (λ it. plain_on terminals task (contents it)) back) count count_now ending

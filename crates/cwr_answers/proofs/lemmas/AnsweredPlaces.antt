@@ -72,12 +72,10 @@ front_taken limits None after v t = tt
 front_taken limits (Some text) after v t = (length t.input, t.front.0)
 
 -- what is kept of a good one
-pub answers_read : (limits : Limits) (whole : Bool) (before after : Option (List ℕ)) (outcome : Result Verdict ToolFault) (look : Look)
-    (judged : Result Judgement ToolFault) (j : Judgement) (delivery left : Option Delivery) (answers : Answers) (matched : Option Matched)
-    → judged ≡ judged_by whole outcome look → judged ≡ Ok j → KeepsAnswers delivery limits before after outcome left answers
-    → IsKept (held_if delivery) matched [] → j.status ≡ statuses.Good → ReadsAnswers limits before matched (held_if left)
-answers_read limits whole before after outcome look judged j delivery left answers matched is e keeps kept good =
-    let of : IsOfGood outcome = of_judged whole outcome look j (sym is ∙ e) good in
+kept_good : (limits : Limits) (before after : Option (List ℕ)) (outcome : Result Verdict ToolFault) (delivery left : Option Delivery)
+    (answers : Answers) (matched : Option Matched) → IsOfGood outcome → KeepsAnswers delivery limits before after outcome left answers
+    → IsKept (held_if delivery) matched [] → ReadsAnswers limits before matched (held_if left)
+kept_good limits before after outcome delivery left answers matched of keeps kept =
     let k : KeepsAnswers delivery limits before after (Ok (verdicts.Good of.0 of.1 of.2)) left answers =
     subst (λ (o : Result Verdict ToolFault). KeepsAnswers delivery limits before after o left answers) of.3 keeps in
     let stood = k matched kept in
@@ -86,6 +84,23 @@ answers_read limits whole before after outcome look judged j delivery left answe
       taken = front_taken limits before after stood.1.0 stood.1.1;
       kept = subst (λ (given : List Item). IsKept (held_if left) (matched_after matched given) []) stood.1.2 stood.2.0;
     }
+
+pub answers_read_so : (limits : Limits) (whole : Bool) (before after : Option (List ℕ)) (outcome : Result Verdict ToolFault) (look : Look)
+    (judged : Result Judgement ToolFault) (delivery left : Option Delivery) (answers : Answers) (matched : Option Matched)
+    → judged ≡ judged_by whole outcome look → KeepsAnswers delivery limits before after outcome left answers
+    → IsKept (held_if delivery) matched [] → ReadsIfGood limits before matched (held_if left) judged
+answers_read_so limits whole before after outcome look (Ok j) delivery left answers matched is keeps kept =
+    λ good. kept_good limits before after outcome delivery left answers matched (of_judged whole outcome look j (sym is) good) keeps kept
+answers_read_so limits whole before after outcome look (Err fault) delivery left answers matched is keeps kept = tt
+
+pub answers_judged : (limits : Limits) (whole : Bool) (before after : Option (List ℕ)) (outcome : Result Verdict ToolFault) (look : Look)
+    (judged : Result Judgement ToolFault) (delivery left : Option Delivery) (answers : Answers) (matched : Option Matched)
+    → judged ≡ judgement_in (record { whole = whole; fail_on = None }) outcome look false
+    → KeepsAnswers delivery limits before after outcome left answers → IsKept (held_if delivery) matched []
+    → ReadsIfGood limits before matched (held_if left) judged
+answers_judged limits whole before after outcome look (Ok j) delivery left answers matched is keeps kept =
+    λ good. kept_good limits before after outcome delivery left answers matched (of_good whole outcome look j (sym is) good) keeps kept
+answers_judged limits whole before after outcome look (Err fault) delivery left answers matched is keeps kept = tt
 
 -- where it is judged nothing failed
 unfailed_by : (whole : Bool) (outcome : Result Verdict ToolFault) (look : Look) (j : Judgement) (r0 r1 r2 old new : ℕ)
@@ -110,22 +125,14 @@ pub unfailed_so : (whole : Bool) (outcome : Result Verdict ToolFault) (look : Lo
 unfailed_so whole outcome look (Ok j) r0 r1 r2 old new is none h k s = unfailed whole outcome look (Ok j) j r0 r1 r2 old new is refl none h k s
 unfailed_so whole outcome look (Err fault) r0 r1 r2 old new is none h k s = tt
 
-pub answers_read_so : (limits : Limits) (whole : Bool) (before after : Option (List ℕ)) (outcome : Result Verdict ToolFault) (look : Look)
-    (judged : Result Judgement ToolFault) (delivery left : Option Delivery) (answers : Answers) (matched : Option Matched)
-    → judged ≡ judged_by whole outcome look → KeepsAnswers delivery limits before after outcome left answers
-    → IsKept (held_if delivery) matched [] → ReadsIfGood limits before matched (held_if left) judged
-answers_read_so limits whole before after outcome look (Ok j) delivery left answers matched is keeps kept =
-    λ good. answers_read limits whole before after outcome look (Ok j) j delivery left answers matched is refl keeps kept good
-answers_read_so limits whole before after outcome look (Err fault) delivery left answers matched is keeps kept = tt
-
 -- ---- one after another
 
-zip_push : {A B : Type 0} (R : A → B → Type 0) (xs : List A) (ys : List B) (x : A) (y : B) → AllZip R xs ys → R x y
-    → AllZip R (xs ++ x ∷ []) (ys ++ y ∷ [])
-zip_push R [] [] x y h r = (r, tt)
-zip_push R [] (b ∷ ys) x y h r = absurd h
-zip_push R (a ∷ xs) [] x y h r = absurd h
-zip_push R (a ∷ xs) (b ∷ ys) x y h r = (h.0, zip_push R xs ys x y h.1 r)
+pub zip_join : {A B : Type 0} (R : A → B → Type 0) (xs us : List A) (ys vs : List B) → AllZip R xs ys → AllZip R us vs
+    → AllZip R (xs ++ us) (ys ++ vs)
+zip_join R [] us [] vs h k = k
+zip_join R [] us (b ∷ ys) vs h k = absurd h
+zip_join R (a ∷ xs) us [] vs h k = absurd h
+zip_join R (a ∷ xs) us (b ∷ ys) vs h k = (h.0, zip_join R xs us ys vs h.1 k)
 
 -- reading on is reading all
 read_on : (matched : Option Matched) (given more : List Item)
@@ -139,19 +146,35 @@ pub each_none : (limits : Limits) (texts : Option Texts) (standard : Option (Lis
 each_none limits texts standard None held kept = record { answers = []; were_read = tt; kept = kept }
 each_none limits texts standard (Some m) held kept = record { answers = []; were_read = tt; kept = kept }
 
+pub each_one : (limits : Limits) (texts : Option Texts) (standard : Option (List ℕ)) (name : List ℕ) (matched : Option Matched)
+    (held : Option Held) (v : TransmissionValue) → IsAcceptedAt limits texts standard name v
+    → IsKept held (matched_after matched (value_items v)) [] → ReadsEach limits texts standard (name ∷ []) matched held
+each_one limits texts standard name matched held v taken kept = record {
+  answers = v ∷ [];
+  were_read = (taken, tt);
+  kept = subst (λ (given : List Item). IsKept held (matched_after matched given) []) (sym (append-nil (value_items v))) kept;
+}
+
+pub each_join : (limits : Limits) (texts : Option Texts) (standard : Option (List ℕ)) (names more : List (List ℕ))
+    (matched : Option Matched) (held after : Option Held) → (before : ReadsEach limits texts standard names matched held)
+    → ReadsEach limits texts standard more (matched_after matched (flat_map value_items before.answers)) after
+    → ReadsEach limits texts standard (names ++ more) matched after
+each_join limits texts standard names more matched held after before next = record {
+  answers = before.answers ++ next.answers;
+  were_read = zip_join (IsAcceptedAt limits texts standard) names more before.answers next.answers before.were_read next.were_read;
+  kept = subst (λ (m : Option Matched). IsKept after m [])
+      (read_on matched (flat_map value_items before.answers) (flat_map value_items next.answers)
+      ∙ ap (matched_after matched) (sym (flat_map-append value_items before.answers next.answers))) next.kept;
+}
+
 pub each_more : (limits : Limits) (texts : Option Texts) (standard : Option (List ℕ)) (names : List (List ℕ)) (name : List ℕ)
     (matched : Option Matched) (held after : Option Held) → (before : ReadsEach limits texts standard names matched held)
     → (v : TransmissionValue) → IsAcceptedAt limits texts standard name v
     → IsKept after (matched_after (matched_after matched (flat_map value_items before.answers)) (value_items v)) []
     → ReadsEach limits texts standard (names ++ name ∷ []) matched after
-each_more limits texts standard names name matched held after before v taken kept = record {
-  answers = before.answers ++ v ∷ [];
-  were_read = zip_push (IsAcceptedAt limits texts standard) names before.answers name v before.were_read taken;
-  kept = subst (λ (m : Option Matched). IsKept after m [])
-      (read_on matched (flat_map value_items before.answers) (value_items v)
-      ∙ ap (matched_after matched) (ap (λ (l : List Item). flat_map value_items before.answers ++ l) (sym (append-nil (value_items v)))
-      ∙ sym (flat_map-append value_items before.answers (v ∷ [])))) kept;
-}
+each_more limits texts standard names name matched held after before v taken kept =
+    each_join limits texts standard names (name ∷ []) matched held after before
+    (each_one limits texts standard name (matched_after matched (flat_map value_items before.answers)) after v taken kept)
 
 -- ---- what was sent
 

@@ -28,8 +28,8 @@ use Rattle.cwr_reports.specs.Steps.Several.{IfNextAt, IsFirst}
 use Rattle.cwr_reports.proofs.lemmas.EndsOnTexts.{judges_on, sees_nothing}
 use Rattle.cwr_reports.proofs.lemmas.Pieces.{left_first}
 use Rattle.cwr_reports.proofs.lemmas.WorstOf.{worst_more}
-use Rattle.cwr_answers.specs.Format.Endings.{AreSent, EndsOnAnswers, Has, IsStatusOfAnswers, wanted_of}
-use Rattle.cwr_answers.specs.Steps.Reading.{CountsOne, EndsByStates, EndsOnFiles, IsUnread, IsUnreadOrUntold, IsUntold}
+use Rattle.cwr_answers.specs.Format.Endings.{EndsOnAnswers, Has, IsStatusOfAnswers, wanted_of}
+use Rattle.cwr_answers.specs.Steps.Reading.{CountsOne, EndsOnFiles, IsUnread, IsUnreadOrUntold, IsUntold}
 
 -- ---- one transmission
 
@@ -210,8 +210,8 @@ each_stop limits wanted held first names (stops.Fault (faults.IsTwice of)) h = a
 each_stop limits wanted held first names (stops.Fault (faults.IsOther of)) h = absurd h
 each_stop limits wanted held first names (stops.Fault (faults.IsLate of)) h = absurd h
 
-module _ (limits : Limits) (whole : Bool) (fail_on : States) (held : Option Texts) (standard : Option (List ℕ)) (names sent : List (List ℕ)) where
-  stop_ends : (stop : Stop) → IsUnreadOrUntold stop → EndsOnAnswers limits whole fail_on held standard names sent (Err stop)
+module _ (limits : Limits) (whole by_place : Bool) (fail_on : States) (held : Option Texts) (standard : Option (List ℕ)) (names sent : List (List ℕ)) where
+  stop_ends : (stop : Stop) → IsUnreadOrUntold stop → EndsOnAnswers limits whole by_place fail_on held standard names sent (Err stop)
   stop_ends stops.Output h = tt
   stop_ends (stops.Fault (faults.Open of reason)) h = tt
   stop_ends (stops.Fault (faults.Read told)) h = tt
@@ -225,21 +225,22 @@ module _ (limits : Limits) (whole : Bool) (fail_on : States) (held : Option Text
   stop_ends (stops.Fault (faults.IsLate of)) h = absurd h
 
   -- what was sent couldn't be read
-  pub unsent_ends : (fault : Fault) → IsUnread fault → EndsOnAnswers limits whole fail_on held standard names sent (Err (stops.Fault fault))
+  pub unsent_ends : (fault : Fault) → IsUnread fault → EndsOnAnswers limits whole by_place fail_on held standard names sent (Err (stops.Fault fault))
   unsent_ends fault h = stop_ends (stops.Fault fault) h
 
-  -- all that was sent is accepted
-  pub sent_ends : (ending : Result Status Stop) → AreSent limits held standard sent
-      → EndsByStates limits whole fail_on held standard names ending → EndsOnAnswers limits whole fail_on held standard names sent ending
-  sent_ends (Ok status) are h = inr (are, (h.0, of names h.1, h.2))
-    where
-      of : (them : List (List ℕ)) → EndsOnFiles limits whole held standard them (Ok h.0) → IsStatusOfAnswers limits whole held standard them h.0
-      of [] k = k
-      of (name ∷ []) k = k
-      of (name ∷ other ∷ more) k = k
-  sent_ends (Err stop) are h = stop_ends stop (of names h)
+  -- what the acknowledgements are read from couldn't be
+  pub files_stop : (stop : Stop) → EndsOnFiles limits whole held standard names (Err stop)
+      → EndsOnAnswers limits whole by_place fail_on held standard names sent (Err stop)
+  files_stop stop h = stop_ends stop (of names h)
     where
       of : (them : List (List ℕ)) → EndsOnFiles limits whole held standard them (Err stop) → IsUnreadOrUntold stop
       of [] k = read_stop limits (wanted_of whole) held standard None stop k
       of (name ∷ []) k = read_stop limits (wanted_of whole) held standard (Some name) stop k
       of (name ∷ other ∷ more) k = each_stop limits (wanted_of whole) held standard (name ∷ other ∷ more) stop k
+
+-- or it has a status
+pub files_status : (limits : Limits) (whole : Bool) (held : Option Texts) (standard : Option (List ℕ)) (names : List (List ℕ))
+    (other : Status) → EndsOnFiles limits whole held standard names (Ok other) → IsStatusOfAnswers limits whole held standard names other
+files_status limits whole held standard [] other h = h
+files_status limits whole held standard (name ∷ []) other h = h
+files_status limits whole held standard (name ∷ more ∷ names) other h = h

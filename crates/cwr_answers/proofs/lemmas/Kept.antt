@@ -71,12 +71,18 @@ fresh_at : (sent : List SentShown) → All IsFreshShown sent → (i : ℕ) (s : 
 fresh_at sent all i s at = subst IsFreshShown (get_or_from_slice_get sent i s s at) (all i s (slice_get_within sent i s at))
 
 -- it stands for itself
+pub new_keeps : (by_place : Bool) (delivery : Delivery) → (h : IsNew by_place delivery)
+    → IsKept (Some (held_in delivery))
+    (Some (record { delivered = record { by_place = by_place; sent = map content_shown h.0 }; history = no_history })) []
+new_keeps by_place delivery h =
+    subst (λ (held : Held). IsKept (Some held)
+    (Some (record { delivered = record { by_place = by_place; sent = map content_shown h.0 }; history = no_history })) []) (sym h.1)
+    (keeps_nothing by_place h.0 (λ i s at. fresh_at h.0 h.2 i s at))
+
 pub new_stands : (by_place : Bool) (delivery : Delivery) → IsNew by_place delivery → IsStanding (Some delivery)
 new_stands by_place delivery h = (
   Some (record { delivered = record { by_place = by_place; sent = map content_shown h.0 }; history = no_history }),
-  subst (λ (held : Held). IsKept (Some held)
-      (Some (record { delivered = record { by_place = by_place; sent = map content_shown h.0 }; history = no_history })) []) (sym h.1)
-      (keeps_nothing by_place h.0 (λ i s at. fresh_at h.0 h.2 i s at)),
+  new_keeps by_place delivery h,
 )
 
 -- ---- names

@@ -1,19 +1,25 @@
 -- What is kept while transmissions of acknowledgements are read, and how their reading ends.
-use Rattle.std.specs.Prelude.{◌≡◌, ◌⊎◌, ℕ, Bool, false, List, [], ◌∷◌, All, map, Option, Some, None, Result, Ok, Err}
+use Rattle.std.specs.Prelude.{◌≡◌, ◌⊎◌, ℕ, Bool, false, List, [], ◌∷◌, All, map, Option, Some, None, Result, Ok, Err, if◌then◌else◌}
+use Rattle.std.specs.List.{AllZip, flat_map}
 use Rattle.cwr_shape.specs.declared.limits.Limits.{Limits}
+use Rattle.cwr_values.specs.Format.Values.{TransmissionValue}
+use Rattle.cwr_judge.specs.Format.Items.{value_items}
 use Rattle.cwr_states.specs.declared.state_sets.States.{States}
 use Rattle.cwr_tools.specs.declared.verdicts.ToolFault.{ToolFault}
 use Rattle.cwr_tools.specs.declared.verdicts.ToolFault.TheVariants.{Reader}
-use Rattle.cwr_sent.specs.Format.SentRows.{IsFreshShown, SentShown}
+use Rattle.cwr_sent.specs.Format.SentFacts.{content_of}
+use Rattle.cwr_sent.specs.Format.SentRows.{IsFreshShown, SentShown, content_shown}
 use Rattle.cwr_delivery.specs.declared.deliveries.Delivery.{Delivery}
+use Rattle.cwr_delivery.specs.Format.Told.{no_history}
 use Rattle.cwr_delivery.specs.Steps.Deliveries.{held_in, nothing_held}
 use Rattle.cwr_acks.specs.declared.forms.Form.{Form}
 use Rattle.cwr_acks.specs.declared.forms.Manner.{Manner}
-use Rattle.cwr_acks.specs.Format.AckLines.{IsToldSo, Matched, Telling, shown_name}
+use Rattle.cwr_acks.specs.Format.AckLines.{IsToldSo, Matched, Telling, matched_after, shown_name}
 use Rattle.cwr_acks.specs.Steps.AckSteps.{IsKept, held_if}
 use Rattle.cwr_files.specs.declared.faults.Fault.{Fault}
 use Rattle.cwr_files.specs.declared.faults.Fault.TheVariants as faults
 use Rattle.cwr_files.specs.Format.Files.{Texts}
+use Rattle.cwr_files.specs.Steps.NewFiles.{HasKeptCount}
 use Rattle.cwr_endings.specs.declared.endings.Status.{Status}
 use Rattle.cwr_endings.specs.declared.endings.Status.TheVariants as statuses
 use Rattle.cwr_endings.specs.declared.judgements.Judgement.{Judgement}
@@ -22,7 +28,9 @@ use Rattle.cwr_endings.specs.declared.sums.Sums.{Sums}
 use Rattle.cwr_endings.specs.declared.stops.Stop.TheVariants as stops
 use Rattle.cwr_endings.specs.Format.Endings.{worse_status}
 use Rattle.cwr_reports.specs.Format.Endings.{EndsOnEach, EndsOnRead, IsWorstOf}
-use Rattle.cwr_answers.specs.Format.Endings.{AreSent, Has, IsStatusByStates, IsUnsent, wanted_of}
+use Rattle.cwr_answers.specs.Format.Answered.{IsAcceptedAt}
+use Rattle.cwr_answers.specs.Format.Endings.{AreSent, Has, IsUnsent, delivered_of, has_row, wanted_of, words_of}
+use Rattle.cwr_answers.specs.Format.Failures.{IsFaultOfOne}
 
 -- ---- what is kept
 
@@ -91,11 +99,46 @@ EndsOnFiles limits whole held standard (name ∷ []) ending = EndsOnRead None li
 EndsOnFiles limits whole held standard (name ∷ other ∷ names) ending =
     EndsOnEach None limits (wanted_of whole) held standard (name ∷ other ∷ names) ending
 
+-- the status by the states of what was sent and read, of which nothing may be kept
+abbrev pub status_with : States → Option Matched → Status → Status
+status_with fail_on None status = status
+status_with fail_on (Some matched) status =
+    if has_row fail_on matched.delivered matched.history.told then worse_status status statuses.Refused else status
+
+-- where all was good, it is that after these acknowledgements
+abbrev pub IsStatusAfter : Limits → States → Option Texts → Option (List ℕ) → List (List ℕ) → Option Matched → Status → Status → Type 0
+IsStatusAfter limits fail_on held standard names matched statuses.Good status =
+    (answers : List TransmissionValue) × AllZip (IsAcceptedAt limits held standard) (words_of names) answers
+    × (status ≡ status_with fail_on (matched_after matched (flat_map value_items answers)) statuses.Good)
+IsStatusAfter limits fail_on held standard names matched other status = status ≡ other
+
 -- so they were, and what became of what was sent decides too
-abbrev pub EndsByStates : Limits → Bool → States → Option Texts → Option (List ℕ) → List (List ℕ) → Result Status Stop → Type 0
-EndsByStates limits whole fail_on held standard names (Ok status) =
-    (other : Status) × EndsOnFiles limits whole held standard names (Ok other) × IsStatusByStates fail_on other status
-EndsByStates limits whole fail_on held standard names (Err stop) = EndsOnFiles limits whole held standard names (Err stop)
+abbrev pub EndsByStates : Limits → Bool → States → Option Texts → Option (List ℕ) → List (List ℕ) → Option Matched → Result Status Stop
+    → Type 0
+EndsByStates limits whole fail_on held standard names matched (Ok status) =
+    (other : Status) × EndsOnFiles limits whole held standard names (Ok other)
+    × IsStatusAfter limits fail_on held standard names matched other status
+EndsByStates limits whole fail_on held standard names matched (Err stop) = EndsOnFiles limits whole held standard names (Err stop)
+
+-- the status of what is kept, by its states
+abbrev pub IsStatusKept : States → Option Delivery → Status → Status → Type 0
+IsStatusKept fail_on delivery other status =
+    (matched : Option Matched) → IsKept (held_if delivery) matched [] → status ≡ status_with fail_on matched other
+
+-- ---- what was sent
+
+-- each of what the words name is accepted, and that is kept
+abbrev pub KeepsSent : Limits → Option Texts → Option (List ℕ) → List (List ℕ) → Delivery → Type 0
+KeepsSent limits held standard sent delivery =
+    (values : List TransmissionValue) × AllZip (IsAcceptedAt limits held standard) sent values
+    × (map content_shown (held_in delivery).sent ≡ map content_of values)
+
+-- so it is where something was sent, and else nothing is kept
+abbrev pub HasSent : Limits → Bool → Option Texts → Option (List ℕ) → List (List ℕ) → Option Delivery → Type 0
+HasSent limits by_place held standard [] delivery = delivery ≡ None
+HasSent limits by_place held standard (one ∷ sent) delivery =
+    (values : List TransmissionValue) × AllZip (IsAcceptedAt limits held standard) (one ∷ sent) values
+    × IsKept (held_if delivery) (Some (record { delivered = delivered_of by_place values; history = no_history })) []
 
 -- the status on what the word names was counted among the others, or it couldn't be read
 abbrev pub IsOneMore : Limits → Bool → Option Texts → Option (List ℕ) → List ℕ → Status → Status → Type 0
@@ -116,3 +159,10 @@ EndsOnSums limits whole held standard names (Err stop) = IsUntold stop
 abbrev pub IsUnreadOrUntold : Stop → Type 0
 IsUnreadOrUntold stops.Output = Unit {0}
 IsUnreadOrUntold (stops.Fault fault) = IsUnread fault
+
+-- ---- what failed
+
+-- where what was sent was read no fewer failures of files are counted; else an input failed
+abbrev pub CountsSent : {A : Type 0} → Result A Fault → ℕ → ℕ → Type 0
+CountsSent (Ok read) old now = HasKeptCount old now
+CountsSent (Err fault) old now = IsFaultOfOne fault old now

@@ -1,5 +1,5 @@
 -- Acknowledgements while they are read for what became of transactions.
-use Rattle.std.specs.Prelude.{◌≡◌, ℕ, Bool, false, List, [], Option, None, Result, Ok, Err, IfSome}
+use Rattle.std.specs.Prelude.{◌≡◌, ℕ, Bool, false, List, [], ◌∷◌, Option, None, Result, Ok, Err, IfSome}
 use Rattle.std.specs.List.{AllZip, flat_map}
 use Rattle.cwr_shape.specs.declared.limits.Limits.{Limits}
 use Rattle.cwr_values.specs.Format.Values.{TransmissionValue}
@@ -14,8 +14,10 @@ use Rattle.cwr_acks.specs.Steps.AckSteps.{IsKept}
 use Rattle.cwr_files.specs.Format.Files.{Texts}
 use Rattle.cwr_endings.specs.declared.endings.Look.{Look}
 use Rattle.cwr_endings.specs.declared.endings.Look.TheVariants as looks
+use Rattle.cwr_endings.specs.declared.endings.Status.{Status}
 use Rattle.cwr_endings.specs.declared.endings.Status.TheVariants as statuses
 use Rattle.cwr_endings.specs.declared.judgements.Judgement.{Judgement}
+use Rattle.cwr_endings.specs.declared.stops.Stop.{Stop}
 use Rattle.cwr_endings.specs.Steps.Looks.{judgement_in}
 use Rattle.cwr_answers.specs.Format.Answered.{IsAcceptedAt}
 
@@ -41,3 +43,15 @@ pub record ReadsEach (limits : Limits) (texts : Option Texts) (standard : Option
   pub answers : List TransmissionValue
   pub were_read : AllZip (IsAcceptedAt limits texts standard) names answers
   pub kept : IsKept held (matched_after matched (flat_map value_items answers)) []
+
+-- so it is where the run over them ends well
+abbrev pub ReadsAllIfGood : Limits → Option Texts → Option (List ℕ) → List (List ℕ) → Option Matched → Option Held → Result Status Stop
+    → Type 0
+ReadsAllIfGood limits texts standard names matched held (Ok status) =
+    status ≡ statuses.Good → ReadsEach limits texts standard names matched held
+ReadsAllIfGood limits texts standard names matched held (Err stop) = Unit {0}
+
+-- so it is of one more, where the status was good before it and is so after it
+abbrev pub ReadsNextIfGood : Limits → Option Texts → Option (List ℕ) → List ℕ → Option Matched → Option Held → Status → Status → Type 0
+ReadsNextIfGood limits texts standard name matched held before now =
+    now ≡ statuses.Good → (before ≡ statuses.Good) × ReadsEach limits texts standard (name ∷ []) matched held

@@ -126,7 +126,7 @@ module _ {W : Type 0} (contents : W → Option (List ℕ)) where
   told_if wanted limits before after old new (Ok verdict) h = tells_listed wanted limits before after old new verdict h
   told_if wanted limits before after old new (Err fault) h = tt
 
-  up_to_listed : (telling : Telling) (limits : Limits) (before after : Option (List ℕ)) (old new : W) (outcome : Result Verdict ToolFault)
+  pub up_to_listed : (telling : Telling) (limits : Limits) (before after : Option (List ℕ)) (old new : W) (outcome : Result Verdict ToolFault)
       → TellsUpTo telling limits before after contents old new outcome
       → TellsUpTo telling limits before after known (contents old) (contents new) outcome
   up_to_listed tellings.Findings limits before after old new outcome h = reports_listed lines_of_findings limits before after old new outcome h

@@ -1,5 +1,6 @@
 -- What the end of an import means for the program.
-use Rattle.std.specs.Prelude.{◌≡◌, ◌⊎◌, ℕ, ◌-◌, ◌^◌, ◌<◌, List, length, Option, IfSome, Result, Ok, Err}
+use Rattle.std.specs.Prelude.{◌≡◌, ◌⊎◌, ℕ, ◌-◌, ◌^◌, ◌<◌, Bool, true, List, length, Option, IfSome, Result, Ok, Err}
+use Rattle.std.specs.Io.KnownBytes.{Appends}
 use Rattle.cwr_write.specs.declared.refusals.LineFault.{LineFault}
 use Rattle.cwr_write.specs.declared.writing.Written.{Written}
 use Rattle.cwr_write.specs.declared.writing.WriteFault.{WriteFault}
@@ -69,3 +70,13 @@ pub record IsImportOf (import : Import) (input : Option (List ℕ)) (text : List
   pub items : List Item
   pub records_are : records_of value ≡ records_in items
   pub said : IfSome input (λ lines. SaysItems import.encoding lines items)
+
+-- Where an import to an output ends well such a text stands there, after what it had, and is handed on.
+abbrev pub WritesImport : {W : Type 0} → Import → Option (List ℕ) → (W → Option (List ℕ)) → W → W → Result Status Stop → Type 0
+WritesImport import input contents old new (Ok statuses.Good) =
+    (text : List ℕ) × IsImportOf import input text × Appends (contents old) (contents new) text
+WritesImport import input contents old new ending = Unit {0}
+
+abbrev pub HandsOnImport : Result Status Stop → Bool → Type 0
+HandsOnImport (Ok statuses.Good) handed_on = handed_on ≡ true
+HandsOnImport ending handed_on = Unit {0}

@@ -9,6 +9,7 @@ use Rattle.cwr.specs.Format.Endings.{import_of}
 use Rattle.cwr.specs.Format.Files.{IsImportAt, LeavesOut}
 use Rattle.cwr.proofs.lemmas.FailsOuts.{no_out_fails, out_fails, out_refused, out_unopened}
 use Rattle.cwr.proofs.lemmas.Leaves.{import_at}
+use Rattle.cwr.proofs.lemmas.Printed.{filed, handed, kept_in, printed}
 use Rattle.cwr.proofs.lemmas.WorkEnds.{file_written, output_written}
 use Rattle.cwr.proofs.program.import_lines.Goals as goal
 
@@ -96,3 +97,24 @@ returns-in-None-clause-failed g c =
     = subst (λ (n : ℕ). HasKeptCount (g.S.Store.failures s0) n) (sym c.in-Ok.ensures.opened) c.refuse_written.ensures.failures in
     no_out_fails (g.S.Store.making s0) (g.S.Store.held s0) (g.S.Store.held s3) c.args.words.now.out c.import_input.result.1
     (g.S.Store.failures s0) (g.S.Store.failures s2) (g.S.Store.failures s3) c.in-None.is kept c.import_input.ensures.failed
+
+pub returns-in-None-clause-told : goal.returns-in-None-clause-told
+returns-in-None-clause-told g c =
+    printed g.W.Target.contents c.args.output c.import_input.result.0 c.args.task.now.limits c.args.words.now (g.S.Store.held c.args.store.now)
+    (g.I.Read.remaining c.args.standard) c.encoding_of.result
+    (remaining_of g.S.Reader.Read.remaining g.I.Read.remaining c.in-Ok.input) (g.S.Store.held c.refuse_written.new.store)
+    c.import_input.result.1 c.encoding_of.ensures c.in-None.is c.refuse_written.ensures.kept c.in-Ok.ensures.left c.import_input.ensures.told
+
+pub returns-in-None-clause-handed_on : goal.returns-in-None-clause-handed_on
+returns-in-None-clause-handed_on g c =
+    handed c.args.words.now.out c.import_input.result.1 (g.W.Target.handed_on c.import_input.result.0) c.in-None.is
+    c.import_input.ensures.handed_on
+
+pub returns-in-Some-clause-told : goal.returns-in-Some-clause-told
+returns-in-Some-clause-told g c =
+    filed g.W.Target.contents c.args.output c.args.output c.args.task.now.limits c.args.words.now (g.S.Store.held c.args.store.now)
+    (g.I.Read.remaining c.args.standard) c.in-Some.name c.import_file-ended.result c.in-Some.is
+
+pub returns-in-Some-clause-handed_on : goal.returns-in-Some-clause-handed_on
+returns-in-Some-clause-handed_on g c =
+    kept_in c.args.words.now.out c.in-Some.name c.import_file-ended.result (g.W.Target.handed_on c.args.output) c.in-Some.is
