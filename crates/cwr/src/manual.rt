@@ -286,8 +286,8 @@ COMMANDS
               file. Counts and shares are numbers, and what is blank is null.
 
        --no-digest
-              Leaves out `sha256` and `canonical_sha256`, which take longer
-              than all else.
+              Leaves out the SHA-256 digests, `sha256` and `canonical_sha256`,
+              which take longer than all else.
 
        --advice
               Counts the advice, too, that `cwr advise --all` tells.
@@ -297,51 +297,42 @@ COMMANDS
 
        The columns, in their order:
 
-       file   The input's name. Then `bytes`, how many bytes it has,
-              `bytes_after`, how many of them stand after a good transmission,
-              and `sha256`, the SHA-256 digest of all of them.
+       `file`: The input's name. Then `bytes`, how many bytes it has,
+       `bytes_after`, how many of them stand after a good transmission, and
+       `sha256`, the SHA-256 digest of all of them.
 
-       canonical_sha256
-              The digest of what `cwr join -o OUT FILE` writes: the
-              transmission in full width, with its numbers. It is the same of
-              the same transmission, whatever its line ends and trailing
-              spaces are.
+       `canonical_sha256`: The digest of what `cwr join -o OUT FILE` writes:
+       the transmission in full width, with its numbers. It is the same of the
+       same transmission, whatever its line ends and trailing spaces are.
 
-       verdict
-              The line with which `cwr check` ends; of the sums that on
-              several files.
+       `verdict`: The line with which `cwr check` ends; of the sums that on
+       several files.
 
-       sender_type
-              With `sender_id`, `sender_name`, `creation_date`,
-              `creation_time` and `transmission_date`, HDR's cells.
+       `sender_type`: With `sender_id`, `sender_name`, `creation_date`,
+       `creation_time` and `transmission_date`, HDR's cells.
 
-       groups
-              With `transactions`, `transactions_AGR` to `transactions_ACK`,
-              `records`, and `records_HDR` to `records_XRF`, how many there
-              are, and how many of each type.
+       `groups`: With `transactions`, `transactions_AGR` to
+       `transactions_ACK`, `records`, and `records_HDR` to `records_XRF`, how
+       many there are, and how many of each type.
 
-       works  NWR and REV transactions, then by their version type as
-              `works_ORI` and `works_MOD`. Then `agreements`, and
-              `acknowledgements`, also by their statuses as
-              `acknowledgements_CO` to `acknowledgements_RC`. The copy in an
-              acknowledgement is no work, but its records count as records.
+       `works`: NWR and REV transactions, then by their version type as
+       `works_ORI` and `works_MOD`. Then `agreements`, and `acknowledgements`,
+       also by their statuses as `acknowledgements_CO` to
+       `acknowledgements_RC`. The copy in an acknowledgement is no work, but
+       its records count as records.
 
-       findings
-              Then by their levels as `findings_T`, `findings_R` and
-              `findings_F`; and so pieces of advice as `advice_T`, `advice_R`
-              and `advice_F`.
+       `findings`: Then by their levels as `findings_T`, `findings_R` and
+       `findings_F`; and so pieces of advice as `advice_T`, `advice_R` and
+       `advice_F`.
 
-       controlled_pr
-              The performing right's shares of SPU and SWR in works added up,
-              in percent, and `others_pr` those of OPU and OWR. They are for
-              control, and are no money. Then `works_without_pr`, in how many
-              works each such share is blank, and `works_off_pr`, in how many
-              they add up to neither 0 nor about 100 percent. So for `mr` and
-              `sr`.
+       `controlled_pr`: The performing right's shares of SPU and SWR in works
+       added up, in percent, and `others_pr` those of OPU and OWR. They are
+       for control, and are no money. Then `works_without_pr`, in how many
+       works each such share is blank, and `works_off_pr`, in how many they
+       add up to neither 0 nor about 100 percent. So for `mr` and `sr`.
 
-       senders
-              How many senders, by type and ID, the good files have; of one
-              file 1, and 0 without HDR.
+       `senders`: How many senders, by type and ID, the good files have; of
+       one file 1, and 0 without HDR.
 
    cwr write [OPTIONS] [FILE]
        Writes the transmission that lines of JSON are, with all its numbers.

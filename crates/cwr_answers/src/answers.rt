@@ -816,10 +816,7 @@ fn tell_table<'a, S: Store, I: Read + Drop, P: Pace, W: Target, E: Write>(
         Err(Stop::Output) => return (lines, Err(Stop::Fault(Fault::Memory))),
         Err(Stop::Fault(fault)) => return (lines, Err(Stop::Fault(fault))),
     };
-    let Reading {
-        delivery,
-        ..
-    } = reading;
+    let Reading { delivery, .. } = reading;
     write_table(answering, &delivery, status, lines, error)
 }
 

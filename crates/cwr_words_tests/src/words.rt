@@ -20,7 +20,7 @@ fn asked(rt: &(impl Abort + AllocGlobal), words: &[&str]) -> Option<(String, Lim
 
 /// Words, what they ask for, and its limits.
 #[rattlefmt::skip]
-static ASKED: [(&[&str], &str, Numbers); 49] = [
+static ASKED: [(&[&str], &str, Numbers); 47] = [
     (&["cwr"], "Check(Judging { files: [], quiet: false, fail_on: None })", LARGEST),
     (&["cwr", "check"], "Check(Judging { files: [], quiet: false, fail_on: None })", LARGEST),
     (&["cwr", "show"], "Show(ShowWords { file: None, fail_on: None })", LARGEST),
@@ -42,8 +42,6 @@ static ASKED: [(&[&str], &str, Numbers); 49] = [
     (&["cwr", "acks", "--sent", "c.cwr", "a.cwr", "--by-place", "--sent=b.cwr", "--state"], "Acks(AcksWords { files: [\"a.cwr\"], sent: [\"c.cwr\", \"b.cwr\"], as_json: false, by_place: true, state: true, fail_on: States { accepted: false, pending: false, rejected: false, conflict: false, duplicate: false, claim_rejected: false, no_participation: false, unanswered: false }, statuses: [], utf8: false })", LARGEST),
     (&["cwr", "acks", "--fail-on", "conflict,rejected", "--sent", "-", "a.cwr"], "Acks(AcksWords { files: [\"a.cwr\"], sent: [\"-\"], as_json: false, by_place: false, state: false, fail_on: States { accepted: false, pending: false, rejected: true, conflict: true, duplicate: false, claim_rejected: false, no_participation: false, unanswered: false }, statuses: [], utf8: false })", LARGEST),
     (&["cwr", "acks", "--status", "RJ,CO", "a.cwr", "--status=AS", "--sent", "b.cwr"], "Acks(AcksWords { files: [\"a.cwr\"], sent: [\"b.cwr\"], as_json: false, by_place: false, state: false, fail_on: States { accepted: false, pending: false, rejected: false, conflict: false, duplicate: false, claim_rejected: false, no_participation: false, unanswered: false }, statuses: [Rejected, Conflict, RegistrationAccepted], utf8: false })", LARGEST),
-    (&["cwr", "summary"], "Summary(SummaryWords { files: [], as_csv: false, as_json: false, undigested: false, advised: false, quiet: false })", LARGEST),
-    (&["cwr", "summary", "--csv", "a.cwr", "--no-digest", "-", "--advice", "--quiet"], "Summary(SummaryWords { files: [\"a.cwr\", \"-\"], as_csv: true, as_json: false, undigested: true, advised: true, quiet: true })", LARGEST),
     (&["cwr", "select", "--works", "list", "a.cwr"], "Select(SelectWords { file: Some(\"a.cwr\"), out: None, only_new: false, fail_on: None, works: Some(\"list\"), places: None, kinds: None, party: None, answered: None, others: false, created: None, sent_as: None })", LARGEST),
     (&["cwr", "select", "--kind", "REV", "--as", "NWR", "a.cwr"], "Select(SelectWords { file: Some(\"a.cwr\"), out: None, only_new: false, fail_on: None, works: None, places: None, kinds: Some(Kinds { agreements: false, new_works: false, revised_works: true, acknowledgements: false }), party: None, answered: None, others: false, created: None, sent_as: Some(NewWorks) })", LARGEST),
     (&["cwr", "select", "--state", "rejected,conflict", "--answers", "b.cwr", "--answers=-", "--by-place", "--not", "a.cwr", "-o", "c.cwr", "--same-created"], "Select(SelectWords { file: Some(\"a.cwr\"), out: Some(\"c.cwr\"), only_new: false, fail_on: None, works: None, places: None, kinds: None, party: None, answered: Some(AnsweredWords { states: States { accepted: false, pending: false, rejected: true, conflict: true, duplicate: false, claim_rejected: false, no_participation: false, unanswered: false }, files: [\"b.cwr\", \"-\"], by_place: true }), others: true, created: None, sent_as: None })", LARGEST),
@@ -79,6 +77,21 @@ fn work_that_is_asked_for(rt: HostRuntime) {
         check_equal(&rt, work.as_str(), *wanted);
         let wanted = Limits::new(numbers.0, numbers.1, numbers.2);
         check_equal(&rt, Ok(limits), wanted);
+    }
+}
+
+/// Words of a summary, and what they ask for.
+#[rattlefmt::skip]
+static SUMMED: [(&[&str], &str); 2] = [
+    (&["cwr", "summary"], "Summary(SummaryWords { files: [], as_csv: false, as_json: false, undigested: false, advised: false, quiet: false })"),
+    (&["cwr", "summary", "--csv", "a.cwr", "--no-digest", "-", "--advice", "--quiet"], "Summary(SummaryWords { files: [\"a.cwr\", \"-\"], as_csv: true, as_json: false, undigested: true, advised: true, quiet: true })"),
+];
+
+#[test]
+fn summary_that_is_asked_for(rt: HostRuntime) {
+    for (words, wanted) in &SUMMED {
+        let (work, _) = asked(&rt, words).expect(&rt, "no task");
+        check_equal(&rt, work.as_str(), *wanted);
     }
 }
 

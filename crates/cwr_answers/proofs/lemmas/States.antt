@@ -168,18 +168,24 @@ pub sent_ends : (limits : Limits) (whole by_place : Bool) (fail_on : States) (he
     → EndsOnAnswers limits whole by_place fail_on held standard names sent ending
 sent_ends limits whole by_place fail_on held standard names [] delivery (Ok status) are h ends =
     let e = ends None (subst (λ (d : Option Delivery). IsKept (held_if d) None []) (sym h) tt) in
-    inr (are, (
-      e.0,
-      files_status limits whole held standard names e.0 e.1,
-      status_unsent limits whole fail_on held standard names by_place e.0 status e.2,
-    ))
+    inr (
+      are,
+      (
+        e.0,
+        files_status limits whole held standard names e.0 e.1,
+        status_unsent limits whole fail_on held standard names by_place e.0 status e.2,
+      ),
+    )
 sent_ends limits whole by_place fail_on held standard names (one ∷ sent) delivery (Ok status) are h ends =
     let e = ends (Some (record { delivered = delivered_of by_place h.0; history = no_history })) h.2 in
-    inr (are, (
-      e.0,
-      files_status limits whole held standard names e.0 e.1,
-      status_after limits whole fail_on held standard names by_place one sent delivery e.0 status h e.2,
-    ))
+    inr (
+      are,
+      (
+        e.0,
+        files_status limits whole held standard names e.0 e.1,
+        status_after limits whole fail_on held standard names by_place one sent delivery e.0 status h e.2,
+      ),
+    )
 sent_ends limits whole by_place fail_on held standard names [] delivery (Err stop) are h ends =
     files_stop limits whole by_place fail_on held standard names [] stop
     (ends None (subst (λ (d : Option Delivery). IsKept (held_if d) None []) (sym h) tt))

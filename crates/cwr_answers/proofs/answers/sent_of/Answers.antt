@@ -93,6 +93,9 @@ returns-in-Ok-read-clause-sent g c = λ first is.
     let taken : IfSome left (λ text. (n : ℕ) × IsAccepted limits text v n)
     = from_source (λ (known : Option (List ℕ)). IfSome known (λ text. (n : ℕ) × IsAccepted limits text v n))
     (remaining_of g.S.Reader.Read.remaining g.I.Read.remaining) c.in-Ok.input c.new-reader.result.inner _ c.new-reader.ensures.inner
-    c.new-reader.ensures.ahead (front_taken limits _ _ v takes.1) in
-    (v, if_read held first (Some name) left _
-    (left_first held g.I.Read.remaining c.args.standard.now first name left c.in-Ok.ensures.left c.in-Ok.ensures.there is) taken, takes.2)
+    c.new-reader.ensures.ahead (front_taken limits _ _ v takes.1) in (
+      v,
+      if_read held first (Some name) left _
+          (left_first held g.I.Read.remaining c.args.standard.now first name left c.in-Ok.ensures.left c.in-Ok.ensures.there is) taken,
+      takes.2,
+    )
