@@ -10,3 +10,7 @@ pub mod Headers
 pub mod Places
 -- A summary after one item more, and what it says at the end.
 pub mod Summed
+-- What a whole transmission has in a column is what its groups have there, and their transactions.
+pub mod Wholes
+-- What a transmission has in a column its transactions have there, and so have the parts of a split together.
+pub mod Runs

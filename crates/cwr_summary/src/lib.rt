@@ -8,6 +8,6 @@ mod summaries;
 mod summing;
 
 pub use columns::{COLUMNS, Column, Right};
-pub use laws::summaries_add_up;
+pub use laws::{joins_add_up, splits_add_up, summaries_add_up};
 pub use summaries::Summary;
 pub use summing::SummedItems;

@@ -14,7 +14,7 @@ ghost use Rattle.cwr_summary.specs.Steps.Shares.{joined, owned_in};
 use crate::columns::{COLUMNS, Column, Right};
 use crate::shares::{is_controlled, joined, share_in};
 use cwr_delivery::has_status;
-use cwr_fields::{Kind, TransactionStatus, TransactionType, VersionType};
+use cwr_fields::{Coded, Kind, TransactionStatus, TransactionType, VersionType};
 use cwr_findings::{Finding, cell, findings, is_of, is_off, is_owner};
 use cwr_lines::RecordRef;
 use cwr_values::{Item, Transaction};
@@ -22,20 +22,6 @@ use std::alloc::{AllocError, Global};
 
 /// NWR, REV: version type.
 const VERSION_TYPE: u8 = 15;
-
-/// The statuses, in the order of their table.
-const STATUSES: [TransactionStatus; 10] = [
-    TransactionStatus::Conflict,
-    TransactionStatus::Duplicate,
-    TransactionStatus::TransactionAccepted,
-    TransactionStatus::RegistrationAccepted,
-    TransactionStatus::AcceptedWithChanges,
-    TransactionStatus::ReadyForPayment,
-    TransactionStatus::ChangedReadyForPayment,
-    TransactionStatus::Rejected,
-    TransactionStatus::NoParticipation,
-    TransactionStatus::ClaimRejected,
-];
 
 /// What stands in a transmission, or in its first items: for each column what these add to it.
 #[derive(Clone, Copy, Debug)]
@@ -222,8 +208,8 @@ impl Summary {
         ensures { self.new.numbers
             ≡ counted self.old.numbers (status_parts (items.Transaction transaction.now)) }
     {
-        for i in 0..10 {
-            self.add_answer(STATUSES[i], transaction);
+        for (status, _) in TransactionStatus::list() {
+            self.add_answer(*status, transaction);
         }
     }
 

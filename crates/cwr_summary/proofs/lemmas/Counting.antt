@@ -1,5 +1,7 @@
 -- Parts that are counted one after another.
-use Rattle.std.proofs.Common.{◌≡◌, ℕ, zero, suc, ◌+◌, ◌<◌, ◌≤◌, List, [], ◌∷◌, ◌++◌, length, map, take, sym, ap, ◌∙◌}
+use Rattle.std.proofs.Common.{◌≡◌, ℕ, zero, suc, ◌+◌, ◌<◌, ◌≤◌, List, [], ◌∷◌, ◌++◌, length, map, take, sym, ap, ◌∙◌, Bor, refl}
+use Rattle.cwr_fields.specs.Format.Members.{coded}
+use Rattle.cwr_fields.specs.Steps.Members.{listed}
 use Rattle.std.proofs.Common.{arith, append-nil, Some, None, slice_get}
 use Rattle.std.specs.Prelude.{flat_map}
 use Rattle.std.proofs.lemmas.List.{map-append}
@@ -53,3 +55,14 @@ pub listed_more : {X A : Type 0} (f : X → List A) (xs : List X) (i : ℕ) (x :
 listed_more f xs i x e =
     ap (flat_map f) (front_more xs i x e) ∙ flat_map-append f (take i xs) (x ∷ [])
     ∙ ap (λ l. flat_map f (take i xs) ++ l) (append-nil (f x))
+
+-- what comes of the members of a code, as they stand in its list
+flat_over : {X Y A : Type 0} (f : Y → List A) (g : X → Y) (xs : List X) → flat_map f (map g xs) ≡ flat_map (λ x. f (g x)) xs
+flat_over f g [] = refl
+flat_over f g (x ∷ xs) = ap (λ l. f (g x) ++ l) (flat_over f g xs)
+
+pub of_listed : {C A : Type 0} (f : C → List ℕ → List A) (code : C → List ℕ) (list : List (C × Bor (List ℕ))) (members : List C)
+    → map listed list ≡ map (coded code) members → flat_map (λ p. f p.0 p.1.now) list ≡ flat_map (λ member. f member (code member)) members
+of_listed {C = C} f code list members e =
+    sym (flat_over (λ (q : C × List ℕ). f q.0 q.1) listed list) ∙ ap (flat_map (λ (q : C × List ℕ). f q.0 q.1)) e
+    ∙ flat_over (λ (q : C × List ℕ). f q.0 q.1) (coded code) members
