@@ -4,14 +4,12 @@ ghost use Rattle.std.specs.Prelude.{◌≡◌, ◌++◌, ◌∷◌, List, [], Op
 ghost use Rattle.std.specs.List.{flat_map};
 ghost use Rattle.cwr_devices.specs.Steps.Pens.{Adds};
 ghost use Rattle.cwr_devices.specs.Steps.Sinks.{PutsText};
-ghost use Rattle.cwr_fields.specs.Format.Codes.{transaction_types};
 ghost use Rattle.cwr_fields.specs.Format.Kinds.{all_kinds};
-ghost use Rattle.cwr_fields.specs.Format.MessageCodes.{transaction_statuses};
-ghost use Rattle.cwr_fields.specs.Format.WorkCodes.{version_types};
+ghost use Rattle.cwr_summary.specs.declared.columns.Column.{Column};
 ghost use Rattle.cwr_summary.specs.declared.columns.Column.TheVariants.{Records};
 ghost use Rattle.cwr_summary.specs.Format.Summaries.{all_rights};
 ghost use Rattle.cwr_summary_rows.specs.Format.Rows.{advice_parts, count_parts, file_part, finding_parts, front_parts, header_cell, header_parts, heading};
-ghost use Rattle.cwr_summary_rows.specs.Format.Rows.{kind_cell, last_part, right_name, right_part, row_text, shares_cell, status_cell, sum_cell, sum_in, type_cell, version_cell, work_parts};
+ghost use Rattle.cwr_summary_rows.specs.Format.Rows.{kind_cell, last_part, right_name, right_part, row_text, shares_cell, sum_cell, sum_in, work_parts};
 ghost use Rattle.cwr_summary_rows.specs.Format.Shown.{cells_of, numbers_of, row_value};
 
 use crate::cells::{bytes_cell, digest_cell, number_cell, share_cell};
@@ -48,31 +46,6 @@ pub struct Row<'a> {
     /// How many different senders there are.
     pub senders: Option<u64>,
 }
-
-/// The types of transactions.
-const TYPES: [TransactionType; 4] = [
-    TransactionType::Agreement,
-    TransactionType::NewWork,
-    TransactionType::RevisedWork,
-    TransactionType::Acknowledgement,
-];
-
-/// The types of versions.
-const VERSIONS: [VersionType; 2] = [VersionType::Original, VersionType::Modified];
-
-/// The statuses of acknowledgements.
-const STATUSES: [TransactionStatus; 10] = [
-    TransactionStatus::Conflict,
-    TransactionStatus::Duplicate,
-    TransactionStatus::TransactionAccepted,
-    TransactionStatus::RegistrationAccepted,
-    TransactionStatus::AcceptedWithChanges,
-    TransactionStatus::ReadyForPayment,
-    TransactionStatus::ChangedReadyForPayment,
-    TransactionStatus::Rejected,
-    TransactionStatus::NoParticipation,
-    TransactionStatus::ClaimRejected,
-];
 
 /// The rights.
 const RIGHTS: [Right; 3] = [Right::Performing, Right::Mechanical, Right::Synchronization];
@@ -208,27 +181,59 @@ fn sum_cell<W: Target>(
     number_cell(form, front, back, sum, pen);
 }
 
-/// Adds how many transactions of the type there are.
-fn type_cell<W: Target>(
-    form: Form,
-    summary: &Option<Summary>,
-    transaction_type: TransactionType,
-    pen: &mut Pen<'_, W>,
-)
-    ensures { Adds W.contents W.failures (type_cell form (numbers_of summary.now) transaction_type) pen.old pen.new }
-{
-    let code = transaction_type.code().as_bytes();
-    let columns = [Column::Transactions(transaction_type)];
-    sum_cell(form, summary, b"transactions_", code, &columns, pen);
+/// A code that has a column for each member.
+trait Columned: Coded {
+    // What is counted there.
+    ghost column: { Self → Column };
+
+    /// The column of the member.
+    fn column(self) -> Column
+        ensures { result ≡ column self };
 }
 
-/// Adds how many transactions of each type there are.
-fn type_cells<W: Target>(form: Form, summary: &Option<Summary>, pen: &mut Pen<'_, W>)
-    ensures { Adds W.contents W.failures
-        (flat_map (type_cell form (numbers_of summary.now)) transaction_types) pen.old pen.new }
+impl Columned for TransactionType {
+    ghost use Rattle.cwr_summary.specs.declared.columns.Column.TheVariants.{Transactions};
+
+    ghost column = { Transactions };
+
+    fn column(self) -> Column {
+        Column::Transactions(self)
+    }
+}
+
+impl Columned for VersionType {
+    ghost use Rattle.cwr_summary.specs.declared.columns.Column.TheVariants.{Works};
+
+    ghost column = { Works };
+
+    fn column(self) -> Column {
+        Column::Works(self)
+    }
+}
+
+impl Columned for TransactionStatus {
+    ghost use Rattle.cwr_summary.specs.declared.columns.Column.TheVariants.{Acknowledgements};
+
+    ghost column = { Acknowledgements };
+
+    fn column(self) -> Column {
+        Column::Acknowledgements(self)
+    }
+}
+
+/// Adds what is counted of each member of a code.
+fn code_cells<C: Columned, W: Target>(
+    form: Form,
+    summary: &Option<Summary>,
+    front: &[u8],
+    pen: &mut Pen<'_, W>,
+)
+    ensures { Adds W.contents W.failures (flat_map (λ member. sum_cell form (numbers_of summary.now) (front.now ++ C.code member)
+        (C.column member ∷ [])) C.members) pen.old pen.new }
 {
-    for i in 0..4 {
-        type_cell(form, summary, TYPES[i], pen);
+    for (member, code) in C::list() {
+        let columns = [member.column()];
+        sum_cell(form, summary, front, code.as_bytes(), &columns, pen);
     }
 }
 
@@ -305,57 +310,9 @@ fn count_parts<W: Target>(form: Form, summary: &Option<Summary>, pen: &mut Pen<'
 {
     sum_cell(form, summary, b"groups", b"", &[Column::Groups], pen);
     sum_cell(form, summary, b"transactions", b"", &TRANSACTIONS, pen);
-    type_cells(form, summary, pen);
+    code_cells::<TransactionType, W>(form, summary, b"transactions_", pen);
     sum_cell(form, summary, b"records", b"", &records(), pen);
     kind_cells(form, summary, pen);
-}
-
-/// Adds how many works of the version there are.
-fn version_cell<W: Target>(
-    form: Form,
-    summary: &Option<Summary>,
-    version: VersionType,
-    pen: &mut Pen<'_, W>,
-)
-    ensures { Adds W.contents W.failures (version_cell form (numbers_of summary.now) version) pen.old pen.new }
-{
-    let code = version.code().as_bytes();
-    let columns = [Column::Works(version)];
-    sum_cell(form, summary, b"works_", code, &columns, pen);
-}
-
-/// Adds how many works of each version there are.
-fn version_cells<W: Target>(form: Form, summary: &Option<Summary>, pen: &mut Pen<'_, W>)
-    ensures { Adds W.contents W.failures
-        (flat_map (version_cell form (numbers_of summary.now)) version_types) pen.old pen.new }
-{
-    for i in 0..2 {
-        version_cell(form, summary, VERSIONS[i], pen);
-    }
-}
-
-/// Adds how many acknowledgements with the status there are.
-fn status_cell<W: Target>(
-    form: Form,
-    summary: &Option<Summary>,
-    status: TransactionStatus,
-    pen: &mut Pen<'_, W>,
-)
-    ensures { Adds W.contents W.failures (status_cell form (numbers_of summary.now) status) pen.old pen.new }
-{
-    let code = status.code().as_bytes();
-    let columns = [Column::Acknowledgements(status)];
-    sum_cell(form, summary, b"acknowledgements_", code, &columns, pen);
-}
-
-/// Adds how many acknowledgements with each status there are.
-fn status_cells<W: Target>(form: Form, summary: &Option<Summary>, pen: &mut Pen<'_, W>)
-    ensures { Adds W.contents W.failures
-        (flat_map (status_cell form (numbers_of summary.now)) transaction_statuses) pen.old pen.new }
-{
-    for i in 0..10 {
-        status_cell(form, summary, STATUSES[i], pen);
-    }
 }
 
 /// Adds the numbers of works, agreements and acknowledgements.
@@ -365,7 +322,7 @@ fn work_parts<W: Target>(form: Form, summary: &Option<Summary>, pen: &mut Pen<'_
     let agreements = [Column::Transactions(TransactionType::Agreement)];
     let acknowledgements = [Column::Transactions(TransactionType::Acknowledgement)];
     sum_cell(form, summary, b"works", b"", &WORKS, pen);
-    version_cells(form, summary, pen);
+    code_cells::<VersionType, W>(form, summary, b"works_", pen);
     sum_cell(form, summary, b"agreements", b"", &agreements, pen);
     sum_cell(
         form,
@@ -375,7 +332,7 @@ fn work_parts<W: Target>(form: Form, summary: &Option<Summary>, pen: &mut Pen<'_
         &acknowledgements,
         pen,
     );
-    status_cells(form, summary, pen);
+    code_cells::<TransactionStatus, W>(form, summary, b"acknowledgements_", pen);
 }
 
 /// Adds the numbers of findings.

@@ -8,6 +8,6 @@ use Rattle.cwr_summary_rows.proofs.rows.count_parts.Goals as goal
 
 pub returns : goal.returns
 returns g c =
-    adds_both (adds_both (adds_both (adds_both c.sum_cell.ensures c.sum_cell-2.ensures) c.type_cells.ensures)
+    adds_both (adds_both (adds_both (adds_both c.sum_cell.ensures c.sum_cell-2.ensures) c.code_cells.ensures)
     (adds_as (ap (λ (l : List Column). sum_cell c.args.form (numbers_of c.args.summary.now) (codes "records") l) c.records.ensures)
     c.sum_cell-3.ensures)) c.kind_cells.ensures
