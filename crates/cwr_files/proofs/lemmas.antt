@@ -6,6 +6,8 @@ pub mod Parts
 pub mod PartsInHand
 -- What is told of the parts of a split that are finished.
 pub mod FinishedParts
+-- A text as one that is created at another moment, as it grows.
+pub mod Stamps
 -- A writer that gathers has nothing so far.
 pub mod Gathers
 -- What is read under a word.

@@ -3,11 +3,12 @@
 ghost use Rattle.std.specs.Prelude.{◌≡◌, ℕ, [], ◌∷◌, List, None, Option, Some, IsSome, false, option_and_then};
 ghost use Rattle.cwr_files.specs.Format.Files.{Texts, Turns};
 ghost use Rattle.cwr_files.specs.Format.Faults.{IsFaultOfPart};
-ghost use Rattle.cwr_files.specs.Format.Parts.{HoldsParts, LeavesParts};
+ghost use Rattle.cwr_files.specs.Format.Parts.{HoldsParts, LeavesParts, created_parts};
+ghost use Rattle.cwr_moments.specs.declared.moments.Moment.{Moment};
 ghost use Rattle.cwr_files.specs.Steps.NewFiles.{HasKeptCount};
 ghost use Rattle.cwr_files.specs.Format.Written.{text_of_stamped};
 ghost use Rattle.cwr_files.specs.Steps.Gathering.{written_to};
-ghost use Rattle.cwr_files.specs.Steps.NumberedFiles.{AreUnasked, FaultIsOfPart, FaultIsOfPart-prop, IsTied, IsTied-prop, StartsAs, WhereTold, failed_calls_of, fault_of, given_up_of, is_dated, lent_of, prefix_of, texts_of_parts, told_texts};
+ghost use Rattle.cwr_files.specs.Steps.NumberedFiles.{AreUnasked, FaultIsOfPart, FaultIsOfPart-prop, IsTied, IsTied-prop, StartsAs, WhereTold, created_of, failed_calls_of, fault_of, given_up_of, lent_of, prefix_of, texts_of_parts, told_texts};
 
 use crate::faults::{Fault, Name};
 use crate::numberings::Numbering;
@@ -25,7 +26,7 @@ use std::snapshot::Snapshot;
 
 /// What is there before a split, for clauses to name.
 pub trait Unsplit {
-    // What lies under names, where that is known, nothing is being written, and files get what is written.
+    // What lies under names, where that is known, and nothing is being written.
     ghost texts: { Option Texts };
 
     // How many calls had failed.
@@ -33,6 +34,9 @@ pub trait Unsplit {
 
     // What the names of the parts begin with.
     ghost prefix: { List ℕ };
+
+    // When the first part is created, if not when the transmission was.
+    ghost created: { Option Moment };
 }
 
 impl Unsplit for Brand {
@@ -41,6 +45,8 @@ impl Unsplit for Brand {
     ghost failures = { 0 };
 
     ghost prefix = { [] };
+
+    ghost created = { None };
 }
 
 /// The parts of a split.
@@ -60,7 +66,7 @@ pub struct NumberedFiles<'s, 'a, B: Unsplit, S: Store> {
     of: PhantomData<B>,
     ghost counted: { HasKeptCount B.failures (S.failures store.now) },
     ghost failed: { FaultIsOfPart B.failures (S.failures store.now) (fault_of parts.now.numbering) } by { FaultIsOfPart-prop B.failures (S.failures store.now) (fault_of parts.now.numbering) },
-    ghost dated: { IsSome B.texts → is_dated parts.now.numbering ≡ false },
+    ghost created: { IsSome B.texts → created_of parts.now.numbering ≡ B.created },
     ghost called: { IsSome B.texts → prefix_of parts.now.numbering ≡ B.prefix },
     ghost tied: { WhereTold B.texts (texts_of_parts S.Writer.contents parts.now.finished.writers) (IsTied B.prefix B.failures parts.now.numbering (S.making store.now) (S.held store.now) (S.failures store.now)) } by { IsTied-prop B.texts (texts_of_parts S.Writer.contents parts.now.finished.writers) B.prefix B.failures parts.now.numbering (S.making store.now) (S.held store.now) (S.failures store.now) },
 }
@@ -143,7 +149,7 @@ impl<'s, 'a, B: Unsplit, S: Store> NumberedFiles<'s, 'a, B, S> {
     ) -> NumberedFiles<'s, 'a, B, S>
         requires unasked { AreUnasked parts.old.numbering (prefix_of parts.old.numbering) parts.old.numbering.created
             (texts_of_parts S.Writer.contents parts.old.finished.writers) }
-        requires starts { StartsAs B.texts B.prefix B.failures (S.making store.old) (S.held store.old) (S.failures store.old)
+        requires starts { StartsAs B.texts B.prefix B.created B.failures (S.making store.old) (S.held store.old) (S.failures store.old)
             (prefix_of parts.old.numbering) parts.old.numbering.created }
         ensures same_reference { result.store.ghost_name ≡ store.entry.ghost_name }
         ensures none { texts_of_parts S.Writer.contents result.parts.now.finished.writers ≡ Some [] }
@@ -158,17 +164,17 @@ impl<'s, 'a, B: Unsplit, S: Store> NumberedFiles<'s, 'a, B, S> {
 
     /// What is told of them once no more are made.
     pub fn end(&self) -> MadeFiles<'a>
-        // Those that are finished have their names, each with its text, and under any other name lies what lay there at first, but for what
+        // Those that are finished have their names, each with its text and its moment, and under any other name lies what lay there at first, but for what
         // may be left of the next one.
         ensures left { (borrow : List ℕ) (parts : List (List ℕ)) → lent_of self.now.parts.now.numbering ≡ 0
             → told_texts B.texts self.now.store.ghost_name (texts_of_parts S.Writer.contents self.now.parts.now.finished.writers)
             ≡ Some (borrow ∷ parts)
-            → Turns B.texts (S.held self.now.store.now) (LeavesParts B.prefix parts B.failures (S.failures self.now.store.now)) }
+            → Turns B.texts (S.held self.now.store.now) (LeavesParts B.prefix (created_parts B.created parts) B.failures (S.failures self.now.store.now)) }
         // Where all were made that were asked for, nothing else changed.
         ensures whole { (borrow : List ℕ) (parts : List (List ℕ)) → lent_of self.now.parts.now.numbering ≡ 0
             → told_texts B.texts self.now.store.ghost_name (texts_of_parts S.Writer.contents self.now.parts.now.finished.writers)
             ≡ Some (borrow ∷ parts) → result.stopped ≡ false
-            → Turns B.texts (S.held self.now.store.now) (HoldsParts B.prefix parts) }
+            → Turns B.texts (S.held self.now.store.now) (HoldsParts B.prefix (created_parts B.created parts)) }
         ensures failed { IsFaultOfPart B.failures (S.failures self.now.store.now) result.fault }
         ensures failures { HasKeptCount B.failures (S.failures self.now.store.now) }
     {

@@ -3,12 +3,13 @@
 ghost use Rattle.std.specs.Prelude.{◌≡◌, ◌≤◌, ◌+◌, ◌-◌, ℕ, List, [], None, Ok, Some, true, false, IfOk, IfSome, IsSome, OnErr, OnOk, string_bytes};
 ghost use Rattle.cwr_files.specs.Format.Faults.{IfErr, IsFaultOfPart, IsOfOutput};
 ghost use Rattle.cwr_files.specs.Format.Files.{HasCounted, Texts, Turns, counted_on, put};
-ghost use Rattle.cwr_files.specs.Format.Parts.{part_name};
+ghost use Rattle.cwr_files.specs.Format.Parts.{cells_after, part_name};
+ghost use Rattle.cwr_files.specs.Format.Stamps.{created_by};
 ghost use Rattle.cwr_devices.specs.Steps.Counted.{failures_of, has_handed_on};
 ghost use Rattle.cwr_devices.specs.Format.Failures.{CountsFailure, one_more_failure};
 ghost use Rattle.cwr_devices.specs.Format.Outputs.{given_up_with, lent_after};
 ghost use Rattle.cwr_files.specs.Steps.NewFiles.{HasKeptCount};
-ghost use Rattle.cwr_files.specs.Steps.NumberedFiles.{FaultIsOfPart, IsBegunAs, IsPartUnmade, IsResting, KeepsFault, Stands, StandsStill, asked_of, failed_calls_of, fault_after, fault_of, given_up_of, has_stopped, is_dated, lent_of, made_in, name_of, prefix_of, replaces_none};
+ghost use Rattle.cwr_files.specs.Steps.NumberedFiles.{FaultIsOfPart, IsBegunAs, IsPartUnmade, IsResting, KeepsFault, Stands, StandsStill, asked_of, created_of, failed_calls_of, fault_after, fault_of, given_up_of, has_stopped, lent_of, made_in, name_of, prefix_of, replaces_none};
 ghost use Rattle.cwr_files.specs.Format.Written.{is_whole, text_of_stamped, writer_in};
 ghost use Rattle.cwr_files.specs.Steps.Gathering.{written_to};
 
@@ -16,17 +17,31 @@ use crate::faults::{Fault, Name, Told};
 use crate::new_files::{NewFile, is_there};
 use crate::outputs::{Gathered, Written, gathered, take_back, told_of};
 use crate::same_files::path_of_input;
-use crate::stamps::Stamped;
+use crate::stamps::{Stamped, are_same};
 use crate::stores::Store;
 use cwr_devices::OutputFault;
 use cwr_moments::Moment;
 use std::alloc::{AllocError, Global};
+use std::io::Write;
 
 /// The name of the part of that number: what the names begin with, and eight digits.
 fn numbered_name(alloc: Global, prefix: &str, number: u32) -> Result<String, AllocError>
     ensures { IfOk result (λ name. string_bytes name ≡ part_name prefix.now number) }
 {
     format!(in alloc; "{prefix}{number:08}")
+}
+
+/// The writer of that name, which gathers what it is given for a file, with these cells in it, if there are any.
+fn stamped_writer<'a, F: Write + Drop>(
+    alloc: Global,
+    file: F,
+    cells: Option<[u8; 14]>,
+    name: Name<'a>,
+) -> Result<Gathered<'a, Stamped<F>>, AllocError>
+    ensures failures { IfOk result (λ writer. failures_of writer ≡ 0) }
+    ensures empty { F.contents file ≡ Some [] → IfOk result (λ writer. written_to (text_of_stamped F.contents) writer ≡ Some []) }
+{
+    gathered(alloc, Stamped::new(file, cells), name)
 }
 
 /// What is kept of the files of a split, whose names are a prefix and eight digits, from `00000001` on.
@@ -70,18 +85,28 @@ impl<'a> Numbering<'a> {
         self.fault.unwrap_or(Fault::Output(self.name(), None))
     }
 
-    /// When the part in hand is created, where that isn't when the transmission was.
-    fn moment(&self) -> Result<Option<Moment>, Fault<'a>>
+    /// The cells of the moment at which the part in hand is created, where that isn't when the transmission was.
+    fn cells(&self) -> Result<Option<[u8; 14]>, Fault<'a>>
         ensures late { IfErr result (λ fault. (fault ≡ Fault.IsLate (name_of self.now))
             × IsSome self.now.created) }
-        ensures none { is_dated self.now ≡ false → result ≡ Ok None }
+        ensures cells { IfOk result (λ cells. cells ≡ cells_after (created_of self.now) (asked_of self.now - 1)) }
     {
         let Some(created) = self.created else {
             return Ok(None);
         };
         match created.later(self.asked.saturating_sub(1)) {
-            Some(moment) => Ok(Some(moment)),
+            Some(moment) => Ok(Some(moment.cells())),
             None => Err(Fault::IsLate(self.name())),
+        }
+    }
+
+    /// Whether these are those cells.
+    fn has_cells(&self, cells: Option<[u8; 14]>) -> bool
+        ensures { result ≡ true → cells ≡ cells_after (created_of self.now) (asked_of self.now - 1) }
+    {
+        match self.cells() {
+            Ok(own) => are_same(cells, own),
+            Err(_) => false,
         }
     }
 
@@ -97,7 +122,7 @@ impl<'a> Numbering<'a> {
         ensures failed_calls { failed_calls_of self.new ≡ failed_calls_of self.old }
         ensures given_up { given_up_of self.new ≡ given_up_of self.old }
         ensures prefix { prefix_of self.new ≡ prefix_of self.old }
-        ensures dated { is_dated self.new ≡ is_dated self.old }
+        ensures created { created_of self.new ≡ created_of self.old }
         ensures stopped { has_stopped self.new ≡ has_stopped self.old }
         ensures unfailed { IfOk result (λ writer. failures_of writer ≡ 0) }
         ensures lent { IfOk result (λ writer. lent_of self.new ≡ 1) }
@@ -107,7 +132,7 @@ impl<'a> Numbering<'a> {
         ensures begun { made_in self.old ≡ None → S.making store.old ≡ None
             → Turns (S.held store.old) (S.held store.new)
             (IsBegunAs (made_in self.new) (part_name (prefix_of self.old) (asked_of self.old)) (S.making store.new)) }
-        ensures empty { is_dated self.old ≡ false → S.making store.old ≡ None → IfSome (S.held store.old)
+        ensures empty { S.making store.old ≡ None → IfSome (S.held store.old)
             (λ _. IfOk result (λ writer. written_to (text_of_stamped S.Writer.contents) writer ≡ Some [])) }
         ensures failures { HasKeptCount (S.failures store.old) (S.failures store.new) }
     {
@@ -118,14 +143,14 @@ impl<'a> Numbering<'a> {
         if self.only_new && is_there(store, name.as_str()) {
             return Err(Fault::IsThere(self.name()));
         }
-        let moment = match self.moment() {
-            Ok(moment) => moment,
+        let cells = match self.cells() {
+            Ok(cells) => cells,
             Err(fault) => return Err(fault),
         };
         match NewFile::create(store, self.alloc, name) {
             Ok((made, file)) => {
                 self.open_file = Some(made);
-                match gathered(self.alloc, Stamped::new(file, moment), self.name()) {
+                match stamped_writer(self.alloc, file, cells, self.name()) {
                     Ok(writer) => Ok(writer),
                     Err(_) => Err(Fault::Memory),
                 }
@@ -145,7 +170,7 @@ impl<'a> Numbering<'a> {
         ensures failed_calls { failed_calls_of self.new ≡ failed_calls_of self.old }
         ensures given_up { given_up_of self.new ≡ given_up_of self.old }
         ensures prefix { prefix_of self.new ≡ prefix_of self.old }
-        ensures dated { is_dated self.new ≡ is_dated self.old }
+        ensures created { created_of self.new ≡ created_of self.old }
         ensures stopped { has_stopped self.new ≡ has_stopped self.old }
         ensures unfailed { IfOk result (λ writer. failures_of writer ≡ 0) }
         ensures lent { IfOk result (λ writer. lent_of self.new ≡ 1) }
@@ -154,7 +179,7 @@ impl<'a> Numbering<'a> {
         ensures begun { made_in self.old ≡ None → S.making store.old ≡ None
             → Turns (S.held store.old) (S.held store.new)
             (IsBegunAs (made_in self.new) (part_name (prefix_of self.old) (asked_of self.old + 1)) (S.making store.new)) }
-        ensures empty { is_dated self.old ≡ false → S.making store.old ≡ None → IfSome (S.held store.old)
+        ensures empty { S.making store.old ≡ None → IfSome (S.held store.old)
             (λ _. IfOk result (λ writer. written_to (text_of_stamped S.Writer.contents) writer ≡ Some [])) }
         ensures failures { HasKeptCount (S.failures store.old) (S.failures store.new) }
     {
@@ -194,7 +219,7 @@ impl<'a> Numbering<'a> {
         ensures failed_calls { failed_calls_of self.new ≡ failed_calls_of self.old }
         ensures given_up { given_up_of self.new ≡ given_up_of self.old }
         ensures prefix { prefix_of self.new ≡ prefix_of self.old }
-        ensures dated { is_dated self.new ≡ is_dated self.old }
+        ensures created { created_of self.new ≡ created_of self.old }
         ensures stopped { has_stopped self.new ≡ has_stopped self.old }
         ensures closed { made_in self.new ≡ None }
     {
@@ -218,7 +243,7 @@ impl<'a> Numbering<'a> {
         ensures failed_calls { failed_calls_of self.new ≡ failed_calls_of self.old }
         ensures given_up { given_up_of self.new ≡ given_up_of self.old }
         ensures prefix { prefix_of self.new ≡ prefix_of self.old }
-        ensures dated { is_dated self.new ≡ is_dated self.old }
+        ensures created { created_of self.new ≡ created_of self.old }
         ensures stopped { has_stopped self.new ≡ has_stopped self.old }
         ensures fault { fault_of self.new ≡ fault_of self.old }
         ensures made { made_in self.new ≡ made_in self.old }
@@ -239,7 +264,7 @@ impl<'a> Numbering<'a> {
         ensures failed_calls { failed_calls_of self.new ≡ failed_calls_of self.old }
         ensures given_up { given_up_of self.new ≡ given_up_of self.old }
         ensures prefix { prefix_of self.new ≡ prefix_of self.old }
-        ensures dated { is_dated self.new ≡ is_dated self.old }
+        ensures created { created_of self.new ≡ created_of self.old }
         ensures stopped { has_stopped self.new ≡ has_stopped self.old }
         ensures fault { fault_of self.new ≡ fault_of self.old }
         ensures closed { made_in self.new ≡ None }
@@ -259,7 +284,7 @@ impl<'a> Numbering<'a> {
             ≡ one_more_failure (failed_calls_of self.old) }
         ensures given_up { given_up_of self.new ≡ given_up_of self.old }
         ensures prefix { prefix_of self.new ≡ prefix_of self.old }
-        ensures dated { is_dated self.new ≡ is_dated self.old }
+        ensures created { created_of self.new ≡ created_of self.old }
         ensures stopped { has_stopped self.new ≡ true }
         ensures fault { fault_of self.new ≡ Some fault.entry }
         ensures made { made_in self.new ≡ made_in self.old }
@@ -277,7 +302,7 @@ impl<'a> Numbering<'a> {
         ensures failed_calls { failed_calls_of self.new ≡ failed_calls_of self.old }
         ensures given_up { given_up_of self.new ≡ given_up_with times (given_up_of self.old) }
         ensures prefix { prefix_of self.new ≡ prefix_of self.old }
-        ensures dated { is_dated self.new ≡ is_dated self.old }
+        ensures created { created_of self.new ≡ created_of self.old }
         ensures stopped { has_stopped self.new ≡ true }
         ensures fault { fault_of self.new ≡ fault_of self.old }
         ensures made { made_in self.new ≡ made_in self.old }
@@ -295,7 +320,7 @@ impl<'a> Numbering<'a> {
         ensures failed_calls { failed_calls_of self.new ≡ failed_calls_of self.old }
         ensures given_up { given_up_of self.new ≡ given_up_of self.old }
         ensures prefix { prefix_of self.new ≡ prefix_of self.old }
-        ensures dated { is_dated self.new ≡ is_dated self.old }
+        ensures created { created_of self.new ≡ created_of self.old }
         ensures stopped { has_stopped self.new ≡ has_stopped self.old }
         ensures fault { fault_of self.new ≡ fault_after times (made_in self.old) told.entry (fault_of self.old) }
         ensures made { made_in self.new ≡ made_in self.old }
@@ -318,14 +343,13 @@ impl<'a> Numbering<'a> {
         ensures given_up { given_up_of self.new ≡ given_up_of self.old }
         ensures lent { lent_of self.new ≡ lent_after result (lent_of self.old) }
         ensures prefix { prefix_of self.new ≡ prefix_of self.old }
-        ensures dated { is_dated self.new ≡ is_dated self.old }
+        ensures created { created_of self.new ≡ created_of self.old }
         // Where it succeeds the next part is being written. Else nothing changed, but for what may be left of that.
         ensures stands { (texts : Texts) (count : ℕ) (failures : ℕ)
             → Stands self.old (S.making store.old) (S.held store.old) (S.failures store.old) texts count failures
             → Stands self.new (S.making store.new) (S.held store.new) (S.failures store.new) texts count failures }
         ensures empty { (texts : Texts) (count : ℕ) (failures : ℕ)
             → Stands self.old (S.making store.old) (S.held store.old) (S.failures store.old) texts count failures
-            → is_dated self.old ≡ false
             → IfOk result (λ writer. written_to (text_of_stamped S.Writer.contents) writer ≡ Some []) }
         ensures store_failures { HasKeptCount (S.failures store.old) (S.failures store.new) }
         ensures fault { KeepsFault (S.failures store.old) (S.failures store.new) (fault_of self.old) (fault_of self.new) }
@@ -355,13 +379,14 @@ impl<'a> Numbering<'a> {
         ensures given_up { given_up_of self.new ≡ given_up_of self.old }
         ensures lent { lent_of self.new ≡ lent_of self.old - 1 }
         ensures prefix { prefix_of self.new ≡ prefix_of self.old }
-        ensures dated { is_dated self.new ≡ is_dated self.old }
-        // Where it succeeds the part has its name, and holds what was written. What lies under any other name stays.
+        ensures created { created_of self.new ≡ created_of self.old }
+        // Where it succeeds the part has its name, and holds what was written, with its moment. What lies under any other name stays.
         ensures named { (texts : Texts) (count : ℕ) (failures : ℕ) (text : List ℕ)
             → Stands self.old (S.making store.old) (S.held store.old) (S.failures store.old) texts count failures
             → written_to (text_of_stamped S.Writer.contents) writer.entry ≡ Some text
             → OnOk result (Stands self.new (S.making store.new) (S.held store.new) (S.failures store.new)
-            (put (part_name (prefix_of self.old) (count + 1)) (Some text) texts) (count + 1) failures) }
+            (put (part_name (prefix_of self.old) (count + 1))
+            (Some (created_by (cells_after (created_of self.old) count) text)) texts) (count + 1) failures) }
         ensures unnamed { (texts : Texts) (count : ℕ) (failures : ℕ)
             → Stands self.old (S.making store.old) (S.held store.old) (S.failures store.old) texts count failures
             → OnErr result (Stands self.new (S.making store.new) (S.held store.new) (S.failures store.new) texts count failures) }
@@ -375,7 +400,9 @@ impl<'a> Numbering<'a> {
             return Err(self.count_failure(fault));
         }
         let (_told, written) = take_back(writer);
-        match self.keep(store, written.unstamped()) {
+        // What was created when another part is isn't that part.
+        let is_own = self.has_cells(written.cells());
+        match self.keep(store, written.unstamped(is_own)) {
             Ok(()) => Ok(()),
             Err(fault) => Err(self.count_failure(fault)),
         }
@@ -391,7 +418,7 @@ impl<'a> Numbering<'a> {
         ensures given_up { given_up_of self.new ≡ given_up_with (failures_of writer.entry) (given_up_of self.old) }
         ensures lent { lent_of self.new ≡ lent_of self.old - 1 }
         ensures prefix { prefix_of self.new ≡ prefix_of self.old }
-        ensures dated { is_dated self.new ≡ is_dated self.old }
+        ensures created { created_of self.new ≡ created_of self.old }
         ensures stands { (texts : Texts) (count : ℕ) (failures : ℕ)
             → Stands self.old (S.making store.old) (S.held store.old) (S.failures store.old) texts count failures
             → Stands self.new (S.making store.new) (S.held store.new) (S.failures store.new) texts count failures }

@@ -1,6 +1,6 @@
 //! Joining transmissions.
 
-ghost use Rattle.std.specs.Prelude.{◌≡◌, ◌<◌, [], true, false, length, OnOk};
+ghost use Rattle.std.specs.Prelude.{◌≡◌, ◌<◌, [], ◌∷◌, true, false, length, OnOk};
 ghost use Rattle.cwr_encode.specs.Steps.Encoders.{is_stopped, encoder_limits};
 ghost use Rattle.cwr_parts.specs.Format.Joins.{CountsJoinWriter, JoinsAccepted, SeesInputs};
 ghost use Rattle.cwr_parts.specs.Format.Told.{JoinsTexts};
@@ -93,6 +93,30 @@ fn add_inputs<R: Source, W: Target, V: Viewer>(
     Ok(())
 }
 
+/// Joins the one input, up to a fault.
+fn add_alone<R: Source, W: Target, V: Viewer>(
+    alloc: Global,
+    limits: Limits,
+    reader: &mut R,
+    viewer: &mut V,
+    joined: &mut Joined<W>,
+) -> Result<(), JoinFault>
+    requires unfailed { is_stopped joined.old.encoder ≡ false }
+    requires limits { encoder_limits joined.old.encoder ≡ limits }
+    requires empty { HasJoined W.contents (W.contents (joined_writer joined.old)) [] joined.old }
+    ensures joins { AddsInputs limits R.remaining R.failures W.contents (reader.old ∷ []) (reader.new ∷ [])
+        result joined.old joined.new }
+    ensures writer_failures { CountsJoinWriter result (W.failures (joined_writer joined.old))
+        (W.failures (joined_writer joined.new)) }
+    ensures seen { OnOk result
+        (SeesInputs limits R.remaining V.has_seen (reader.old ∷ []) viewer.old viewer.new) }
+{
+    match add_input(alloc, limits, true, reader, viewer, joined) {
+        Ok(()) => Ok(()),
+        Err(fault) => Err(JoinFault { input: 1, fault }),
+    }
+}
+
 /// Joins transmissions to one, and writes that: the first input's HDR, and the groups of all inputs in order, each with
 /// the cells of its own GRH and GRT, and with new numbers. There is at least one input. The writer comes back.
 ///
@@ -147,5 +171,30 @@ pub fn join_viewed<R: Source, W: Target + Drop, V: Viewer>(
     match add_inputs(alloc, limits, readers, viewer, &mut joined) {
         Ok(()) => joined.finish(readers.len()),
         Err(stopped) => (joined.abandon(), Err(stopped)),
+    }
+}
+
+/// Writes the transmission of one input as `join_viewed` does where there is no other.
+pub fn join_alone<R: Source, W: Target + Drop, V: Viewer>(
+    alloc: Global,
+    limits: Limits,
+    reader: &mut R,
+    viewer: &mut V,
+    writer: W,
+) -> (W, Result<JoinReport, JoinFault>)
+    ensures told { JoinsTexts limits R.remaining R.failures W.contents (reader.old ∷ []) (reader.new ∷ []) writer
+        result.0 result.1 }
+    ensures writer_failures { CountsJoinWriter result.1 (W.failures writer) (W.failures result.0) }
+    ensures handed_on { OnOk result.1 (W.handed_on result.0 ≡ true) }
+    ensures accepted { JoinsAccepted limits R.remaining W.contents (reader.old ∷ []) writer result.0
+        result.1 }
+    // Where the input is accepted, it saw its items.
+    ensures seen { OnOk result.1
+        (SeesInputs limits R.remaining V.has_seen (reader.old ∷ []) viewer.old viewer.new) }
+{
+    let mut joined = Joined::new(writer, limits);
+    match add_alone(alloc, limits, reader, viewer, &mut joined) {
+        Ok(()) => joined.finish(1),
+        Err(fault) => (joined.abandon(), Err(fault)),
     }
 }

@@ -3,16 +3,15 @@
 ghost use Rattle.std.specs.Prelude.{◌≡◌, true, IfErr, OnOk, option_map};
 ghost use Rattle.cwr_renumber.specs.Steps.Renumbered.{renumbered_text};
 ghost use Rattle.cwr_tools.specs.Format.Viewing.{SeesText};
-ghost use Rattle.cwr_renumber.specs.Steps.Renumberings.{CountsWriter, LeavesRenumbered, Renumbers, RenumbersAccepted, of_one};
+ghost use Rattle.cwr_renumber.specs.Steps.Renumberings.{CountsReader, CountsWriter, LeavesRenumbered, Renumbers, RenumbersAccepted, of_one};
 
 use crate::jumps::Jumps;
 use crate::sources::Renumbered;
 use cwr_devices::{Source, Target};
-use cwr_parts::join_viewed;
+use cwr_parts::join_alone;
 use cwr_shape::Limits;
 use cwr_tools::{Blind, JoinFault, JoinReport, ToolFault, Viewer};
 use std::alloc::Global;
-use std::slice::from_mut;
 
 /// What a join of one input answered, without that one's number.
 fn of_one(joined: Result<JoinReport, JoinFault>) -> Result<JoinReport, ToolFault>
@@ -25,7 +24,7 @@ fn of_one(joined: Result<JoinReport, JoinFault>) -> Result<JoinReport, ToolFault
 }
 
 /// Writes the transmission that a reader has, with each of its numbers put right: transaction and record sequences, group
-/// IDs and counts, whatever stands in their cells. The writer comes back.
+/// IDs and counts, whatever stands in their cells. The reader and the writer come back.
 ///
 /// It writes the canonical text of the transmission exactly where the text with these numbers is accepted within the limits; the
 /// report has its numbers. Else it answers `ToolFault::Refused` or `ToolFault::Truncated`, as that text is refused or
@@ -36,23 +35,23 @@ fn of_one(joined: Result<JoinReport, JoinFault>) -> Result<JoinReport, ToolFault
 pub fn renumber<R: Source, W: Target + Drop>(
     alloc: Global,
     limits: Limits,
-    reader: &mut R,
+    reader: R,
     writer: W,
-) -> (W, Result<JoinReport, ToolFault>)
-    ensures renumbers { Renumbers limits (R.remaining reader.old) W.contents writer result.0
-        result.1 }
-    ensures accepted { RenumbersAccepted limits (R.remaining reader.old) W.contents writer result.0
-        result.1 }
+) -> (R, W, Result<JoinReport, ToolFault>)
+    ensures renumbers { Renumbers limits (R.remaining reader) W.contents writer result.1 result.2 }
+    ensures accepted { RenumbersAccepted limits (R.remaining reader) W.contents writer result.1
+        result.2 }
     // Else the items before that are written, and no TRL; or their first bytes, so many as a fault of the writer tells.
-    ensures leaves { IfErr result.1 (LeavesRenumbered limits (R.remaining reader.old) W.contents
-        writer result.0) }
-    // No failure is passed over: the writer failed only where that is the answer.
-    ensures writer_failures { CountsWriter result.1 (W.failures writer) (W.failures result.0) }
+    ensures leaves { IfErr result.2 (LeavesRenumbered limits (R.remaining reader) W.contents writer
+        result.1) }
+    // No failure is passed over: a device failed only where that is the answer.
+    ensures reader_failures { CountsReader result.2 (R.failures reader) (R.failures result.0) }
+    ensures writer_failures { CountsWriter result.2 (W.failures writer) (W.failures result.1) }
     // All that was written was handed on.
-    ensures handed_on { OnOk result.1 (W.handed_on result.0 ≡ true) }
+    ensures handed_on { OnOk result.2 (W.handed_on result.1 ≡ true) }
 {
-    let (writer, outcome, _) = renumber_viewed(alloc, limits, reader, &mut Blind, writer);
-    (writer, outcome)
+    let (reader, writer, outcome, _) = renumber_viewed(alloc, limits, reader, &mut Blind, writer);
+    (reader, writer, outcome)
 }
 
 /// Puts numbers right as `renumber` does. The viewer sees the items of the transmission while it is read. Where the sequences of the lines
@@ -60,24 +59,24 @@ pub fn renumber<R: Source, W: Target + Drop>(
 pub fn renumber_viewed<R: Source, W: Target + Drop, V: Viewer>(
     alloc: Global,
     limits: Limits,
-    reader: &mut R,
+    reader: R,
     viewer: &mut V,
     writer: W,
-) -> (W, Result<JoinReport, ToolFault>, Jumps)
-    ensures renumbers { Renumbers limits (R.remaining reader.old) W.contents writer result.0
-        result.1 }
-    ensures accepted { RenumbersAccepted limits (R.remaining reader.old) W.contents writer result.0
-        result.1 }
-    ensures leaves { IfErr result.1 (LeavesRenumbered limits (R.remaining reader.old) W.contents
-        writer result.0) }
-    ensures writer_failures { CountsWriter result.1 (W.failures writer) (W.failures result.0) }
-    ensures handed_on { OnOk result.1 (W.handed_on result.0 ≡ true) }
+) -> (R, W, Result<JoinReport, ToolFault>, Jumps)
+    ensures renumbers { Renumbers limits (R.remaining reader) W.contents writer result.1 result.2 }
+    ensures accepted { RenumbersAccepted limits (R.remaining reader) W.contents writer result.1
+        result.2 }
+    ensures leaves { IfErr result.2 (LeavesRenumbered limits (R.remaining reader) W.contents writer
+        result.1) }
+    ensures reader_failures { CountsReader result.2 (R.failures reader) (R.failures result.0) }
+    ensures writer_failures { CountsWriter result.2 (W.failures writer) (W.failures result.1) }
+    ensures handed_on { OnOk result.2 (W.handed_on result.1 ≡ true) }
     // Where the text with its numbers put right is accepted, it saw the items of its transmission.
-    ensures seen { OnOk result.1 (SeesText limits V.has_seen
-        (option_map renumbered_text (R.remaining reader.old)) viewer.old viewer.new) }
+    ensures seen { OnOk result.2 (SeesText limits V.has_seen
+        (option_map renumbered_text (R.remaining reader)) viewer.old viewer.new) }
 {
     let mut source = Renumbered::new(reader);
-    let (writer, joined) = join_viewed(alloc, limits, from_mut(&mut source), viewer, writer);
-    let jumps = source.take_jumps();
-    (writer, of_one(joined), jumps)
+    let (writer, joined) = join_alone(alloc, limits, &mut source, viewer, writer);
+    let (reader, jumps) = source.into_parts();
+    (reader, writer, of_one(joined), jumps)
 }

@@ -10,7 +10,6 @@ use crate::takings::take_line;
 use cwr_devices::{DeviceFault, Source};
 use cwr_lines::{LineBuf, LineEnd, RenumberedLine};
 use cwr_shape::Numbering;
-use std::mem;
 
 /// Whether a line ended before a byte too many.
 fn is_too_long(ended: LineEnd) -> bool
@@ -21,8 +20,8 @@ fn is_too_long(ended: LineEnd) -> bool
 
 /// A source with the bytes of another one, and in each derived cell the number that belongs there by the lines before. Lines are
 /// filled up to the widths of their kinds. Nothing follows a line that is too long.
-pub(crate) struct Renumbered<'a, R> {
-    inner: &'a mut R,
+pub(crate) struct Renumbered<R> {
+    inner: R,
     /// The bytes of the next line that were taken.
     line: LineBuf,
     numbering: Numbering,
@@ -43,25 +42,7 @@ pub(crate) struct Renumbered<'a, R> {
     ghost within: { at + shown ≤ end },
 }
 
-impl<R> Drop for Renumbered<'_, R> {
-    fn drop(self)
-        ensures { self.exit.0.now ≡ self.entry.inner.now }
-    {
-        let Renumbered {
-            inner: _,
-            line: _,
-            numbering: _,
-            jumps: _,
-            out: _,
-            end: _,
-            at: _,
-            shown: _,
-            is_over: _,
-        } = self;
-    }
-}
-
-impl<'a, R: Source> Renumbered<'a, R> {
+impl<R: Source> Renumbered<R> {
     ghost use Rattle.std.specs.Prelude.{[], option_map, IfOk, IfSome, OnErr};
     ghost use Rattle.cwr_devices.specs.Format.Failures.{CountsFailure};
     ghost use Rattle.std.specs.Io.KnownBytes.{Keeps};
@@ -69,10 +50,10 @@ impl<'a, R: Source> Renumbered<'a, R> {
     ghost use Rattle.cwr_renumber.specs.Steps.Sources.{inner_of, left_of, shown_of};
 
     /// The source with its numbers put right, from its first line on.
-    pub(crate) fn new(inner: &'a mut R) -> Renumbered<'a, R>
-        ensures inner { inner_of result ≡ inner.old }
-        ensures left { left_of result (R.remaining inner.old)
-            ≡ option_map renumbered_text (R.remaining inner.old) }
+    pub(crate) fn new(inner: R) -> Renumbered<R>
+        ensures inner { inner_of result ≡ inner }
+        ensures left { left_of result (R.remaining inner)
+            ≡ option_map renumbered_text (R.remaining inner) }
     {
         Renumbered {
             inner,
@@ -87,9 +68,22 @@ impl<'a, R: Source> Renumbered<'a, R> {
         }
     }
 
-    /// Where the sequences of the lines that were taken don't go on. None is kept any more.
-    pub(crate) fn take_jumps(&mut self) -> Jumps {
-        mem::replace(&mut self.jumps, Jumps::none())
+    /// The source in it, and where the sequences of the lines that were taken don't go on.
+    pub(crate) fn into_parts(self) -> (R, Jumps)
+        ensures { result.0 ≡ inner_of self }
+    {
+        let Renumbered {
+            inner,
+            line: _,
+            numbering: _,
+            jumps,
+            out: _,
+            end: _,
+            at: _,
+            shown: _,
+            is_over: _,
+        } = self;
+        (inner, jumps)
     }
 
     /// Takes the next line, where nothing is left of the one that is handed out. At the end of the source there is none.
@@ -104,7 +98,7 @@ impl<'a, R: Source> Renumbered<'a, R> {
         ensures failures { CountsFailure result (R.failures (inner_of self.old))
             (R.failures (inner_of self.new)) }
     {
-        let ended = take_line(&mut *self.inner, &mut self.line)?;
+        let ended = take_line(&mut self.inner, &mut self.line)?;
         if let LineEnd::Open = ended {
             return Ok(());
         }
@@ -142,7 +136,7 @@ impl<'a, R: Source> Renumbered<'a, R> {
     }
 }
 
-impl<R: Source> Source for Renumbered<'_, R> {
+impl<R: Source> Source for Renumbered<R> {
     ghost use Rattle.cwr_renumber.specs.Steps.Sources.{inner_of, left_of, shown_of};
 
     ghost remaining = { λ s. left_of s (R.remaining (inner_of s)) };

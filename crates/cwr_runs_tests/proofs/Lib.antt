@@ -1,2 +1,3 @@
 mod WorkedNumbers
+mod WorkedParts
 mod WorkedSelections

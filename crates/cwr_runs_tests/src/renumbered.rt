@@ -40,12 +40,12 @@ fn renumbered(
     room: usize,
 ) -> (Vec<u8>, Result<JoinReport, ToolFault>) {
     let limits = Limits::new(99_999_999, 99_999, 999_999).expect(&rt, "largest limits");
-    let mut reader = ReadAhead::new(FailsAfter { left: text, reads });
+    let reader = ReadAhead::new(FailsAfter { left: text, reads });
     let writer = Counted::new(Bounded {
         text: Vec::new(rt.alloc()),
         room,
     });
-    let (writer, answer) = renumber(rt.alloc(), limits, &mut reader, writer);
+    let (_, writer, answer) = renumber(rt.alloc(), limits, reader, writer);
     (writer.into_inner().text, answer)
 }
 

@@ -1,16 +1,17 @@
 //! A transmission whose numbers are put right.
 
-ghost use Rattle.std.specs.Prelude.{◌≡◌, ◌&&◌, None, true, false, IfOk};
+ghost use Rattle.std.specs.Prelude.{◌≡◌, ◌&&◌, ℕ, None, true, false, IfOk};
 ghost use Rattle.std.specs.Result.{is_ok};
 ghost use Rattle.cwr_files.specs.Format.Faults.{IfErr};
 ghost use Rattle.cwr_files.specs.Format.Files.{Turns};
 ghost use Rattle.cwr_files.specs.Steps.Inputs.{remaining_of};
-ghost use Rattle.cwr_endings.specs.Format.Failures.{FailsSo, FailsToWrite, IsFaultOfOut, UnlessRead};
+ghost use Rattle.cwr_endings.specs.Format.Failures.{FailsSo, FailsToWrite, IsFaultOfOut};
 ghost use Rattle.cwr_renumber.specs.Steps.Renumbered.{renumbered_text};
-ghost use Rattle.cwr_renumber.specs.Steps.Renumberings.{CountsWriter};
+ghost use Rattle.cwr_renumber.specs.Steps.Renumberings.{CountsReader, CountsWriter};
 ghost use Rattle.cwr_tools.specs.Format.Watching.{AreFindingsIn, is_reached};
-ghost use Rattle.cwr_transform.specs.Format.Repairs.{IsRepairOf, WritesRepair};
-ghost use Rattle.cwr_transform.specs.Steps.Repairs.{CountsFile, CountsRead, EndsRenumbered, EndsRepaired, HasFailedAs, IsRenumberedOf, IsRightOf, LeavesRepaired, RepairsInput, Rewrites, keeps_repaired, kept_outcome};
+ghost use Rattle.cwr_endings.specs.Format.Endings.{WritesOut};
+ghost use Rattle.cwr_transform.specs.Format.Repairs.{IsRepairOf};
+ghost use Rattle.cwr_transform.specs.Steps.Repairs.{CountsFile, CountsRead, CountsRewritten, EndsRenumbered, EndsRepaired, IsRenumberedOf, IsRightOf, LeavesRepaired, RepairsInput, Rewrites, keeps_repaired, kept_outcome};
 
 use cwr_devices::{Counted, ReadAhead, Sink, Source, Target};
 use cwr_endings::{
@@ -185,29 +186,31 @@ struct Rewritten {
     jumps: Jumps,
 }
 
-/// Writes the transmission of a reader with its numbers put right, counts the findings in it, and looks what follows it there. The writer
-/// comes back.
+/// Writes the transmission of a reader with its numbers put right, counts the findings in it, and looks what follows it there. The reader
+/// and the writer come back.
 fn rewrite<R: Source, W: Target + Drop>(
     alloc: Global,
     limits: Limits,
-    reader: &mut R,
+    reader: R,
     writer: W,
-) -> (W, Rewritten)
-    ensures rewrites { Rewrites renumbered_text limits (AreFindingsIn result.1.count) (R.remaining reader.old) W.contents writer
-        result.0 result.1.outcome }
-    ensures reads { HasFailedAs result.1.look (R.failures reader.new) }
-    ensures writer_failures { CountsWriter result.1.outcome (W.failures writer) (W.failures result.0) }
+) -> (R, W, Rewritten)
+    ensures rewrites { Rewrites renumbered_text limits (AreFindingsIn result.2.count) (R.remaining reader) W.contents writer result.1
+        result.2.outcome }
+    ensures reads { CountsRewritten result.2.outcome result.2.look (R.failures reader) (R.failures result.0) }
+    ensures writer_failures { CountsWriter result.2.outcome (W.failures writer) (W.failures result.1) }
 {
     let mut view = FindingView::new(alloc);
-    let (writer, outcome, jumps) = renumber_viewed(alloc, limits, reader, &mut view, writer);
-    let (outcome, look) = look_after(reader, outcome, view.lacks_memory);
+    let (mut reader, writer, outcome, jumps) = renumber_viewed(
+        alloc, limits, reader, &mut view, writer,
+    );
+    let (outcome, look) = look_after(&mut reader, outcome, view.lacks_memory);
     let rewritten = Rewritten {
         outcome,
         look,
         count: view.count,
         jumps,
     };
-    (writer, rewritten)
+    (reader, writer, rewritten)
 }
 
 /// Looks what follows a transmission that was written. Where memory was refused for what was seen of it, that is the answer.
@@ -217,7 +220,8 @@ fn look_after<R: Source>(
     lacks_memory: bool,
 ) -> (Result<JoinReport, ToolFault>, Look)
     ensures outcome { result.0 ≡ kept_outcome lacks_memory outcome }
-    ensures reads { HasFailedAs result.1 (R.failures reader.new) }
+    ensures reads { (first : ℕ) → CountsReader outcome first (R.failures reader.old)
+        → CountsRewritten result.0 result.1 first (R.failures reader.new) }
 {
     match outcome {
         Ok(_) if lacks_memory => (Err(ToolFault::Memory), Look::Unasked),
@@ -259,12 +263,12 @@ fn run<'a, S: Store, I: Read + Drop, P: Pace + Drop, W: Target + Drop, E: Write>
     ensures judged { IsRightOf renumbered_text repair.now.limits repair.now.wanted repair.now.anyway
         (remaining_of S.Reader.remaining I.remaining input.entry) result.0 }
     ensures failures { CountsWriter result.0.outcome (W.failures writer) (W.failures result.1) }
-    ensures reads { CountsRead result.0.look (S.failures store.old) (S.failures store.new) }
+    ensures reads { CountsRead result.0.outcome result.0.look (S.failures store.old) (S.failures store.new) }
     ensures kept { S.held store.new ≡ S.held store.old }
     ensures making { S.making store.new ≡ S.making store.old }
 {
-    let mut reader = ReadAhead::new(input);
-    let (writer, rewritten) = rewrite(alloc, repair.limits, &mut reader, writer);
+    let reader = ReadAhead::new(input);
+    let (reader, writer, rewritten) = rewrite(alloc, repair.limits, reader, writer);
     let Rewritten {
         outcome,
         look,
@@ -346,7 +350,7 @@ fn make_repaired<'a, S: Store, I: Read + Drop, P: Pace + Drop, E: Write>(
         result) }
     ensures unmade { IfErr result (λ fault. IsFaultOfOut out.entry (S.making store.old) (S.held store.old) (S.held store.new) fault
         (S.failures store.old) (S.failures store.new)) }
-    ensures counted { IfOk result (λ file. CountsFile file.repaired.outcome (S.failures store.old) (S.failures store.new)) }
+    ensures counted { IfOk result (λ file. CountsFile file.repaired.outcome file.repaired.look (S.failures store.old) (S.failures store.new)) }
 {
     let (made, file) = match create_output(store, alloc, out) {
         Ok(made) => made,
@@ -391,7 +395,7 @@ fn write_repaired<'a, S: Store, I: Read + Drop, P: Pace + Drop, E: Write>(
         result) }
     ensures unmade { IfErr result (λ fault. IsFaultOfOut out.entry (S.making store.old) (S.held store.old) (S.held store.new) fault
         (S.failures store.old) (S.failures store.new)) }
-    ensures counted { IfOk result (λ file. CountsFile file.repaired.outcome (S.failures store.old) (S.failures store.new)) }
+    ensures counted { IfOk result (λ file. CountsFile file.repaired.outcome file.repaired.look (S.failures store.old) (S.failures store.new)) }
 {
     let input_word = repair.file.unwrap_or(DASH);
     if let Err(fault) = refuse_out(store, out, repair.only_new, &[input_word]) {
@@ -415,12 +419,11 @@ pub fn repair_file<'a, S: Store, I: Read + Drop, P: Pace + Drop, W: Target, E: W
         input.entry result.1 }
     // Where it ends well the file holds the transmission with its numbers put right, and nothing else changed; else nothing did.
     ensures files { S.making store.old ≡ None → Turns (S.held store.old) (S.held store.new)
-        (WritesRepair out.now (S.failures store.old) (S.failures store.new)
+        (WritesOut out.now (S.failures store.old) (S.failures store.new)
         (IsRenumberedOf S.Reader.remaining I.remaining repair.now.limits repair.now.wanted input.entry) result.1) }
-    // It ends as what failed does only where a failure was counted, or no such file can be made, or there was no memory. Of an input that
-    // fails nothing is said.
-    ensures failed { UnlessRead result.1 (FailsToWrite out.entry (S.making store.old) (S.held store.old) (S.held store.new) result.1
-        (S.failures store.old) (S.failures store.new)) }
+    // It ends as what failed does only where a failure was counted, or no such file can be made, or there was no memory.
+    ensures failed { FailsToWrite out.entry (S.making store.old) (S.held store.old) (S.held store.new) result.1
+        (S.failures store.old) (S.failures store.new) }
 {
     let file = match write_repaired(store, alloc, repair, input, out, error) {
         Ok(file) => file,
@@ -467,7 +470,7 @@ pub fn repair_input<'a, S: Store, I: Read + Drop, P: Pace + Drop, W: Target + Dr
 ) -> (W, Result<Status, Stop<'a>>)
     ensures ends { EndsRenumbered S.Reader.remaining I.remaining repair.now.limits repair.now.wanted repair.now.anyway
         input.entry result.1 }
-    ensures failed { UnlessRead result.1 (FailsSo result.1 (S.failures store.old) (S.failures store.new)) }
+    ensures failed { FailsSo result.1 (S.failures store.old) (S.failures store.new) }
     ensures kept { S.held store.new ≡ S.held store.old }
 {
     let (repaired, mut output) = run(store, alloc, repair, input, output, &mut *error);

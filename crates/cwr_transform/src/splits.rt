@@ -103,13 +103,13 @@ fn cut_into_files<'a, B: Unsplit, S: Store, R: Source>(
     FindingCount,
     MadeFiles<'a>,
 )
-    requires { StartsAs B.texts B.prefix B.failures (S.making store.old) (S.held store.old) (S.failures store.old) cut.now.prefix.now
-        cut.now.created }
+    requires { StartsAs B.texts B.prefix B.created B.failures (S.making store.old) (S.held store.old) (S.failures store.old)
+        cut.now.prefix.now cut.now.created }
     ensures judged { JudgesCut cut.now.limits (R.remaining reader.old) result.0 result.1 }
     ensures counted { OnOk result.0
         (CountsAccepted cut.now.limits (R.remaining reader.old) result.2) }
-    ensures files { Turns B.texts (S.held store.new) (LeavesTold cut.now.limits cut.now.transactions.value B.prefix (R.remaining reader.old)
-        B.failures (S.failures store.new) result.0) }
+    ensures files { Turns B.texts (S.held store.new) (LeavesTold cut.now.limits cut.now.transactions.value B.prefix B.created
+        (R.remaining reader.old) B.failures (S.failures store.new) result.0) }
     ensures reads { CountsCut result.0 result.1 (R.failures reader.old) (R.failures reader.new) }
     ensures failed { IsSome B.texts → IsFaultOfPart B.failures (S.failures store.new) result.3.fault }
     ensures failures { IsSome B.texts → HasKeptCount B.failures (S.failures store.new) }
@@ -146,11 +146,12 @@ pub fn split_file<'a, S: Store, I: Read + Drop, P: Pace + Drop, W: Target + Drop
 ) -> (W, Result<Status, Stop<'a>>)
     ensures ends { EndsAsSplit cut.now.limits cut.now.wanted
         (remaining_of S.Reader.remaining I.remaining input.entry) result.1 }
-    ensures files { S.making store.old ≡ None → cut.now.created ≡ None → Turns (S.held store.old) (S.held store.new)
-        (LeavesCut cut.now.limits cut.now.transactions.value cut.now.prefix.now
+    // Each part that is left has its text, as one that is created at its own moment where the first is created at one.
+    ensures files { S.making store.old ≡ None → Turns (S.held store.old) (S.held store.new)
+        (LeavesCut cut.now.limits cut.now.transactions.value cut.now.prefix.now cut.now.created
         (remaining_of S.Reader.remaining I.remaining input.entry) (S.failures store.old) (S.failures store.new) result.1) }
     // It ends as what failed does only where a failure was counted, or no part could be made, or there was no memory.
-    ensures failed { S.making store.old ≡ None → IsSome (S.held store.old) → cut.now.created ≡ None
+    ensures failed { S.making store.old ≡ None → IsSome (S.held store.old)
         → FailsToCut result.1 (S.failures store.old) (S.failures store.new) }
 {
     match part_of_input(store, alloc, cut) {

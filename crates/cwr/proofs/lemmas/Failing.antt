@@ -278,7 +278,7 @@ unbegun_fails (Acks words) making held after old now =
     (answers_unbegun (map (λ name. name.now) words.files.items) (map (λ name. name.now) words.sent.items) old now, tt)
 unbegun_fails (Summary words) making held after old now = tt
 unbegun_fails (Write words) making held after old now = out_unbegun words.out making held after old now
-unbegun_fails (Split words) making held after old now = λ quiet known plain. tt
+unbegun_fails (Split words) making held after old now = λ quiet known. tt
 unbegun_fails (Join words) making held after old now = tt
 unbegun_fails (Renumber words) making held after old now = out_unbegun words.out making held after old now
 unbegun_fails (Select words) making held after old now = tt

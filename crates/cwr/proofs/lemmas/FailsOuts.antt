@@ -13,7 +13,7 @@ use Rattle.cwr_endings.specs.declared.endings.Status.TheVariants as statuses
 use Rattle.cwr_endings.specs.declared.stops.Stop.{Stop}
 use Rattle.cwr_endings.specs.declared.stops.Stop.TheVariants as stops
 use Rattle.cwr_endings.specs.Format.Endings.{IsRefusedOut}
-use Rattle.cwr_endings.specs.Format.Failures.{FailsOut, FailsSo, FailsToWrite, IsFaultOfRead, UnlessRead}
+use Rattle.cwr_endings.specs.Format.Failures.{FailsOut, FailsSo, FailsToWrite, IsFaultOfRead}
 use Rattle.cwr_endings.proofs.lemmas.Fails.{out_since, refused_fails, unopened_fails, unread_fails, write_on}
 
 -- ---- where others failed before it
@@ -67,33 +67,3 @@ module _ (making : Option (List ℕ)) (held after : Option Texts) where
   out_unopened word input None fault old mid now kept h = read_since fault old mid now kept (unopened_fails word input fault mid now h)
   out_unopened word input (Some name) fault old mid now kept h =
       out_since name making held after fault old mid now kept (unread_fails word input name making held after fault mid now h)
-
--- ---- where it isn't said whether the input failed
-
-pub unless_read : (ending : Result Status Stop) (P : Type 0) → P → UnlessRead ending P
-unless_read (Ok status) P h = h
-unless_read (Err stops.Output) P h = h
-unless_read (Err (stops.Fault (faults.Open of reason))) P h = h
-unless_read (Err (stops.Fault (faults.Read told))) P h = tt
-unless_read (Err (stops.Fault (faults.Write told))) P h = h
-unless_read (Err (stops.Fault (faults.Output of reason))) P h = h
-unless_read (Err (stops.Fault (faults.IsInput of))) P h = h
-unless_read (Err (stops.Fault (faults.IsThere of))) P h = h
-unless_read (Err (stops.Fault (faults.IsTwice of))) P h = h
-unless_read (Err (stops.Fault (faults.IsOther of))) P h = h
-unless_read (Err (stops.Fault (faults.IsLate of))) P h = h
-unless_read (Err (stops.Fault faults.Memory)) P h = h
-
-pub unless_so : (ending : Result Status Stop) (P Q : Type 0) → (P → Q) → UnlessRead ending P → UnlessRead ending Q
-unless_so (Ok status) P Q so h = so h
-unless_so (Err stops.Output) P Q so h = so h
-unless_so (Err (stops.Fault (faults.Open of reason))) P Q so h = so h
-unless_so (Err (stops.Fault (faults.Read told))) P Q so h = tt
-unless_so (Err (stops.Fault (faults.Write told))) P Q so h = so h
-unless_so (Err (stops.Fault (faults.Output of reason))) P Q so h = so h
-unless_so (Err (stops.Fault (faults.IsInput of))) P Q so h = so h
-unless_so (Err (stops.Fault (faults.IsThere of))) P Q so h = so h
-unless_so (Err (stops.Fault (faults.IsTwice of))) P Q so h = so h
-unless_so (Err (stops.Fault (faults.IsOther of))) P Q so h = so h
-unless_so (Err (stops.Fault (faults.IsLate of))) P Q so h = so h
-unless_so (Err (stops.Fault faults.Memory)) P Q so h = so h

@@ -5,6 +5,7 @@ use Rattle.clap.specs.declared.error.kind.ErrorKind.{ErrorKind}
 use Rattle.clap.specs.declared.error.kind.ErrorKind.TheVariants as kinds
 use Rattle.cwr_shape.specs.declared.limits.Limits.{Limits}
 use Rattle.cwr_json.specs.declared.encodings.Encoding.{Encoding}
+use Rattle.cwr_moments.specs.declared.moments.Moment.{Moment}
 use Rattle.cwr_words.specs.declared.words.Task.{Task}
 use Rattle.cwr_words.specs.declared.words.WriteWords.{WriteWords}
 use Rattle.cwr_words.specs.declared.words.Work.{Work}
@@ -58,7 +59,7 @@ unbegun_leaves limits whole (Summary words) held standard old now = stays held h
 unbegun_leaves limits whole (Write words) held standard old now =
     out_turns (option_map (λ name. name.now) words.out) old now _ held
 unbegun_leaves limits whole (Split words) held standard old now =
-    λ created. turns_so held held Same _ (λ texts new same. inl same) (stays held held refl)
+    turns_so held held Same _ (λ texts new same. inl same) (stays held held refl)
 unbegun_leaves limits whole (Join words) held standard old now =
     turns_so held held Same _ (λ texts new same. leaves_same words.out.now old now texts new same) (stays held held refl)
 unbegun_leaves limits whole (Renumber words) held standard old now = tt
@@ -84,22 +85,23 @@ import_at limits words encoding held standard name left text is opened h =
 
 -- ---- a split of what was opened
 
-cut_some : (limits : Limits) (n : ℕ) (prefix : List ℕ) (left : Option (List ℕ)) (old now : ℕ) (ending : Result Status Stop) (texts new : Texts)
-    → LeavesCut limits n prefix left old now ending texts new
-    → IfSome left (λ known. LeavesCut limits n prefix (Some known) old now ending texts new)
-cut_some limits n prefix None old now ending texts new h = tt
-cut_some limits n prefix (Some known) old now ending texts new h = h
+cut_some : (limits : Limits) (n : ℕ) (prefix : List ℕ) (created : Option Moment) (left : Option (List ℕ)) (old now : ℕ)
+    (ending : Result Status Stop) (texts new : Texts) → LeavesCut limits n prefix created left old now ending texts new
+    → IfSome left (λ known. LeavesCut limits n prefix created (Some known) old now ending texts new)
+cut_some limits n prefix created None old now ending texts new h = tt
+cut_some limits n prefix created (Some known) old now ending texts new h = h
 
-pub cut_at : (limits : Limits) (n : ℕ) (prefix : List ℕ) (held : Option Texts) (standard : Option (List ℕ)) (name : List ℕ)
-    (left : Option (List ℕ)) (old now : ℕ) (ending : Result Status Stop) (texts new : Texts) → IsLeftOf held standard (Some name) left
-    → LeavesCut limits n prefix left old now ending texts new
-    → LeavesCutOf limits n prefix held standard name old now ending texts new
-cut_at limits n prefix held standard name left old now (Ok status) texts new opened h =
-    if_read held standard (Some name) left (λ known. LeavesCut limits n prefix (Some known) old now (Ok status) texts new) opened
-    (cut_some limits n prefix left old now (Ok status) texts new h)
-cut_at limits n prefix held standard name left old now (Err stop) texts new opened h =
-    inr (if_read held standard (Some name) left (λ known. LeavesCut limits n prefix (Some known) old now (Err stop) texts new) opened
-    (cut_some limits n prefix left old now (Err stop) texts new h))
+pub cut_at : (limits : Limits) (n : ℕ) (prefix : List ℕ) (created : Option Moment) (held : Option Texts) (standard : Option (List ℕ))
+    (name : List ℕ) (left : Option (List ℕ)) (old now : ℕ) (ending : Result Status Stop) (texts new : Texts)
+    → IsLeftOf held standard (Some name) left → LeavesCut limits n prefix created left old now ending texts new
+    → LeavesCutOf limits n prefix created held standard name old now ending texts new
+cut_at limits n prefix created held standard name left old now (Ok status) texts new opened h =
+    if_read held standard (Some name) left (λ known. LeavesCut limits n prefix created (Some known) old now (Ok status) texts new) opened
+    (cut_some limits n prefix created left old now (Ok status) texts new h)
+cut_at limits n prefix created held standard name left old now (Err stop) texts new opened h =
+    inr (if_read held standard (Some name) left
+    (λ known. LeavesCut limits n prefix created (Some known) old now (Err stop) texts new) opened
+    (cut_some limits n prefix created left old now (Err stop) texts new h))
 
 -- ---- words that are refused
 

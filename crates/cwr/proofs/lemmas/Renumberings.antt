@@ -16,10 +16,9 @@ use Rattle.cwr_endings.specs.declared.endings.Wanted.{Wanted}
 use Rattle.cwr_endings.specs.declared.stops.Stop.{Stop}
 use Rattle.cwr_endings.specs.declared.stops.Stop.TheVariants as stops
 use Rattle.cwr_endings.specs.Format.Endings.{WritesOut}
-use Rattle.cwr_endings.proofs.lemmas.Outs.{out_same, stays, turns_so, writes_on}
-use Rattle.cwr_transform.specs.Format.Repairs.{EndsAsRepair, IsRepairOf, IsRepairStatus, WritesRepair}
-use Rattle.cwr_transform.proofs.lemmas.RepairFiles.{repair_as, repair_so}
-use Rattle.cwr.specs.Format.Files.{LeavesRepair, RunsRenumbering, RunsRepair}
+use Rattle.cwr_endings.proofs.lemmas.Outs.{out_same, stays, turns_so, writes_as, writes_on}
+use Rattle.cwr_transform.specs.Format.Repairs.{EndsAsRepair, IsRepairOf, IsRepairStatus}
+use Rattle.cwr.specs.Format.Files.{LeavesOut, RunsRenumbering, RunsRepair}
 
 -- the text is that of what a word names, with its numbers put right
 abbrev IsRepairAt : (List ℕ → List ℕ) → Limits → Wanted → Option Texts → Option (List ℕ) → Option (List ℕ) → List ℕ → Type 0
@@ -35,11 +34,10 @@ module _ (renumbered : List ℕ → List ℕ) (limits : Limits) (wanted : Wanted
 
   -- nothing was opened, or there is no memory to begin
   stopped_out : (out : Option (List ℕ)) (is : List ℕ → Type 0) (old now : ℕ) (stop : Stop) (held after : Option Texts) → after ≡ held
-      → Turns held after (LeavesRepair out old now is (Err stop))
+      → Turns held after (LeavesOut out old now is (Err stop))
   stopped_out None is old now stop held after kept = stays held after kept
   stopped_out (Some out) is old now stop held after kept =
-      turns_so held after (WritesOut out old now is (Err stop)) (WritesRepair out old now is (Err stop))
-      (λ texts new h. repair_so out old now is (Err stop) texts new h) (out_same out old now is stop held after (stays held after kept))
+      out_same out old now is stop held after (stays held after kept)
 
   pub stopped_runs : (before after : Option Texts) (making : Option (List ℕ)) (old now : ℕ) (stop : Stop) → after ≡ before
       → Runs before after making old now (Err stop)
@@ -71,16 +69,16 @@ module _ (renumbered : List ℕ → List ℕ) (limits : Limits) (wanted : Wanted
   pub file_runs : (out : List ℕ) (before opened after : Option Texts) (making making_then left : Option (List ℕ)) (old then now : ℕ)
       (ending : Result Status Stop) → option_map (λ n. n.now) words.out ≡ Some out → opened ≡ before → then ≡ old → making_then ≡ making
       → IsLeftOf before standard name left → EndsAsRepair renumbered limits wanted words.anyway left ending
-      → (making_then ≡ None → Turns opened after (WritesRepair out then now (IsRepairOf renumbered limits wanted left) ending))
+      → (making_then ≡ None → Turns opened after (WritesOut out then now (IsRepairOf renumbered limits wanted left) ending))
       → Runs before after making old now ending
   file_runs out before opened after making making_then left old then now ending is kept same unmade read ends files = record {
     ends = ends_at before left ending read ends;
     files = λ none.
-        subst (λ (o : Option (List ℕ)). Turns before after (LeavesRepair o old now (IsRepairAt renumbered limits wanted before standard name) ending)) (sym is)
-        (writes_on before opened after (WritesRepair out old now (IsRepairAt renumbered limits wanted before standard name) ending) kept
-        (turns_so opened after (WritesRepair out then now (IsRepairOf renumbered limits wanted left) ending) _
-        (λ texts new h. subst (λ (n : ℕ). WritesRepair out n now (IsRepairAt renumbered limits wanted before standard name) ending texts new) same
-        (repair_as out then now (IsRepairOf renumbered limits wanted left) (IsRepairAt renumbered limits wanted before standard name) ending texts new
+        subst (λ (o : Option (List ℕ)). Turns before after (LeavesOut o old now (IsRepairAt renumbered limits wanted before standard name) ending)) (sym is)
+        (writes_on before opened after (WritesOut out old now (IsRepairAt renumbered limits wanted before standard name) ending) kept
+        (turns_so opened after (WritesOut out then now (IsRepairOf renumbered limits wanted left) ending) _
+        (λ texts new h. subst (λ (n : ℕ). WritesOut out n now (IsRepairAt renumbered limits wanted before standard name) ending texts new) same
+        (writes_as out then now (IsRepairOf renumbered limits wanted left) (IsRepairAt renumbered limits wanted before standard name) ending texts new
         (λ text has. repair_at before left text read has) h))
         (files (unmade ∙ none))));
   }
@@ -92,7 +90,7 @@ module _ (renumbered : List ℕ → List ℕ) (limits : Limits) (wanted : Wanted
   output_runs before opened after making left old now ending is kept same read ends = record {
     ends = ends_at before left ending read ends;
     files = λ none.
-        subst (λ (o : Option (List ℕ)). Turns before after (LeavesRepair o old now (IsRepairAt renumbered limits wanted before standard name) ending)) (sym is)
+        subst (λ (o : Option (List ℕ)). Turns before after (LeavesOut o old now (IsRepairAt renumbered limits wanted before standard name) ending)) (sym is)
         (stays before after (same ∙ kept));
   }
 

@@ -9,7 +9,7 @@ use Rattle.cwr_endings.specs.declared.endings.Status.{Status}
 use Rattle.cwr_endings.specs.declared.endings.Status.TheVariants as statuses
 use Rattle.cwr_endings.specs.declared.stops.Stop.{Stop}
 use Rattle.cwr_endings.specs.declared.stops.Stop.TheVariants as stops
-use Rattle.cwr_endings.specs.Format.Failures.{FailsOut, FailsSo, FailsToJoin, IsFaultOfRead, UnlessRead}
+use Rattle.cwr_endings.specs.Format.Failures.{FailsOut, FailsSo, FailsToJoin, IsFaultOfRead}
 use Rattle.cwr_answers.specs.Format.Failures.{FailsOnAnswers, IsFaultOfOne}
 use Rattle.cwr_transform.specs.Format.Splits.{FailsToCut}
 
@@ -40,8 +40,7 @@ OfOne names sent is = Unit {0}
 
 -- A run of the work that ends as what failed does had a fault which is counted, where so many failures of files were counted before it and after
 -- it, and this lay under names then, or no such file can be made, or there was no memory. Of a split it is said where it is known what lay under
--- names, and its first part is created when the transmission was. Of selections nothing is said here, and of numbers that are put right nothing
--- of an input that fails.
+-- names. Of selections nothing is said here.
 abbrev pub FailsWork : Work → Option (List ℕ) → Option Texts → Option Texts → Result Status Stop → ℕ → ℕ → Type 0
 FailsWork (Check judging) making held after ending old now = FailsOnFiles (map (λ name. name.now) judging.files.items) ending old now
 FailsWork (Explain judging) making held after ending old now = FailsOnFiles (map (λ name. name.now) judging.files.items) ending old now
@@ -54,7 +53,7 @@ FailsWork (Acks words) making held after ending old now =
     OfOne (map (λ name. name.now) words.files.items) (map (λ name. name.now) words.sent.items) (λ name. FailsSo ending old now)
     × FailsOnAnswers ending old now
 FailsWork (Write words) making held after ending old now = FailsOut words.out making held after ending old now
-FailsWork (Split words) making held after ending old now = making ≡ None → IsSome held → words.created ≡ None → FailsToCut ending old now
+FailsWork (Split words) making held after ending old now = making ≡ None → IsSome held → FailsToCut ending old now
 FailsWork (Join words) making held after ending old now = FailsToJoin words.out making held after ending old now
-FailsWork (Renumber words) making held after ending old now = UnlessRead ending (FailsOut words.out making held after ending old now)
+FailsWork (Renumber words) making held after ending old now = FailsOut words.out making held after ending old now
 FailsWork work making held after ending old now = Unit {0}

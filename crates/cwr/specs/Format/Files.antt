@@ -1,5 +1,6 @@
 -- What lies under names after a run of each work, by how it ended.
 use Rattle.std.specs.Prelude.{◌≡◌, ◌⊎◌, ℕ, Bool, List, map, None, Option, Some, option_map, Result, Ok, Err, IfOk}
+use Rattle.cwr_moments.specs.declared.moments.Moment.{Moment}
 use Rattle.cwr_shape.specs.declared.limits.Limits.{Limits}
 use Rattle.cwr_words.specs.declared.words.Task.{Task}
 use Rattle.cwr_words.specs.declared.words.Work.{Work}
@@ -17,7 +18,7 @@ use Rattle.cwr_reports.specs.Format.Exports.{IsExportAt}
 use Rattle.cwr_transform.specs.declared.imports.Import.{Import}
 use Rattle.cwr_transform.specs.Format.Imports.{IsImportOf}
 use Rattle.cwr_transform.specs.Format.Joins.{IsTextOfJoin}
-use Rattle.cwr_transform.specs.Format.Repairs.{IsRepairOf, IsRepairStatus, WritesRepair}
+use Rattle.cwr_transform.specs.Format.Repairs.{IsRepairOf, IsRepairStatus}
 use Rattle.cwr_transform.specs.Format.Splits.{LeavesCut}
 use Rattle.cwr_transform.specs.Format.Selections.{LeavesSelection}
 use Rattle.cwr.specs.Format.Endings.{EndsOnWork, ending_status, import_of, status_code}
@@ -35,15 +36,15 @@ abbrev pub IsImportAt : Import → Option Texts → Option (List ℕ) → Option
 IsImportAt import held standard name text = IfRead held standard name (λ known. IsImportOf import (Some known) text)
 
 -- What a run leaves that splits what a word names, by its text: one that fails may have changed nothing.
-abbrev pub LeavesCutOf : Limits → ℕ → List ℕ → Option Texts → Option (List ℕ) → List ℕ → ℕ → ℕ → Result Status Stop → Texts → Texts → Type 0
-LeavesCutOf limits n prefix held standard name old now (Ok status) texts new =
-    IfRead held standard (Some name) (λ known. LeavesCut limits n prefix (Some known) old now (Ok status) texts new)
-LeavesCutOf limits n prefix held standard name old now (Err stop) texts new =
-    Same texts new ⊎ IfRead held standard (Some name) (λ known. LeavesCut limits n prefix (Some known) old now (Err stop) texts new)
+abbrev pub LeavesCutOf : Limits → ℕ → List ℕ → Option Moment → Option Texts → Option (List ℕ) → List ℕ → ℕ → ℕ → Result Status Stop
+    → Texts → Texts → Type 0
+LeavesCutOf limits n prefix created held standard name old now (Ok status) texts new =
+    IfRead held standard (Some name) (λ known. LeavesCut limits n prefix created (Some known) old now (Ok status) texts new)
+LeavesCutOf limits n prefix created held standard name old now (Err stop) texts new =
+    Same texts new ⊎ IfRead held standard (Some name) (λ known. LeavesCut limits n prefix created (Some known) old now (Err stop) texts new)
 
 -- What lies under names after a run of the work, within these limits, where so many calls had failed before it and had after it. Works that
--- only tell something change nothing. Of parts it is said where the first one is created when the transmission was, and of numbers that are
--- put right below.
+-- only tell something change nothing. Of numbers that are put right it is said below.
 abbrev pub LeavesWork : Limits → Bool → Work → Option Texts → Option (List ℕ) → ℕ → ℕ → Result Status Stop → Option Texts → Type 0
 LeavesWork limits whole (Json words) held standard old now ending after =
     Turns held after (LeavesOut (option_map (λ name. name.now) words.out) old now
@@ -60,18 +61,13 @@ LeavesWork limits whole (Join words) held standard old now ending after =
     Turns held after (WritesOut words.out.now old now (IsTextOfJoin limits (record { whole = whole; fail_on = words.fail_on }) held standard
     (map (λ name. name.now) words.files.items)) ending)
 LeavesWork limits whole (Split words) held standard old now ending after =
-    words.created ≡ None → Turns held after
-    (LeavesCutOf limits words.transactions.value words.prefix.now held standard words.file.now old now ending)
+    Turns held after
+    (LeavesCutOf limits words.transactions.value words.prefix.now words.created held standard words.file.now old now ending)
 LeavesWork limits whole (Renumber words) held standard old now ending after = Unit {0}
 LeavesWork limits whole (Select words) held standard old now ending after =
     Turns held after (LeavesSelection (option_map (λ name. name.now) words.out) old now
     (IsSelectedBy limits whole words held standard) ending)
 LeavesWork limits whole work held standard old now ending after = Turns held after Same
-
--- so a run that puts numbers right does
-abbrev pub LeavesRepair : Option (List ℕ) → ℕ → ℕ → (List ℕ → Type 0) → Result Status Stop → Texts → Texts → Type 0
-LeavesRepair None old now is ending texts new = Same texts new
-LeavesRepair (Some out) old now is ending texts new = WritesRepair out old now is ending texts new
 
 -- What becomes of putting the numbers of an input right, where a text has these with its numbers put right: the status of the run, and what
 -- lies under names then.
@@ -80,7 +76,7 @@ pub record RunsRepair (renumbered : List ℕ → List ℕ) (limits : Limits) (wa
     : Type 0 where
   pub ends : IfOk ending (λ status. IfRead before standard (option_map (λ name. name.now) words.file)
       (λ text. IsRepairStatus renumbered limits wanted words.anyway text status))
-  pub files : making ≡ None → Turns before after (LeavesRepair (option_map (λ name. name.now) words.out) old now
+  pub files : making ≡ None → Turns before after (LeavesOut (option_map (λ name. name.now) words.out) old now
       (λ text. IfRead before standard (option_map (λ name. name.now) words.file)
       (λ known. IsRepairOf renumbered limits wanted (Some known) text)) ending)
 

@@ -68,9 +68,3 @@ IsFaultOfUnion out making held after fault old now = IsFaultOfOut out making hel
 abbrev pub FailsToJoin : Bor (List ℕ) → Option (List ℕ) → Option Texts → Option Texts → Result Status Stop → ℕ → ℕ → Type 0
 FailsToJoin out making held after (Err (stops.Fault fault)) old now = IsFaultOfUnion out making held after fault old now
 FailsToJoin out making held after ending old now = FailsToWrite out making held after ending old now
-
--- ---- a run of which it isn't said whether its input failed
-
-abbrev pub UnlessRead : Result Status Stop → Type 0 → Type 0
-UnlessRead (Err (stops.Fault (faults.Read told))) is = Unit {0}
-UnlessRead ending is = is

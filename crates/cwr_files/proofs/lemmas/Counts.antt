@@ -1,6 +1,6 @@
 -- How often calls failed, and what that says of a part that failed.
-use Rattle.std.proofs.Common.{◌≡◌, ℕ, zero, suc, ◌<◌, ◌≤◌, Option, Bool, true, false, Some, None, refl, subst, sym, true≢false, arith}
-use Rattle.cwr_devices.specs.Format.Failures.{most_failures, one_more_failure}
+use Rattle.std.proofs.Common.{◌≡◌, ℕ, zero, suc, ◌<◌, ◌≤◌, Option, true, false, Some, None, refl, subst, sym, true≢false, arith}
+use Rattle.cwr_devices.specs.Format.Failures.{one_more_failure}
 use Rattle.cwr_files.specs.declared.faults.Fault.{Fault}
 use Rattle.cwr_files.specs.declared.faults.Fault.TheVariants as faults
 use Rattle.std.specs.Option.{is_some}

@@ -1,20 +1,22 @@
 -- What lies under names once the part in hand of a split has its name or is dropped.
-use Rattle.std.proofs.Common.{◌≡◌, ℕ, zero, suc, ◌+◌, ◌≤◌, ◌<◌, Bool, true, false, List, Option, Some, None, refl, sym, ap, subst, ◌∙◌, true≢false, arith}
+use Rattle.std.proofs.Common.{◌≡◌, ℕ, zero, suc, ◌+◌, ◌-◌, ◌≤◌, ◌<◌, Bool, true, false, List, Option, Some, None, refl, sym, ap, subst, ◌∙◌, true≢false, arith}
 use Rattle.std.proofs.Math.Logic.{∥∥₁_elim}
-use Rattle.std.proofs.lemmas.Option.{none-some}
+use Rattle.std.proofs.lemmas.Option.{cond_some, none-some}
 use Rattle.std.specs.Io.KnownBytes.{Keeps}
 use Rattle.std.specs.Option.{is_some}
 use Rattle.std.specs.Prelude.{Ok, IfSome}
+use Rattle.std.specs.Str.{bytes_eq}
+use Rattle.std.proofs.lemmas.Slice.Eq.{bytes_eq-Decides}
 use Rattle.cwr_devices.specs.Format.Failures.{most_failures}
 use Rattle.cwr_files.specs.Format.Files.{Same, Texts, Turns, counted_on, put}
 use Rattle.cwr_files.specs.Format.Parts.{part_name}
 use Rattle.cwr_files.specs.Steps.NewFiles.{EndsDropped, EndsKept, HasBegun, HasKeptCount, IsBegun, final_name}
-use Rattle.cwr_files.specs.Steps.NumberedFiles.{GoesOn, HasEnded, IsBegunAs, IsResting, LeavesBut, LeavesBut-prop, Same-prop, StandsAt, written_at}
+use Rattle.cwr_files.specs.Steps.NumberedFiles.{HasEnded, IsBegunAs, IsResting, LeavesBut, LeavesBut-prop, RestsAt, Same-prop, StandsAt, written_at}
 use Rattle.cwr_files.proofs.lemmas.Outs.{leaves_all}
-use Rattle.cwr_files.specs.Format.Written.{kept_text, text_of_stamped}
+use Rattle.cwr_files.specs.Format.Stamps.{created_by}
+use Rattle.cwr_files.specs.Format.Written.{known_as, text_of_stamped}
 use Rattle.cwr_files.specs.declared.new_files.NewFile.{NewFile}
 use Rattle.cwr_files.specs.declared.stamps.Stamped.{Stamped}
-use Rattle.cwr_moments.specs.declared.moments.Moment.{Moment}
 
 some_is : (file made : NewFile) → Some file ≡ Some made → file ≡ made
 some_is file made e = ap (λ (o : Option NewFile). by o) e
@@ -29,23 +31,38 @@ same_texts texts on s = λ i n. s n i
 -- ---- where parts go on
 
 -- where nothing is being written, what goes on can end
-rest_ends : (prefix : List ℕ) (asked : ℕ) (making : Option (List ℕ)) (held : Option Texts) (failures : ℕ) (texts : Texts) (count old : ℕ)
+rest_ends : (prefix : List ℕ) (making : Option (List ℕ)) (held : Option Texts) (failures : ℕ) (texts : Texts) (count old : ℕ)
     → IsResting making held failures texts old → HasEnded prefix None making held failures texts count old
-rest_ends prefix asked making None failures texts count old h = absurd h
-rest_ends prefix asked making (Some new) failures texts count old h = (λ n no. h.0 n, λ le lt. h.0)
+rest_ends prefix making None failures texts count old h = absurd h
+rest_ends prefix making (Some new) failures texts count old h = (λ n no. h.0 n, λ le lt. h.0)
 
-pub goes_ends : (prefix : List ℕ) (asked : ℕ) (made : Option NewFile) (making : Option (List ℕ)) (held : Option Texts) (failures : ℕ)
-    (texts : Texts) (count old : ℕ) → GoesOn prefix asked made making held failures texts count old
-    → HasEnded prefix made making held failures texts count old
-goes_ends prefix asked None making held failures texts count old h = rest_ends prefix asked making held failures texts count old h.0
-goes_ends prefix asked (Some made) making held failures texts count old h = h.0
+pub rests_end : (stopped : Bool) (prefix : List ℕ) (asked : ℕ) (making : Option (List ℕ)) (held : Option Texts) (failures : ℕ) (texts : Texts)
+    (count old : ℕ) → RestsAt stopped prefix asked making held failures texts count old
+    → HasEnded prefix None making held failures texts count old
+rests_end true prefix asked making held failures texts count old h = h
+rests_end false prefix asked making held failures texts count old h = rest_ends prefix making held failures texts count old h.0
 
 pub stands_ends : (stopped : Bool) (prefix : List ℕ) (asked : ℕ) (made : Option NewFile) (making : Option (List ℕ)) (held : Option Texts)
     (failures : ℕ) (texts : Texts) (count old : ℕ) → StandsAt stopped prefix asked made making held failures texts count old
     → HasEnded prefix made making held failures texts count old
-stands_ends true prefix asked made making held failures texts count old h = h
-stands_ends false prefix asked made making held failures texts count old h =
-    goes_ends prefix asked made making held failures texts count old h
+stands_ends stopped prefix asked None making held failures texts count old h =
+    rests_end stopped prefix asked making held failures texts count old h
+stands_ends stopped prefix asked (Some made) making held failures texts count old h = h.0
+
+-- no part is asked for any more
+pub stands_stopped : (stopped : Bool) (prefix : List ℕ) (asked : ℕ) (made : Option NewFile) (making : Option (List ℕ)) (held : Option Texts)
+    (failures : ℕ) (texts : Texts) (count old : ℕ) → StandsAt stopped prefix asked made making held failures texts count old
+    → StandsAt true prefix asked made making held failures texts count old
+stands_stopped stopped prefix asked None making held failures texts count old h =
+    rests_end stopped prefix asked making held failures texts count old h
+stands_stopped stopped prefix asked (Some made) making held failures texts count old h = h
+
+-- the part in hand was asked for last
+pub asked_last : (stopped : Bool) (prefix : List ℕ) (asked : ℕ) (made : Option NewFile) (making : Option (List ℕ)) (held : Option Texts)
+    (failures : ℕ) (texts : Texts) (count old : ℕ) → StandsAt stopped prefix asked made making held failures texts count old
+    → written_at made ≡ 1 → asked - 1 ≡ count
+asked_last stopped prefix asked None making held failures texts count old h one = absurd (omega (arith, one))
+asked_last stopped prefix asked (Some made) making held failures texts count old h one = omega (arith, h.1)
 
 -- the next part may be asked for
 pub stands_rests : (stopped : Bool) (prefix : List ℕ) (asked : ℕ) (made : Option NewFile) (making : Option (List ℕ)) (held : Option Texts)
@@ -76,19 +93,12 @@ begins prefix made making was (Some on) now failures after texts count old h b k
     by (Some file) (Some new) t =
         ((t.0, ∣ subst (λ (x : Texts). IsBegun file was x new) (same_texts texts on h.0) t.1 ∣₁), kept_on old failures after h.2 k)
 
-one_made : (prefix : List ℕ) (asked : ℕ) (made : Option NewFile) (making : Option (List ℕ)) (held : Option Texts) (failures : ℕ)
-    (texts : Texts) (count old : ℕ) → written_at made ≡ 1 → asked ≡ count + 1
-    → HasEnded prefix made making held failures texts count old → GoesOn prefix asked made making held failures texts count old
-one_made prefix asked None making held failures texts count old one e h = absurd (omega (arith, one))
-one_made prefix asked (Some made) making held failures texts count old one e h = (h, e)
-
 -- so parts stand where one is in hand
 pub goes_on : (stopped : Bool) (prefix : List ℕ) (asked : ℕ) (made : Option NewFile) (making : Option (List ℕ)) (held : Option Texts)
     (failures : ℕ) (texts : Texts) (count old : ℕ) → written_at made ≡ 1 → asked ≡ count + 1
     → HasEnded prefix made making held failures texts count old → StandsAt stopped prefix asked made making held failures texts count old
-goes_on true prefix asked made making held failures texts count old one e h = h
-goes_on false prefix asked made making held failures texts count old one e h =
-    one_made prefix asked made making held failures texts count old one e h
+goes_on stopped prefix asked None making held failures texts count old one e h = absurd (omega (arith, one))
+goes_on stopped prefix asked (Some made) making held failures texts count old one e h = (h, e)
 
 -- what is so where texts are known and nothing is being written
 pub where_rests : (making : Option (List ℕ)) (held : Option Texts) (failures : ℕ) (texts : Texts) (old : ℕ) (is : Type 0)
@@ -115,10 +125,11 @@ ends_alike prefix was made file making held failures texts count old p m h =
     (subst (λ (f : Option NewFile). HasEnded prefix f making held failures texts count old) (sym m) h)
 
 pub stopped_stands : (ended : Bool) (prefix was : List ℕ) (asked : ℕ) (made file : Option NewFile) (making : Option (List ℕ))
-    (held : Option Texts) (failures : ℕ) (texts : Texts) (count old : ℕ) → ended ≡ true → was ≡ prefix → file ≡ made
+    (held : Option Texts) (failures : ℕ) (texts : Texts) (count old : ℕ) → ended ≡ true → was ≡ prefix → file ≡ made → made ≡ None
     → HasEnded prefix made making held failures texts count old → StandsAt ended was asked file making held failures texts count old
-stopped_stands ended prefix was asked made file making held failures texts count old a b d h =
-    stands_alike true ended prefix was asked asked made file making held failures texts count old a b refl d h
+stopped_stands ended prefix was asked made file making held failures texts count old a b d none h =
+    stands_alike true ended prefix was asked asked None file making held failures texts count old a b refl (d ∙ none)
+    (subst (λ (f : Option NewFile). HasEnded prefix f making held failures texts count old) none h)
 
 none_is : (file : Option NewFile) → is_some file ≡ false → file ≡ None
 none_is None e = refl
@@ -221,9 +232,9 @@ rests A E prefix text (Some file) made a making was (Some on) now failures after
 pub finished : (stopped : Bool) (prefix : List ℕ) (asked : ℕ) (made : Option NewFile) (making was : Option (List ℕ)) (held now : Option Texts)
     (failures after : ℕ) (texts next : Texts) (count old : ℕ) → StandsAt stopped prefix asked made making held failures texts count old
     → written_at made ≡ 1 → IsResting was now after next old → StandsAt stopped prefix asked None was now after next (count + 1) old
-finished true prefix asked made making was held now failures after texts next count old h one r =
-    rest_ends prefix asked was now after next (count + 1) old r
-finished false prefix asked None making was held now failures after texts next count old h one r = absurd (omega (arith, one))
+finished stopped prefix asked None making was held now failures after texts next count old h one r = absurd (omega (arith, one))
+finished true prefix asked (Some made) making was held now failures after texts next count old h one r =
+    rest_ends prefix was now after next (count + 1) old r
 finished false prefix asked (Some made) making was held now failures after texts next count old h one r = (r, h.1)
 
 -- known bytes that are kept are these
@@ -232,11 +243,15 @@ kept_bytes None b text k e = absurd (none-some text e)
 kept_bytes (Some xs) None text k e = absurd k
 kept_bytes (Some xs) (Some ys) text k e = ap Some k ∙ e
 
--- what is stamped is known only where it isn't changed
+-- where the text that was written is known, the file has it with the cells
 pub of_file : {F : Type 0} (contents : F → Option (List ℕ)) (stamped : Stamped F) (text : List ℕ)
-    → text_of_stamped contents stamped ≡ Some text → contents stamped.file ≡ Some text
-of_file contents stamped text e = by stamped.moment e
+    → text_of_stamped contents stamped ≡ Some text → contents stamped.file ≡ Some (created_by stamped.cells text)
+of_file contents stamped text e = by (contents stamped.file) e
   where
-    by : (m : Option Moment) → kept_text m (contents stamped.file) ≡ Some text → contents stamped.file ≡ Some text
-    by None k = k
-    by (Some m) k = absurd (none-some text k)
+    by : (o : Option (List ℕ)) → known_as stamped.given.text (created_by stamped.cells stamped.given.text) o ≡ Some text
+        → o ≡ Some (created_by stamped.cells text)
+    by None k = absurd (none-some text k)
+    by (Some held) k =
+        let made = created_by stamped.cells stamped.given.text in
+        let is = cond_some (bytes_eq held made) stamped.given.text text k in
+        ap Some ((bytes_eq-Decides held made).0 is.0 ∙ ap (created_by stamped.cells) is.1)

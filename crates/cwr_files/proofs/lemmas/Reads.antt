@@ -1,6 +1,6 @@
 -- What is read under a word.
 use Rattle.std.proofs.Common.{◌≡◌, ℕ, ◌+◌, ◌<◌, Bool, true, false, List, [], ◌∷◌, ◌++◌, length, take, map, get_or, Option, Some, None, Bor, sym, ap, subst, ◌∙◌, true≢false, inl, inr}
-use Rattle.std.specs.Prelude.{◌⊎◌, IfSome, IsSome}
+use Rattle.std.specs.Prelude.{IfSome, IsSome}
 use Rattle.std.proofs.lemmas.Option.{none-some}
 use Rattle.std.proofs.lemmas.List.{take_more, get_or-map, length-map}
 use Rattle.cwr_files.specs.Format.Files.{Texts}

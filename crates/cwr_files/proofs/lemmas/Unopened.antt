@@ -1,6 +1,5 @@
 -- What is so of an input that couldn't be opened, by what its word names.
-use Rattle.std.proofs.Common.{◌≡◌, ℕ, Bool, Bor, true, false, List, Option, Some, None, sym, subst, true≢false}
-use Rattle.std.specs.Prelude.{IsSome}
+use Rattle.std.proofs.Common.{◌≡◌, ℕ, Bor, true, false, List, Option, Some, None, sym, subst, true≢false}
 use Rattle.cwr_devices.specs.Format.Failures.{one_more_failure}
 use Rattle.cwr_files.specs.declared.faults.Fault.{Fault}
 use Rattle.cwr_files.specs.declared.faults.Fault.TheVariants as faults

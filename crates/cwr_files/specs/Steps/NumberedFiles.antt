@@ -1,14 +1,13 @@
 -- What is kept of the files of a split, and what lies under names while they are made.
 use Rattle.std.specs.Prelude.{◌≡◌, ℕ, zero, suc, ◌+◌, ◌≤◌, ◌<◌, Bool, true, false, List, [], ◌∷◌, length, Option, Some, None, IsSome}
 use Rattle.std.specs.Coded.{Coded-set, Unit-prop, coded_list, coded_option, coded_ℕ, le_prop, Π_prop, ×_prop, →_prop}
-use Rattle.std.specs.Option.{is_some}
 use mathlib.Core.HLevel.{×₃_prop}
 use mathlib.Core.Logic.{∥∥₁_prop}
 use Rattle.cwr_devices.specs.Format.Failures.{most_failures}
 use Rattle.cwr_files.specs.Format.Faults.{IsFaultOfPart}
 use Rattle.cwr_files.specs.Format.Files.{HasCounted, Same, Texts}
 use Rattle.cwr_files.specs.Format.NewFiles.{IsNoPart}
-use Rattle.cwr_files.specs.Format.Parts.{part_name, put_parts}
+use Rattle.cwr_files.specs.Format.Parts.{created_parts, part_name, put_parts}
 use Rattle.cwr_files.specs.Steps.NewFiles.{HasKeptCount, IsBegun, final_name}
 use Rattle.cwr_files.specs.declared.faults.Fault.{Fault}
 use Rattle.cwr_files.specs.declared.faults.Fault.TheVariants as faults
@@ -40,10 +39,6 @@ replaces_none numbering = numbering.only_new
 -- when the first one is created, if not when the transmission was
 abbrev pub created_of : Numbering → Option Moment
 created_of numbering = numbering.created
-
--- each part has a moment of its own, so a file doesn't get what is written
-abbrev pub is_dated : Numbering → Bool
-is_dated numbering = is_some numbering.created
 
 -- how many failed writers were given up
 abbrev pub given_up_of : Numbering → ℕ
@@ -116,17 +111,17 @@ HasEnded prefix None making (Some new) failures texts count old = LeavesBut (par
 HasEnded prefix (Some made) making (Some new) failures texts count old =
     IsWriting prefix (count + 1) made making texts new × HasKeptCount old failures
 
--- the next part may be asked for, or is in hand
-abbrev pub GoesOn : List ℕ → ℕ → Option NewFile → Option (List ℕ) → Option Texts → ℕ → Texts → ℕ → ℕ → Type 0
-GoesOn prefix asked None making held failures texts count old = IsResting making held failures texts old × (asked ≡ count)
-GoesOn prefix asked (Some made) making held failures texts count old =
+-- none is in hand: no part is asked for any more, or the next one may be
+abbrev pub RestsAt : Bool → List ℕ → ℕ → Option (List ℕ) → Option Texts → ℕ → Texts → ℕ → ℕ → Type 0
+RestsAt true prefix asked making held failures texts count old = HasEnded prefix None making held failures texts count old
+RestsAt false prefix asked making held failures texts count old = IsResting making held failures texts old × (asked ≡ count)
+
+-- so it is, or the one that was asked for last is in hand
+abbrev pub StandsAt : Bool → List ℕ → ℕ → Option NewFile → Option (List ℕ) → Option Texts → ℕ → Texts → ℕ → ℕ → Type 0
+StandsAt stopped prefix asked None making held failures texts count old = RestsAt stopped prefix asked making held failures texts count old
+StandsAt stopped prefix asked (Some made) making held failures texts count old =
     HasEnded prefix (Some made) making held failures texts count old × (asked ≡ count + 1)
 
-abbrev pub StandsAt : Bool → List ℕ → ℕ → Option NewFile → Option (List ℕ) → Option Texts → ℕ → Texts → ℕ → ℕ → Type 0
-StandsAt true prefix asked made making held failures texts count old = HasEnded prefix made making held failures texts count old
-StandsAt false prefix asked made making held failures texts count old = GoesOn prefix asked made making held failures texts count old
-
--- either is so
 abbrev pub Stands : Numbering → Option (List ℕ) → Option Texts → ℕ → Texts → ℕ → ℕ → Type 0
 Stands numbering making held failures texts count old =
     StandsAt (has_stopped numbering) (prefix_of numbering) numbering.asked numbering.open_file making held failures texts count old
@@ -166,11 +161,11 @@ HasEnded-prop prefix (Some made) making (Some new) failures texts count old =
 
 pub StandsAt-prop : (stopped : Bool) (prefix : List ℕ) (asked : ℕ) (made : Option NewFile) (making : Option (List ℕ)) (held : Option Texts)
     (failures : ℕ) (texts : Texts) (count old : ℕ) → IsProp (StandsAt stopped prefix asked made making held failures texts count old)
-StandsAt-prop true prefix asked made making held failures texts count old =
-    HasEnded-prop prefix made making held failures texts count old
+StandsAt-prop true prefix asked None making held failures texts count old =
+    HasEnded-prop prefix None making held failures texts count old
 StandsAt-prop false prefix asked None making held failures texts count old =
     ×_prop (IsResting-prop making held failures texts old) (Coded-set coded_ℕ asked count)
-StandsAt-prop false prefix asked (Some made) making held failures texts count old =
+StandsAt-prop stopped prefix asked (Some made) making held failures texts count old =
     ×_prop (HasEnded-prop prefix (Some made) making held failures texts count old) (Coded-set coded_ℕ asked (count + 1))
 
 -- the fault is one that a part of a split may have
@@ -240,10 +235,10 @@ WhereTold None parts is = Unit {0}
 WhereTold (Some texts) None is = Unit {0}
 WhereTold (Some texts) (Some parts) is = is texts parts
 
--- what lies under names is that with the parts
+-- what lies under names is that with the parts, each with its own moment
 abbrev pub IsTied : List ℕ → ℕ → Numbering → Option (List ℕ) → Option Texts → ℕ → Texts → List (List ℕ) → Type 0
 IsTied prefix old numbering making held failures texts parts =
-    Stands numbering making held failures (put_parts prefix 1 parts texts) (length parts) old
+    Stands numbering making held failures (put_parts prefix 1 (created_parts (created_of numbering) parts) texts) (length parts) old
 
 pub IsTied-prop : (before : Option Texts) (known : Option (List (List ℕ))) (prefix : List ℕ) (old : ℕ) (numbering : Numbering)
     (making : Option (List ℕ)) (held : Option Texts) (failures : ℕ)
@@ -252,14 +247,14 @@ IsTied-prop None known prefix old numbering making held failures = Unit-prop
 IsTied-prop (Some texts) None prefix old numbering making held failures = Unit-prop
 IsTied-prop (Some texts) (Some parts) prefix old numbering making held failures =
     StandsAt-prop (has_stopped numbering) (prefix_of numbering) numbering.asked numbering.open_file making held failures
-    (put_parts prefix 1 parts texts) (length parts) old
+    (put_parts prefix 1 (created_parts (created_of numbering) parts) texts) (length parts) old
 
--- So many calls had failed at first. Where it is known what lay under names then, nothing was being written, and what is written is what the
--- files get.
-abbrev pub StartsAs : Option Texts → List ℕ → ℕ → Option (List ℕ) → Option Texts → ℕ → List ℕ → Option Moment → Type 0
-StartsAs None prefix old making held failures given created = failures ≡ old
-StartsAs (Some texts) prefix old making held failures given created =
-    (making ≡ None) × (held ≡ Some texts) × (failures ≡ old) × (given ≡ prefix) × (is_some created ≡ false)
+-- So many calls had failed at first. Where it is known what lay under names then, nothing was being written, and the parts are called and
+-- created so.
+abbrev pub StartsAs : Option Texts → List ℕ → Option Moment → ℕ → Option (List ℕ) → Option Texts → ℕ → List ℕ → Option Moment → Type 0
+StartsAs None prefix created old making held failures given dated = failures ≡ old
+StartsAs (Some texts) prefix created old making held failures given dated =
+    (making ≡ None) × (held ≡ Some texts) × (failures ≡ old) × (given ≡ prefix) × (dated ≡ created)
 
 -- none was asked for
 abbrev pub AreUnasked : Numbering → List ℕ → Option Moment → Option (List (List ℕ)) → Type 0

@@ -1,5 +1,5 @@
 -- Inputs are joined one after another, up to the last or a fault.
-use Rattle.std.proofs.Common.{◌≡◌, ◌+◌, ◌<◌, ℕ, Bool, false, List, [], ◌∷◌, ◌++◌, length, map, get_or, Option, inl, refl, sym, ap}
+use Rattle.std.proofs.Common.{◌≡◌, ◌+◌, ◌<◌, ℕ, Bool, true, false, List, [], ◌∷◌, ◌++◌, length, map, get_or, Option, inl, refl, sym, ap}
 use Rattle.std.proofs.Common.{subst, ◌∙◌, append_assoc, append-nil, arith}
 use Rattle.std.specs.Prelude.{Ok, Err, filter, nat_eq, slice_set}
 use Rattle.std.specs.List.{AllByRecursion}
@@ -28,7 +28,7 @@ use Rattle.cwr_tools.specs.declared.verdicts.ToolFault.TheVariants.{Reader, Writ
 use Rattle.cwr_parts.specs.Format.Joins.{CountsInputFault, TakesInput, TakeInputs, is_first, is_joined, joined_inputs}
 use Rattle.cwr_parts.specs.Format.Joins.{joined_records, WritesPart}
 use Rattle.cwr_parts.specs.Steps.Joins.{StopsBy, StopsJoin}
-use Rattle.cwr_parts.specs.Steps.Joined.{AddsInput, HasJoined, IsBetweenInputs, JoinsOn, joined_writer}
+use Rattle.cwr_parts.specs.Steps.Joined.{AddsAll, AddsInput, HasJoined, IsBetweenInputs, JoinsOn, joined_writer}
 use Rattle.cwr_parts.proofs.lemmas.JoinedItems.{next_joined}
 
 -- so many inputs were accepted and joined, and the others are as they were
@@ -170,6 +170,22 @@ one_joined {R = R} limits remaining failures contents counts count before now ol
       quiet = b.2.quiet ∙ h.quiet;
       limits_are = b.2.limits ∙ h.limits_are;
     }
+
+-- the one input is joined
+pub one_alone : {R W : Type 0} (limits : Limits) (remaining : R → Option (List ℕ)) (failures : R → ℕ)
+    (contents : W → Option (List ℕ)) (counts : W → ℕ) (hand left : R) (old next : Joined W) (u : Unit {0})
+    → HasJoined contents (contents (joined_writer old)) [] old → encoder_limits old.encoder ≡ limits
+    → AddsInput limits contents counts true (remaining hand) (remaining left) (Ok u) old next → failures left ≡ failures hand
+    → AddsAll limits remaining failures contents (hand ∷ []) (left ∷ []) old next
+one_alone limits remaining failures contents counts hand left old next u joined same a quiet = record {
+  inputs = a.0 ∷ [];
+  taken = (record { takes = a.1; quiet = quiet }, tt);
+  joined =
+      subst (λ (l : List Item). HasJoined contents (contents (joined_writer old)) l next) (sym (next_joined [] a.0))
+      (a.2.more (contents (joined_writer old)) [] joined);
+  unfailed = a.2.unfailed;
+  limits_are = a.2.limits ∙ same;
+}
 
 -- ---- the ends
 

@@ -15,12 +15,12 @@ use Rattle.cwr_tools.specs.declared.verdicts.JoinFault.{JoinFault}
 use Rattle.cwr_tools.specs.declared.verdicts.JoinReport.{JoinReport}
 use Rattle.cwr_tools.specs.declared.verdicts.ToolFault.{ToolFault}
 use Rattle.cwr_tools.specs.declared.verdicts.ToolFault.TheVariants as faults
-use Rattle.cwr_parts.specs.Format.Joins.{AreJoined, CountsJoinWriter, IsOfDevice, JoinsAccepted, JoinsAll, SeesInputs, TakeInputs}
+use Rattle.cwr_parts.specs.Format.Joins.{AreJoined, CountsInputFault, CountsJoinWriter, IsOfDevice, JoinsAccepted, JoinsAll, SeesInputs, TakeInputs}
 use Rattle.cwr_parts.specs.Format.Joins.{join_report}
 use Rattle.cwr_parts.specs.Format.Splits.{join_of}
 use Rattle.cwr_parts.specs.Format.Told.{IsJoinedText, JoinsBefore, JoinsSoFar, JoinsTexts}
 use Rattle.cwr_renumber.specs.Steps.Renumbered.{renumbered_text}
-use Rattle.cwr_renumber.specs.Steps.Renumberings.{CountsWriter, IsTextOfItems, LeavesItems, LeavesRenumbered, Renumbers}
+use Rattle.cwr_renumber.specs.Steps.Renumberings.{CountsReader, CountsWriter, IsTextOfItems, LeavesItems, LeavesRenumbered, Renumbers}
 use Rattle.cwr_renumber.specs.Steps.Renumberings.{RenumbersAccepted, of_one}
 
 same_value : (v : TransmissionValue) → join_of v [] ≡ v
@@ -251,6 +251,33 @@ pub writer_one : (joined : Result JoinReport JoinFault) (result : Result JoinRep
     → result ≡ of_one joined → CountsJoinWriter joined old new → CountsWriter result old new
 writer_one joined result old new answer h =
     subst (λ (r : Result JoinReport ToolFault). CountsWriter r old new) (sym answer) (writer_by joined old new h)
+
+-- ---- the reader's failures
+
+reader_by : {R W : Type 0} (limits : Limits) (remaining : R → Option (List ℕ)) (failures : R → ℕ)
+    (contents : W → Option (List ℕ)) (old new : R) (before now : W) (joined : Result JoinReport JoinFault)
+    → JoinsTexts limits remaining failures contents (old ∷ []) (new ∷ []) before now joined
+    → CountsReader (of_one joined) (failures old) (failures new)
+reader_by limits remaining failures contents old new before now (Ok report) h = by h.inputs h.taken
+  where
+    by : (inputs : List TransmissionValue) → TakeInputs limits remaining failures (old ∷ []) inputs (new ∷ [])
+        → failures new ≡ failures old
+    by [] t = absurd t
+    by (v ∷ inputs) t = t.0.quiet
+reader_by limits remaining failures contents old new before now (Err stopped) h =
+    subst (λ (n : ℕ). CountsInputFault stopped.fault n (failures new)) (ap failures (hand_is h.earlier h.hand h.later old h.before_are))
+    (subst (λ (n : ℕ). CountsInputFault stopped.fault (failures h.hand) n) (ap failures (hand_is h.finished h.left h.later new h.after_are))
+    h.counts)
+
+-- those of the source count one more where its fault is answered
+pub reader_one : {R W : Type 0} (limits : Limits) (remaining : R → Option (List ℕ)) (failures : R → ℕ)
+    (contents : W → Option (List ℕ)) (old new : R) (before now : W) (joined : Result JoinReport JoinFault)
+    (result : Result JoinReport ToolFault) → result ≡ of_one joined
+    → JoinsTexts limits remaining failures contents (old ∷ []) (new ∷ []) before now joined
+    → CountsReader result (failures old) (failures new)
+reader_one limits remaining failures contents old new before now joined result answer h =
+    subst (λ (r : Result JoinReport ToolFault). CountsReader r (failures old) (failures new)) (sym answer)
+    (reader_by limits remaining failures contents old new before now joined h)
 
 -- ---- what is seen of one input
 

@@ -12,7 +12,7 @@ use Rattle.cwr_tools.specs.declared.verdicts.ToolFault.{ToolFault}
 use Rattle.cwr_tools.specs.declared.verdicts.ToolFault.TheVariants.{Limit, Output, Refused, Truncated, Writer}
 use Rattle.cwr_encode.specs.Format.Finishing.{HasFront}
 use Rattle.cwr_encode.specs.Format.Written.{IsPart}
-use Rattle.cwr_parts.specs.Format.Joins.{CountsOutputFault, IsOfDevice, IsWholeText, join_report, joined_records}
+use Rattle.cwr_parts.specs.Format.Joins.{CountsInputFault, CountsOutputFault, IsOfDevice, IsWholeText, join_report, joined_records}
 use Rattle.cwr_parts.specs.Format.Told.{ComeBefore, JoinsUpTo, JoinsUpToLimit}
 use Rattle.cwr_renumber.specs.Steps.Renumbered.{renumbered_text}
 
@@ -65,6 +65,11 @@ LeavesRenumbered limits before contents old new fault =
 abbrev pub CountsWriter : Result JoinReport ToolFault → ℕ → ℕ → Type 0
 CountsWriter (Ok report) old new = new ≡ old
 CountsWriter (Err fault) old new = CountsOutputFault fault old new
+
+-- so do the reader's
+abbrev pub CountsReader : Result JoinReport ToolFault → ℕ → ℕ → Type 0
+CountsReader (Ok report) old new = new ≡ old
+CountsReader (Err fault) old new = CountsInputFault fault old new
 
 -- what a join of one input answered, without that one's number
 abbrev pub of_one : Result JoinReport JoinFault → Result JoinReport ToolFault

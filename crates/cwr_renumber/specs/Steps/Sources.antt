@@ -5,7 +5,7 @@ use Rattle.cwr_renumber.specs.Steps.Renumbered.{text_from}
 
 -- the source in it
 abbrev pub inner_of : {R : Type 0} → Renumbered R → R
-inner_of s = s.inner.now
+inner_of s = s.inner
 
 -- of the bytes that the last `fill` showed, how many weren't consumed since
 abbrev pub shown_of : {R : Type 0} → Renumbered R → ℕ

@@ -27,13 +27,13 @@ use Rattle.cwr_endings.specs.declared.endings.Wanted.{Wanted}
 use Rattle.cwr_endings.specs.declared.stops.Stop.{Stop}
 use Rattle.cwr_endings.specs.declared.stops.Stop.TheVariants as stops
 use Rattle.cwr_endings.specs.Format.Endings.{EndsAfterFault, FindsFrom, SettlesOut, WritesOut}
-use Rattle.cwr_endings.proofs.lemmas.Outs.{kept_whole, leaves_fewer, leaves_more, settles_since, writes_as, writes_since}
+use Rattle.cwr_endings.proofs.lemmas.Outs.{kept_whole, leaves_fewer, settles_since, writes_since}
 use Rattle.cwr_transform.specs.declared.renumberings.Repaired.{Repaired}
 use Rattle.cwr_transform.specs.declared.renumberings.RepairedFile.{RepairedFile}
-use Rattle.cwr_transform.specs.Format.Repairs.{IsRepairOf, RepairsTo, WritesRepair}
-use Rattle.cwr_transform.specs.Steps.Joins.{writer_faults_of}
-use Rattle.cwr_transform.specs.Steps.Repairs.{CountsRead, EndsRepaired, EndsRewritten, Judges, LeavesRepaired, RepairsInput, Rewrites, faults_by, keeps_repaired, look_faults, stands_alone}
+use Rattle.cwr_transform.specs.Format.Repairs.{IsRepairOf, RepairsTo}
+use Rattle.cwr_transform.specs.Steps.Repairs.{CountsRead, EndsRepaired, EndsRewritten, Judges, LeavesRepaired, RepairsInput, Rewrites, device_faults_of, faults_by, keeps_repaired, look_faults, stands_alone}
 use Rattle.cwr_transform.proofs.lemmas.JoinFiles.{few_counted}
+use Rattle.cwr_transform.proofs.lemmas.RepairFails.{read_kept}
 
 -- ---- how many calls failed
 
@@ -50,98 +50,39 @@ few_looked old on now counted le lt = by (ltb on most_failures) refl where
   by true e = let less = counted (ltb-true on most_failures e) in omega (arith, less, le)
   by false e = let more = ltb-false on most_failures e in omega (arith, more, lt)
 
-kept_so : (look : Look) (old on : ℕ) → CountsRead look old on → HasKeptCount old on
-kept_so looks.Failed old on h = λ lt. let less = h lt in omega (arith, less)
-kept_so (looks.Found t) old on h = h
-kept_so looks.Unasked old on h = h
-
 few_times : (times faults old on now : ℕ) → times ≡ faults → HasKeptCount old on → now ≤ old + faults → now < most_failures
     → now ≤ counted_on times on
 few_times times faults old on now e kept le lt = few_counted times faults on now e (few_later old on faults now kept le lt) lt
 
-pub few_repaired : (outcome : Result JoinReport ToolFault) (look : Look) (times old on now : ℕ) → CountsRead look old on
+pub few_repaired : (outcome : Result JoinReport ToolFault) (look : Look) (times old on now : ℕ) → CountsRead outcome look old on
     → CountsWriter outcome 0 times → now ≤ old + faults_by outcome look → now < most_failures → now ≤ counted_on times on
 few_repaired (Ok report) looks.Failed times old on now r t le lt =
     subst (λ (n : ℕ). now ≤ counted_on n on) (sym t) (few_looked old on now r le lt)
 few_repaired (Ok report) (looks.Found f) times old on now r t le lt = few_times times 0 old on now t r le lt
 few_repaired (Ok report) looks.Unasked times old on now r t le lt = few_times times 0 old on now t r le lt
-few_repaired (Err tool_faults.Reader) look times old on now r t le lt = few_times times 0 old on now t (kept_so look old on r) le lt
-few_repaired (Err (tool_faults.Writer n)) look times old on now r t le lt = few_times times 1 old on now t (kept_so look old on r) le lt
-few_repaired (Err tool_faults.Memory) look times old on now r t le lt = few_times times 0 old on now t (kept_so look old on r) le lt
-few_repaired (Err (tool_faults.Refused f)) look times old on now r t le lt = few_times times 0 old on now t (kept_so look old on r) le lt
-few_repaired (Err (tool_faults.Truncated n)) look times old on now r t le lt = few_times times 0 old on now t (kept_so look old on r) le lt
-few_repaired (Err tool_faults.Output) look times old on now r t le lt = few_times times 0 old on now t (kept_so look old on r) le lt
-few_repaired (Err (tool_faults.Limit l)) look times old on now r t le lt = few_times times 0 old on now t (kept_so look old on r) le lt
+few_repaired (Err tool_faults.Reader) look times old on now r t le lt =
+    subst (λ (n : ℕ). now ≤ counted_on n on) (sym t) (few_looked old on now r le lt)
+few_repaired (Err (tool_faults.Writer n)) look times old on now r t le lt = few_times times 1 old on now t r le lt
+few_repaired (Err tool_faults.Memory) look times old on now r t le lt = few_times times 0 old on now t r le lt
+few_repaired (Err (tool_faults.Refused f)) look times old on now r t le lt = few_times times 0 old on now t r le lt
+few_repaired (Err (tool_faults.Truncated n)) look times old on now r t le lt = few_times times 0 old on now t r le lt
+few_repaired (Err tool_faults.Output) look times old on now r t le lt = few_times times 0 old on now t r le lt
+few_repaired (Err (tool_faults.Limit l)) look times old on now r t le lt = few_times times 0 old on now t r le lt
 
 -- one more call may have failed
-pub few_kept : (look : Look) (old on now : ℕ) → CountsRead look old on → now ≤ old + 1 → now < most_failures → now ≤ on + 1
-few_kept look old on now r le lt = few_later old on 1 now (kept_so look old on r) le lt
-
--- ---- what any run leaves that writes a file
-
-pub repair_so : (out : List ℕ) (old now : ℕ) (is : List ℕ → Type 0) (ending : Result Status Stop) (texts new : Texts)
-    → WritesOut out old now is ending texts new → WritesRepair out old now is ending texts new
-repair_so out old now is (Ok status) texts new h = h
-repair_so out old now is (Err stops.Output) texts new h = h
-repair_so out old now is (Err (stops.Fault (faults.Open name reason))) texts new h = h
-repair_so out old now is (Err (stops.Fault (faults.Read told))) texts new h = leaves_fewer out old 1 now texts new h
-repair_so out old now is (Err (stops.Fault (faults.Write told))) texts new h = h
-repair_so out old now is (Err (stops.Fault (faults.Output name reason))) texts new h = h
-repair_so out old now is (Err (stops.Fault (faults.IsInput name))) texts new h = h
-repair_so out old now is (Err (stops.Fault (faults.IsThere name))) texts new h = h
-repair_so out old now is (Err (stops.Fault (faults.IsTwice name))) texts new h = h
-repair_so out old now is (Err (stops.Fault (faults.IsOther name))) texts new h = h
-repair_so out old now is (Err (stops.Fault (faults.IsLate name))) texts new h = h
-repair_so out old now is (Err (stops.Fault faults.Memory)) texts new h = h
-
--- where the text is more than that
-pub repair_as : (out : List ℕ) (old now : ℕ) (is other : List ℕ → Type 0) (ending : Result Status Stop) (texts new : Texts)
-    → ((text : List ℕ) → is text → other text) → WritesRepair out old now is ending texts new → WritesRepair out old now other ending texts new
-repair_as out old now is other (Ok status) texts new so h = writes_as out old now is other (Ok status) texts new so h
-repair_as out old now is other (Err stops.Output) texts new so h = writes_as out old now is other (Err stops.Output) texts new so h
-repair_as out old now is other (Err (stops.Fault (faults.Open name reason))) texts new so h = h
-repair_as out old now is other (Err (stops.Fault (faults.Read told))) texts new so h = h
-repair_as out old now is other (Err (stops.Fault (faults.Write told))) texts new so h = h
-repair_as out old now is other (Err (stops.Fault (faults.Output name reason))) texts new so h = h
-repair_as out old now is other (Err (stops.Fault (faults.IsInput name))) texts new so h = h
-repair_as out old now is other (Err (stops.Fault (faults.IsThere name))) texts new so h = h
-repair_as out old now is other (Err (stops.Fault (faults.IsTwice name))) texts new so h = h
-repair_as out old now is other (Err (stops.Fault (faults.IsOther name))) texts new so h = h
-repair_as out old now is other (Err (stops.Fault (faults.IsLate name))) texts new so h = h
-repair_as out old now is other (Err (stops.Fault faults.Memory)) texts new so h = h
+pub few_kept : (outcome : Result JoinReport ToolFault) (look : Look) (old on now : ℕ) → CountsRead outcome look old on → now ≤ old + 1
+    → now < most_failures → now ≤ on + 1
+few_kept outcome look old on now r le lt = few_later old on 1 now (read_kept outcome look old on r) le lt
 
 -- ---- where calls failed before
-
-repair_since : (out : List ℕ) (before old now : ℕ) (is : List ℕ → Type 0) (fault : Fault) (texts new : Texts) → HasKeptCount before old
-    → WritesRepair out old now is (Err (stops.Fault fault)) texts new → WritesRepair out before now is (Err (stops.Fault fault)) texts new
-repair_since out before old now is (faults.Read told) texts new kept h =
-    leaves_fewer out before 0 now texts new
-    (settles_since out before old 0 now is false texts new kept (leaves_more out old (old + 0) now texts new (λ le lt. omega (arith, le)) h))
-repair_since out before old now is (faults.Open name reason) texts new kept h =
-    writes_since out before old now is (Err (stops.Fault (faults.Open name reason))) texts new kept h
-repair_since out before old now is (faults.Write told) texts new kept h =
-    writes_since out before old now is (Err (stops.Fault (faults.Write told))) texts new kept h
-repair_since out before old now is (faults.Output name reason) texts new kept h =
-    writes_since out before old now is (Err (stops.Fault (faults.Output name reason))) texts new kept h
-repair_since out before old now is (faults.IsInput name) texts new kept h =
-    writes_since out before old now is (Err (stops.Fault (faults.IsInput name))) texts new kept h
-repair_since out before old now is (faults.IsThere name) texts new kept h =
-    writes_since out before old now is (Err (stops.Fault (faults.IsThere name))) texts new kept h
-repair_since out before old now is (faults.IsTwice name) texts new kept h =
-    writes_since out before old now is (Err (stops.Fault (faults.IsTwice name))) texts new kept h
-repair_since out before old now is (faults.IsOther name) texts new kept h =
-    writes_since out before old now is (Err (stops.Fault (faults.IsOther name))) texts new kept h
-repair_since out before old now is (faults.IsLate name) texts new kept h =
-    writes_since out before old now is (Err (stops.Fault (faults.IsLate name))) texts new kept h
-repair_since out before old now is faults.Memory texts new kept h =
-    writes_since out before old now is (Err (stops.Fault faults.Memory)) texts new kept h
 
 pub repaired_since : (out : List ℕ) (whole : Bool) (before old now : ℕ) (is : List ℕ → Type 0) (result : Result RepairedFile Fault)
     (texts new : Texts) → HasKeptCount before old → LeavesRepaired out whole old now is result texts new
     → LeavesRepaired out whole before now is result texts new
 repaired_since out whole before old now is (Ok file) texts new kept h =
     settles_since out before old (faults_by file.repaired.outcome file.repaired.look) now is (keeps_repaired whole file.repaired) texts new kept h
-repaired_since out whole before old now is (Err fault) texts new kept h = repair_since out before old now is fault texts new kept h
+repaired_since out whole before old now is (Err fault) texts new kept h =
+    writes_since out before old now is (Err (stops.Fault fault)) texts new kept h
 
 -- no output is made
 pub unmade_in : (renumbered : List ℕ → List ℕ) (limits : Limits) (counts : List Item → Type 0) (before : Option (List ℕ))
@@ -202,7 +143,7 @@ module _ {W : Type 0} (renumbered : List ℕ → List ℕ) (limits : Limits) (wa
 
 module _ (out : List ℕ) (told : Told) (old now : ℕ) (is : List ℕ → Type 0) (texts new : Texts) where
   abbrev Ends : Result Status Stop → Type 0
-  Ends ending = WritesRepair out old now is ending texts new
+  Ends ending = WritesOut out old now is ending texts new
 
   refused : (more : ℕ) (ending : Result Status Stop) → ending ≡ Ok statuses.Refused → LeavesAll out (old + more) now texts new → Ends ending
   refused more ending e h = subst Ends (sym e) (leaves_fewer out old more now texts new h)
@@ -210,14 +151,14 @@ module _ (out : List ℕ) (told : Told) (old now : ℕ) (is : List ℕ → Type 
   rewritten : (keeps : Bool) (look : Look) (repaired : Repaired) (ending : Result Status Stop) → EndsRewritten keeps look repaired ending
       → SettlesOut out (old + look_faults look) now is keeps texts new → Ends ending
   rewritten true look repaired ending e h = subst Ends (sym e) h
-  rewritten false looks.Failed repaired ending e h = subst Ends (sym e) (leaves_fewer out old 1 now texts new h)
+  rewritten false looks.Failed repaired ending e h = subst Ends (sym e) h
   rewritten false (looks.Found t) repaired ending e h = refused 0 ending e h
   rewritten false looks.Unasked repaired ending e h = refused 0 ending e h
 
   stopped : (read : Told) (made : Stop) (fault : ToolFault) (ending : Result Status Stop) → (fault ≡ tool_faults.Output → ⊥)
-      → EndsAfterFault read (stops.Fault (faults.Write told)) made (Some fault) ending → LeavesAll out (old + writer_faults_of fault) now texts new
+      → EndsAfterFault read (stops.Fault (faults.Write told)) made (Some fault) ending → LeavesAll out (old + device_faults_of fault) now texts new
       → Ends ending
-  stopped read made tool_faults.Reader ending unmade e h = subst Ends (sym e) (leaves_fewer out old 0 now texts new h)
+  stopped read made tool_faults.Reader ending unmade e h = subst Ends (sym e) h
   stopped read made (tool_faults.Writer n) ending unmade e h = subst Ends (sym e) h
   stopped read made tool_faults.Memory ending unmade e h = subst Ends (sym e) (leaves_fewer out old 0 now texts new h)
   stopped read made (tool_faults.Refused r) ending unmade e h = refused 0 ending e h
@@ -233,6 +174,6 @@ module _ (out : List ℕ) (told : Told) (old now : ℕ) (is : List ℕ → Type 
       rewritten (keeps_repaired whole repaired) repaired.look repaired ending e h
   repair_leaves whole made repaired (Err fault) ending same unmade e h =
       stopped repaired.read made fault ending (unmade fault refl) e
-      (subst (λ (b : Bool). SettlesOut out (old + writer_faults_of fault) now is b texts new)
+      (subst (λ (b : Bool). SettlesOut out (old + device_faults_of fault) now is b texts new)
       (ap (λ (o : Result JoinReport ToolFault). ((is_ok o && (stands_alone repaired.look || not whole)) && not repaired.found) && not repaired.mixed)
       same) h)

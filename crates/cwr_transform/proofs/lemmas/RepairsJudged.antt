@@ -1,7 +1,8 @@
 -- What is made of an input whose numbers are put right is right of its text.
-use Rattle.std.proofs.Common.{◌≡◌, ◌<◌, ℕ, zero, suc, arith, Bool, true, false, not, ◌&&◌, ◌||◌, true≢false, List, [], Option, Some, None, refl, sym, ap, subst, inl, inr, ◌∙◌}
+use Rattle.std.proofs.Common.{◌≡◌, ℕ, zero, suc, arith, Bool, true, false, not, ◌&&◌, ◌||◌, true≢false, List, [], Option, Some, None, refl, sym, ap, subst, inl, inr, ◌∙◌}
 use Rattle.std.specs.Prelude.{Result, Ok, Err, IfSome, OnOk, option_map}
 use Rattle.std.specs.Result.{is_ok}
+use Rattle.cwr_devices.specs.Format.Failures.{one_more_failure}
 use Rattle.cwr_shape.specs.declared.limits.Limits.{Limits}
 use Rattle.cwr_values.specs.declared.items.Item.{Item}
 use Rattle.cwr_values.specs.Format.Values.{TransmissionValue}
@@ -27,10 +28,9 @@ use Rattle.cwr_endings.specs.declared.endings.Status.TheVariants as statuses
 use Rattle.cwr_endings.specs.declared.endings.Wanted.{Wanted}
 use Rattle.cwr_endings.specs.declared.stops.Stop.{Stop}
 use Rattle.cwr_endings.specs.Format.Endings.{EndsAfterFault, FindsFrom}
-use Rattle.cwr_endings.specs.Steps.Looks.{CountsLook}
 use Rattle.cwr_transform.specs.declared.renumberings.Repaired.{Repaired}
 use Rattle.cwr_transform.specs.Format.Repairs.{EndsAsRepair, IsRepairStatus, RepairsToNone}
-use Rattle.cwr_transform.specs.Steps.Repairs.{CountsRead, EndsRepaired, EndsRewritten, HasFailedAs, IsRightOf, Judges, Rewrites, StopsRight, keeps_repaired, kept_outcome, stands_alone}
+use Rattle.cwr_transform.specs.Steps.Repairs.{CountsRead, CountsRewritten, EndsRepaired, EndsRewritten, IsRightOf, Judges, Rewrites, StopsRight, keeps_repaired, kept_outcome, stands_alone}
 
 -- ---- what is written of a reader
 
@@ -88,12 +88,6 @@ module _ {W : Type 0} (limits : Limits) (before : Option (List ℕ)) (contents :
 
 -- ---- failures
 
--- of a reader that was looked at
-pub failed_as : (look : Look) (old new : ℕ) → CountsLook look old new → HasFailedAs look new
-failed_as looks.Failed old new e = subst (λ (n : ℕ). 0 < n) (sym e) (omega arith)
-failed_as (looks.Found t) old new e = tt
-failed_as looks.Unasked old new e = tt
-
 pub writes_so : (lacks : Bool) (outcome : Result JoinReport ToolFault) (old new : ℕ) → CountsWriter outcome old new
     → CountsWriter (kept_outcome lacks outcome) old new
 writes_so true (Ok report) old new h = h
@@ -105,14 +99,22 @@ kept_on : (times old new : ℕ) → new ≡ counted_on times old → HasKeptCoun
 kept_on zero old new e lt = omega (arith, e)
 kept_on (suc times) old new e lt = omega (arith, e, lt)
 
-counted_so : (times old new : ℕ) → 0 < times → new ≡ counted_on times old → HasCounted old new
-counted_so zero old new more e lt = absurd (omega (arith, more))
-counted_so (suc times) old new more e lt = omega (arith, e, lt)
+counted_so : (times first old new : ℕ) → first ≡ 0 → times ≡ one_more_failure first → new ≡ counted_on times old → HasCounted old new
+counted_so zero first old new none more e lt = absurd (omega (arith, none, more))
+counted_so (suc times) first old new none more e lt = omega (arith, e, lt)
 
-pub repair_reads : (look : Look) (times old new : ℕ) → HasFailedAs look times → new ≡ counted_on times old → CountsRead look old new
-repair_reads looks.Failed times old new h e = counted_so times old new h e
-repair_reads (looks.Found t) times old new h e = kept_on times old new e
-repair_reads looks.Unasked times old new h e = kept_on times old new e
+pub repair_reads : (outcome : Result JoinReport ToolFault) (look : Look) (first times old new : ℕ) → first ≡ 0
+    → CountsRewritten outcome look first times → new ≡ counted_on times old → CountsRead outcome look old new
+repair_reads (Ok report) looks.Failed first times old new none h e = counted_so times first old new none h e
+repair_reads (Ok report) (looks.Found t) first times old new none h e = kept_on times old new e
+repair_reads (Ok report) looks.Unasked first times old new none h e = kept_on times old new e
+repair_reads (Err tool_faults.Reader) look first times old new none h e = counted_so times first old new none h e
+repair_reads (Err (tool_faults.Writer n)) look first times old new none h e = kept_on times old new e
+repair_reads (Err tool_faults.Memory) look first times old new none h e = kept_on times old new e
+repair_reads (Err tool_faults.Output) look first times old new none h e = kept_on times old new e
+repair_reads (Err (tool_faults.Refused r)) look first times old new none h e = kept_on times old new e
+repair_reads (Err (tool_faults.Truncated n)) look first times old new none h e = kept_on times old new e
+repair_reads (Err (tool_faults.Limit l)) look first times old new none h e = kept_on times old new e
 
 -- ---- what is known of an input
 

@@ -1,7 +1,6 @@
 -- What is left of a split.
 use Rattle.std.proofs.Common.{◌≡◌, ℕ, ◌≤◌, ◌<◌, ◌/◌, zero, suc, Bool, true, false, List, [], ◌∷◌, Option, Some, None, refl, sym, ap, subst, ◌∙◌, arith, inr, map, count_by, true≢false}
 use Rattle.std.proofs.lemmas.Option.{none-some}
-use Rattle.std.specs.Option.{is_some}
 use Rattle.std.specs.Prelude.{IsSome, OnOk, Result, Ok, Err}
 use Rattle.cwr_devices.specs.Format.Failures.{most_failures}
 use Rattle.cwr_devices.specs.Format.Outputs.{AddsTexts}
@@ -19,7 +18,7 @@ use Rattle.cwr_parts.specs.Format.Told.{SplitsText}
 use Rattle.cwr_files.specs.declared.faults.Fault.{Fault}
 use Rattle.cwr_files.specs.declared.faults.Told.{Told}
 use Rattle.cwr_files.specs.Format.Files.{Texts, Turns, counted_on}
-use Rattle.cwr_files.specs.Format.Parts.{HoldsParts, LeavesParts}
+use Rattle.cwr_files.specs.Format.Parts.{HoldsParts, LeavesParts, created_parts}
 use Rattle.cwr_files.specs.Steps.NewFiles.{HasKeptCount}
 use Rattle.cwr_files.specs.Steps.NumberedFiles.{StartsAs, told_texts}
 use Rattle.cwr_endings.specs.declared.endings.Status.{Status}
@@ -117,37 +116,37 @@ all_made true (Err fault) P h = tt
 all_made false (Ok report) P h = h refl
 all_made false (Err fault) P h = tt
 
-told_leaves : (limits : Limits) (n : ℕ) (prefix : List ℕ) (input : Option (List ℕ)) (old failures : ℕ) (stopped : Bool)
-    (told answer : Result SplitReport ToolFault) (parts : List (List ℕ)) (texts : Texts) (held : Option Texts)
+told_leaves : (limits : Limits) (n : ℕ) (prefix : List ℕ) (created : Option Moment) (input : Option (List ℕ)) (old failures : ℕ)
+    (stopped : Bool) (told answer : Result SplitReport ToolFault) (parts : List (List ℕ)) (texts : Texts) (held : Option Texts)
     → SplitsInto limits n input parts answer → IsToldAs answer (unless_stopped stopped told)
-    → Turns (Some texts) held (LeavesParts prefix parts old failures)
-    → (stopped ≡ false → Turns (Some texts) held (HoldsParts prefix parts))
-    → Turns (Some texts) held (LeavesTold limits n prefix input old failures (unless_stopped stopped told))
-told_leaves limits n prefix input old failures stopped told answer parts texts None s is left whole = absurd left
-told_leaves limits n prefix input old failures stopped told answer parts texts (Some new) s is left whole = record {
+    → Turns (Some texts) held (LeavesParts prefix (created_parts created parts) old failures)
+    → (stopped ≡ false → Turns (Some texts) held (HoldsParts prefix (created_parts created parts)))
+    → Turns (Some texts) held (LeavesTold limits n prefix created input old failures (unless_stopped stopped told))
+told_leaves limits n prefix created input old failures stopped told answer parts texts None s is left whole = absurd left
+told_leaves limits n prefix created input old failures stopped told answer parts texts (Some new) s is left whole = record {
   parts = parts;
   answer = answer;
   split = s;
   is_told = is;
   left = left;
-  all = all_made stopped told (HoldsParts prefix parts texts new) whole;
+  all = all_made stopped told (HoldsParts prefix (created_parts created parts) texts new) whole;
 }
 
-pub cut_leaves : (limits : Limits) (n : ℕ) (prefix : List ℕ) (input : Option (List ℕ)) (before : Option Texts) (borrow on : ℕ)
-    (known found : Option (List (List ℕ))) (held : Option Texts) (old failures : ℕ) (stopped : Bool) (told : Result SplitReport ToolFault)
+pub cut_leaves : (limits : Limits) (n : ℕ) (prefix : List ℕ) (created : Option Moment) (input : Option (List ℕ)) (before : Option Texts)
+    (borrow on : ℕ) (known found : Option (List (List ℕ))) (held : Option Texts) (old failures : ℕ) (stopped : Bool) (told : Result SplitReport ToolFault)
     → known ≡ Some [] → HandsOver limits n input (told_texts before borrow known) (told_texts before on found) told
     → ((name : List ℕ) (parts : List (List ℕ)) → told_texts before on found ≡ Some (name ∷ parts)
-    → Turns before held (LeavesParts prefix parts old failures))
+    → Turns before held (LeavesParts prefix (created_parts created parts) old failures))
     → ((name : List ℕ) (parts : List (List ℕ)) → told_texts before on found ≡ Some (name ∷ parts) → stopped ≡ false
-    → Turns before held (HoldsParts prefix parts))
-    → Turns before held (LeavesTold limits n prefix input old failures (unless_stopped stopped told))
-cut_leaves limits n prefix input None borrow on known found held old failures stopped told e h left whole = tt
-cut_leaves limits n prefix input (Some texts) borrow on known found held old failures stopped told e h left whole =
+    → Turns before held (HoldsParts prefix (created_parts created parts)))
+    → Turns before held (LeavesTold limits n prefix created input old failures (unless_stopped stopped told))
+cut_leaves limits n prefix created input None borrow on known found held old failures stopped told e h left whole = tt
+cut_leaves limits n prefix created input (Some texts) borrow on known found held old failures stopped told e h left whole =
     let k = subst (λ (o : Option (List (List ℕ))). HandsOver limits n input (told_texts (Some texts) borrow o)
     (told_texts (Some texts) on found) (unless_stopped stopped told)) e
     (handed_stopped limits n input (told_texts (Some texts) borrow known) (told_texts (Some texts) on found) stopped told h) in
     let m = handed limits n input k.1 (borrow ∷ []) (told_texts (Some texts) on found) k.0 k.2 in
-    told_leaves limits n prefix input old failures stopped told k.0 m.0 texts held (k.1, m.2) k.3 (left (borrow ∷ []) m.0 m.1)
+    told_leaves limits n prefix created input old failures stopped told k.0 m.0 texts held (k.1, m.2) k.3 (left (borrow ∷ []) m.0 m.1)
     (whole (borrow ∷ []) m.0 m.1)
 
 -- what is so of one store is so of the same one
@@ -161,26 +160,24 @@ of_same P store new e h = subst P (sym e) h
 
 -- ---- the end of a run
 
-pub starts_as : (before : Option Texts) (prefix : List ℕ) (old : ℕ) (making : Option (List ℕ)) (held : Option Texts) (failures : ℕ)
-    (given called : List ℕ) (created kept : Option Moment) → called ≡ given → kept ≡ created
-    → StartsAs before prefix old making held failures given created → StartsAs before prefix old making held failures called kept
-starts_as before prefix old making held failures given called created kept p m h =
-    subst (λ (x : List ℕ). StartsAs before prefix old making held failures x kept) (sym p)
-    (subst (λ (x : Option Moment). StartsAs before prefix old making held failures given x) (sym m) h)
+pub starts_as : (before : Option Texts) (prefix : List ℕ) (created : Option Moment) (old : ℕ) (making : Option (List ℕ))
+    (held : Option Texts) (failures : ℕ) (given called : List ℕ) (dated kept : Option Moment) → called ≡ given → kept ≡ dated
+    → StartsAs before prefix created old making held failures given dated → StartsAs before prefix created old making held failures called kept
+starts_as before prefix created old making held failures given called dated kept p m h =
+    subst (λ (x : List ℕ). StartsAs before prefix created old making held failures x kept) (sym p)
+    (subst (λ (x : Option Moment). StartsAs before prefix created old making held failures given x) (sym m) h)
 
 pub starts : (created : Option Moment) (making : Option (List ℕ)) (held : Option Texts) (failures : ℕ) (prefix : List ℕ)
-    → StartsAs (texts_before (is_some created) making held) prefix failures making held failures prefix created
-starts (Some moment) making held failures prefix = refl
-starts None (Some name) held failures prefix = refl
-starts None None None failures prefix = refl
-starts None None (Some texts) failures prefix = (refl, refl, refl, refl, refl)
+    → StartsAs (texts_before making held) prefix created failures making held failures prefix created
+starts created (Some name) held failures prefix = refl
+starts created None None failures prefix = refl
+starts created None (Some texts) failures prefix = (refl, refl, refl, refl, refl)
 
-pub texts_some : (created : Option Moment) (making writing : Option (List ℕ)) (held was : Option Texts) → making ≡ None → IsSome held
-    → created ≡ None → writing ≡ making → was ≡ held → IsSome (texts_before (is_some created) writing was)
-texts_some created making writing held was quiet known plain w h =
-    subst (λ (c : Option Moment). IsSome (texts_before (is_some c) writing was)) (sym plain)
-    (subst (λ (m : Option (List ℕ)). IsSome (texts_before false m was)) (sym (w ∙ quiet))
-    (subst (λ (t : Option Texts). IsSome t) (sym h) known))
+pub texts_some : (making writing : Option (List ℕ)) (held was : Option Texts) → making ≡ None → IsSome held
+    → writing ≡ making → was ≡ held → IsSome (texts_before writing was)
+texts_some making writing held was quiet known w h =
+    subst (λ (m : Option (List ℕ)). IsSome (texts_before m was)) (sym (w ∙ quiet))
+    (subst (λ (t : Option Texts). IsSome t) (sym h) known)
 
 pub kept_counted : (times failures after : ℕ) → after ≡ counted_on times failures → HasKeptCount failures after
 kept_counted zero failures after e lt = omega (arith, e)
@@ -232,11 +229,11 @@ pub stops_so : (answer : Result SplitReport ToolFault) (stop : Stop) → MayEndA
 stops_so (Ok report) stop = tt
 stops_so (Err fault) stop = tt
 
-cut_of : (limits : Limits) (n : ℕ) (prefix : List ℕ) (input : Option (List ℕ)) (old now : ℕ) (ending : Result Status Stop)
-    (texts new : Texts) → LeavesSplit limits n prefix input old now ending texts new
-    → LeavesCut limits n prefix input old now ending texts new
-cut_of limits n prefix input old now (Ok status) texts new h = h
-cut_of limits n prefix input old now (Err stop) texts new h = inr h
+cut_of : (limits : Limits) (n : ℕ) (prefix : List ℕ) (created : Option Moment) (input : Option (List ℕ)) (old now : ℕ)
+    (ending : Result Status Stop) (texts new : Texts) → LeavesSplit limits n prefix created input old now ending texts new
+    → LeavesCut limits n prefix created input old now ending texts new
+cut_of limits n prefix created input old now (Ok status) texts new h = h
+cut_of limits n prefix created input old now (Err stop) texts new h = inr h
 
 since : (old on now : ℕ) → HasKeptCount on now → now ≤ old → now < most_failures → on ≤ old
 since old on now k le lt = let less : on ≤ now = k lt in omega (arith, less, le)
@@ -248,31 +245,30 @@ left_since prefix parts old on now texts new k h = record {
   all = λ le lt. h.all (since old on now k le lt) (let less : on ≤ now = k lt in omega (arith, less, lt));
 }
 
-pub files_left : (limits : Limits) (n : ℕ) (prefix : List ℕ) (input : Option (List ℕ)) (created : Option Moment)
+pub files_left : (limits : Limits) (n : ℕ) (prefix : List ℕ) (created : Option Moment) (input : Option (List ℕ))
     (making writing : Option (List ℕ)) (held was on now : Option Texts) (old then after failures : ℕ) (told : Result SplitReport ToolFault)
-    (ending : Result Status Stop) → making ≡ None → created ≡ None → writing ≡ making → was ≡ held → then ≡ old → now ≡ on
+    (ending : Result Status Stop) → making ≡ None → writing ≡ making → was ≡ held → then ≡ old → now ≡ on
     → HasKeptCount after failures
-    → Turns (texts_before (is_some created) writing was) on (LeavesTold limits n prefix input then after told)
+    → Turns (texts_before writing was) on (LeavesTold limits n prefix created input then after told)
     → ((answer : Result SplitReport ToolFault) (parts : List (List ℕ)) → SplitsInto limits n input parts answer → IsToldAs answer told
     → MayEndAs answer ending)
     → ((answer : Result SplitReport ToolFault) (parts : List (List ℕ)) (texts new : Texts) → IsToldAs answer told
     → OnOk told (HoldsParts prefix parts texts new) → HoldsAll answer ending prefix parts texts new)
-    → Turns held now (LeavesCut limits n prefix input old failures ending)
-files_left limits n prefix input created making writing held was on now old then after failures told ending quiet plain w h t e kept left ends
+    → Turns held now (LeavesCut limits n prefix created input old failures ending)
+files_left limits n prefix created input making writing held was on now old then after failures told ending quiet w h t e kept left ends
     holds =
-    subst (λ (x : Option Texts). Turns held x (LeavesCut limits n prefix input old failures ending)) (sym e)
-    (turns_so held on (LeavesTold limits n prefix input old after told) (LeavesCut limits n prefix input old failures ending)
-    (λ texts new l. cut_of limits n prefix input old failures ending texts new (record {
+    subst (λ (x : Option Texts). Turns held x (LeavesCut limits n prefix created input old failures ending)) (sym e)
+    (turns_so held on (LeavesTold limits n prefix created input old after told) (LeavesCut limits n prefix created input old failures ending)
+    (λ texts new l. cut_of limits n prefix created input old failures ending texts new (record {
       parts = l.parts;
       answer = l.answer;
       split = l.split;
       ends = ends l.answer l.parts l.split l.is_told;
-      left = left_since prefix l.parts old after failures texts new kept l.left;
-      all = holds l.answer l.parts texts new l.is_told l.all;
+      left = left_since prefix (created_parts created l.parts) old after failures texts new kept l.left;
+      all = holds l.answer (created_parts created l.parts) texts new l.is_told l.all;
     }))
-    (subst (λ (f : ℕ). Turns held on (LeavesTold limits n prefix input f after told)) t
-    (subst (λ (x : Option Texts). Turns x on (LeavesTold limits n prefix input then after told)) before left)))
+    (subst (λ (f : ℕ). Turns held on (LeavesTold limits n prefix created input f after told)) t
+    (subst (λ (x : Option Texts). Turns x on (LeavesTold limits n prefix created input then after told)) before left)))
   where
-    before : texts_before (is_some created) writing was ≡ held
-    before = ap (λ (c : Option Moment). texts_before (is_some c) writing was) plain
-        ∙ ap (λ (m : Option (List ℕ)). texts_before false m was) (w ∙ quiet) ∙ h
+    before : texts_before writing was ≡ held
+    before = ap (λ (m : Option (List ℕ)). texts_before m was) (w ∙ quiet) ∙ h

@@ -9,11 +9,7 @@ use Rattle.cwr_endings.specs.declared.endings.Status.{Status}
 use Rattle.cwr_endings.specs.declared.endings.Status.TheVariants as statuses
 use Rattle.cwr_endings.specs.declared.endings.Wanted.{Wanted}
 use Rattle.cwr_endings.specs.declared.stops.Stop.{Stop}
-use Rattle.cwr_endings.specs.declared.stops.Stop.TheVariants as stops
-use Rattle.cwr_endings.specs.Format.Endings.{FindsFrom, WritesOut}
-use Rattle.cwr_files.specs.declared.faults.Fault.TheVariants as faults
-use Rattle.cwr_files.specs.Format.Files.{Texts}
-use Rattle.cwr_files.specs.Format.NewFiles.{LeavesAll}
+use Rattle.cwr_endings.specs.Format.Endings.{FindsFrom}
 
 -- With its numbers put right the text is accepted as the transmission, and no finding in that is unwanted.
 pub record RepairsTo (renumbered : List ℕ → List ℕ) (limits : Limits) (wanted : Wanted) (text : List ℕ) (v : TransmissionValue)
@@ -51,9 +47,3 @@ pub record IsRepairOf (renumbered : List ℕ → List ℕ) (limits : Limits) (wa
   pub within : FitsIn limits value
   pub canonical : text ≡ canonical_text value
   pub repaired : IfSome input (λ known. RepairsTo renumbered limits wanted known value)
-
--- What a run leaves that writes the file of that name: as any that writes one, but that where the input failed it may leave something under a
--- name that says that it isn't whole.
-abbrev pub WritesRepair : List ℕ → ℕ → ℕ → (List ℕ → Type 0) → Result Status Stop → Texts → Texts → Type 0
-WritesRepair out old now is (Err (stops.Fault (faults.Read told))) texts new = LeavesAll out old now texts new
-WritesRepair out old now is ending texts new = WritesOut out old now is ending texts new

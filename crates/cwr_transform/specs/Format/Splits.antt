@@ -6,7 +6,8 @@ use Rattle.cwr_files.specs.declared.faults.Name.TheVariants.{StandardInput}
 use Rattle.cwr_files.specs.Format.Faults.{IsFaultOfPart}
 use Rattle.cwr_shape.specs.declared.limits.Limits.{Limits}
 use Rattle.cwr_files.specs.Format.Files.{HasCounted, Same, Texts}
-use Rattle.cwr_files.specs.Format.Parts.{HoldsParts, LeavesParts}
+use Rattle.cwr_files.specs.Format.Parts.{HoldsParts, LeavesParts, created_parts}
+use Rattle.cwr_moments.specs.declared.moments.Moment.{Moment}
 use Rattle.cwr_tools.specs.declared.verdicts.SplitReport.{SplitReport}
 use Rattle.cwr_tools.specs.declared.verdicts.ToolFault.{ToolFault}
 use Rattle.cwr_tools.specs.declared.verdicts.ToolFault.TheVariants as tool_faults
@@ -45,23 +46,24 @@ abbrev pub HoldsAll : Result SplitReport ToolFault → Result Status Stop → Li
 HoldsAll (Ok report) (Ok status) prefix parts texts new = HoldsParts prefix parts texts new
 HoldsAll answer ending prefix parts texts new = Unit {0}
 
--- The parts that were handed over have their names, and under any other name lies what lay there before. Where a call failed, something may
--- be left of the next part, under a name of what isn't whole.
-pub record LeavesSplit (limits : Limits) (n : ℕ) (prefix : List ℕ) (input : Option (List ℕ)) (old now : ℕ) (ending : Result Status Stop)
-    (texts new : Texts) : Type 0 where
+-- The parts that were handed over have their names, each with its own moment where the first is created at one, and under any other name lies
+-- what lay there before. Where a call failed, something may be left of the next part, under a name of what isn't whole.
+pub record LeavesSplit (limits : Limits) (n : ℕ) (prefix : List ℕ) (created : Option Moment) (input : Option (List ℕ)) (old now : ℕ)
+    (ending : Result Status Stop) (texts new : Texts) : Type 0 where
   pub parts : List (List ℕ)
   pub answer : Result SplitReport ToolFault
   pub split : SplitsInto limits n input parts answer
   pub ends : MayEndAs answer ending
-  pub left : LeavesParts prefix parts old now texts new
-  pub all : HoldsAll answer ending prefix parts texts new
+  pub left : LeavesParts prefix (created_parts created parts) old now texts new
+  pub all : HoldsAll answer ending prefix (created_parts created parts) texts new
 
 -- What a run leaves that splits its input, where so many failures were counted before it and after it. One that fails may have changed
 -- nothing.
-abbrev pub LeavesCut : Limits → ℕ → List ℕ → Option (List ℕ) → ℕ → ℕ → Result Status Stop → Texts → Texts → Type 0
-LeavesCut limits n prefix input old now (Ok status) texts new = LeavesSplit limits n prefix input old now (Ok status) texts new
-LeavesCut limits n prefix input old now (Err stop) texts new =
-    Same texts new ⊎ LeavesSplit limits n prefix input old now (Err stop) texts new
+abbrev pub LeavesCut : Limits → ℕ → List ℕ → Option Moment → Option (List ℕ) → ℕ → ℕ → Result Status Stop → Texts → Texts → Type 0
+LeavesCut limits n prefix created input old now (Ok status) texts new =
+    LeavesSplit limits n prefix created input old now (Ok status) texts new
+LeavesCut limits n prefix created input old now (Err stop) texts new =
+    Same texts new ⊎ LeavesSplit limits n prefix created input old now (Err stop) texts new
 
 -- ---- what failed
 

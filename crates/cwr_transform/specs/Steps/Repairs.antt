@@ -1,5 +1,5 @@
 -- What is made of an input whose numbers are put right.
-use Rattle.std.specs.Prelude.{◌≡◌, ◌≢◌, ◌+◌, ◌<◌, ℕ, Bool, true, false, not, ◌&&◌, ◌||◌, List, Option, Some, IfSome, Result, Ok, Err, if◌then◌else◌}
+use Rattle.std.specs.Prelude.{◌≡◌, ◌≢◌, ◌+◌, ℕ, Bool, true, false, not, ◌&&◌, ◌||◌, List, Option, Some, IfSome, Result, Ok, Err, if◌then◌else◌}
 use Rattle.std.specs.Io.KnownBytes.{Appends}
 use Rattle.std.specs.Result.{is_ok}
 use Rattle.cwr_shape.specs.declared.limits.Limits.{Limits}
@@ -10,8 +10,8 @@ use Rattle.cwr_judge.specs.Format.Ends.{IsAccepted}
 use Rattle.cwr_judge.specs.Format.Items.{value_items}
 use Rattle.cwr_tools.specs.declared.verdicts.JoinReport.{JoinReport}
 use Rattle.cwr_tools.specs.declared.verdicts.ToolFault.{ToolFault}
-use Rattle.cwr_tools.specs.declared.verdicts.ToolFault.TheVariants.{Memory, Output, Writer}
-use Rattle.cwr_parts.specs.Format.Joins.{IsOfDevice}
+use Rattle.cwr_tools.specs.declared.verdicts.ToolFault.TheVariants.{Memory, Output, Reader, Writer}
+use Rattle.cwr_parts.specs.Format.Joins.{CountsInputFault, IsOfDevice}
 use Rattle.cwr_files.specs.declared.faults.Fault.{Fault}
 use Rattle.cwr_files.specs.declared.faults.Fault.TheVariants as faults
 use Rattle.cwr_files.specs.Format.Files.{HasCounted, Texts}
@@ -23,14 +23,14 @@ use Rattle.cwr_endings.specs.declared.endings.Status.TheVariants as statuses
 use Rattle.cwr_endings.specs.declared.endings.Wanted.{Wanted}
 use Rattle.cwr_endings.specs.declared.stops.Stop.{Stop}
 use Rattle.cwr_endings.specs.declared.stops.Stop.TheVariants as stops
-use Rattle.cwr_endings.specs.Format.Endings.{EndsAfterFault, FindsFrom, SettlesOut}
-use Rattle.cwr_endings.specs.Steps.Looks.{follows}
+use Rattle.cwr_endings.specs.Format.Endings.{EndsAfterFault, FindsFrom, SettlesOut, WritesOut}
+use Rattle.cwr_endings.specs.Steps.Looks.{CountsLook, follows}
 use Rattle.cwr_transform.specs.declared.renumberings.Repaired.{Repaired}
 use Rattle.cwr_transform.specs.declared.renumberings.RepairedFile.{RepairedFile}
 use Rattle.cwr_files.specs.declared.inputs.Input.{Input}
 use Rattle.cwr_files.specs.Steps.Inputs.{remaining_of}
 use Rattle.cwr_renumber.specs.Steps.Renumbered.{renumbered_text}
-use Rattle.cwr_transform.specs.Format.Repairs.{EndsAsRepair, IsRepairOf, WritesRepair}
+use Rattle.cwr_transform.specs.Format.Repairs.{EndsAsRepair, IsRepairOf}
 use Rattle.cwr_transform.specs.Steps.Joins.{writer_faults_of}
 
 -- ---- what is written
@@ -80,29 +80,36 @@ kept_outcome lacks (Err fault) = Err fault
 
 -- ---- failures
 
--- a reader that failed after a transmission counted that
-abbrev pub HasFailedAs : Look → ℕ → Type 0
-HasFailedAs looks.Failed failures = 0 < failures
-HasFailedAs look failures = Unit {0}
+-- the reader's count one more where its fault is answered, or it failed after the transmission
+abbrev pub CountsRewritten : Result JoinReport ToolFault → Look → ℕ → ℕ → Type 0
+CountsRewritten (Ok report) look old new = CountsLook look old new
+CountsRewritten (Err fault) look old new = CountsInputFault fault old new
 
--- and so does the store that takes it back, which forgets no failure
-abbrev pub CountsRead : Look → ℕ → ℕ → Type 0
-CountsRead looks.Failed old new = HasCounted old new
-CountsRead look old new = HasKeptCount old new
+-- the store that takes it back counts that, and forgets no failure
+abbrev pub CountsRead : Result JoinReport ToolFault → Look → ℕ → ℕ → Type 0
+CountsRead (Ok report) looks.Failed old new = HasCounted old new
+CountsRead (Err Reader) look old new = HasCounted old new
+CountsRead outcome look old new = HasKeptCount old new
 
--- a failure of the file's writer is counted
-abbrev pub CountsFile : Result JoinReport ToolFault → ℕ → ℕ → Type 0
-CountsFile (Err (Writer written)) old now = HasCounted old now
-CountsFile outcome old now = Unit {0}
+-- so it is once the file is settled, and a failure of its writer is counted too
+abbrev pub CountsFile : Result JoinReport ToolFault → Look → ℕ → ℕ → Type 0
+CountsFile (Ok report) looks.Failed old now = HasCounted old now
+CountsFile (Err Reader) look old now = HasCounted old now
+CountsFile (Err (Writer written)) look old now = HasCounted old now
+CountsFile outcome look old now = Unit {0}
 
--- how often the writer failed, or the reader after the transmission
+-- how often a device failed where that is answered, or the reader after the transmission
+abbrev pub device_faults_of : ToolFault → ℕ
+device_faults_of Reader = 1
+device_faults_of fault = writer_faults_of fault
+
 abbrev pub look_faults : Look → ℕ
 look_faults looks.Failed = 1
 look_faults look = 0
 
 abbrev pub faults_by : Result JoinReport ToolFault → Look → ℕ
 faults_by (Ok report) look = look_faults look
-faults_by (Err fault) look = writer_faults_of fault
+faults_by (Err fault) look = device_faults_of fault
 
 -- ---- what is wanted
 
@@ -134,7 +141,7 @@ EndsRepaired whole written made (Err fault) repaired ending = EndsAfterFault rep
 abbrev pub LeavesRepaired : List ℕ → Bool → ℕ → ℕ → (List ℕ → Type 0) → Result RepairedFile Fault → Texts → Texts → Type 0
 LeavesRepaired out whole old now is (Ok file) texts new =
     SettlesOut out (old + faults_by file.repaired.outcome file.repaired.look) now is (keeps_repaired whole file.repaired) texts new
-LeavesRepaired out whole old now is (Err fault) texts new = WritesRepair out old now is (Err (stops.Fault fault)) texts new
+LeavesRepaired out whole old now is (Err fault) texts new = WritesOut out old now is (Err (stops.Fault fault)) texts new
 
 -- ---- of what an input has left
 

@@ -1,5 +1,6 @@
 -- How a split comes to its end: what it answered, what was seen after its transmission, the status of that, and what lies under names then.
-use Rattle.std.specs.Prelude.{◌≡◌, ℕ, Bool, true, false, List, drop, Option, Some, None, IfSome, OnOk, Result, Ok, Err}
+use Rattle.std.specs.Prelude.{◌≡◌, ℕ, Bool, true, List, drop, Option, Some, None, IfSome, OnOk, Result, Ok, Err}
+use Rattle.cwr_moments.specs.declared.moments.Moment.{Moment}
 use Rattle.cwr_shape.specs.declared.limits.Limits.{Limits}
 use Rattle.cwr_values.specs.Format.Values.{TransmissionValue}
 use Rattle.cwr_judge.specs.Format.Ends.{IsAccepted}
@@ -9,7 +10,7 @@ use Rattle.cwr_tools.specs.declared.verdicts.ToolFault.TheVariants.{Memory, Outp
 use Rattle.cwr_parts.specs.Format.Splitting.{JudgesSplit}
 use Rattle.cwr_parts.specs.Format.Told.{SplitsText}
 use Rattle.cwr_files.specs.Format.Files.{Texts}
-use Rattle.cwr_files.specs.Format.Parts.{HoldsParts, LeavesParts}
+use Rattle.cwr_files.specs.Format.Parts.{HoldsParts, LeavesParts, created_parts}
 use Rattle.cwr_transform.specs.Format.Splits.{SplitsInto}
 use Rattle.cwr_endings.specs.declared.endings.Look.{Look}
 use Rattle.cwr_endings.specs.declared.endings.Status.{Status}
@@ -51,20 +52,19 @@ HandsOver limits n before old new told =
     × IsToldAs answer told
 
 -- what it leaves
-pub record LeavesTold (limits : Limits) (n : ℕ) (prefix : List ℕ) (input : Option (List ℕ)) (old now : ℕ)
+pub record LeavesTold (limits : Limits) (n : ℕ) (prefix : List ℕ) (created : Option Moment) (input : Option (List ℕ)) (old now : ℕ)
     (told : Result SplitReport ToolFault) (texts new : Texts) : Type 0 where
   pub parts : List (List ℕ)
   pub answer : Result SplitReport ToolFault
   pub split : SplitsInto limits n input parts answer
   pub is_told : IsToldAs answer told
-  pub left : LeavesParts prefix parts old now texts new
-  pub all : OnOk told (HoldsParts prefix parts texts new)
+  pub left : LeavesParts prefix (created_parts created parts) old now texts new
+  pub all : OnOk told (HoldsParts prefix (created_parts created parts) texts new)
 
--- what lay under names at first, where that is known, nothing was being written, and files get what is written
-abbrev pub texts_before : Bool → Option (List ℕ) → Option Texts → Option Texts
-texts_before true making held = None
-texts_before false (Some name) held = None
-texts_before false None held = held
+-- what lay under names at first, where that is known, and nothing was being written
+abbrev pub texts_before : Option (List ℕ) → Option Texts → Option Texts
+texts_before (Some name) held = None
+texts_before None held = held
 
 -- ---- what is counted
 

@@ -1,12 +1,11 @@
 use Rattle.std.proofs.Common.{ap, refl, subst}
-use Rattle.std.specs.Prelude.{Err, option_map}
+use Rattle.std.specs.Prelude.{option_map}
 use Rattle.cwr_renumber.specs.Steps.Renumbered.{renumbered_text}
 use Rattle.cwr_files.specs.Steps.Inputs.{remaining_of}
 use Rattle.cwr_endings.specs.declared.endings.Wanted.{Wanted}
 use Rattle.cwr.specs.Format.Files.{RunsRepair}
 use Rattle.cwr_files.proofs.lemmas.Counts.{same_count}
-use Rattle.cwr_endings.specs.declared.stops.Stop.TheVariants as stops
-use Rattle.cwr.proofs.lemmas.FailsOuts.{no_out_fails, out_fails, out_unopened, unless_read, unless_so}
+use Rattle.cwr.proofs.lemmas.FailsOuts.{no_out_fails, out_fails, out_unopened}
 use Rattle.cwr.proofs.lemmas.Renumberings.{file_runs, output_runs}
 use Rattle.cwr.proofs.program.renumber.Goals as goal
 
@@ -44,29 +43,26 @@ pub returns-in-Err-clause-failed : goal.returns-in-Err-clause-failed
 returns-in-Err-clause-failed g c =
     let s0 = c.args.store.now in
     let s1 = c.open_input.new.store in
-    unless_read (Err (stops.Fault c.in-Err.fault)) _
-    (out_unopened (g.S.Store.making s0) (g.S.Store.held s0) (g.S.Store.held s1)
+    out_unopened (g.S.Store.making s0) (g.S.Store.held s0) (g.S.Store.held s1)
     (option_map (λ n. n.now) c.args.words.now.file) c.args.standard c.args.words.now.out c.in-Err.fault
     (g.S.Store.failures s0) (g.S.Store.failures s0) (g.S.Store.failures s1)
-    (same_count (g.S.Store.failures s0) (g.S.Store.failures s0) refl) c.in-Err.ensures.unopened)
+    (same_count (g.S.Store.failures s0) (g.S.Store.failures s0) refl) c.in-Err.ensures.unopened
 
 pub returns-in-Some-clause-failed : goal.returns-in-Some-clause-failed
 returns-in-Some-clause-failed g c =
     let s0 = c.args.store.now in
     let s1 = c.open_input.new.store in
     let s2 = c.repair_file.new.store in
-    unless_so c.repair_file.result.1 _ _
-    (λ h. out_fails (g.S.Store.making s0) (g.S.Store.held s0) (g.S.Store.held s2) c.args.words.now.out c.in-Some.out (g.S.Store.making s1)
+    out_fails (g.S.Store.making s0) (g.S.Store.held s0) (g.S.Store.held s2) c.args.words.now.out c.in-Some.out (g.S.Store.making s1)
     (g.S.Store.held s1) c.repair_file.result.1 (g.S.Store.failures s0) (g.S.Store.failures s1) (g.S.Store.failures s2) c.in-Some.is
     c.open_input.ensures.making c.open_input.ensures.kept
-    (same_count (g.S.Store.failures s0) (g.S.Store.failures s1) c.in-Ok.ensures.opened) h) c.repair_file.ensures.failed
+    (same_count (g.S.Store.failures s0) (g.S.Store.failures s1) c.in-Ok.ensures.opened) c.repair_file.ensures.failed
 
 pub returns-in-None-clause-failed : goal.returns-in-None-clause-failed
 returns-in-None-clause-failed g c =
     let s0 = c.args.store.now in
     let s1 = c.open_input.new.store in
     let s2 = c.repair_input.new.store in
-    unless_so c.repair_input.result.1 _ _
-    (λ h. no_out_fails (g.S.Store.making s0) (g.S.Store.held s0) (g.S.Store.held s2) c.args.words.now.out c.repair_input.result.1
+    no_out_fails (g.S.Store.making s0) (g.S.Store.held s0) (g.S.Store.held s2) c.args.words.now.out c.repair_input.result.1
     (g.S.Store.failures s0) (g.S.Store.failures s1) (g.S.Store.failures s2) c.in-None.is
-    (same_count (g.S.Store.failures s0) (g.S.Store.failures s1) c.in-Ok.ensures.opened) h) c.repair_input.ensures.failed
+    (same_count (g.S.Store.failures s0) (g.S.Store.failures s1) c.in-Ok.ensures.opened) c.repair_input.ensures.failed

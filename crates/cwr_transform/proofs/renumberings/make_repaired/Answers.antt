@@ -1,5 +1,4 @@
 use Rattle.std.proofs.Common.{◌≡◌, ℕ, ◌≤◌, ◌+◌, Bool, List, [], Option, Some, sym, subst, ◌∙◌}
-use Rattle.std.specs.Prelude.{Err}
 use Rattle.cwr_devices.specs.Steps.Counted.{failures_of}
 use Rattle.cwr_files.specs.declared.faults.Name.TheVariants.{File}
 use Rattle.cwr_files.specs.Format.Files.{Texts, Turns, counted_on}
@@ -8,7 +7,6 @@ use Rattle.cwr_files.specs.Format.Written.{times_failed, writer_in}
 use Rattle.cwr_files.specs.Steps.Gathering.{written_to}
 use Rattle.cwr_files.specs.Steps.Inputs.{remaining_of}
 use Rattle.cwr_files.specs.Steps.NewFiles.{IsBegun}
-use Rattle.cwr_endings.specs.declared.stops.Stop.TheVariants as stops
 use Rattle.cwr_files.proofs.lemmas.Counts.{kept_then_counted}
 use Rattle.cwr_endings.specs.Format.Endings.{SettlesOut}
 use Rattle.cwr_endings.proofs.lemmas.Fails.{made_fails, unkept_fails}
@@ -18,7 +16,7 @@ use Rattle.cwr_renumber.specs.Steps.Renumberings.{CountsWriter}
 use Rattle.cwr_transform.specs.Format.Repairs.{IsRepairOf}
 use Rattle.cwr_transform.specs.Steps.Repairs.{CountsRead, faults_by}
 use Rattle.cwr_transform.proofs.lemmas.RepairFails.{file_counted, read_kept}
-use Rattle.cwr_transform.proofs.lemmas.RepairFiles.{few_kept, few_repaired, repair_so, text_kept}
+use Rattle.cwr_transform.proofs.lemmas.RepairFiles.{few_kept, few_repaired, text_kept}
 use Rattle.cwr_transform.proofs.renumberings.make_repaired.Goals as goal
 
 pub returns-in_default-clause-files : goal.returns-in_default-clause-files
@@ -50,16 +48,15 @@ returns-in-Err-settle-clause-files g c =
     let on : Begins made (g.S.Store.making s2) (g.S.Store.held s0) (g.S.Store.held s2)
     = subst (λ (o : Option Texts). Begins made (g.S.Store.making s2) (g.S.Store.held s0) o) (sym c.run-writer.ensures.kept)
     (subst (λ (m : Option (List ℕ)). Begins made m (g.S.Store.held s0) (g.S.Store.held s1)) (sym c.run-writer.ensures.making) begun) in
-    let reads : CountsRead repaired.look (g.S.Store.failures s0) (g.S.Store.failures s2)
-    = subst (λ (n : ℕ). CountsRead repaired.look n (g.S.Store.failures s2)) c.in-Ok.ensures.unfailed c.run-writer.ensures.reads in
+    let reads : CountsRead repaired.outcome repaired.look (g.S.Store.failures s0) (g.S.Store.failures s2)
+    = subst (λ (n : ℕ). CountsRead repaired.outcome repaired.look n (g.S.Store.failures s2)) c.in-Ok.ensures.unfailed c.run-writer.ensures.reads in
     turns_so (g.S.Store.held s0) (g.S.Store.held s3) (LeavesAll c.args.out.now (g.S.Store.failures s0 + 1) (g.S.Store.failures s3)) _
-    (λ texts new h. repair_so c.args.out.now (g.S.Store.failures s0) (g.S.Store.failures s3) is (Err (stops.Fault c.in-Err-settle.fault)) texts new
-    (unkept_so c.args.out.now (g.S.Store.failures s0) (g.S.Store.failures s3) is (File c.args.out) c.in-Err-settle.fault texts new
-    c.in-Err-settle.ensures.fault.1 h))
+    (λ texts new h. unkept_so c.args.out.now (g.S.Store.failures s0) (g.S.Store.failures s3) is (File c.args.out) c.in-Err-settle.fault texts new
+    c.in-Err-settle.ensures.fault.1 h)
     (out_dropped made c.args.out.now (g.S.Store.making s2) (g.S.Store.failures s2 + 1) (g.S.Store.failures s0 + 1) (g.S.Store.failures s3)
     (g.S.Store.held s0) (g.S.Store.held s2) (g.S.Store.held s3) c.in-Ok.ensures.named on
     (c.in-Err-settle.ensures.unkept c.in-Err-settle.ensures.fault.0)
-    (λ le lt. few_kept repaired.look (g.S.Store.failures s0) (g.S.Store.failures s2) (g.S.Store.failures s3) reads le lt))
+    (λ le lt. few_kept repaired.outcome repaired.look (g.S.Store.failures s0) (g.S.Store.failures s2) (g.S.Store.failures s3) reads le lt))
 
 pub returns-in-Ok-settle-clause-files : goal.returns-in-Ok-settle-clause-files
 returns-in-Ok-settle-clause-files g c =
@@ -77,8 +74,8 @@ returns-in-Ok-settle-clause-files g c =
     let on : Begins made (g.S.Store.making s2) (g.S.Store.held s0) (g.S.Store.held s2)
     = subst (λ (o : Option Texts). Begins made (g.S.Store.making s2) (g.S.Store.held s0) o) (sym c.run-writer.ensures.kept)
     (subst (λ (m : Option (List ℕ)). Begins made m (g.S.Store.held s0) (g.S.Store.held s1)) (sym c.run-writer.ensures.making) begun) in
-    let reads : CountsRead repaired.look (g.S.Store.failures s0) (g.S.Store.failures s2)
-    = subst (λ (n : ℕ). CountsRead repaired.look n (g.S.Store.failures s2)) c.in-Ok.ensures.unfailed c.run-writer.ensures.reads in
+    let reads : CountsRead repaired.outcome repaired.look (g.S.Store.failures s0) (g.S.Store.failures s2)
+    = subst (λ (n : ℕ). CountsRead repaired.outcome repaired.look n (g.S.Store.failures s2)) c.in-Ok.ensures.unfailed c.run-writer.ensures.reads in
     let written = c.take_back-written.result.1 in
     let writes : CountsWriter repaired.outcome 0 (times_failed written)
     = subst (λ (n : ℕ). CountsWriter repaired.outcome 0 n) (sym c.take_back-written.ensures.failures)
@@ -114,12 +111,12 @@ returns-in-Err-settle-clause-unmade g c =
     let s2 = c.run-writer.new.store in
     let s3 = c.settle.new.store in
     let repaired = c.run-writer.result.0 in
-    let reads : CountsRead repaired.look (g.S.Store.failures s0) (g.S.Store.failures s2)
-    = subst (λ (n : ℕ). CountsRead repaired.look n (g.S.Store.failures s2)) c.in-Ok.ensures.unfailed c.run-writer.ensures.reads in
+    let reads : CountsRead repaired.outcome repaired.look (g.S.Store.failures s0) (g.S.Store.failures s2)
+    = subst (λ (n : ℕ). CountsRead repaired.outcome repaired.look n (g.S.Store.failures s2)) c.in-Ok.ensures.unfailed c.run-writer.ensures.reads in
     unkept_fails c.args.out (g.S.Store.making s0) (g.S.Store.held s0) (g.S.Store.held s3) c.in-Err-settle.fault (g.S.Store.failures s0)
     (g.S.Store.failures s3) c.in-Err-settle.ensures.fault.1
     (kept_then_counted (g.S.Store.failures s0) (g.S.Store.failures s2) (g.S.Store.failures s3)
-    (read_kept repaired.look (g.S.Store.failures s0) (g.S.Store.failures s2) reads) c.in-Err-settle.ensures.counted)
+    (read_kept repaired.outcome repaired.look (g.S.Store.failures s0) (g.S.Store.failures s2) reads) c.in-Err-settle.ensures.counted)
 
 pub returns-in-Ok-settle-clause-counted : goal.returns-in-Ok-settle-clause-counted
 returns-in-Ok-settle-clause-counted g c =
@@ -128,12 +125,11 @@ returns-in-Ok-settle-clause-counted g c =
     let s3 = c.settle.new.store in
     let repaired = c.run-writer.result.0 in
     let written = c.take_back-written.result.1 in
-    let reads : CountsRead repaired.look (g.S.Store.failures s0) (g.S.Store.failures s2)
-    = subst (λ (n : ℕ). CountsRead repaired.look n (g.S.Store.failures s2)) c.in-Ok.ensures.unfailed c.run-writer.ensures.reads in
+    let reads : CountsRead repaired.outcome repaired.look (g.S.Store.failures s0) (g.S.Store.failures s2)
+    = subst (λ (n : ℕ). CountsRead repaired.outcome repaired.look n (g.S.Store.failures s2)) c.in-Ok.ensures.unfailed c.run-writer.ensures.reads in
     let writes : CountsWriter repaired.outcome 0 (times_failed written)
     = subst (λ (n : ℕ). CountsWriter repaired.outcome 0 n) (sym c.take_back-written.ensures.failures)
     (subst (λ (n : ℕ). CountsWriter repaired.outcome n (failures_of c.run-writer.result.1)) c.in-Ok-gathered.ensures.failures
     c.run-writer.ensures.failures) in
-    file_counted repaired.outcome _ _ _ c.is_wanted-is_kept.result (times_failed written) (g.S.Store.failures s0) (g.S.Store.failures s2)
-    (g.S.Store.failures s3) writes c.is_wanted-is_kept.ensures
-    (read_kept repaired.look (g.S.Store.failures s0) (g.S.Store.failures s2) reads) c.settle.ensures.given_up
+    file_counted repaired.outcome repaired.look _ _ _ c.is_wanted-is_kept.result (times_failed written) (g.S.Store.failures s0) (g.S.Store.failures s2)
+    (g.S.Store.failures s3) writes c.is_wanted-is_kept.ensures reads c.settle.ensures.failures c.settle.ensures.given_up

@@ -7,13 +7,13 @@ use Rattle.cwr_files.specs.Steps.Inputs.{remaining_of}
 use Rattle.cwr_endings.specs.declared.stops.Stop.{Stop}
 use Rattle.cwr_endings.specs.declared.stops.Stop.TheVariants as stops
 use Rattle.cwr_tools.specs.declared.verdicts.ToolFault.TheVariants.{Output}
-use Rattle.cwr_endings.specs.Format.Endings.{FindsFrom}
-use Rattle.cwr_endings.specs.Format.Failures.{FailsToWrite, UnlessRead}
+use Rattle.cwr_endings.specs.Format.Endings.{FindsFrom, WritesOut}
+use Rattle.cwr_endings.specs.Format.Failures.{FailsToWrite}
 use Rattle.cwr_endings.proofs.lemmas.Outs.{settled_untold, turns_so}
 use Rattle.cwr_renumber.specs.Steps.Renumbered.{renumbered_text}
-use Rattle.cwr_transform.specs.Format.Repairs.{IsRepairOf, WritesRepair}
+use Rattle.cwr_transform.specs.Format.Repairs.{IsRepairOf}
 use Rattle.cwr_transform.specs.Steps.Repairs.{faults_by, keeps_repaired}
-use Rattle.cwr_transform.proofs.lemmas.RepairFails.{repair_fails, unless_read}
+use Rattle.cwr_transform.proofs.lemmas.RepairFails.{repair_fails}
 use Rattle.cwr_transform.proofs.lemmas.RepairFiles.{repair_leaves, unmade_in}
 use Rattle.cwr_transform.proofs.lemmas.RepairsJudged.{repair_ends}
 use Rattle.cwr_transform.proofs.renumberings.repair_file.Goals as goal
@@ -51,17 +51,13 @@ returns-in-Err-handed-clause-files g c =
     = subst (λ (r : Result (Unit {0}) Stop). IfErr r (λ stop. stop ≡ stops.Output)) c.in-Err-handed.is c.put_repaired-lines.ensures in
     turns_so (g.S.Store.held s0) (g.S.Store.held s1) _ _
     (λ texts new h. subst
-    (λ (s : Stop). WritesRepair c.args.out.now (g.S.Store.failures s0) (g.S.Store.failures s1) is (Err s) texts new) (sym untold)
+    (λ (s : Stop). WritesOut c.args.out.now (g.S.Store.failures s0) (g.S.Store.failures s1) is (Err s) texts new) (sym untold)
     (settled_untold c.args.out.now (g.S.Store.failures s0) (faults_by repaired.outcome repaired.look) (g.S.Store.failures s1) is
     (keeps_repaired c.args.repair.now.wanted.whole repaired) texts new h))
     (c.in-Ok.ensures.files none)
 
 pub returns-in-Err-clause-failed : goal.returns-in-Err-clause-failed
-returns-in-Err-clause-failed g c =
-    let s0 = c.args.store.now in
-    let s1 = c.write_repaired.new.store in
-    unless_read c.args.out (g.S.Store.making s0) (g.S.Store.held s0) (g.S.Store.held s1) c.in-Err.fault (g.S.Store.failures s0)
-    (g.S.Store.failures s1) c.in-Err.ensures.unmade
+returns-in-Err-clause-failed g c = c.in-Err.ensures.unmade
 
 pub returns-in-Ok-handed-clause-failed : goal.returns-in-Ok-handed-clause-failed
 returns-in-Ok-handed-clause-failed g c =
@@ -81,5 +77,5 @@ returns-in-Err-handed-clause-failed g c =
     let s1 = c.write_repaired.new.store in
     let untold : c.in-Err-handed.stop ≡ stops.Output
     = subst (λ (r : Result (Unit {0}) Stop). IfErr r (λ stop. stop ≡ stops.Output)) c.in-Err-handed.is c.put_repaired-lines.ensures in
-    subst (λ (s : Stop). UnlessRead (Err s) (FailsToWrite c.args.out (g.S.Store.making s0) (g.S.Store.held s0) (g.S.Store.held s1) (Err s)
-    (g.S.Store.failures s0) (g.S.Store.failures s1))) (sym untold) tt
+    subst (λ (s : Stop). FailsToWrite c.args.out (g.S.Store.making s0) (g.S.Store.held s0) (g.S.Store.held s1) (Err s)
+    (g.S.Store.failures s0) (g.S.Store.failures s1)) (sym untold) tt

@@ -14,4 +14,4 @@ returns-clause-ends g c =
 pub returns-clause-failed : goal.returns-clause-failed
 returns-clause-failed g c =
     output_fails (g.S.Store.failures c.args.store.now) (g.S.Store.failures c.run-output.new.store) c.run-output.result.0
-    c.args.repair.now.wanted.whole c.run-output.result.0.outcome c.ending-ended.result c.ending-ended.ensures
+    c.args.repair.now.wanted.whole c.run-output.result.0.outcome c.ending-ended.result c.run-output.ensures.reads c.ending-ended.ensures

@@ -17,7 +17,7 @@ new-files-requires-clause-unasked g c =
 pub new-files-requires-clause-starts : goal.new-files-requires-clause-starts
 new-files-requires-clause-starts g c =
     let store = c.args.store.now in
-    starts_as g.B.Unsplit.texts g.B.Unsplit.prefix g.B.Unsplit.failures (g.S.Store.making store) (g.S.Store.held store)
+    starts_as g.B.Unsplit.texts g.B.Unsplit.prefix g.B.Unsplit.created g.B.Unsplit.failures (g.S.Store.making store) (g.S.Store.held store)
     (g.S.Store.failures store) _ _ _ _ c.new-parts.ensures.0 c.new-parts.ensures.1 c.requires
 
 pub returns-clause-judged : goal.returns-clause-judged
@@ -77,11 +77,11 @@ returns-clause-files g c =
     c.new-files.ensures.none c.cut_source-outcome.ensures.handed in
     let none = c.cut_source-outcome.ensures.lent ∙ c.new-files.ensures.lent in
     of_store g.B.Unsplit.texts g.S.Store.held
-    (λ s. LeavesTold limits n g.B.Unsplit.prefix input g.B.Unsplit.failures (g.S.Store.failures s) c.unless_stopped.result) last.store.now _
+    (λ s. LeavesTold limits n g.B.Unsplit.prefix g.B.Unsplit.created input g.B.Unsplit.failures (g.S.Store.failures s) c.unless_stopped.result) last.store.now _
     (λ some. let one = same some in search rules)
     (subst (λ r. Turns g.B.Unsplit.texts (g.S.Store.held last.store.now)
-    (LeavesTold limits n g.B.Unsplit.prefix input g.B.Unsplit.failures (g.S.Store.failures last.store.now) r)) (sym c.unless_stopped.ensures)
-    (cut_leaves limits n g.B.Unsplit.prefix input g.B.Unsplit.texts first.store.ghost_name last.store.ghost_name known found
+    (LeavesTold limits n g.B.Unsplit.prefix g.B.Unsplit.created input g.B.Unsplit.failures (g.S.Store.failures last.store.now) r)) (sym c.unless_stopped.ensures)
+    (cut_leaves limits n g.B.Unsplit.prefix g.B.Unsplit.created input g.B.Unsplit.texts first.store.ghost_name last.store.ghost_name known found
     (g.S.Store.held last.store.now) g.B.Unsplit.failures (g.S.Store.failures last.store.now) stopped told c.new-files.ensures.none
     c.cut_source-outcome.ensures.handed (λ name parts. c.end-made.ensures.left name parts none)
     (λ name parts. c.end-made.ensures.whole name parts none)))

@@ -12,13 +12,13 @@ invariant_of-self g c =
       counted = kept_then_kept g.B.Unsplit.failures (g.S.Store.failures it.store.now) (g.S.Store.failures c.done.new.store) it.counted
           c.done.ensures.store_failures;
       failed = c.done.ensures.fault g.B.Unsplit.failures it.counted it.failed;
-      dated = λ some. c.done.ensures.dated ∙ it.dated some;
+      created = λ some. c.done.ensures.created ∙ it.created some;
       called = λ some. c.done.ensures.prefix ∙ it.called some;
       tied = rw c.and-finished.ensures
           (tied_more (written_to (text_of_stamped g.S.Writer.Write.contents)) it.parts.now.finished.writers c.args.writer g.B.Unsplit.texts
           g.B.Unsplit.prefix g.B.Unsplit.failures it.parts.now.numbering c.done.new.self (g.S.Store.making it.store.now)
           (g.S.Store.making c.done.new.store) (g.S.Store.held it.store.now) (g.S.Store.held c.done.new.store)
-          (g.S.Store.failures it.store.now) (g.S.Store.failures c.done.new.store) it.tied it.called c.in-Ok.ensures.named);
+          (g.S.Store.failures it.store.now) (g.S.Store.failures c.done.new.store) it.tied it.called c.done.ensures.created c.in-Ok.ensures.named);
     }
 
 pub returns-in-Ok-clause-added : goal.returns-in-Ok-clause-added
@@ -34,10 +34,10 @@ invariant_of-self-in-Err-1 g c =
       counted = kept_then_kept g.B.Unsplit.failures (g.S.Store.failures it.store.now) (g.S.Store.failures c.done.new.store) it.counted
           c.done.ensures.store_failures;
       failed = c.done.ensures.fault g.B.Unsplit.failures it.counted it.failed;
-      dated = λ some. c.done.ensures.dated ∙ it.dated some;
+      created = λ some. c.done.ensures.created ∙ it.created some;
       called = λ some. c.done.ensures.prefix ∙ it.called some;
       tied = tied_so g.B.Unsplit.texts (texts_of_parts g.S.Writer.Write.contents it.parts.now.finished.writers) g.B.Unsplit.prefix
           g.B.Unsplit.failures it.parts.now.numbering c.done.new.self (g.S.Store.making it.store.now) (g.S.Store.making c.done.new.store)
           (g.S.Store.held it.store.now) (g.S.Store.held c.done.new.store) (g.S.Store.failures it.store.now)
-          (g.S.Store.failures c.done.new.store) it.tied c.in-Err.ensures.unnamed;
+          (g.S.Store.failures c.done.new.store) it.tied c.done.ensures.created c.in-Err.ensures.unnamed;
     }

@@ -1,4 +1,4 @@
-use Rattle.std.proofs.Common.{refl, ap, sym, subst, ◌∙◌}
+use Rattle.std.proofs.Common.{refl, ap, sym, ◌∙◌}
 use Rattle.std.specs.Prelude.{Option}
 use Rattle.cwr_files.specs.declared.new_files.NewFile.{NewFile}
 use Rattle.cwr_files.specs.Steps.NumberedFiles.{fault_after, fault_of, has_stopped, made_in, prefix_of}
@@ -14,7 +14,7 @@ returns-clause-stands g c =
     let new = c.discard.new.self in
     stopped_stands (has_stopped new) (prefix_of new) (prefix_of new) new.asked new.open_file new.open_file
     (g.S.Store.making c.discard.new.store) (g.S.Store.held c.discard.new.store) (g.S.Store.failures c.discard.new.store) texts count failures
-    (c.discard.ensures.stopped ∙ c.tell_failed.ensures.stopped ∙ c.count_given_up.ensures.stopped) refl refl
+    (c.discard.ensures.stopped ∙ c.tell_failed.ensures.stopped ∙ c.count_given_up.ensures.stopped) refl refl c.discard.ensures.closed
     (c.discard.ensures.drops texts count failures
     (ends_alike (prefix_of it) (prefix_of on) it.open_file on.open_file (g.S.Store.making c.args.store.now) (g.S.Store.held c.args.store.now)
     (g.S.Store.failures c.args.store.now) texts count failures (c.tell_failed.ensures.prefix ∙ c.count_given_up.ensures.prefix)

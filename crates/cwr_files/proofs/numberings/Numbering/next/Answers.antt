@@ -1,7 +1,7 @@
-use Rattle.std.proofs.Common.{ℕ, ◌+◌, refl, sym, ap, ◌∙◌}
+use Rattle.std.proofs.Common.{ℕ, ◌+◌, true, refl, sym, ap, ◌∙◌}
 use Rattle.cwr_files.specs.Steps.NumberedFiles.{fault_of, has_stopped, prefix_of}
 use Rattle.cwr_files.proofs.lemmas.Counts.{fault_first, fault_kept, fault_new, same_count}
-use Rattle.cwr_files.proofs.lemmas.PartsInHand.{asks, goes_on, stopped_stands}
+use Rattle.cwr_files.proofs.lemmas.PartsInHand.{asks, goes_on, stands_alike, stands_stopped, stopped_stands}
 use Rattle.cwr_files.proofs.numberings.Numbering.next.Goals as goal
 
 pub returns-in-Ok-clause-stands : goal.returns-in-Ok-clause-stands
@@ -30,7 +30,17 @@ returns-in-Err-clause-stands g c = λ texts count failures h.
     stopped_stands (has_stopped last) (prefix_of c.discard.new.self) (prefix_of last) last.asked c.discard.new.self.open_file last.open_file
     (g.S.Store.making c.discard.new.store) (g.S.Store.held c.discard.new.store) (g.S.Store.failures c.discard.new.store) texts count failures
     c.count_failure-in-Err.ensures.stopped c.count_failure-in-Err.ensures.prefix c.count_failure-in-Err.ensures.made
-    (c.discard.ensures.drops texts count failures a.0)
+    c.discard.ensures.closed (c.discard.ensures.drops texts count failures a.0)
+
+pub returns-then-is_some-clause-stands : goal.returns-then-is_some-clause-stands
+returns-then-is_some-clause-stands g c = λ texts count failures h.
+    let it = c.args.self.now in
+    let last = c.count_failure.new.self in
+    stands_alike true (has_stopped last) (prefix_of it) (prefix_of last) it.asked last.asked it.open_file last.open_file
+    (g.S.Store.making c.args.store.now) (g.S.Store.held c.args.store.now) (g.S.Store.failures c.args.store.now) texts count failures
+    c.count_failure.ensures.stopped c.count_failure.ensures.prefix c.count_failure.ensures.asked c.count_failure.ensures.made
+    (stands_stopped (has_stopped it) (prefix_of it) it.asked it.open_file (g.S.Store.making c.args.store.now)
+    (g.S.Store.held c.args.store.now) (g.S.Store.failures c.args.store.now) texts count failures h)
 
 pub returns-then-is_some-clause-fault : goal.returns-then-is_some-clause-fault
 returns-then-is_some-clause-fault g c =

@@ -13,14 +13,14 @@ pub returns-in-Open-clause-end : goal.returns-in-Open-clause-end
 returns-in-Open-clause-end g c = λ e.
     let s = c.args.self.now in
     end_left _ _ s.line.bytes c.take_line.new.line.bytes s.out s.at s.end s.is_over s.numbering e s.long c.requires.more
-    (subst (λ (x : LineEnd). IfSome (g.R.Source.remaining s.inner.now) (λ left. IsSomeAnd
+    (subst (λ (x : LineEnd). IfSome (g.R.Source.remaining s.inner) (λ left. IsSomeAnd
     (g.R.Source.remaining c.take_line.new.inner)
     (λ rest. EndsAs x c.take_line.new.line.bytes (s.line.bytes ++ left) rest))) c.in-Open.is
     c.in_ok-ended.ensures.takes.known)
 
 pub returns : goal.returns
 returns g c = record {
-  bytes = subst (λ (h : HeldLine). Keeps (left_of c.args.self.now (g.R.Source.remaining c.args.self.now.inner.now))
+  bytes = subst (λ (h : HeldLine). Keeps (left_of c.args.self.now (g.R.Source.remaining c.args.self.now.inner))
       (left_by 0 c.put_line.new.out c.is_too_long-self.result c.put_line.new.numbering h.bytes
       (g.R.Source.remaining c.take_line.new.inner))) (sym c.clear.ensures)
       (line_left _ _ c.args.self.now.line.bytes c.args.self.now.out c.put_line.new.out c.args.self.now.at c.args.self.now.end
