@@ -480,7 +480,7 @@ COMMANDS
        Where nothing is selected, or FILE is refused, OUT isn't written, and
        the status is 1. It is 1 too where something of a list is missing: then
        OUT has the rest. To standard output all was written by then. Memory
-       also holds the lists, and 24 bytes for each of their lines.
+       also holds the lists, and 25 bytes for each of their lines.
 
        --works LIST
               Those whose numbers stand in the file LIST, one a line: the

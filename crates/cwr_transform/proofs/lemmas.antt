@@ -38,10 +38,20 @@ pub mod JoinFails
 pub mod RepairFails
 -- What is noted of the values of lists while others come, one after another.
 pub mod SoughtValues
+-- Where the transactions stand that have a number is found again.
+pub mod FoundPlaces
+-- It is known where the transactions stand that have a number of a list, while others come.
+pub mod FoundNumbers
+-- What is told of lists comes line by line.
+pub mod ListsTold
 -- What is seen of a transmission while some of its transactions are selected comes item by item.
 pub mod SelectionsSeen
 -- The status of a selection is right of its text.
 pub mod SelectionStatuses
+-- What is told of a selection is right of its text.
+pub mod SelectionsTold
+-- What is told of a selection is so by what the words name.
+pub mod ToldNamed
 -- The status of a selection is that of what the words name.
 pub mod StatusesNamed
 -- An import to an output writes the transmission that its lines are.

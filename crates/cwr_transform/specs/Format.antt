@@ -6,5 +6,6 @@ pub mod Missing
 pub mod Openings
 pub mod Repairs
 pub mod Selections
+pub mod SelectionsTold
 pub mod Splits
 pub mod Told

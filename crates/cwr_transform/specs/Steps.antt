@@ -1,4 +1,5 @@
 -- What the code keeps, and what its calls do to that.
+pub mod Found
 pub mod Joins
 pub mod Lists
 pub mod Repairs
@@ -6,3 +7,4 @@ pub mod SelectViews
 pub mod Selections
 pub mod Sought
 pub mod Splits
+pub mod TellingLists

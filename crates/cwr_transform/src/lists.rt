@@ -6,7 +6,7 @@ ghost use Rattle.std.specs.Option.{option_map_or};
 ghost use Rattle.cwr_fields.specs.Format.Bytes.{are_digits};
 ghost use Rattle.cwr_files.specs.Format.Inputs.{is_standard};
 ghost use Rattle.cwr_files.specs.Steps.Inputs.{IsThereFor, standard_after, standard_left};
-ghost use Rattle.cwr_transform.specs.Steps.Lists.{ReadsText, all_after, line_read};
+ghost use Rattle.cwr_transform.specs.Steps.Lists.{IsFirstOf, ReadsText, all_after, line_read};
 ghost use Rattle.cwr_transform.specs.Format.Lists.{all_read, entries_in, entry_of, is_place_number, number_in, pair_of, place_in, place_number, unmarked};
 
 use cwr_fields::trimmed;
@@ -74,7 +74,7 @@ pub(crate) fn unmarked(text: &[u8]) -> &[u8]
 }
 
 /// What a line of a list has: a CR and then spaces at its end are left out.
-pub(crate) fn entry_of(line: &[u8]) -> &[u8]
+fn entry_of(line: &[u8]) -> &[u8]
     ensures { result.now ≡ entry_of line.now }
 {
     trimmed(line.strip_suffix(b"\r").unwrap_or(line))
@@ -168,7 +168,7 @@ impl Entry for NumberCell {
 }
 
 /// The place that an entry writes: two numbers with a space between them.
-pub(crate) fn place_in(entry: &[u8]) -> Option<Place>
+fn place_in(entry: &[u8]) -> Option<Place>
     ensures { result ≡ place_in entry.now }
 {
     let (group, transaction) = halves(entry);
@@ -208,6 +208,15 @@ fn read_line<T: Entry>(line: &[u8]) -> Option<Option<T>>
     } else {
         Some(None)
     }
+}
+
+/// What the first line of a text says, if it says anything, and what follows it.
+pub(crate) fn next_value<T: Entry>(text: &[u8]) -> (Option<T>, Option<&[u8]>)
+    ensures parts { IsFirstOf T.reads text.now result.0 (option_map (λ rest. rest.now) result.1) }
+    ensures shorter { IfSome result.1 (λ rest. length rest.now < length text.now) }
+{
+    let (line, after) = first_line(text);
+    (read_line(line).flatten(), after)
 }
 
 /// Takes what a line says after values. The line is the one of that number.

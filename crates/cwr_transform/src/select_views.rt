@@ -5,7 +5,7 @@ ghost use Rattle.cwr_tools.specs.Format.Watching.{AreFindingsIn};
 ghost use Rattle.cwr_values.specs.declared.items.Item.{Item};
 ghost use Rattle.cwr_transform.specs.Format.Missing.{is_created_at};
 ghost use Rattle.cwr_transform.specs.Steps.SelectViews.{HasSeenFindings, has_seen};
-ghost use Rattle.cwr_transform.specs.Steps.Sought.{HasNoted, numbers_sought, places_sought};
+ghost use Rattle.cwr_transform.specs.Steps.Sought.{HasNoted, lacks_memory, numbers_sought, places_sought};
 
 use crate::sought::Sought;
 use cwr_fields::{Cell, is_spaces};
@@ -110,7 +110,7 @@ impl<'a, C: Chooses> SelectView<'a, C> {
         created: Option<Moment>,
         sought: Sought<'a>,
     ) -> SelectView<'a, C>
-        requires { HasNoted (numbers_sought sought) (places_sought sought) [] sought }
+        requires { HasNoted (numbers_sought sought) (places_sought sought) 0 0 [] sought }
         ensures choice { result.choice ≡ choice.entry }
         ensures created { result.created ≡ created }
         ensures sought { result.sought ≡ sought.entry }
@@ -134,7 +134,8 @@ impl<'a, C: Chooses> SelectView<'a, C> {
 
     /// Whether memory was refused for what is seen.
     pub(crate) fn lacks_memory(&self) -> bool
-        ensures { result ≡ false → self.now.findings.lacks_memory ≡ false }
+        ensures findings { result ≡ false → self.now.findings.lacks_memory ≡ false }
+        ensures sought { result ≡ false → lacks_memory self.now.sought ≡ false }
     {
         self.findings.lacks_memory || self.blanked.lacks_memory || self.sought.lacks_memory()
     }

@@ -1,7 +1,10 @@
 //! Transactions of a transmission that are selected, as one of their own.
 
-ghost use Rattle.std.specs.Prelude.{◌≡◌, [], None, Some, IfNone, IfOk, IfSome, OnOk, map, option_map};
+ghost use Rattle.std.specs.Prelude.{◌≡◌, ◌++◌, ℕ, [], List, None, Option, Some, IfNone, IfOk, IfSome, OnOk, false, map, option_map, true};
+ghost use Rattle.std.specs.Io.KnownBytes.{Appends};
 ghost use Rattle.std.specs.Str.{bytes_eq};
+ghost use Rattle.cwr_devices.specs.Steps.Sinks.{PutsText, has_failed};
+ghost use Rattle.cwr_parts.specs.Format.Outcomes.{input_line};
 ghost use Rattle.cwr_parts.specs.Format.Splitting.{CountsSplitWriter};
 ghost use Rattle.cwr_files.specs.Format.Faults.{IfErr};
 ghost use Rattle.cwr_files.specs.Format.Files.{Turns};
@@ -10,17 +13,18 @@ ghost use Rattle.cwr_files.specs.Steps.Inputs.{remaining_of, standard_left};
 ghost use Rattle.cwr_select.specs.Format.Criteria.{significant};
 ghost use Rattle.cwr_transform.specs.Format.Selections.{EndsAsSelection, EndsAsSelectionAt, HasSelectStatus, HasSelectStatusAt, IsApart, IsNoParty, IsSelectionAt, IsSelectionFrom, LeavesSelection, WritesSelection, asked_choice, other_moment, words_read};
 ghost use Rattle.cwr_transform.specs.Format.Lists.{number_in, place_in};
-ghost use Rattle.cwr_transform.specs.Format.Missing.{same_place};
-ghost use Rattle.cwr_transform.specs.Steps.Lists.{IsThereForList, ReadsList, SaysText, standard_after_list};
-ghost use Rattle.cwr_transform.specs.Steps.Selections.{CountsLookAfter, CountsSelecting, EndsSelected, JudgesSelected, JudgesSelection, LeavesSelected, LooksAfterSelecting, ReadsNeither, ReadsNone, SaysNone, SeesSelected, asked_by, is_empty, keeps_selected, selected_status, status_where, with_memory};
+ghost use Rattle.cwr_transform.specs.Format.Missing.{Placed, same_place};
+ghost use Rattle.cwr_transform.specs.Format.SelectionsTold.{HandsOnSelection, TellsSelection, TellsSelectionAt, TellsSelectionOut};
+ghost use Rattle.cwr_transform.specs.Format.Told.{numbers_told, places_told, selected_line, told_of};
+ghost use Rattle.cwr_transform.specs.Steps.Lists.{IsThereForList, ReadsList, ReadsSaid, SaysText, standard_after_list};
+ghost use Rattle.cwr_transform.specs.Steps.Selections.{CountsLookAfter, CountsSelecting, EndsSelected, JudgesSelected, JudgesSelection, LeavesSelected, ListsSay, LooksAfterSelecting, ReadsNeither, ReadsNone, SaysNone, SeesSelected, TellsSelected, asked_by, asking_with, has_lines, is_empty, keeps_selected, selected_status, status_where, with_memory};
 ghost use Rattle.cwr_transform.specs.Steps.SelectViews.{has_seen};
 ghost use Rattle.cwr_transform.specs.Steps.Sought.{AreOnce, HasNoted, numbers_sought, places_sought};
+ghost use Rattle.cwr_transform.specs.Steps.TellingLists.{Knows};
 
 use crate::join_inputs::name_of;
 use crate::lists::{Entry, NumberCell, Place, Untaken, read_list, values_in};
-use crate::select_notes::{
-    put_numbers, put_places, put_selected, tell_blanked, tell_line, tell_none, tell_same_moment,
-};
+use crate::select_notes::{add_lines, tell_blanked, tell_line, tell_none, tell_same_moment};
 use crate::select_views::SelectView;
 use crate::sought::Sought;
 use cwr_devices::{Counted, Pen, ReadAhead, Sink, SinkFault, Source, Target};
@@ -98,6 +102,7 @@ fn list_of<'a, T: Entry + Ord>(
     name: &'a str,
 ) -> Result<ReadList<T>, Unlisted<'a>>
     ensures says { IfOk result (λ list. SaysText T.eq T.reads text.items list.values) }
+    ensures text { IfOk result (λ list. list.text.items ≡ text.items) }
     ensures none { SaysNone T.reads text.items result }
 {
     match values_in(alloc, text.as_slice()) {
@@ -119,6 +124,8 @@ fn read_values<'a, T: Entry + Ord, S: Store, I: Read + Drop>(
 ) -> Result<Option<ReadList<T>>, Unlisted<'a>>
     ensures listed { IfOk result (λ list. ReadsList T.eq T.reads (S.held store.old) (standard_left I.remaining standard.old)
         (option_map (λ n. n.now) name.entry) (option_map (λ l. l.values) list)) }
+    ensures said { IfOk result (λ list. ReadsSaid T.eq T.reads (S.held store.old) (standard_left I.remaining standard.old)
+        (option_map (λ n. n.now) name.entry) (option_map (λ l. l.values) list) (option_map (λ l. l.text.items) list)) }
     ensures there { OnOk result (IsThereForList (option_map (λ n. n.now) name.entry) standard.old) }
     ensures none { ReadsNone T.reads (S.held store.old) (standard_left I.remaining standard.old) (option_map (λ n. n.now) name.entry)
         (IsThereForList (option_map (λ n. n.now) name.entry) standard.old) result }
@@ -151,6 +158,12 @@ fn read_lists<'a, S: Store, I: Read + Drop>(
     ensures places { IfOk result (λ lists. ReadsList same_place place_in (S.held store.old)
         (standard_left I.remaining (standard_after_list (option_map (λ n. n.now) selection.now.works) standard.old))
         (option_map (λ n. n.now) selection.now.places) (option_map (λ l. l.values) lists.places)) }
+    ensures works_said { IfOk result (λ lists. ReadsSaid bytes_eq number_in (S.held store.old) (standard_left I.remaining standard.old)
+        (option_map (λ n. n.now) selection.now.works) (option_map (λ l. l.values) lists.works) (option_map (λ l. l.text.items) lists.works)) }
+    ensures places_said { IfOk result (λ lists. ReadsSaid same_place place_in (S.held store.old)
+        (standard_left I.remaining (standard_after_list (option_map (λ n. n.now) selection.now.works) standard.old))
+        (option_map (λ n. n.now) selection.now.places) (option_map (λ l. l.values) lists.places)
+        (option_map (λ l. l.text.items) lists.places)) }
     ensures first { OnOk result (IsThereForList (option_map (λ n. n.now) selection.now.works) standard.old) }
     ensures there { OnOk result (IsThereForList (option_map (λ n. n.now) selection.now.places)
         (standard_after_list (option_map (λ n. n.now) selection.now.works) standard.old)) }
@@ -347,6 +360,8 @@ fn run<'a, S: Store, I: Read + Drop, P: Pace + Drop, W: Target + Drop, C: Choose
         (remaining_of S.Reader.remaining I.remaining input.entry) W.contents writer result.1 result.0 }
     ensures failures { CountsSplitWriter result.0.outcome (W.failures writer) (W.failures result.1) }
     ensures reads { CountsSelecting result.0.outcome result.0.look (S.failures store.old) (S.failures store.new) }
+    ensures told { TellsSelected (asked_by selection.now.limits selection.now.wanted C.choice view.old)
+        (remaining_of S.Reader.remaining I.remaining input.entry) result.0 view.new.sought }
     ensures kept { S.held store.new ≡ S.held store.old }
     ensures making { S.making store.new ≡ S.making store.old }
 {
@@ -360,6 +375,7 @@ fn run<'a, S: Store, I: Read + Drop, P: Pace + Drop, W: Target + Drop, C: Choose
         &mut *view,
         writer,
     );
+    view.sought.end(alloc);
     let outcome = with_memory(outcome, view.lacks_memory());
     let look = look_after(&mut reader, &outcome);
     let read = end_input(store, reader);
@@ -376,6 +392,43 @@ fn run<'a, S: Store, I: Read + Drop, P: Pace + Drop, W: Target + Drop, C: Choose
     (selected, writer)
 }
 
+/// The text of a list, if there is one.
+fn text_in<T: Ord + Drop>(list: &Option<ReadList<T>>) -> Option<&[u8]>
+    ensures { option_map (λ t. t.now) result ≡ option_map (λ l. l.text.items) list.now }
+{
+    match list {
+        Some(list) => Some(list.text.as_slice()),
+        None => None,
+    }
+}
+
+/// Puts the lines that say how many transactions are selected, and what of the lists is missing, or is there several times.
+fn put_report<W: Target, C>(
+    report: SelectReport,
+    lists: &Lists,
+    view: &mut SelectView<'_, C>,
+    sink: &mut Sink<W>,
+) -> Result<(), SinkFault>
+    ensures { (numbers : Option (List (List ℕ))) (places : Option (List (ℕ × ℕ))) (ps : List Placed)
+        → ListsSay numbers places lists.now (numbers_sought view.old.sought) (places_sought view.old.sought) → Knows ps view.old.sought
+        → PutsText W.contents W.failures (selected_line report ++ (told_of numbers_told numbers ps ++ told_of places_told places ps)) result
+        sink.old sink.new }
+{
+    let (works, places) = (text_in(&lists.works), text_in(&lists.places));
+    let mut pen = Pen::new(sink);
+    add_lines(report, works, places, &mut view.sought, &mut pen);
+    pen.end()
+}
+
+/// Puts the line on an input that isn't taken. Where a device or memory failed it puts nothing.
+fn put_fault<W: Target>(fault: &ToolFault, sink: &mut Sink<W>) -> Result<(), SinkFault>
+    ensures { PutsText W.contents W.failures (input_line fault.now) result sink.old sink.new }
+{
+    let mut pen = Pen::new(sink);
+    input_line(fault, &mut pen);
+    pen.end()
+}
+
 /// Puts the lines that say how a selection ended: how many transactions are selected, and what of the lists is missing, or is there several
 /// times; or what became of the input. Where a device or memory failed it puts nothing.
 fn put_lines<W: Target, C>(
@@ -383,23 +436,17 @@ fn put_lines<W: Target, C>(
     lists: &Lists,
     view: &mut SelectView<'_, C>,
     sink: &mut Sink<W>,
-) -> Result<(), SinkFault> {
-    let report = match &selected.outcome {
-        Ok(report) => *report,
-        Err(fault) => {
-            let mut pen = Pen::new(sink);
-            input_line(fault, &mut pen);
-            return pen.end();
-        }
-    };
-    put_selected(report, sink)?;
-    if let (Some(list), Some(sought)) = (&lists.works, &mut view.sought.numbers) {
-        put_numbers(list.text.as_slice(), sought, sink)?;
+) -> Result<(), SinkFault>
+    ensures told { (numbers : Option (List (List ℕ))) (places : Option (List (ℕ × ℕ))) (ps : List Placed)
+        → ListsSay numbers places lists.now (numbers_sought view.old.sought) (places_sought view.old.sought) → Knows ps view.old.sought
+        → IfOk selected.now.outcome (λ report. PutsText W.contents W.failures
+        (selected_line report ++ (told_of numbers_told numbers ps ++ told_of places_told places ps)) result sink.old sink.new) }
+    ensures fault { IfErr selected.now.outcome (λ fault. PutsText W.contents W.failures (input_line fault) result sink.old sink.new) }
+{
+    match &selected.outcome {
+        Ok(report) => put_report(*report, lists, view, sink),
+        Err(fault) => put_fault(fault, sink),
     }
-    if let (Some(list), Some(sought)) = (&lists.places, &mut view.sought.places) {
-        put_places(list.text.as_slice(), sought, sink)?;
-    }
-    Ok(())
 }
 
 /// Tells on standard error what isn't as it is wanted, and what is lost of groups' trailers. What is written is called so.
@@ -468,6 +515,8 @@ fn write_selected<'a, S: Store, I: Read + Drop, P: Pace + Drop, C: Chooses, E: W
     requires same { view.old.choice.now ≡ choice.now }
     ensures sees { IfOk result (λ file. SeesSelected (asked_by selection.now.limits selection.now.wanted C.choice view.old)
         (remaining_of S.Reader.remaining I.remaining input.entry) file.selected) }
+    ensures told { IfOk result (λ file. TellsSelected (asked_by selection.now.limits selection.now.wanted C.choice view.old)
+        (remaining_of S.Reader.remaining I.remaining input.entry) file.selected view.new.sought) }
     ensures judged { IfOk result (λ file. JudgesSelected selection.now.limits (C.choice choice.now)
         (remaining_of S.Reader.remaining I.remaining input.entry) file.selected) }
     ensures files { S.making store.old ≡ None → Turns (S.held store.old) (S.held store.new)
@@ -510,13 +559,38 @@ fn write_selected<'a, S: Store, I: Read + Drop, P: Pace + Drop, C: Chooses, E: W
 
 /// Whether the lines say how a selection ended: not where its moment isn't its own, or something follows the transmission where nothing may,
 /// or a finding is unwanted.
-fn has_lines(selected: &Selected<'_>, wanted: Wanted) -> bool {
+fn has_lines(selected: &Selected<'_>, wanted: Wanted) -> bool
+    ensures { result ≡ has_lines wanted selected.now }
+{
     selected.outcome.is_err()
         || !selected.is_same_moment
             && matches!(
                 good_status(wanted, selected.look, selected.found),
                 Some(Status::Good)
             )
+}
+
+/// Puts the lines that say how a selection to a file ended, if any do.
+fn put_lines_if<W: Target, C>(
+    selected: &Selected<'_>,
+    wanted: Wanted,
+    lists: &Lists,
+    view: &mut SelectView<'_, C>,
+    sink: &mut Sink<W>,
+) -> Result<(), SinkFault>
+    ensures told { (numbers : Option (List (List ℕ))) (places : Option (List (ℕ × ℕ))) (ps : List Placed)
+        → ListsSay numbers places lists.now (numbers_sought view.old.sought) (places_sought view.old.sought) → Knows ps view.old.sought
+        → has_lines wanted selected.now ≡ true → IfOk selected.now.outcome (λ report. PutsText W.contents W.failures
+        (selected_line report ++ (told_of numbers_told numbers ps ++ told_of places_told places ps)) result sink.old sink.new) }
+    ensures fault { IfErr selected.now.outcome (λ fault. PutsText W.contents W.failures (input_line fault) result sink.old sink.new) }
+    ensures none { has_failed sink.old ≡ false → has_lines wanted selected.now ≡ false
+        → PutsText W.contents W.failures [] result sink.old sink.new }
+{
+    if has_lines(selected, wanted) {
+        put_lines(selected, lists, view, sink)
+    } else {
+        Ok(())
+    }
 }
 
 /// Puts the lines that say how a selection to a file ended, if any do, and hands them on.
@@ -527,13 +601,19 @@ fn put_file_lines<'a, W: Target, C>(
     view: &mut SelectView<'_, C>,
     lines: W,
 ) -> (W, Result<(), Stop<'a>>)
-    ensures { IfErr result.1 (λ stop. stop ≡ Stop.Output) }
+    ensures stopped { IfErr result.1 (λ stop. stop ≡ Stop.Output) }
+    ensures handed_on { OnOk result.1 (W.handed_on result.0 ≡ true) }
+    ensures told { (numbers : Option (List (List ℕ))) (places : Option (List (ℕ × ℕ))) (ps : List Placed)
+        → ListsSay numbers places lists.now (numbers_sought view.old.sought) (places_sought view.old.sought) → Knows ps view.old.sought
+        → has_lines wanted selected.now ≡ true
+        → IfOk selected.now.outcome (λ report. OnOk result.1 (Appends (W.contents lines) (W.contents result.0)
+        (selected_line report ++ (told_of numbers_told numbers ps ++ told_of places_told places ps)))) }
+    ensures fault { IfErr selected.now.outcome
+        (λ fault. OnOk result.1 (Appends (W.contents lines) (W.contents result.0) (input_line fault))) }
+    ensures none { has_lines wanted selected.now ≡ false → OnOk result.1 (Appends (W.contents lines) (W.contents result.0) []) }
 {
-    if !has_lines(selected, wanted) {
-        return (lines, Ok(()));
-    }
     let mut sink = Sink::new(lines);
-    let put = put_lines(selected, lists, view, &mut sink);
+    let put = put_lines_if(selected, wanted, lists, view, &mut sink);
     hand_on(put, sink)
 }
 
@@ -554,6 +634,11 @@ fn select_to_file<'a, S: Store, I: Read + Drop, P: Pace + Drop, W: Target, C: Ch
     requires same { view.old.choice.now ≡ choice.now }
     ensures status { HasSelectStatus (asked_by selection.now.limits selection.now.wanted C.choice view.old)
         (remaining_of S.Reader.remaining I.remaining input.entry) result.1 }
+    ensures told { (numbers : Option (List (List ℕ))) (places : Option (List (ℕ × ℕ)))
+        → ListsSay numbers places lists.now (numbers_sought view.old.sought) (places_sought view.old.sought)
+        → TellsSelection (asking_with (asked_by selection.now.limits selection.now.wanted C.choice view.old) numbers places)
+        (remaining_of S.Reader.remaining I.remaining input.entry) (W.contents lines) (W.contents result.0) result.1 }
+    ensures handed_on { HandsOnSelection (Some out.now) result.1 (W.handed_on result.0) }
     ensures apart { IsApart (Some out.now) (words_read selection.now) (S.held store.old) result.1 }
     ensures ends { EndsAsSelection selection.now.limits selection.now.wanted.whole selection.now.changes (C.choice choice.now)
         (remaining_of S.Reader.remaining I.remaining input.entry) result.1 }
@@ -656,7 +741,7 @@ fn select_by<'a, S: Store, I: Read + Drop, P: Pace + Drop, W: Target + Drop, C: 
     output: W,
     error: &mut E,
 ) -> (W, Result<Status, Stop<'a>>)
-    requires { HasNoted (numbers_sought sought) (places_sought sought) [] sought }
+    requires { HasNoted (numbers_sought sought) (places_sought sought) 0 0 [] sought }
     ensures status { HasSelectStatus (record {
       limits = selection.now.limits;
       wanted = selection.now.wanted;
@@ -665,6 +750,17 @@ fn select_by<'a, S: Store, I: Read + Drop, P: Pace + Drop, W: Target + Drop, C: 
       numbers = numbers_sought sought.entry;
       places = places_sought sought.entry;
     }) (remaining_of S.Reader.remaining I.remaining input.entry) result.1 }
+    ensures told { (numbers : Option (List (List ℕ))) (places : Option (List (ℕ × ℕ)))
+        → ListsSay numbers places lists.now (numbers_sought sought.entry) (places_sought sought.entry)
+        → TellsSelectionOut (option_map (λ name. name.now) selection.now.out) (record {
+          limits = selection.now.limits;
+          wanted = selection.now.wanted;
+          moment = other_moment (option_map (λ name. name.now) selection.now.out) selection.now.changes;
+          choice = C.choice choice.now;
+          numbers = numbers;
+          places = places;
+        }) (remaining_of S.Reader.remaining I.remaining input.entry) (W.contents output) (W.contents result.0) result.1 }
+    ensures handed_on { HandsOnSelection (option_map (λ name. name.now) selection.now.out) result.1 (W.handed_on result.0) }
     ensures apart { IsApart (option_map (λ name. name.now) selection.now.out) (words_read selection.now) (S.held store.old) result.1 }
     ensures ends { EndsAsSelection selection.now.limits selection.now.wanted.whole selection.now.changes (C.choice choice.now)
         (remaining_of S.Reader.remaining I.remaining input.entry) result.1 }
@@ -712,6 +808,18 @@ fn select_input<'a, S: Store, I: Read + Drop, P: Pace + Drop, W: Target + Drop, 
       numbers = option_map (λ list. list.values) lists.now.works;
       places = option_map (λ list. list.values) lists.now.places;
     }) (remaining_of S.Reader.remaining I.remaining input.entry) result.1 }
+    ensures told { (numbers : Option (List (List ℕ))) (places : Option (List (ℕ × ℕ)))
+        → ListsSay numbers places lists.now (option_map (λ list. list.values) lists.now.works) (option_map (λ list. list.values) lists.now.places)
+        → TellsSelectionOut (option_map (λ name. name.now) selection.now.out) (record {
+          limits = selection.now.limits;
+          wanted = selection.now.wanted;
+          moment = other_moment (option_map (λ name. name.now) selection.now.out) selection.now.changes;
+          choice = asked_choice selection.now.others (option_map (λ list. list.values) lists.now.works)
+              (option_map (λ list. list.values) lists.now.places) (option_map (λ by. by.0.now) answered.entry) selection.now.kinds party.entry;
+          numbers = numbers;
+          places = places;
+        }) (remaining_of S.Reader.remaining I.remaining input.entry) (W.contents output) (W.contents result.0) result.1 }
+    ensures handed_on { HandsOnSelection (option_map (λ name. name.now) selection.now.out) result.1 (W.handed_on result.0) }
     ensures apart { IsApart (option_map (λ name. name.now) selection.now.out) (words_read selection.now) (S.held store.old) result.1 }
     ensures ends { EndsAsSelection selection.now.limits selection.now.wanted.whole selection.now.changes
         (asked_choice selection.now.others (option_map (λ list. list.values) lists.now.works)
@@ -770,6 +878,12 @@ pub fn select_file<'a, S: Store, I: Read + Drop, P: Pace + Drop, W: Target + Dro
     // It has the status of that.
     ensures status { (input : I) → IsThereOrRead input standard.old
         → HasSelectStatusAt selection.now (option_map (λ by. by.0.now) answered.entry) (S.held store.old) (I.remaining input) result.1 }
+    // Where a file is written just the lines on that are written to the output: how much is selected, and what of the lists is missing, or is
+    // there several times; or what became of the transmission.
+    ensures told { (input : I) → IsThereOrRead input standard.old
+        → TellsSelectionAt selection.now (option_map (λ by. by.0.now) answered.entry) (S.held store.old) (I.remaining input)
+        (option_map (λ name. name.now) selection.now.out) (W.contents output) (W.contents result.0) result.1 }
+    ensures handed_on { HandsOnSelection (option_map (λ name. name.now) selection.now.out) result.1 (W.handed_on result.0) }
     // The file is none of what it reads.
     ensures apart { IsApart (option_map (λ name. name.now) selection.now.out) (words_read selection.now) (S.held store.old) result.1 }
     // Where it ends well the file holds the canonical text of that, and nothing else changed. So it is, or nothing changed, where it is

@@ -33,7 +33,7 @@ last_line text e =
 -- ---- what lines say
 
 -- of a line and others, by what it says
-abbrev with_line : {A : Type 0} → Option (Option A) → Option (List A) → Option (List A)
+abbrev pub with_line : {A : Type 0} → Option (Option A) → Option (List A) → Option (List A)
 with_line None rest = None
 with_line (Some None) rest = rest
 with_line (Some (Some a)) rest = read_before (Some a) rest

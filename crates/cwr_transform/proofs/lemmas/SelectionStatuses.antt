@@ -61,7 +61,7 @@ module _ {C : Type 0} (limits : Limits) (wanted : Wanted) (choice : C → Choice
         after = after;
         looked = subst (λ (m : Option (List ℕ)). IsLook m after look) t.1.front.1 looked;
         moment = known.moment;
-        lacks = lacks_right _ _ (placed v) now.sought known.sought;
+        lacks = lacks_right _ _ _ _ (placed v) now.sought known.sought;
         finds = is ∙ (known.findings memory).worst wanted.fail_on;
         none = ap (λ (r : SelectReport). r.selected == 0) t.2;
       }

@@ -23,9 +23,9 @@ use Rattle.cwr_endings.specs.Format.Endings.{WritesOut}
 use Rattle.cwr_endings.proofs.lemmas.Outs.{out_same, turns_so, writes_as}
 use Rattle.cwr_transform.specs.declared.selections.Selection.{Selection}
 use Rattle.cwr_transform.specs.Format.Selections.{EndsAsSelection, EndsAsSelectionAt, IsSelectionAt, IsSelectionFrom, LeavesSelection, asked_choice}
-use Rattle.cwr_transform.specs.Format.Lists.{all_read, entries_in, number_in, place_in}
+use Rattle.cwr_transform.specs.Format.Lists.{IsListed, all_read, entries_in, number_in, place_in}
 use Rattle.cwr_transform.specs.Format.Missing.{same_place}
-use Rattle.cwr_transform.specs.Steps.Lists.{AreListedOnce, IsThereForList, ReadsList, ReadsText, SaysText, standard_after_list}
+use Rattle.cwr_transform.specs.Steps.Lists.{AreListedOnce, IsThereForList, ReadsList, ReadsSaid, ReadsText, SaysText, standard_after_list}
 
 -- ---- who chooses
 
@@ -105,6 +105,35 @@ listed_lent same reads held of_standard input standard (Some name) values lent t
   ),
   h.2,
 )
+
+-- so is what its text says
+pub said_by : {A : Type 0} (same : A → A → Bool) (reads : List ℕ → Option A) (held : Option Texts) (standard : Option (List ℕ))
+    (name bytes : List ℕ) (values : List A) (text : List ℕ) → ReadsText held standard name bytes → SaysText same reads bytes values
+    → text ≡ bytes → ReadsSaid same reads held standard (Some name) (Some values) (Some text)
+unfolding listed_so
+said_by same reads held standard name bytes values text r s is =
+    let h = listed_so same reads held standard name bytes values r s in
+    record {
+      listed = h.0;
+      by_name = h.1;
+      once = h.2;
+      said = ap (λ (t : List ℕ). all_read reads (entries_in t)) is ∙ s.1;
+    }
+
+pub said_lent : {I A : Type 0} (same : A → A → Bool) (reads : List ℕ → Option A) (held : Option Texts)
+    (of_standard : I → Option (List ℕ)) (input : I) (standard : Option I) (name : Option (List ℕ)) (values : Option (List A))
+    (text : Option (List ℕ)) → IsThereOrRead input standard → IsThereForList name standard
+    → ReadsSaid same reads held (standard_left of_standard standard) name values text
+    → ReadsSaid same reads held (of_standard input) name values text
+said_lent same reads held of_standard input standard name values text lent there h =
+    record { listed = h.listed; by_name = by name there h.by_name; once = h.once; said = h.said } where
+      by : (name : Option (List ℕ)) → IsThereForList name standard → IsListed reads held (standard_left of_standard standard) name h.listed
+          → IsListed reads held (of_standard input) name h.listed
+      by None there k = k
+      by (Some n) there k = (
+        k.0,
+        read_lent (is_standard (Some n)) held of_standard input standard n (λ text. all_read reads (entries_in text) ≡ h.listed) lent there k.1,
+      )
 
 -- so it has what it had, where it is read
 pub left_named : {I : Type 0} (of_standard : I → Option (List ℕ)) (standard : I) (first : Option I) (works places : Option (List ℕ))

@@ -98,6 +98,7 @@ module _ {C : Type 0} (choice : C → Choice) (first old : SelectView C) (items 
         choice_is = k.choice_is;
         created_is = k.created_is;
         findings = k.findings;
+        few = omega (arith, k.few, length_push items (Opened r));
         sought = k.sought;
         moment =
             ap₂ (λ (a b : Bool). a || b) k.moment (is ∙ ap (λ m. is_created_at m r) k.created_is)
@@ -108,7 +109,8 @@ module _ {C : Type 0} (choice : C → Choice) (first old : SelectView C) (items 
 
   -- GRH
   pub seen_head : (r : RecordValue) (group : ℕ) (blanked : Blanked) (sought : Sought) → group ≡ min (old.group + 1) (2 ^ 32 - 1)
-      → ((numbers : _) (places : _) (ps : List Placed) → HasNoted numbers places ps old.sought → HasNoted numbers places ps sought)
+      → ((numbers : _) (places : _) (g t : ℕ) (ps : List Placed) → HasNoted numbers places g t ps old.sought
+      → HasNoted numbers places (g + 1) 0 ps sought)
       → has_seen choice first old items
       → has_seen choice first (record old { group = group; transactions = 0; blanked = blanked; sought = sought }) (items ++ GroupOpened r ∷ [])
   seen_head r group blanked sought is noted h = λ few.
@@ -123,7 +125,9 @@ module _ {C : Type 0} (choice : C → Choice) (first old : SelectView C) (items 
         choice_is = k.choice_is;
         created_is = k.created_is;
         findings = k.findings;
-        sought = noted (numbers_sought first.sought) (places_sought first.sought) k.ps k.sought;
+        few = omega (arith, k.few, length_push items (GroupOpened r));
+        sought = subst (λ (g : ℕ). HasNoted (numbers_sought first.sought) (places_sought first.sought) g 0 k.ps sought) (sym next)
+            (noted (numbers_sought first.sought) (places_sought first.sought) old.group old.transactions k.ps k.sought);
         moment = k.moment ∙ sym (ap (list_any (is_created_at first.created)) (flat_map-append opening_of items (GroupOpened r ∷ [])
             ∙ append-nil (openings_in items)));
       }
@@ -132,8 +136,9 @@ module _ {C : Type 0} (choice : C → Choice) (first old : SelectView C) (items 
   pub seen_transaction : (t : List RecordValue) (transactions : ℕ) (chosen : Bool) (blanked : Blanked) (sought : Sought)
       (findings : FindingView) → transactions ≡ min (old.transactions + 1) (2 ^ 32 - 1)
       → chosen ≡ choice old.choice.now old.group old.transactions t
-      → ((numbers : _) (places : _) (ps : List Placed) → HasNoted numbers places ps old.sought
-      → HasNoted numbers places (ps ++ record { group = old.group; place = old.transactions; records = t } ∷ []) sought)
+      → ((numbers : _) (places : _) (ps : List Placed) → HasNoted numbers places old.group old.transactions ps old.sought
+      → HasNoted numbers places old.group (old.transactions + 1)
+      (ps ++ record { group = old.group; place = old.transactions; records = t } ∷ []) sought)
       → ((seen : List Item) → HasSeenFindings seen old.findings
       → HasSeenFindings (seen ++ (if chosen then Transaction t ∷ [] else [])) findings)
       → has_seen choice first old items
@@ -158,7 +163,9 @@ module _ {C : Type 0} (choice : C → Choice) (first old : SelectView C) (items 
             (chosen_is ∙ ap (λ c. choice c old.group old.transactions t) k.choice_is))
             ∙ sym (one_chosen (choice first.choice.now) k.ps p))
             (found (chosen_of (choice first.choice.now) k.ps) k.findings);
-        sought = noted (numbers_sought first.sought) (places_sought first.sought) k.ps k.sought;
+        few = omega (arith, k.few, length_push k.ps p, length_push items (Transaction t));
+        sought = subst (λ (n : ℕ). HasNoted (numbers_sought first.sought) (places_sought first.sought) old.group n (k.ps ++ p ∷ []) sought)
+            (sym next) (noted (numbers_sought first.sought) (places_sought first.sought) k.ps k.sought);
         moment = k.moment ∙ sym (ap (list_any (is_created_at first.created)) (flat_map-append opening_of items (Transaction t ∷ [])
             ∙ append-nil (openings_in items)));
       } where
@@ -182,6 +189,7 @@ module _ {C : Type 0} (choice : C → Choice) (first old : SelectView C) (items 
         choice_is = k.choice_is;
         created_is = k.created_is;
         findings = k.findings;
+        few = omega (arith, k.few, length_push items item);
         sought = k.sought;
         moment = k.moment ∙ sym (ap (list_any (is_created_at first.created)) (flat_map-append opening_of items (item ∷ [])
             ∙ ap (λ (l : List RecordValue). openings_in items ++ (l ++ [])) none ∙ append-nil (openings_in items)));
@@ -199,7 +207,9 @@ module _ {C : Type 0} (choice : C → Choice) (first old : SelectView C) (items 
 -- what is known of a transmission whose items were all seen
 pub record HasSeenAll {C : Type 0} (choice : C → Choice) (first now : SelectView C) (v : TransmissionValue) : Type 0 where
   pub findings : HasSeenFindings (chosen_of (choice first.choice.now) (placed v)) now.findings
-  pub sought : HasNoted (numbers_sought first.sought) (places_sought first.sought) (placed v) now.sought
+  pub few : length (placed v) < 2 ^ 31
+  pub groups : now.group < 2 ^ 31
+  pub sought : HasNoted (numbers_sought first.sought) (places_sought first.sought) now.group now.transactions (placed v) now.sought
   pub moment : now.is_same_moment ≡ is_created_at first.created v.opening
 
 pub seen_all : {C : Type 0} (choice : C → Choice) (first now : SelectView C) (v : TransmissionValue) → length (value_items v) < 2 ^ 31
@@ -210,7 +220,11 @@ seen_all choice first now v few h =
     sym (append-nil k.ps) ∙ sym (k.on []) ∙ ap (placed_after 0 0) (append-nil (value_items v)) ∙ value_placed v in
     record {
       findings = subst (λ (ps : List Placed). HasSeenFindings (chosen_of (choice first.choice.now) ps) now.findings) is k.findings;
-      sought = subst (λ (ps : List Placed). HasNoted (numbers_sought first.sought) (places_sought first.sought) ps now.sought) is k.sought;
+      few = omega (arith, few, k.few, ap length is);
+      groups = omega (arith, few, k.groups);
+      sought = subst
+          (λ (ps : List Placed). HasNoted (numbers_sought first.sought) (places_sought first.sought) now.group now.transactions ps now.sought)
+          is k.sought;
       moment = k.moment ∙ ap (list_any (is_created_at first.created)) (one_opening v)
           ∙ or_last false (is_created_at first.created v.opening);
     }
@@ -219,7 +233,7 @@ seen_all choice first now v few h =
 
 pub seen_none : {C : Type 0} (choice : C → Choice) (view : SelectView C) → view.group ≡ 0 → view.transactions ≡ 0
     → view.is_same_moment ≡ false → HasSeenFindings [] view.findings
-    → HasNoted (numbers_sought view.sought) (places_sought view.sought) [] view.sought → has_seen choice view view []
+    → HasNoted (numbers_sought view.sought) (places_sought view.sought) 0 0 [] view.sought → has_seen choice view view []
 seen_none choice view g t m f s = λ few. record {
   ps = [];
   on = λ rest. ap₂ (λ (a b : ℕ). placed_after a b rest) (sym g) (sym t);
@@ -228,6 +242,8 @@ seen_none choice view g t m f s = λ few. record {
   choice_is = refl;
   created_is = refl;
   findings = f;
-  sought = s;
+  few = omega arith;
+  sought = subst (λ (a : ℕ). HasNoted (numbers_sought view.sought) (places_sought view.sought) a view.transactions [] view.sought) (sym g)
+      (subst (λ (b : ℕ). HasNoted (numbers_sought view.sought) (places_sought view.sought) 0 b [] view.sought) (sym t) s);
   moment = m;
 }

@@ -14,7 +14,7 @@ use Rattle.cwr_transform.specs.declared.sought.Sought.{Sought}
 use Rattle.cwr_transform.specs.declared.sought.SoughtNumbers.{SoughtNumbers}
 use Rattle.cwr_transform.specs.declared.sought.SoughtPlaces.{SoughtPlaces}
 use Rattle.cwr_transform.specs.Format.Missing.{Placed, lacks_one, numbers_of, places_of, same_place}
-use Rattle.cwr_transform.specs.Steps.Sought.{AreNoted, HasNoted, NotesNumbers, NotesPlaces, lacks_noted, lacks_number, lacks_place, lacks_sought, noted_numbers, numbers_sought, places_sought}
+use Rattle.cwr_transform.specs.Steps.Sought.{AreNoted, FindsNumbers, HasNoted, NotesNumbers, NotesPlaces, lacks_noted, lacks_number, lacks_place, lacks_sought, noted_numbers, numbers_sought, places_sought}
 
 -- ---- one list
 
@@ -30,7 +30,7 @@ not_last false true e = absurd (true≢false e)
 
 module _ {A : Type 0} (same : A → A → Bool) (e : IsEquivalence same) (listed : List A) where
   -- another value of the list isn't the one that comes
-  other_value : (x : A) (i at : ℕ) (d : A) → IsDistinct same listed → i < length listed → at < length listed
+  pub other_value : (x : A) (i at : ℕ) (d : A) → IsDistinct same listed → i < length listed → at < length listed
       → same (get_or listed at d) x ≡ true → (eqb i at) ≡ false → same (get_or listed i d) x ≡ false
   other_value x i at d distinct lt within here ne = by (ltb i at) refl where
     at_so : same (get_or listed at d) (get_or listed i d) ≡ false → same (get_or listed i d) x ≡ false
@@ -83,6 +83,33 @@ module _ {A : Type 0} (same : A → A → Bool) (e : IsEquivalence same) (listed
     by : (i : ℕ) (d : A) → i < length listed → (b : Bool) → same (get_or listed i d) x ≡ b → same (get_or listed i d) x ≡ false
     by i d lt false q = q
     by i d lt true q = absurd (true≢false (sym (list_any_at (λ y. same y x) listed i d lt q) ∙ none))
+
+  any_same : (x y : A) → same x y ≡ true → (xs : List A) → list_any (same x) xs ≡ list_any (same y) xs
+  any_same x y h [] = refl
+  any_same x y h (z ∷ xs) = ap₂ (λ (b c : Bool). b || c) (e.congr x y z h) (any_same x y h xs)
+
+  -- whether one that is in the list came before
+  pub came_before : (noted : List Bool) (found : List A) (x : A) (at : ℕ) → at < length listed
+      → HoldsAt (λ y. same y x ≡ true) listed at → AreNoted same listed noted found → get_or noted at false ≡ list_any (same x) found
+  came_before noted found x at within here h =
+      h.right at x within ∙ any_same (get_or listed at x) x (here x) found
+
+  -- it did, so nothing is noted
+  pub came_again : (noted : List Bool) (found : List A) (x : A) (at : ℕ) → at < length listed
+      → HoldsAt (λ y. same y x ≡ true) listed at → get_or noted at false ≡ true → AreNoted same listed noted found
+      → (false ≡ not (list_any (same x) found)) × AreNoted same listed noted (found ++ x ∷ [])
+  came_again noted found x at within here so h = (
+    ap not (sym so ∙ came_before noted found x at within here h),
+    subst (λ (l : List Bool). AreNoted same listed l (found ++ x ∷ []))
+        (ap (set noted at) (sym so) ∙ set-get_or noted at false) (found_more noted found x at within here h),
+  )
+
+  -- it didn't
+  pub came_first : (noted : List Bool) (found : List A) (x : A) (at : ℕ) → at < length listed
+      → HoldsAt (λ y. same y x ≡ true) listed at → get_or noted at false ≡ false → AreNoted same listed noted found
+      → (true ≡ not (list_any (same x) found)) × AreNoted same listed (set noted at true) (found ++ x ∷ [])
+  came_first noted found x at within here so h =
+      (ap not (sym so ∙ came_before noted found x at within here h), found_more noted found x at within here h)
 
   -- nothing is noted so far
   pub noted_none : (noted : List Bool) → IsDistinct same listed → length noted ≡ length listed
@@ -188,10 +215,10 @@ lacks_places (Some listed) ps None h = absurd h
 lacks_places (Some listed) ps (Some s) h = lacks_so same_place listed s.found.items (places_of ps) h.1
 
 -- something of the lists is missing exactly where it is noted so
-pub lacks_right : (numbers : Option (List (List ℕ))) (places : Option (List (ℕ × ℕ))) (ps : List Placed) (s : Sought)
-    → HasNoted numbers places ps s
+pub lacks_right : (numbers : Option (List (List ℕ))) (places : Option (List (ℕ × ℕ))) (group place : ℕ) (ps : List Placed) (s : Sought)
+    → HasNoted numbers places group place ps s
     → lacks_sought s ≡ (lacks_one bytes_eq numbers (numbers_of ps) || lacks_one same_place places (places_of ps))
-lacks_right numbers places ps s h =
+lacks_right numbers places group place ps s h =
     ap₂ (λ (b c : Bool). b || c) (lacks_numbers numbers ps s.numbers h.numbers_are) (lacks_places places ps s.places h.places_are)
 
 -- ---- a transaction more
@@ -245,9 +272,11 @@ places_listed None ps (Some s) h = absurd h
 places_listed (Some listed) ps None h = absurd h
 places_listed (Some listed) ps (Some s) h = ap Some h.0
 
-pub noted_so : (numbers : Option (List (List ℕ))) (places : Option (List (ℕ × ℕ))) (ps : List Placed) (s : Sought)
-    → NotesNumbers numbers ps s.numbers → NotesPlaces places ps s.places → HasNoted (numbers_sought s) (places_sought s) ps s
-noted_so numbers places ps s h k = record {
+pub noted_so : (numbers : Option (List (List ℕ))) (places : Option (List (ℕ × ℕ))) (group place : ℕ) (ps : List Placed) (s : Sought)
+    → NotesNumbers numbers ps s.numbers → NotesPlaces places ps s.places → FindsNumbers numbers group place ps s.numbers
+    → HasNoted (numbers_sought s) (places_sought s) group place ps s
+noted_so numbers places group place ps s h k f = record {
   numbers_are = subst (λ (l : Option (List (List ℕ))). NotesNumbers l ps s.numbers) (sym (numbers_listed numbers ps s.numbers h)) h;
   places_are = subst (λ (l : Option (List (ℕ × ℕ))). NotesPlaces l ps s.places) (sym (places_listed places ps s.places k)) k;
+  found = subst (λ (l : Option (List (List ℕ))). FindsNumbers l group place ps s.numbers) (sym (numbers_listed numbers ps s.numbers h)) f;
 }

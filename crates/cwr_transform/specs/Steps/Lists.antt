@@ -1,6 +1,7 @@
 -- A list while its lines are read.
-use Rattle.std.specs.Prelude.{◌≡◌, IfSome, ℕ, Bool, nat_lt, length, List, ◌++◌, Option, Some, None, option_map, if◌then◌else◌}
-use Rattle.std.specs.List.{IsDistinct, list_any}
+use Rattle.std.specs.Prelude.{◌≡◌, IfSome, ℕ, ◌==◌, Bool, nat_lt, length, List, [], ◌∷◌, ◌++◌, Option, Some, None, option_map, if◌then◌else◌}
+use Rattle.std.specs.List.{IsDistinct, list_any, slice_split}
+use Rattle.std.specs.Option.{option_flatten, option_map_or}
 use Rattle.cwr_files.specs.Format.Files.{Texts}
 use Rattle.cwr_files.specs.Format.Inputs.{is_standard}
 use Rattle.cwr_files.specs.Steps.Inputs.{IsLeftOf, IsThereFor, standard_after}
@@ -10,9 +11,22 @@ use Rattle.cwr_transform.specs.Format.Lists.{IsListed, all_read, entries_in, ent
 abbrev pub line_read : {A : Type 0} → (List ℕ → Option A) → List ℕ → Option (Option A)
 line_read reads line = if nat_lt 0 (length (entry_of line)) then option_map (λ a. Some a) (reads (entry_of line)) else Some None
 
+-- that is what the first line of a text says, if it says anything, and what follows it
+pub record IsFirstOf {A : Type 0} (reads : List ℕ → Option A) (text : List ℕ) (value : Option A) (after : Option (List ℕ)) : Type 0 where
+  pub line : List ℕ
+  pub parts : slice_split (λ b. b == 10) text ≡ line ∷ option_map_or (λ rest. slice_split (λ b. b == 10) rest) after []
+  pub says : value ≡ option_flatten (line_read reads line)
+
 -- what lines say that come after these values
 abbrev pub all_after : {A : Type 0} → (List ℕ → Option A) → List A → List (List ℕ) → Option (List A)
 all_after reads before lines = option_map (λ values. before ++ values) (all_read reads (entries_of lines))
+
+-- the text says these values of a list, where there is one
+abbrev pub SayValues : {A : Type 0} → (List ℕ → Option A) → Option (List A) → Option (List ℕ) → Type 0
+SayValues reads None None = Unit {0}
+SayValues reads None (Some text) = ⊥
+SayValues reads (Some values) None = ⊥
+SayValues reads (Some values) (Some text) = all_read reads (entries_in text) ≡ Some values
 
 -- ---- a list that is read
 
@@ -50,3 +64,11 @@ abbrev pub ReadsList : {A : Type 0} → (A → A → Bool) → (List ℕ → Opt
     → Option (List A) → Type 0
 ReadsList {A} same reads held standard name values =
     (listed : Option (List A)) × IsListed reads held standard name listed × AreListedOnce same listed values
+
+-- and it says what the text does that was read
+pub record ReadsSaid {A : Type 0} (same : A → A → Bool) (reads : List ℕ → Option A) (held : Option Texts) (standard : Option (List ℕ))
+    (name : Option (List ℕ)) (values : Option (List A)) (text : Option (List ℕ)) : Type 0 where
+  pub listed : Option (List A)
+  pub by_name : IsListed reads held standard name listed
+  pub once : AreListedOnce same listed values
+  pub said : SayValues reads listed text

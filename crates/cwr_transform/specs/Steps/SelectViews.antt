@@ -32,7 +32,8 @@ pub record HasSeen {C : Type 0} (choice : C → Choice) (first now : SelectView 
   pub choice_is : now.choice.now ≡ first.choice.now
   pub created_is : now.created ≡ first.created
   pub findings : HasSeenFindings (chosen_of (choice first.choice.now) ps) now.findings
-  pub sought : HasNoted (numbers_sought first.sought) (places_sought first.sought) ps now.sought
+  pub few : length ps ≤ length items
+  pub sought : HasNoted (numbers_sought first.sought) (places_sought first.sought) now.group now.transactions ps now.sought
   pub moment : now.is_same_moment ≡ list_any (is_created_at first.created) (openings_in items)
 
 -- so it is after items that are no more than a transmission has

@@ -1,5 +1,6 @@
 -- What came of a run that selects, and what it leaves.
-use Rattle.std.specs.Prelude.{◌≡◌, ◌⊎◌, ◌<◌, ◌+◌, ◌==◌, ◌||◌, ℕ, Bool, true, false, if◌then◌else◌, List, drop, Option, Some, None, IfSome, Result, Ok, Err}
+use Rattle.std.specs.Prelude.{◌≡◌, ◌⊎◌, ◌<◌, ◌+◌, ◌==◌, ◌&&◌, ◌||◌, ℕ, Bool, true, false, not, if◌then◌else◌, List, drop, Option, Some, None, IfSome, Result, Ok, Err, is_ok, option_map}
+use Rattle.std.specs.Str.{bytes_eq}
 use Rattle.std.specs.Io.KnownBytes.{Appends}
 use Rattle.cwr_devices.specs.Format.Failures.{one_more_failure}
 use Rattle.cwr_shape.specs.declared.limits.Limits.{Limits}
@@ -11,6 +12,7 @@ use Rattle.cwr_tools.specs.declared.verdicts.ToolFault.TheVariants as tool_fault
 use Rattle.cwr_select.specs.declared.reports.SelectReport.{SelectReport}
 use Rattle.cwr_select.specs.declared.changes.Changes.{Changes}
 use Rattle.cwr_select.specs.Format.Selections.{Choice, selected_count}
+use Rattle.cwr_select.specs.Format.Selecting.{select_report}
 use Rattle.cwr_select.specs.Format.Sent.{sent_text}
 use Rattle.cwr_files.specs.declared.faults.Fault.{Fault}
 use Rattle.cwr_files.specs.declared.faults.Fault.TheVariants as faults
@@ -30,14 +32,16 @@ use Rattle.cwr_transform.specs.declared.selections.Lists.{Lists}
 use Rattle.cwr_transform.specs.declared.selections.ReadList.{ReadList}
 use Rattle.cwr_transform.specs.declared.selections.Selected.{Selected}
 use Rattle.cwr_transform.specs.declared.selections.SelectedFile.{SelectedFile}
+use Rattle.cwr_transform.specs.declared.sought.Sought.{Sought}
 use Rattle.cwr_transform.specs.declared.selections.Unlisted.{Unlisted}
 use Rattle.cwr_transform.specs.declared.selections.Unlisted.TheVariants as unlisted
 use Rattle.cwr_transform.specs.Format.Lists.{all_read, entries_in, number_in, place_in}
-use Rattle.cwr_transform.specs.Format.Missing.{chosen_of, is_created_at, is_missing, placed}
+use Rattle.cwr_transform.specs.Format.Missing.{chosen_of, is_created_at, is_missing, placed, same_place}
 use Rattle.cwr_transform.specs.Format.Selections.{Asking}
 use Rattle.cwr_transform.specs.Steps.Joins.{faults_of}
-use Rattle.cwr_transform.specs.Steps.Lists.{ReadsText}
+use Rattle.cwr_transform.specs.Steps.Lists.{ReadsText, SayValues}
 use Rattle.cwr_transform.specs.Steps.Sought.{numbers_sought, places_sought}
+use Rattle.cwr_transform.specs.Steps.TellingLists.{AreAllIn, Knows}
 
 -- ---- what came of it
 
@@ -220,3 +224,46 @@ SeesBy a left (Err fault) look same missing found empty = Unit {0}
 
 abbrev pub SeesSelected : Asking → Option (List ℕ) → Selected → Type 0
 SeesSelected a left s = SeesBy a left s.outcome s.look s.is_same_moment s.is_missing s.found s.is_empty
+
+-- ---- what is told of it
+
+-- the lines say how it ended: not where its moment isn't its own, or something follows the transmission where nothing may, or a finding is
+-- unwanted
+abbrev pub has_lines : Wanted → Selected → Bool
+has_lines wanted s = not (is_ok s.outcome) || (not s.is_same_moment && is_good (good_status wanted s.look s.found))
+
+-- all of that was seen of the text's transmission, and it is known where those of its transactions stand that are sought
+pub record TellsAll (a : Asking) (text : List ℕ) (report : SelectReport) (look : Look) (same missing found empty : Bool) (sought : Sought)
+    : Type 0 where
+  pub seen : SeesAll a text look same missing found empty
+  pub reported : report ≡ select_report a.choice seen.value
+  pub numbers_are : numbers_sought sought ≡ a.numbers
+  pub places_are : places_sought sought ≡ a.places
+  pub knows : Knows (placed seen.value) sought
+
+abbrev pub TellsBy : Asking → Option (List ℕ) → Result SelectReport ToolFault → Look → Bool → Bool → Bool → Bool → Sought → Type 0
+TellsBy a left (Ok report) look same missing found empty sought =
+    IfSome left (λ text. TellsAll a text report look same missing found empty sought)
+TellsBy a left (Err fault) look same missing found empty sought = SeesBy a left (Err fault) look same missing found empty
+
+abbrev pub TellsSelected : Asking → Option (List ℕ) → Selected → Sought → Type 0
+TellsSelected a left s sought = TellsBy a left s.outcome s.look s.is_same_moment s.is_missing s.found s.is_empty sought
+
+-- the texts of the lists say these numbers and places, each of which is sought
+pub record ListsSay (numbers : Option (List (List ℕ))) (places : Option (List (ℕ × ℕ))) (lists : Lists) (of_works : Option (List (List ℕ)))
+    (of_places : Option (List (ℕ × ℕ))) : Type 0 where
+  pub numbers_say : SayValues number_in numbers (option_map (λ l. l.text.items) lists.works)
+  pub places_say : SayValues place_in places (option_map (λ l. l.text.items) lists.places)
+  pub numbers_in : AreAllIn bytes_eq of_works numbers
+  pub places_in : AreAllIn same_place of_places places
+
+-- what is asked, with the lists as they say it
+abbrev pub asking_with : Asking → Option (List (List ℕ)) → Option (List (ℕ × ℕ)) → Asking
+asking_with a numbers places = record {
+  limits = a.limits;
+  wanted = a.wanted;
+  moment = a.moment;
+  choice = a.choice;
+  numbers = numbers;
+  places = places;
+}

@@ -1,14 +1,15 @@
 use Rattle.std.specs.Str.{bytes_eq}
 use Rattle.cwr_transform.specs.Format.Lists.{number_in, place_in}
 use Rattle.cwr_transform.specs.Format.Missing.{same_place}
-use Rattle.cwr_transform.specs.Steps.Lists.{ReadsList, standard_after_list}
+use Rattle.cwr_transform.specs.Steps.Lists.{ReadsList, ReadsSaid, standard_after_list}
 use Rattle.std.proofs.Common.{◌≡◌, ℕ, List, Option, inl, inr, subst, ◌∙◌}
 use Rattle.std.specs.Prelude.{option_map}
 use Rattle.cwr_files.specs.Format.Files.{Texts, Turns}
 use Rattle.cwr_files.specs.Steps.Inputs.{IsLeftOf, remaining_of, standard_left}
 use Rattle.cwr_endings.proofs.lemmas.Outs.{turns_so, writes_on}
 use Rattle.cwr_transform.specs.Format.Selections.{IsSelectionAt, IsSelectionFrom, LeavesSelection, asked_choice}
-use Rattle.cwr_transform.proofs.lemmas.SelectionsNamed.{after_lent, at_names, ends_as, left_named, listed_lent, selected_as}
+use Rattle.cwr_transform.proofs.lemmas.SelectionsNamed.{after_lent, at_names, ends_as, left_named, listed_lent, said_lent, selected_as}
+use Rattle.cwr_transform.proofs.lemmas.ToldNamed.{lists_say, told_named}
 use Rattle.cwr_transform.proofs.lemmas.StatusesNamed.{no_line, no_list, status_at}
 use Rattle.cwr_transform.proofs.selections.select_file.Goals as goal
 
@@ -127,3 +128,36 @@ returns-in-Err-Line-clause-status g c = λ input lent.
       | inr h ↦ inr (inr (inr (no_list place_in held g.I.Read.remaining input (standard_after_list works c.args.standard.now) places
           (after_lent works input c.args.standard.now lent) h.0 h.1)))
     ]
+
+pub returns-clause-told : goal.returns-clause-told
+returns-clause-told g c = λ input lent.
+    let s = c.args.selection.now in
+    let answered : Option (List (ℕ × ℕ)) = option_map (λ by. by.0.now) c.args.answered in
+    let held : Option Texts = g.S.Store.held c.args.store.now in
+    let standard : Option (List ℕ) = g.I.Read.remaining input in
+    let left : Option (List ℕ) = remaining_of g.S.Reader.Read.remaining g.I.Read.remaining c.in-Ok-open_input.input in
+    let file : Option (List ℕ) = option_map (λ name. name.now) s.file in
+    let lists = c.in-Ok.lists in
+    let numbered : ReadsSaid bytes_eq number_in held standard (option_map (λ name. name.now) s.works)
+    (option_map (λ list. list.values) lists.works) (option_map (λ l. l.text.items) lists.works)
+    = said_lent bytes_eq number_in held g.I.Read.remaining input c.args.standard.now (option_map (λ name. name.now) s.works)
+    (option_map (λ list. list.values) lists.works) (option_map (λ l. l.text.items) lists.works) lent c.in-Ok.ensures.first
+    c.in-Ok.ensures.works_said in
+    let placed : ReadsSaid same_place place_in held standard (option_map (λ name. name.now) s.places)
+    (option_map (λ list. list.values) lists.places) (option_map (λ l. l.text.items) lists.places)
+    = said_lent same_place place_in held g.I.Read.remaining input
+    (standard_after_list (option_map (λ name. name.now) s.works) c.args.standard.now) (option_map (λ name. name.now) s.places)
+    (option_map (λ list. list.values) lists.places) (option_map (λ l. l.text.items) lists.places)
+    (after_lent (option_map (λ name. name.now) s.works) input c.args.standard.now lent) c.in-Ok.ensures.there
+    c.in-Ok.ensures.places_said in
+    let opened : IsLeftOf held standard file left
+    = left_named g.I.Read.remaining input c.args.standard.now (option_map (λ name. name.now) s.works) (option_map (λ name. name.now) s.places)
+    c.read_lists.new.standard held file left lent c.in-Ok.ensures.standard c.in-Ok-open_input.ensures.there
+    (subst (λ (h : Option Texts). IsLeftOf h (standard_left g.I.Read.remaining c.read_lists.new.standard) file left) c.read_lists.ensures.kept
+    c.in-Ok-open_input.ensures.left) in
+    told_named s answered held standard (g.W.Target.contents c.args.output) (g.W.Target.contents c.select_input.result.0)
+    (option_map (λ list. list.values) lists.works) (option_map (λ list. list.values) lists.places) c.in-Some.party left
+    (option_map (λ l. l.text.items) lists.works) (option_map (λ l. l.text.items) lists.places) numbered placed c.in-Some.ensures.some opened
+    (option_map (λ name. name.now) s.out) c.select_input.result.1
+    (c.select_input.ensures.told numbered.listed placed.listed
+    (lists_say lists held standard (option_map (λ name. name.now) s.works) (option_map (λ name. name.now) s.places) numbered placed))

@@ -4,9 +4,11 @@ use Rattle.cwr_select.specs.Format.Selections.{Choice}
 use Rattle.cwr_files.specs.Format.Files.{Turns}
 use Rattle.cwr_files.specs.Steps.Inputs.{remaining_of}
 use Rattle.std.specs.Prelude.{option_map}
-use Rattle.cwr_transform.specs.Format.Selections.{EndsAsSelection, IsSelectionFrom, LeavesSelection}
+use Rattle.cwr_transform.specs.Format.Selections.{EndsAsSelection, IsSelectionFrom, LeavesSelection, other_moment}
+use Rattle.cwr_transform.specs.Format.SelectionsTold.{TellsSelectionOut}
+use Rattle.cwr_transform.specs.Steps.Selections.{ListsSay}
 use Rattle.cwr_transform.specs.Format.Missing.{same_place}
-use Rattle.cwr_transform.specs.Steps.Sought.{AreOnce}
+use Rattle.cwr_transform.specs.Steps.Sought.{AreOnce, places_sought}
 use Rattle.cwr_transform.proofs.lemmas.SelectionStatuses.{asked_listed}
 use Rattle.cwr_transform.proofs.lemmas.SelectionsNamed.{asked_same}
 use Rattle.cwr_transform.proofs.lemmas.SoughtValues.{noted_so, numbers_listed, places_listed}
@@ -43,7 +45,7 @@ new-requires-clause-places g c =
 
 pub select_by-answer-requires : goal.select_by-answer-requires
 select_by-answer-requires g c =
-    noted_so _ _ [] c.in-Ok.sought c.in-Ok.ensures.numbers c.in-Ok.ensures.places
+    noted_so _ _ 0 0 [] c.in-Ok.sought c.in-Ok.ensures.numbers c.in-Ok.ensures.places c.in-Ok.ensures.found
 
 pub returns-clause-status : goal.returns-clause-status
 returns-clause-status g c =
@@ -52,3 +54,25 @@ returns-clause-status g c =
     c.asked_for-choice.ensures.answered c.asked_for-choice.ensures.kinds c.asked_for-choice.ensures.party c.asked_for-choice.ensures.others)
     (numbers_listed _ [] c.in-Ok.sought.numbers c.in-Ok.ensures.numbers ∙ c.listed_in.ensures)
     (places_listed _ [] c.in-Ok.sought.places c.in-Ok.ensures.places ∙ c.listed_in-2.ensures) _ _ c.select_by-answer.ensures.status
+
+pub returns-clause-told : goal.returns-clause-told
+returns-clause-told g c = λ numbers places say.
+    let s = c.args.selection.now in
+    let out : Option (List ℕ) = option_map (λ name. name.now) s.out in
+    subst
+    (λ (choice : Choice). TellsSelectionOut out (record {
+      limits = s.limits;
+      wanted = s.wanted;
+      moment = other_moment out s.changes;
+      choice = choice;
+      numbers = numbers;
+      places = places;
+    }) (remaining_of g.S.Reader.Read.remaining g.I.Read.remaining c.args.input) (g.W.Target.contents c.args.output)
+    (g.W.Target.contents c.select_by-answer.result.0) c.select_by-answer.result.1)
+    (asked_same (λ by. by.0.now) (λ by. by.0.now) _ _ _ _ _ _ _ _ _ _ _ _ c.asked_for-choice.ensures.works c.asked_for-choice.ensures.places
+    c.asked_for-choice.ensures.answered c.asked_for-choice.ensures.kinds c.asked_for-choice.ensures.party c.asked_for-choice.ensures.others)
+    (c.select_by-answer.ensures.told numbers places
+    (subst (λ (l : Option (List (List ℕ))). ListsSay numbers places c.args.lists.now l (places_sought c.in-Ok.sought))
+    (sym (numbers_listed _ [] c.in-Ok.sought.numbers c.in-Ok.ensures.numbers ∙ c.listed_in.ensures))
+    (subst (λ (l : Option (List (ℕ × ℕ))). ListsSay numbers places c.args.lists.now (option_map (λ l. l.values) c.args.lists.now.works) l)
+    (sym (places_listed _ [] c.in-Ok.sought.places c.in-Ok.ensures.places ∙ c.listed_in-2.ensures)) say)))

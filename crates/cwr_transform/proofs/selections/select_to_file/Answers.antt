@@ -7,10 +7,11 @@ use Rattle.cwr_endings.specs.declared.stops.Stop.{Stop}
 use Rattle.cwr_endings.specs.declared.stops.Stop.TheVariants as stops
 use Rattle.cwr_endings.specs.Format.Endings.{WritesOut}
 use Rattle.cwr_endings.proofs.lemmas.Outs.{settled_untold, turns_so, writes_on, writes_since}
-use Rattle.cwr_transform.specs.Format.Selections.{IsSelectionFrom}
+use Rattle.cwr_transform.specs.Format.Selections.{Asking, IsSelectionFrom}
 use Rattle.cwr_transform.specs.Steps.Selections.{asked_by, keeps_selected, selected_faults}
 use Rattle.cwr_transform.proofs.lemmas.SelectionStatuses.{status_ends}
 use Rattle.cwr_transform.proofs.lemmas.SelectionsLeft.{select_ends, select_leaves, selection_since}
+use Rattle.cwr_transform.proofs.lemmas.SelectionsTold.{handed_so, ok_fault, ok_lines, ok_so, told_ends}
 use Rattle.cwr_transform.proofs.selections.select_to_file.Goals as goal
 
 pub returns-in-Ok-put-clause-ends : goal.returns-in-Ok-put-clause-ends
@@ -50,7 +51,7 @@ returns-in-Err-put-clause-files g c =
     (g.C.Chooses.choice c.args.choice.now) left in
     let selected = c.in-Ok.file.selected in
     let untold : c.in-Err-put.stop ≡ stops.Output
-    = subst (λ (r : Result (Unit {0}) Stop). IfErr r (λ stop. stop ≡ stops.Output)) c.in-Err-put.is c.put_file_lines-lines.ensures in
+    = subst (λ (r : Result (Unit {0}) Stop). IfErr r (λ stop. stop ≡ stops.Output)) c.in-Err-put.is c.put_file_lines-lines.ensures.stopped in
     writes_on (g.S.Store.held s0) (g.S.Store.held s1) (g.S.Store.held s2) _ c.refuse_out.ensures.kept
     (turns_so (g.S.Store.held s1) (g.S.Store.held s2) _ _
     (λ texts new h. inl (writes_since out (g.S.Store.failures s0) (g.S.Store.failures s1) (g.S.Store.failures s2) is (Err c.in-Err-put.stop)
@@ -81,3 +82,20 @@ returns-in-Ok-put-clause-status g c =
     status_ends (asked_by c.args.selection.now.limits c.args.selection.now.wanted g.C.Chooses.choice c.args.view.now)
     (remaining_of g.S.Reader.Read.remaining g.I.Read.remaining c.args.input) c.in-Ok.file.selected c.ending.result _ _
     c.in-Ok.ensures.sees c.ending.ensures
+
+pub returns-in-Ok-put-clause-told : goal.returns-in-Ok-put-clause-told
+returns-in-Ok-put-clause-told g c = λ numbers places say.
+    let a : Asking = asked_by c.args.selection.now.limits c.args.selection.now.wanted g.C.Chooses.choice c.args.view.now in
+    let lines = c.put_file_lines-lines in
+    let put : Result (Unit {0}) Stop = lines.result.1 in
+    told_ends g.W.Target.contents a numbers places (remaining_of g.S.Reader.Read.remaining g.I.Read.remaining c.args.input)
+    c.in-Ok.file.selected c.args.lists.now c.write_selected.new.view.sought c.args.lines lines.result.0 c.ending.result _ _
+    c.in-Ok.ensures.told say
+    (λ ps say knows has. ok_lines _ c.in-Ok.file.selected.outcome put c.in-Ok-put.is (lines.ensures.told numbers places ps say knows has))
+    (ok_fault _ c.in-Ok.file.selected.outcome put c.in-Ok-put.is lines.ensures.fault)
+    (λ none. ok_so put c.in-Ok-put.is (lines.ensures.none none)) c.ending.ensures
+
+pub returns-in-Ok-put-clause-handed_on : goal.returns-in-Ok-put-clause-handed_on
+returns-in-Ok-put-clause-handed_on g c =
+    handed_so c.put_file_lines-lines.result.1 c.args.out.now c.ending.result (g.W.Target.handed_on c.put_file_lines-lines.result.0)
+    c.in-Ok-put.is c.put_file_lines-lines.ensures.handed_on
