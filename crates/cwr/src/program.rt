@@ -22,7 +22,8 @@ ghost use Rattle.cwr_files.specs.Steps.NewFiles.{HasKeptCount};
 ghost use Rattle.cwr_renumber.specs.Steps.Renumbered.{renumbered_text};
 ghost use Rattle.cwr_reports.specs.Format.Endings.{EndsOnRead, advice_asked, advice_in};
 ghost use Rattle.cwr_reports.specs.Format.Exports.{IsExportAt, is_data};
-ghost use Rattle.cwr.specs.Format.Selected.{AreAnsweredBy};
+ghost use Rattle.cwr.specs.Format.Selected.{AreAnsweredBy, answers_named};
+ghost use Rattle.cwr_transform.specs.Format.Selections.{IsApart};
 ghost use Rattle.cwr.specs.Format.Tables.{encoding_of, form_of, kinds_by, selection_of, table_of, work_kind_of};
 ghost use Rattle.cwr_reports.specs.Steps.Looks.{tells_findings};
 ghost use Rattle.cwr_reports.specs.Steps.Marked.{CountsOutput};
@@ -477,6 +478,8 @@ fn refuse_answers<'a, S: Store>(
     words: &SelectWords<'a>,
     others: &[&str],
 ) -> Result<(), Fault<'a>>
+    ensures apart { (status : Status) → OnOk result (IsApart (option_map (λ name. name.now) words.now.out) (answers_named words.now.answered)
+        (S.held store.old) (Ok status)) }
     ensures kept { S.held store.new ≡ S.held store.old }
     ensures making { S.making store.new ≡ S.making store.old }
     ensures failures { HasKeptCount (S.failures store.old) (S.failures store.new) }
@@ -562,6 +565,9 @@ fn select<'a, S: Store, I: Read + Drop, P: Pace, W: Target + Drop, E: Write>(
 ) -> (W, Result<Status, Stop<'a>>)
     ensures ends { EndsOnWork task.now.limits task.now.whole (Work.Select words.now) (S.held store.old)
         (I.remaining standard) result.1 }
+    ensures told { TellsWork task.now.limits task.now.whole (Work.Select words.now) (S.held store.old) (I.remaining standard)
+        W.contents W.failures output result.0 (S.failures store.old) (S.failures store.new) result.1 }
+    ensures handed_on { HandsOnWork (Work.Select words.now) result.1 (W.handed_on result.0) }
     ensures files { S.making store.old ≡ None → LeavesWork task.now.limits task.now.whole (Work.Select words.now)
         (S.held store.old) (I.remaining standard) (S.failures store.old) (S.failures store.new) result.1 (S.held store.new) }
 {

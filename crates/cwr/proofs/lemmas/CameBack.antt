@@ -29,6 +29,7 @@ use Rattle.cwr.specs.Format.Failures.{OfOne}
 use Rattle.cwr.specs.Format.Tables.{encoding_of, form_of, table_of}
 use Rattle.cwr.specs.Steps.Cleared.{cleared_output, clears, plain_unless}
 use Rattle.cwr.specs.Steps.Tells.{HandsOnData, HandsOnWork, HandsOnWriting, TellsAlone, TellsAnswers, TellsBack, TellsData, TellsFiles, TellsImport, TellsOn, TellsRead, TellsWork}
+use Rattle.cwr.proofs.lemmas.SelectingTold.{selecting_handed, selecting_known}
 
 -- the bytes themselves
 abbrev known : Option (List ℕ) → Option (List ℕ)
@@ -118,7 +119,7 @@ module _ {W : Type 0} (contents : W → Option (List ℕ)) (failures : W → ℕ
   work_listed limits whole (Renumber words) count count_now none h =
       tt
   work_listed limits whole (Select words) count count_now none h =
-      tt
+      h
   work_listed limits whole Manual count count_now none h =
       tt
 
@@ -208,7 +209,7 @@ module _ (limits : Limits) (whole : Bool) (held : Option Texts) (standard : Opti
   work_known (Renumber words) h =
       inr (λ other. tt)
   work_known (Select words) h =
-      inr (λ other. tt)
+      selecting_known limits whole words held standard text status now h
   work_known Manual h =
       inr (λ other. tt)
 
@@ -276,7 +277,7 @@ module _ (limits : Limits) (whole : Bool) (held : Option Texts) (standard : Opti
   work_handed (Renumber words) h =
       inr (λ other. tt)
   work_handed (Select words) h =
-      inr (λ other. tt)
+      selecting_handed limits whole words held standard text on status h
   work_handed Manual h =
       inr (λ other. tt)
 

@@ -12,6 +12,7 @@ use Rattle.cwr_files.specs.Format.Files.{Texts}
 use Rattle.cwr_endings.specs.declared.endings.Wanted.{Wanted}
 use Rattle.cwr_endings.specs.declared.stops.Stop.TheVariants as stops
 use Rattle.cwr.specs.Format.Endings.{EndsAsAnswers, EndsAsData, EndsOnFiles, EndsOnWork}
+use Rattle.cwr.proofs.lemmas.ApartNamed.{stopped_apart}
 
 of_files : (advice : Option (Bool × ℕ)) (limits : Limits) (wanted : Wanted) (held : Option Texts) (standard : Option (List ℕ))
     (names : List (List ℕ)) → EndsOnFiles advice limits wanted held standard names (Err (stops.Fault Memory))
@@ -56,5 +57,5 @@ unbegun limits whole (Write words) held standard = tt
 unbegun limits whole (Split words) held standard = tt
 unbegun limits whole (Join words) held standard = tt
 unbegun limits whole (Renumber words) held standard = tt
-unbegun limits whole (Select words) held standard = (tt, tt)
+unbegun limits whole (Select words) held standard = (tt, tt, stopped_apart limits whole words held (stops.Fault Memory))
 unbegun limits whole Manual held standard = tt

@@ -24,7 +24,7 @@ use Rattle.cwr_summaries.specs.Format.Summed.{summed}
 use Rattle.cwr_transform.specs.declared.imports.Import.{Import}
 use Rattle.cwr_transform.specs.Format.Imports.{IsImportStatus}
 use Rattle.cwr_transform.specs.Format.Joins.{IsStatusOfJoin}
-use Rattle.cwr.specs.Format.Selected.{HasSelectedStatus, IsSelectedBy}
+use Rattle.cwr.specs.Format.Selected.{HasSelectedStatus, IsApartBy, IsSelectedBy}
 use Rattle.cwr.specs.Format.Tables.{encoding_of}
 
 -- two of the words name standard input, which is there once
@@ -135,6 +135,7 @@ EndsOnWork limits whole (Join words) held standard ending =
 EndsOnWork limits whole (Renumber words) held standard ending = Unit {0}
 EndsOnWork limits whole (Select words) held standard ending =
     EndsWellAs (IsSelectedBy limits whole words held standard) ending × HasSelectedStatus limits whole words held standard ending
+    × IsApartBy limits whole words held ending
 EndsOnWork limits whole Manual held standard ending = EndsAsManual ending
 
 -- the status of a fault: what was to be written may not be, or what was to be read can't be, or a file, a device or memory failed

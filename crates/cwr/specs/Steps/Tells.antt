@@ -6,9 +6,11 @@ use Rattle.std.specs.Io.KnownBytes.{Appends}
 use Rattle.cwr_devices.specs.Format.Failures.{most_failures}
 use Rattle.cwr_fields.specs.declared.message_codes.TransactionStatus.{TransactionStatus}
 use Rattle.cwr_shape.specs.declared.limits.Limits.{Limits}
+use Rattle.cwr_words.specs.declared.words.AnsweredWords.{AnsweredWords}
+use Rattle.cwr_words.specs.declared.words.SelectWords.{SelectWords}
 use Rattle.cwr_words.specs.declared.words.Task.{Task}
 use Rattle.cwr_words.specs.declared.words.Work.{Work}
-use Rattle.cwr_words.specs.declared.words.Work.TheVariants.{Check, Show, Explain, Lint, Advise, Json, Csv, Acks, Summary, Write}
+use Rattle.cwr_words.specs.declared.words.Work.TheVariants.{Check, Show, Explain, Lint, Advise, Json, Csv, Acks, Summary, Write, Select}
 use Rattle.cwr_acks.specs.declared.forms.Form.{Form}
 use Rattle.cwr_files.specs.Format.Files.{Texts}
 use Rattle.cwr_files.specs.Format.Inputs.{shown_name}
@@ -25,11 +27,12 @@ use Rattle.cwr_reports.specs.Format.Endings.{telling_by}
 use Rattle.cwr_reports.specs.Steps.Marked.{CountsOutput, TellsEach, WritesLines}
 use Rattle.cwr_reports.specs.Steps.Tellings.{TellsLines}
 use Rattle.cwr_transform.specs.declared.imports.Import.{Import}
+use Rattle.cwr_transform.specs.Format.SelectionsTold.{HandsOnSelection, TellsSelectionAt}
 use Rattle.cwr.specs.declared.terminal.Terminals.{Terminals}
 use Rattle.cwr.specs.Format.Endings.{import_of}
 use Rattle.cwr.specs.Format.Failures.{OfOne}
 use Rattle.cwr.specs.Format.Files.{IsImportAt}
-use Rattle.cwr.specs.Format.Tables.{encoding_of, form_of, table_of}
+use Rattle.cwr.specs.Format.Tables.{encoding_of, form_of, selection_of, table_of}
 use Rattle.cwr.specs.Steps.Cleared.{plain_on}
 
 -- of what was read under a word, the lines that are asked for were written, where the run came to its end
@@ -129,8 +132,23 @@ TellsImport to_file import held standard name contents old new (Ok statuses.Good
     UnlessFile to_file ((text : List ℕ) × IsImportAt import held standard name text × Appends (contents old) (contents new) text)
 TellsImport to_file import held standard name contents old new ending = Unit {0}
 
+-- what is so where no words ask what became of transactions
+abbrev pub UnlessAsked : Option AnsweredWords → Type 0 → Type 0
+UnlessAsked None is = is
+UnlessAsked (Some words) is = Unit {0}
+
+-- The lines of a selection to a file were written where it ends well, or as refused, and no words ask what became of transactions.
+abbrev pub TellsSelecting : Limits → Bool → SelectWords → Option Texts → Option (List ℕ) → Option (List ℕ) → Option (List ℕ)
+    → Result Status Stop → Type 0
+TellsSelecting limits whole words held standard old new (Ok statuses.Good) = UnlessAsked words.answered
+    (TellsSelectionAt (selection_of limits whole words) None held standard (option_map (λ name. name.now) words.out) old new (Ok statuses.Good))
+TellsSelecting limits whole words held standard old new (Ok statuses.Refused) = UnlessAsked words.answered
+    (TellsSelectionAt (selection_of limits whole words) None held standard (option_map (λ name. name.now) words.out) old new (Ok statuses.Refused))
+TellsSelecting limits whole words held standard old new ending = Unit {0}
+
 -- What a run of the work has written, within these limits, and where nothing may follow a transmission or something may; and how many failures
--- of files were counted meanwhile. Of a run that writes files, and what it tells of them, nothing is said here.
+-- of files were counted meanwhile. Of another run that writes files, and what it tells of them,
+-- nothing is said here.
 abbrev pub TellsWork : {W : Type 0} → Limits → Bool → Work → Option Texts → Option (List ℕ) → (W → Option (List ℕ)) → (W → ℕ) → W → W
     → ℕ → ℕ → Result Status Stop → Type 0
 TellsWork limits whole (Check judging) held standard contents failures old new count count_now ending =
@@ -158,6 +176,8 @@ TellsWork limits whole (Acks words) held standard contents failures old new coun
     (λ name. TellsAnswers (form_of words.as_json words.utf8) words.statuses.items limits held standard name contents old new ending)
 TellsWork limits whole (Write words) held standard contents failures old new count count_now ending =
     TellsImport (is_some words.out) (import_of limits words) held standard (option_map (λ name. name.now) words.file) contents old new ending
+TellsWork limits whole (Select words) held standard contents failures old new count count_now ending =
+    TellsSelecting limits whole words held standard (contents old) (contents new) ending
 TellsWork limits whole work held standard contents failures old new count count_now ending = Unit {0}
 
 -- ---- what is handed on
@@ -184,6 +204,8 @@ HandsOnWork (Acks words) ending handed_on =
     OfOne (map (λ name. name.now) words.files.items) (map (λ name. name.now) words.sent.items) (λ name. OnOk ending (handed_on ≡ true))
 HandsOnWork (Summary words) ending handed_on = OnOk ending (handed_on ≡ true)
 HandsOnWork (Write words) ending handed_on = HandsOnWriting (is_some words.out) ending handed_on
+HandsOnWork (Select words) ending handed_on =
+    UnlessAsked words.answered (HandsOnSelection (option_map (λ name. name.now) words.out) ending handed_on)
 HandsOnWork work ending handed_on = Unit {0}
 
 -- ---- what failed
