@@ -24,3 +24,5 @@ pub mod SelectingTold
 pub mod CameBack
 -- An import is written to standard output where no file is named.
 pub mod Printed
+-- A summary has the status of a fault only where an input failed.
+pub mod Summing

@@ -1,12 +1,12 @@
 //! The program between its words and its devices.
 
-ghost use Rattle.std.specs.Prelude.{IfOk, codes, count_by, unwrap_or, ◌≡◌, ◌≢◌, ◌<◌, ◌≤◌, length, map, option_map, true, false, None, Some, IfSome, IsSome, OnErr, OnOk};
+ghost use Rattle.std.specs.Prelude.{IfOk, codes, count_by, unwrap_or, ◌≡◌, ◌≢◌, ◌<◌, ◌≤◌, length, map, not, option_map, true, false, None, Some, IfSome, IsSome, OnErr, OnOk};
 ghost use Rattle.std.specs.Option.{is_some};
 ghost use Rattle.std.specs.IoError.{error_kind};
 ghost use Rattle.std.specs.declared.io.ErrorKind.TheVariants.{OutOfMemory as lacks_memory};
 ghost use Rattle.clap.specs.Values.{kind_of};
 ghost use Rattle.cwr.specs.Format.Endings.{AreStandardTwice, EndsAsAnswers, EndsAsData, EndsAsManual, EndsOnFiles, EndsOnWork, fault_status, status_code};
-ghost use Rattle.cwr.specs.Format.Failures.{FailsOnFiles, FailsWork, OfOne, one_of};
+ghost use Rattle.cwr.specs.Format.Failures.{FailsEach, FailsOnFiles, FailsWork, OfOne, one_of};
 ghost use Rattle.cwr.specs.Format.Files.{LeavesOut, LeavesWork, RunsRenumbering, RunsTask, RunsWords};
 ghost use Rattle.cwr.specs.Steps.Tells.{CountsData, CountsWork, HandsOnData, HandsOnWork, TellsAnswers, TellsAsked, TellsBack, TellsData, TellsFiles, TellsJudged, TellsOut, TellsQuietRead, TellsQuietly, TellsRead, TellsWork};
 ghost use Rattle.cwr.specs.Steps.Cleared.{cleared_output};
@@ -24,9 +24,10 @@ ghost use Rattle.cwr_reports.specs.Format.Endings.{EndsOnRead, advice_asked, adv
 ghost use Rattle.cwr_reports.specs.Format.Exports.{IsExportAt, is_data};
 ghost use Rattle.cwr.specs.Format.Selected.{AreAnsweredBy, answers_named};
 ghost use Rattle.cwr_transform.specs.Format.Selections.{IsApart};
-ghost use Rattle.cwr.specs.Format.Tables.{encoding_of, form_of, kinds_by, selection_of, table_of, work_kind_of};
+ghost use Rattle.cwr.specs.Format.Tables.{encoding_of, form_of, kinds_by, rows_form, selection_of, table_of, work_kind_of};
 ghost use Rattle.cwr_reports.specs.Steps.Looks.{tells_findings};
 ghost use Rattle.cwr_reports.specs.Steps.Marked.{CountsOutput};
+ghost use Rattle.cwr_summaries.specs.Steps.Rows.{TellsRows};
 
 use crate::manual::MANUAL;
 use crate::styles::{help_style, style_of};
@@ -1041,7 +1042,9 @@ fn tell_acks<'a, S: Store, I: Read + Drop, P: Pace, W: Target + Drop, E: Write>(
 }
 
 /// The form in which rows are put.
-fn form_of_rows(words: &SummaryWords<'_>) -> cwr_summary_rows::Form {
+fn form_of_rows(words: &SummaryWords<'_>) -> cwr_summary_rows::Form
+    ensures { result ≡ rows_form words.now.as_csv words.now.as_json }
+{
     match (words.as_csv, words.as_json) {
         (true, _) => cwr_summary_rows::Form::Csv,
         (false, true) => cwr_summary_rows::Form::Json,
@@ -1062,6 +1065,11 @@ fn sum_up<'a, S: Store, I: Read + Drop, P: Pace, W: Target + Drop, E: Write>(
 ) -> (W, Result<Status, Stop<'a>>)
     ensures ends { EndsOnWork task.now.limits task.now.whole (Work.Summary words.now) (S.held store.old)
         (I.remaining standard) result.1 }
+    ensures told { TellsRows (rows_form words.now.as_csv words.now.as_json) task.now.limits (not words.now.undigested) task.now.whole
+        words.now.quiet (S.held store.old) (I.remaining standard) (map (λ name. name.now) words.now.files.items) W.contents lines result.0
+        (S.failures store.old) (S.failures store.new) result.1 }
+    ensures failed { FailsEach result.1 (S.failures store.old) (S.failures store.new) }
+    ensures output { CountsOutput result.1 (W.failures lines) (W.failures result.0) }
     ensures handed_on { OnOk result.1 (W.handed_on result.0 ≡ true) }
     ensures kept { S.held store.new ≡ S.held store.old }
 {

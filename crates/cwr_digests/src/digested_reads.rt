@@ -1,6 +1,7 @@
 //! A reader that keeps the digest of what is read.
 
-ghost use Rattle.std.specs.Prelude.{◌≡◌, ◌-◌, ◌^◌, ◌++◌, min, ℕ, List, [], Option, None, length};
+ghost use Rattle.std.specs.Option.{is_some};
+ghost use Rattle.std.specs.Prelude.{◌≡◌, ◌-◌, ◌^◌, ◌++◌, min, ℕ, Bool, false, List, [], Option, None, length};
 ghost use Rattle.std.specs.Io.KnownBytes.{Consumes, IsAtEnd};
 ghost use Rattle.cwr_digests.specs.Format.Digests.{HasBytes};
 ghost use Rattle.cwr_digests.specs.Steps.Digested.{Consumes-prop, HoldsIf, HoldsIf-prop};
@@ -15,10 +16,15 @@ use std::marker::{Brand, PhantomData};
 pub trait Whole {
     // All its bytes, where they are known.
     ghost whole: { Option (List ℕ) };
+
+    // Whether their digest is asked for.
+    ghost digests: { Bool };
 }
 
 impl Whole for Brand {
     ghost whole = { None };
+
+    ghost digests = { false };
 }
 
 /// A reader that counts the bytes that are read, and keeps their digest where that is asked for.
@@ -30,6 +36,7 @@ pub struct DigestedRead<B: Whole, I: Read> {
     /// All that was read.
     taken: TakenText,
     of: PhantomData<B>,
+    ghost asked: { is_some hasher ≡ B.digests },
     ghost holds: { HoldsIf hasher taken.text } by { HoldsIf-prop _ _ },
     ghost counted: { bytes ≡ min (length taken.text) (2 ^ 64 - 1) },
     ghost read: { Consumes B.whole (I.remaining inner) taken.text } by { Consumes-prop _ _ _ },
@@ -37,7 +44,8 @@ pub struct DigestedRead<B: Whole, I: Read> {
 
 /// Adds a piece to what the hasher holds, if there is one.
 fn hash(hasher: &mut Option<Sha256>, piece: &[u8])
-    ensures { (text : List ℕ) → HoldsIf hasher.old text → HoldsIf hasher.new (text ++ piece.now) }
+    ensures holds { (text : List ℕ) → HoldsIf hasher.old text → HoldsIf hasher.new (text ++ piece.now) }
+    ensures kept { is_some hasher.new ≡ is_some hasher.old }
 {
     if let Some(hasher) = hasher {
         hasher.update(piece);
@@ -47,7 +55,8 @@ fn hash(hasher: &mut Option<Sha256>, piece: &[u8])
 impl<B: Whole, I: Read> DigestedRead<B, I> {
     /// A reader of which nothing was read.
     pub fn new(inner: I, digests: bool) -> DigestedRead<B, I>
-        requires { B.whole ≡ I.remaining inner }
+        requires whole { B.whole ≡ I.remaining inner }
+        requires asked { B.digests ≡ digests }
         ensures inner { result.inner ≡ inner }
     {
         DigestedRead {
@@ -63,7 +72,7 @@ impl<B: Whole, I: Read> DigestedRead<B, I> {
     pub fn end(self) -> (I, u64, Option<[u8; 32]>)
         ensures inner { result.0 ≡ self.inner }
         // Where it was read to its end, they are all its bytes.
-        ensures bytes { IsAtEnd (I.remaining self.inner) → HasBytes B.whole result.1 result.2 }
+        ensures bytes { IsAtEnd (I.remaining self.inner) → HasBytes B.digests B.whole result.1 result.2 }
     {
         let digest = match self.hasher {
             Some(hasher) => Some(hasher.finalize()),

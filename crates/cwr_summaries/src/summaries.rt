@@ -1,26 +1,38 @@
 //! Several inputs that are summed up one after another.
 
-ghost use Rattle.std.specs.Prelude.{◌≡◌, ℕ, List, Option, None, true, map, IfOk, IfSome, IsOk, Ok, OnOk};
+ghost use Rattle.std.specs.Prelude.{◌≡◌, ◌≢◌, ◌++◌, ◌||◌, nat_lt, ℕ, List, [], ◌∷◌, Option, None, Some, true, length, map, option_map, option_to_list, IfOk, IfSome, OnOk};
+ghost use Rattle.std.specs.Io.KnownBytes.{Appends};
+ghost use Rattle.cwr_sent.specs.Format.SentFacts.{sender_of};
+ghost use Rattle.cwr_tools.specs.Format.Texts.{verdict_line};
 ghost use Rattle.cwr_files.specs.Format.Faults.{IfErr};
+ghost use Rattle.cwr_files.specs.declared.faults.Fault.{Fault};
 ghost use Rattle.cwr_files.specs.Steps.Inputs.{remaining_of};
 ghost use Rattle.cwr_endings.specs.Format.Endings.{IsStatusBy, worse_status};
+ghost use Rattle.cwr_endings.specs.Format.Puts.{PutsOut};
 ghost use Rattle.cwr_reports.specs.Format.Endings.{Counts, EndsOnEach};
 ghost use Rattle.cwr_reports.specs.Steps.Looks.{IsJudged};
+ghost use Rattle.cwr_reports.specs.Steps.Marked.{CountsOutput};
 ghost use Rattle.cwr_reports.specs.Steps.Several.{IsFirst};
 ghost use Rattle.cwr_answers.specs.Format.Endings.{wanted_of};
 ghost use Rattle.cwr_answers.specs.Steps.Reading.{CountsOne, IsMemory, IsUntold};
 ghost use Rattle.cwr_digests.specs.Format.Digests.{HasBytes};
+ghost use Rattle.cwr_summary_rows.specs.Format.Rows.{row_text};
+ghost use Rattle.cwr_summary_rows.specs.Format.Shown.{cells_of, row_value};
+ghost use Rattle.cwr_summaries.specs.Format.Rows.{SummedInput, cells_in, failed_row, heading_in, is_among, name_in, rows_text, senders_in, unended};
 ghost use Rattle.cwr_summaries.specs.Format.Summed.{summed};
+ghost use Rattle.cwr_summaries.specs.Steps.Pieces.{CountsFault};
+ghost use Rattle.cwr_summaries.specs.Steps.Rows.{AddsInput, AreTotals, IsFound, IsFoundOf, TellsInputs, TellsNext, TellsRows, WritesSums, failed_input, if_good, input_of, many_with, many_with_if, row_of};
 ghost use Rattle.cwr_summaries.specs.Steps.Summing.{EndsOnSummed};
 
 use crate::names::name_in;
 use crate::summed_files::{SummedFile, judge, read_on};
-use cwr_devices::{Counted, DeviceFault, ReadAhead, Sink, Target};
+use cwr_devices::{Counted, ReadAhead, Sink, Target};
 use cwr_digests::{DigestedRead, Whole};
 use cwr_endings::{Judgement, Look, Status, Stop, Sums, hand_on, tell_following};
 use cwr_fields::Kind;
 use cwr_files::{DASH, Fault, Input, Pace, Store, Told, open_input, tell_fault};
-use cwr_lines::RecordRef;
+use cwr_findings::is_of;
+use cwr_lines::{Record, RecordRef};
 use cwr_sent::AnsweringFile;
 use cwr_shape::Limits;
 use cwr_summary::Summary;
@@ -52,7 +64,9 @@ pub struct Summing<'t, 'a> {
 
 impl Summing<'_, '_> {
     /// Whether the sums are told.
-    fn tells_sums(&self) -> bool {
+    fn tells_sums(&self) -> bool
+        ensures { result ≡ (self.now.quiet || nat_lt 1 (length self.now.files.now)) }
+    {
         self.quiet || self.files.len() > 1
     }
 }
@@ -85,19 +99,16 @@ struct Totals {
 fn found_of(
     summed: SummedFile,
     judged: Result<Judgement, ToolFault>,
-    rest: Result<u64, DeviceFault>,
+    rest: Result<u64, ToolFault>,
     bytes: u64,
     digest: Option<[u8; 32]>,
 ) -> Result<Found, ToolFault>
-    ensures judged { IfOk result (λ found. judged ≡ Ok found.judgement) }
-    ensures ended { IfOk result (λ found. IsOk rest) }
-    ensures bytes { IfOk result (λ found. (found.bytes ≡ bytes) × (found.digest ≡ digest)) }
+    ensures judged { IsFoundOf judged rest result }
+    ensures kept { IfOk result (λ found. (found.summed ≡ summed) × (found.bytes ≡ bytes) × (found.digest ≡ digest)) }
+    ensures seen { IfOk result (λ found. found.judgement.look ≢ Look.Failed) }
 {
-    let (judgement, rest) = match (judged, rest) {
-        (Ok(judgement), Ok(rest)) => (judgement, rest),
-        (Ok(_), Err(_)) => return Err(ToolFault::Reader),
-        (Err(fault), _) => return Err(fault),
-    };
+    let judgement = judged?;
+    let rest = rest?;
     let after = match judgement.look {
         Look::Failed => return Err(ToolFault::Reader),
         Look::Found(trailing) => trailing.bytes.saturating_add(rest),
@@ -118,12 +129,19 @@ fn read_whole<'a, B: Whole, S: Store, I: Read + Drop, P: Pace + Drop>(
     summing: &Summing<'_, 'a>,
     input: Input<'a, S::Reader, I, P>,
 ) -> (Result<Found, ToolFault>, Told<'a>)
-    requires { B.whole ≡ remaining_of S.Reader.remaining I.remaining input }
+    requires whole { B.whole ≡ remaining_of S.Reader.remaining I.remaining input }
+    requires asked { B.digests ≡ summing.now.digests }
     ensures judges { IfOk result.0 (λ found. IfSome (remaining_of S.Reader.remaining I.remaining input.entry) (λ text.
         IsStatusBy (Counts None) summing.now.limits (wanted_of summing.now.whole) text found.judgement.status)) }
     ensures read { IfOk result.0 (λ found. IsJudged found.judgement) }
     // It has so many bytes, and that digest.
-    ensures bytes { IfOk result.0 (λ found. HasBytes (remaining_of S.Reader.remaining I.remaining input.entry) found.bytes found.digest) }
+    ensures bytes { IfOk result.0 (λ found. HasBytes summing.now.digests (remaining_of S.Reader.remaining I.remaining input.entry)
+        found.bytes found.digest) }
+    // What is summed up are the items before its end, and so many bytes stand behind a good transmission.
+    ensures found { IfOk result.0 (λ found. IfSome (remaining_of S.Reader.remaining I.remaining input.entry) (λ text.
+        IsFound summing.now.limits text found)) }
+    ensures failures { CountsFault result.0 (S.failures store.old) (S.failures store.new) }
+    ensures seen { IfOk result.0 (λ found. found.judgement.look ≢ Look.Failed) }
     ensures kept { S.held store.new ≡ S.held store.old }
 {
     let digested: DigestedRead<B, Input<'a, S::Reader, I, P>> = DigestedRead::new(
@@ -149,31 +167,41 @@ fn read_input<'a, S: Store, I: Read + Drop, P: Pace + Drop>(
     ensures judges { IfOk result.0 (λ found. IfSome (remaining_of S.Reader.remaining I.remaining input.entry) (λ text.
         IsStatusBy (Counts None) summing.now.limits (wanted_of summing.now.whole) text found.judgement.status)) }
     ensures read { IfOk result.0 (λ found. IsJudged found.judgement) }
-    ensures bytes { IfOk result.0 (λ found. HasBytes (remaining_of S.Reader.remaining I.remaining input.entry) found.bytes found.digest) }
+    ensures bytes { IfOk result.0 (λ found. HasBytes summing.now.digests (remaining_of S.Reader.remaining I.remaining input.entry)
+        found.bytes found.digest) }
+    ensures found { IfOk result.0 (λ found. IfSome (remaining_of S.Reader.remaining I.remaining input.entry) (λ text.
+        IsFound summing.now.limits text found)) }
+    ensures failures { CountsFault result.0 (S.failures store.old) (S.failures store.new) }
+    ensures seen { IfOk result.0 (λ found. found.judgement.look ≢ Look.Failed) }
     ensures kept { S.held store.new ≡ S.held store.old }
 {
     read_whole::<Brand, S, I, P>(store, summing, input)
 }
 
-/// The line that says how a text ended, without its line end.
+/// The line that says how a text ended.
 fn verdict_text<'a>(alloc: Global, verdict: &Verdict) -> Result<Vec<u8>, Fault<'a>>
     ensures memory { IfErr result IsMemory }
+    ensures text { IfOk result (λ text. text.items ≡ verdict_line verdict.now) }
 {
     let mut sink = Sink::new(Counted::new(Vec::new(alloc)));
     match put_verdict_line(verdict, &mut sink) {
-        Ok(()) => {
-            let mut line = sink.into_inner().into_inner();
-            let _line_feed = line.pop();
-            Ok(line)
-        }
+        Ok(()) => Ok(sink.into_inner().into_inner()),
         Err(_) => Err(Fault::Memory),
     }
+}
+
+/// A line without its line feed.
+fn unended(line: &[u8]) -> &[u8]
+    ensures { result.now ≡ unended line.now }
+{
+    &line[..line.len().saturating_sub(1)]
 }
 
 /// Puts a row, and has it handed on. The writer comes back.
 fn write_row<'a, W: Target>(form: Form, row: &Row<'_>, lines: W) -> (W, Result<(), Stop<'a>>)
     ensures handed_on { OnOk result.1 (W.handed_on result.0 ≡ true) }
-    ensures untold { IfErr result.1 IsUntold }
+    ensures stopped { IfErr result.1 (λ stop. stop ≡ Stop.Output) }
+    ensures puts { PutsOut W.contents W.failures (row_text form (row_value row.now)) result.1 lines result.0 }
 {
     let mut sink = Sink::new(lines);
     let put = put_row(form, row, &mut sink);
@@ -183,6 +211,8 @@ fn write_row<'a, W: Target>(form: Form, row: &Row<'_>, lines: W) -> (W, Result<(
 /// Puts what stands before rows in that form, and has it handed on. The writer comes back.
 fn write_heading<'a, W: Target>(form: Form, lines: W) -> (W, Result<(), Stop<'a>>)
     ensures untold { IfErr result.1 IsUntold }
+    ensures puts { OnOk result.1 (Appends (W.contents lines) (W.contents result.0) (heading_in form)) }
+    ensures output { CountsOutput result.1 (W.failures lines) (W.failures result.0) }
 {
     match form {
         Form::Csv => {
@@ -195,8 +225,10 @@ fn write_heading<'a, W: Target>(form: Form, lines: W) -> (W, Result<(), Stop<'a>
 }
 
 /// The cells of an HDR; of any other record none.
-fn header_in<'a>(shown: &RecordRef<'a>) -> Header<'a> {
-    if shown.kind() == Kind::Hdr {
+fn header_in<'a>(shown: &RecordRef<'a>) -> Header<'a>
+    ensures { cells_of result ≡ cells_in (Some shown.now) }
+{
+    if is_of(shown, Kind::Hdr) {
         Header::of(shown)
     } else {
         Header::none()
@@ -204,10 +236,52 @@ fn header_in<'a>(shown: &RecordRef<'a>) -> Header<'a> {
 }
 
 /// The cells of the HDR that was read; where none was, no bytes.
-fn header_of(summed: &SummedFile) -> Header<'_> {
+fn header_of(summed: &SummedFile) -> Header<'_>
+    ensures { cells_of result ≡ cells_in summed.now.header }
+{
     match summed.header() {
         Some(record) => header_in(&record.view()),
         None => Header::none(),
+    }
+}
+
+/// What is told where a transmission is good.
+fn if_good<T: Copy>(verdict: &Verdict, told: Option<T>) -> Option<T>
+    ensures { result ≡ if_good verdict.now told }
+{
+    match verdict {
+        Verdict::Good { .. } => told,
+        Verdict::Refused(_) | Verdict::Truncated { .. } => None,
+    }
+}
+
+/// How many senders an input names.
+fn senders_in(summed: &SummedFile) -> u64
+    ensures { result ≡ senders_in summed.now.header }
+{
+    match summed.header() {
+        Some(_) => 1,
+        None => 0,
+    }
+}
+
+/// The row of an input.
+fn row_of<'a>(name: &'a [u8], line: &'a [u8], found: &'a Found) -> Row<'a>
+    requires { line.now ≡ verdict_line found.now.judgement.verdict }
+    ensures { row_value result ≡ row_of name.now result.advice found.now }
+{
+    let verdict = &found.judgement.verdict;
+    Row {
+        file: Some(name),
+        bytes: Some(found.bytes),
+        after: if_good(verdict, Some(found.after)),
+        digest: found.digest,
+        canonical: if_good(verdict, found.summed.digest()),
+        verdict: unended(line),
+        header: header_of(&found.summed),
+        summary: Some(found.summed.summary()),
+        advice: found.summed.advice(),
+        senders: Some(senders_in(&found.summed)),
     }
 }
 
@@ -218,35 +292,22 @@ fn write_found<'a, W: Target>(
     found: &Found,
     lines: W,
 ) -> (W, Result<(), Stop<'a>>)
-    ensures handed_on { OnOk result.1 (W.handed_on result.0 ≡ true) }
     ensures untold { IfErr result.1 IsUntold }
+    ensures puts { OnOk result.1 ((advice : Option (ℕ × ℕ × ℕ)) × Appends (W.contents lines) (W.contents result.0)
+        (row_text summing.now.form (row_of name.now advice found.now))) }
+    ensures output { CountsOutput result.1 (W.failures lines) (W.failures result.0) }
 {
-    let verdict = match verdict_text(summing.alloc, &found.judgement.verdict) {
-        Ok(verdict) => verdict,
-        Err(fault) => return (lines, Err(Stop::Fault(fault))),
-    };
-    let is_good = matches!(found.judgement.verdict, Verdict::Good { .. });
-    let row = Row {
-        file: Some(name),
-        bytes: Some(found.bytes),
-        after: if is_good { Some(found.after) } else { None },
-        digest: found.digest,
-        canonical: found.summed.digest(),
-        verdict: verdict.as_slice(),
-        header: header_of(&found.summed),
-        summary: Some(found.summed.summary()),
-        advice: found.summed.advice(),
-        senders: Some(u64::from(found.summed.header().is_some())),
-    };
-    write_row(summing.form, &row, lines)
+    match verdict_text(summing.alloc, &found.judgement.verdict) {
+        Ok(line) => write_row(summing.form, &row_of(name, line.as_slice(), found), lines),
+        Err(fault) => (lines, Err(Stop::Fault(fault))),
+    }
 }
 
-/// Writes the row of an input that failed. The writer comes back.
-fn write_failed<'a, W: Target>(form: Form, name: &[u8], lines: W) -> (W, Result<(), Stop<'a>>)
-    ensures handed_on { OnOk result.1 (W.handed_on result.0 ≡ true) }
-    ensures untold { IfErr result.1 IsUntold }
+/// The row of an input that failed.
+fn failed_row(name: &[u8]) -> Row<'_>
+    ensures { row_value result ≡ failed_row name.now }
 {
-    let row = Row {
+    Row {
         file: Some(name),
         bytes: None,
         after: None,
@@ -257,8 +318,7 @@ fn write_failed<'a, W: Target>(form: Form, name: &[u8], lines: W) -> (W, Result<
         summary: None,
         advice: None,
         senders: None,
-    };
-    write_row(form, &row, lines)
+    }
 }
 
 /// The numbers of pieces of advice of both. They stay at `u64::MAX`.
@@ -273,7 +333,8 @@ fn added(one: (u64, u64, u64), other: (u64, u64, u64)) -> (u64, u64, u64) {
 impl Totals {
     /// Nothing was counted.
     fn new(alloc: Global) -> Totals
-        ensures { result.sums.status ≡ Status.Good }
+        ensures status { result.sums.status ≡ Status.Good }
+        ensures totals { AreTotals result [] }
     {
         Totals {
             sums: Sums::new(),
@@ -288,7 +349,9 @@ impl Totals {
     /// Counts a sender, where it isn't among those that were.
     fn add_sender(&mut self, sender: [u8; 11]) -> Result<(), Fault<'static>>
         ensures memory { IfErr result IsMemory }
-        ensures sums { self.new.sums ≡ self.old.sums }
+        ensures many { OnOk result (length self.new.senders.items ≡ many_with sender self.old.senders.items) }
+        ensures among { OnOk result ((one : List ℕ) → is_among one self.new.senders.items ≡ is_among one (self.old.senders.items ++ sender ∷ [])) }
+        ensures others { self.new ≡ record (self.old) { senders = self.new.senders } }
     {
         if self.senders.contains(&sender) {
             return Ok(());
@@ -299,18 +362,33 @@ impl Totals {
         }
     }
 
+    /// Counts the sender of a transmission, where that was read.
+    fn add_opening(&mut self, opening: Option<&Record>) -> Result<(), Fault<'static>>
+        ensures memory { IfErr result IsMemory }
+        ensures many { OnOk result (length self.new.senders.items
+            ≡ many_with_if (option_map (λ r. sender_of r.now) opening.entry) self.old.senders.items) }
+        ensures among { OnOk result ((one : List ℕ) → is_among one self.new.senders.items
+            ≡ is_among one (self.old.senders.items ++ option_to_list (option_map (λ r. sender_of r.now) opening.entry))) }
+        ensures others { self.new ≡ record (self.old) { senders = self.new.senders } }
+    {
+        match opening {
+            Some(record) => self.add_sender(AnsweringFile::of(&record.view()).sender),
+            None => Ok(()),
+        }
+    }
+
     /// Adds what stands in an input, where that is good.
     fn add(&mut self, found: &Found) -> Result<(), Fault<'static>>
         ensures memory { IfErr result IsMemory }
         ensures status { OnOk result (self.new.sums.status ≡ worse_status self.old.sums.status found.now.judgement.status) }
+        ensures totals { OnOk result ((name : List ℕ) (advice : Option (ℕ × ℕ × ℕ))
+            → AddsInput (input_of name advice found.now) self.old self.new) }
     {
         self.sums.count(&found.judgement);
         let Verdict::Good { .. } = found.judgement.verdict else {
             return Ok(());
         };
-        if let Some(header) = found.summed.header() {
-            self.add_sender(AnsweringFile::of(&header.view()).sender)?;
-        }
+        self.add_opening(found.summed.header())?;
         self.bytes = self.bytes.saturating_add(found.bytes);
         self.after = self.after.saturating_add(found.after);
         self.summary.add_all(&found.summed.summary());
@@ -319,26 +397,54 @@ impl Totals {
         }
         Ok(())
     }
+
+    /// Counts an input that failed.
+    fn count_failed(&mut self)
+        ensures status { self.new.sums.status ≡ Status.Fault }
+        ensures totals { (name : List ℕ) (fault : Fault) → AddsInput (failed_input name fault) self.old self.new }
+    {
+        self.sums.count_failed();
+    }
 }
 
-/// Writes the row of an input, where each has one. The writer comes back.
+/// Writes the row of an input that was read. The writer comes back.
 fn tell_found<'a, W: Target>(
     summing: &Summing<'_, 'a>,
     word: &str,
-    found: Option<&Found>,
+    found: &Found,
     lines: W,
 ) -> (W, Result<(), Stop<'a>>)
     ensures untold { IfErr result.1 IsUntold }
+    ensures puts { OnOk result.1 ((advice : Option (ℕ × ℕ × ℕ)) × Appends (W.contents lines) (W.contents result.0)
+        (rows_text summing.now.form summing.now.quiet (input_of (name_in summing.now.form word.now) advice found.now ∷ []))) }
+    ensures output { CountsOutput result.1 (W.failures lines) (W.failures result.0) }
 {
     if summing.quiet {
         return (lines, Ok(()));
     }
-    let Ok(name) = name_in(summing.alloc, summing.form, word) else {
-        return (lines, Err(Stop::Fault(Fault::Memory)));
-    };
-    match found {
-        Some(found) => write_found(summing, name.as_slice(), found, lines),
-        None => write_failed(summing.form, name.as_slice(), lines),
+    match name_in(summing.alloc, summing.form, word) {
+        Ok(name) => write_found(summing, name.as_slice(), found, lines),
+        Err(_) => (lines, Err(Stop::Fault(Fault::Memory))),
+    }
+}
+
+/// Writes the row of an input that failed. The writer comes back.
+fn tell_failed<'a, W: Target>(
+    summing: &Summing<'_, 'a>,
+    word: &str,
+    lines: W,
+) -> (W, Result<(), Stop<'a>>)
+    ensures untold { IfErr result.1 IsUntold }
+    ensures puts { OnOk result.1 ((fault : Fault) → Appends (W.contents lines) (W.contents result.0)
+        (rows_text summing.now.form summing.now.quiet (failed_input (name_in summing.now.form word.now) fault ∷ []))) }
+    ensures output { CountsOutput result.1 (W.failures lines) (W.failures result.0) }
+{
+    if summing.quiet {
+        return (lines, Ok(()));
+    }
+    match name_in(summing.alloc, summing.form, word) {
+        Ok(name) => write_row(summing.form, &failed_row(name.as_slice()), lines),
+        Err(_) => (lines, Err(Stop::Fault(Fault::Memory))),
     }
 }
 
@@ -356,6 +462,11 @@ fn summarize_next<'a, S: Store, I: Read + Drop, P: Pace, W: Target, E: Write>(
     // Its status was counted, or that of a fault.
     ensures counted { (first : Option (List ℕ)) → IsFirst I.remaining standard.old first → CountsOne summing.now.limits summing.now.whole
         (S.held store.old) first name.entry.now totals.old.sums.status totals.new.sums.status result.1 }
+    // Its row was written, and it was counted.
+    ensures told { (first : Option (List ℕ)) → IsFirst I.remaining standard.old first → TellsNext summing.now.form summing.now.limits
+        summing.now.digests summing.now.whole summing.now.quiet (S.held store.old) first name.entry.now W.contents lines result.0
+        (S.failures store.old) (S.failures store.new) totals.old totals.new result.1 }
+    ensures output { CountsOutput result.1 (W.failures lines) (W.failures result.0) }
     ensures first { (first : Option (List ℕ)) → IsFirst I.remaining standard.old first → IsFirst I.remaining standard.new first }
     ensures kept { S.held store.new ≡ S.held store.old }
 {
@@ -363,8 +474,8 @@ fn summarize_next<'a, S: Store, I: Read + Drop, P: Pace, W: Target, E: Write>(
         Ok(input) => input,
         Err(fault) => {
             tell_fault(error, &fault);
-            totals.sums.count_failed();
-            return tell_found(summing, name, None, lines);
+            totals.count_failed();
+            return tell_failed(summing, name, lines);
         }
     };
     let (found, told) = read_input(store, summing, input);
@@ -372,16 +483,18 @@ fn summarize_next<'a, S: Store, I: Read + Drop, P: Pace, W: Target, E: Write>(
         Ok(found) => {
             tell_following(error, told.name, &found.judgement.look);
             match totals.add(&found) {
-                Ok(()) => tell_found(summing, name, Some(&found), lines),
+                Ok(()) => tell_found(summing, name, &found, lines),
                 Err(fault) => (lines, Err(Stop::Fault(fault))),
             }
         }
-        Err(ToolFault::Reader) => {
-            tell_fault(error, &Fault::Read(told));
-            totals.sums.count_failed();
-            tell_found(summing, name, None, lines)
-        }
-        Err(_) => (lines, Err(Stop::Fault(Fault::Memory))),
+        Err(fault) => match fault {
+            ToolFault::Reader => {
+                tell_fault(error, &Fault::Read(told));
+                totals.count_failed();
+                tell_failed(summing, name, lines)
+            }
+            _ => (lines, Err(Stop::Fault(Fault::Memory))),
+        },
     }
 }
 
@@ -396,9 +509,14 @@ fn summarize_each<'a, S: Store, I: Read + Drop, P: Pace, W: Target, E: Write>(
     lines: W,
     error: &mut E,
 ) -> (W, Result<(), Stop<'a>>)
-    requires { totals.old.sums.status ≡ Status.Good }
+    requires good { totals.old.sums.status ≡ Status.Good }
+    requires none { AreTotals totals.old [] }
     ensures ends { EndsOnSummed summing.now.limits summing.now.whole (S.held store.old) (I.remaining standard)
         (map (λ name. name.now) names.now) totals.new.sums.status result.1 }
+    ensures told { TellsInputs summing.now.form summing.now.limits summing.now.digests summing.now.whole summing.now.quiet (S.held store.old)
+        (I.remaining standard) (map (λ name. name.now) names.now) W.contents lines result.0 (S.failures store.old) (S.failures store.new)
+        totals.new result.1 }
+    ensures output { CountsOutput result.1 (W.failures lines) (W.failures result.0) }
     ensures kept { S.held store.new ≡ S.held store.old }
 {
     let mut lines = lines;
@@ -432,6 +550,9 @@ fn write_sums<'a, W: Target>(
 ) -> (W, Result<(), Stop<'a>>)
     ensures handed_on { OnOk result.1 (W.handed_on result.0 ≡ true) }
     ensures untold { IfErr result.1 IsUntold }
+    ensures puts { OnOk result.1 ((inputs : List SummedInput) → AreTotals totals.now inputs → WritesSums W.contents summing.now.form true files inputs
+        lines result.0) }
+    ensures output { CountsOutput result.1 (W.failures lines) (W.failures result.0) }
 {
     let Ok(line) = totals.sums.line(summing.alloc, files) else {
         return (lines, Err(Stop::Fault(Fault::Memory)));
@@ -442,10 +563,7 @@ fn write_sums<'a, W: Target>(
         after: Some(totals.after),
         digest: None,
         canonical: None,
-        verdict: line
-            .as_bytes()
-            .strip_suffix(b"\n")
-            .unwrap_or(line.as_bytes()),
+        verdict: unended(line.as_bytes()),
         header: Header::none(),
         summary: Some(totals.summary),
         advice: if summing.advised {
@@ -453,7 +571,7 @@ fn write_sums<'a, W: Target>(
         } else {
             None
         },
-        senders: Some(totals.senders.len() as u64),
+        senders: Some(totals.senders.as_slice().len() as u64),
     };
     write_row(summing.form, &row, lines)
 }
@@ -467,6 +585,9 @@ fn end_rows<'a, W: Target>(
 ) -> (W, Result<(), Stop<'a>>)
     ensures handed_on { OnOk result.1 (W.handed_on result.0 ≡ true) }
     ensures untold { IfErr result.1 IsUntold }
+    ensures puts { OnOk result.1 ((inputs : List SummedInput) → AreTotals totals.now inputs → WritesSums W.contents summing.now.form
+        (summing.now.quiet || nat_lt 1 (length summing.now.files.now)) files inputs lines result.0) }
+    ensures output { CountsOutput result.1 (W.failures lines) (W.failures result.0) }
 {
     if summing.tells_sums() {
         write_sums(summing, files, totals, lines)
@@ -498,6 +619,12 @@ pub fn summarize<'a, S: Store, I: Read + Drop, P: Pace, W: Target, E: Write>(
     // The status is the worst of theirs, or standard output or memory failed.
     ensures ends { EndsOnEach None summing.now.limits (wanted_of summing.now.whole) (S.held store.old) (I.remaining standard)
         (summed (map (λ name. name.now) summing.now.files.now)) result.1 }
+    // The row of each input stands there, and last, of several, that of the sums; of each that failed one more failure was counted.
+    ensures told { TellsRows summing.now.form summing.now.limits summing.now.digests summing.now.whole summing.now.quiet (S.held store.old)
+        (I.remaining standard) (map (λ name. name.now) summing.now.files.now) W.contents lines result.0 (S.failures store.old)
+        (S.failures store.new) result.1 }
+    // Standard output's fault is answered only where that counted one more failure.
+    ensures output { CountsOutput result.1 (W.failures lines) (W.failures result.0) }
     ensures handed_on { OnOk result.1 (W.handed_on result.0 ≡ true) }
     ensures kept { S.held store.new ≡ S.held store.old }
 {

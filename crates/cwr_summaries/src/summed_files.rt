@@ -1,17 +1,22 @@
 //! A transmission that is read, summed up and, where that is asked for, encoded to a digest.
 
-ghost use Rattle.std.specs.Prelude.{◌≡◌, ◌-◌, ◌^◌, ◌+◌, ◌≤◌, ◌∷◌, ◌++◌, min, ℕ, List, [], None, length, IfOk, IfSome, OnOk};
+ghost use Rattle.std.specs.Prelude.{◌≡◌, ◌≢◌, ◌-◌, ◌^◌, ◌+◌, ◌≤◌, ◌∷◌, ◌++◌, min, ℕ, List, [], None, length, option_map, IfOk, IfSome, OnOk};
 ghost use Rattle.std.specs.Io.KnownBytes.{IsAtEnd};
 ghost use Rattle.cwr_values.specs.declared.items.Item.{Item};
 ghost use Rattle.cwr_tools.specs.Format.Reports.{ItemLines};
-ghost use Rattle.cwr_tools.specs.Format.Watching.{StandsAccepted};
 ghost use Rattle.cwr_endings.specs.Format.Endings.{IsStatusBy};
 ghost use Rattle.cwr_reports.specs.Format.Endings.{Counts};
 ghost use Rattle.cwr_reports.specs.Steps.Looks.{IsJudged};
+ghost use Rattle.cwr_reports.specs.Steps.Tellings.{CountsInput};
 ghost use Rattle.cwr_answers.specs.Format.Endings.{wanted_of};
 ghost use Rattle.cwr_summary.specs.Format.Summaries.{IsSummaryOf};
 ghost use Rattle.cwr_summaries.specs.Format.Summed.{lines_of_summing};
-ghost use Rattle.cwr_summaries.specs.Steps.Pieces.{IsPiece};
+ghost use Rattle.cwr_summaries.specs.Format.Rows.{opening_in};
+ghost use Rattle.cwr_summaries.specs.Steps.Pieces.{CountsFault, CountsRest, IsPiece};
+ghost use Rattle.cwr_summaries.specs.Steps.Digesting.{HasEncoded, IsDigestOf, IsDigesting};
+ghost use Rattle.cwr_summaries.specs.Steps.Rows.{Judges, first_of};
+ghost use Rattle.cwr_values.specs.declared.items.Item.TheVariants as items;
+ghost use Rattle.cwr_causes.specs.Format.Trailing.{CountsRead};
 ghost use Rattle.cwr_judge.specs.Format.Items.{item_records};
 ghost use Rattle.cwr_tools.specs.Steps.Counts.{HasRoomToCount, IsCount};
 
@@ -21,8 +26,10 @@ use cwr_advise::{AdviceCounts, AdviceLines};
 use cwr_devices::{Counted, DeviceFault, Pen, Sink, Source, Target};
 use cwr_digests::DigestedText;
 use cwr_encode::Encoder;
-use cwr_endings::{Judgement, Wanted, judgement_of, look_after};
-use cwr_lines::ControlRecord;
+use cwr_endings::{Judgement, Look, Wanted, judgement_of, look_after};
+use cwr_fields::Kind;
+use cwr_findings::is_of;
+use cwr_lines::Record;
 use cwr_shape::Level;
 use cwr_summary::Summary;
 use cwr_tools::{NothingKept, Report, ToolFault, Totals, Verdict, write_report};
@@ -36,7 +43,7 @@ pub struct SummedFile {
     /// The sums of the items so far.
     summary: Summary,
     /// Its HDR.
-    header: Option<ControlRecord>,
+    header: Option<Record>,
     /// What its items are encoded with, where a digest is asked for.
     encoder: Option<Encoder<DigestedText>>,
     /// The digest of its canonical text, once it was read to its end.
@@ -82,19 +89,24 @@ impl SummedFile {
 
     /// The sums.
     pub fn summary(&self) -> Summary
-        ensures { (of : ItemLines) (given : List Item)
+        ensures value { result ≡ self.now.summary }
+        ensures sums { (of : ItemLines) (given : List Item)
             → ⟦<SummedFile as Report>⟧.stands self.now of given → IsSummaryOf given result.numbers }
     {
         self.summary
     }
 
     /// Its HDR.
-    pub fn header(&self) -> Option<&ControlRecord> {
+    pub fn header(&self) -> Option<&Record>
+        ensures { option_map (λ r. r.now) result ≡ self.now.header }
+    {
         self.header.as_ref()
     }
 
     /// The digest of its canonical text, where that was asked for and it was read to its end.
-    pub fn digest(&self) -> Option<[u8; 32]> {
+    pub fn digest(&self) -> Option<[u8; 32]>
+        ensures { result ≡ self.now.digest }
+    {
         self.digest
     }
 
@@ -109,14 +121,14 @@ impl SummedFile {
     }
 
     /// Keeps HDR, if the item is that.
-    fn note_header(&mut self, item: &Item) -> Result<(), AllocError>
-        ensures summary { self.new.summary ≡ self.old.summary }
-        ensures advice { self.new.advice ≡ self.old.advice }
+    fn note_header(&mut self, item: &Item)
+        ensures header { self.new.header ≡ first_of self.old.header (opening_in (item.now ∷ [])) }
+        ensures others { self.new ≡ record (self.old) { header = self.new.header } }
     {
-        if let Item::Opened(record) = item {
-            self.header = Some(record.clone()?);
+        match &self.header {
+            Some(_) => {}
+            None => self.header = opened(item),
         }
-        Ok(())
     }
 
     /// Counts the advice on an item.
@@ -125,7 +137,7 @@ impl SummedFile {
         requires few { counts.now.records + length (item_records item.now) ≤ 99999999 }
         requires stands { IfSome self.old.advice (λ advice. (lines : ItemLines) × (given : List Item) × IsCount counts.now given
             × ⟦<AdviceLines as Report>⟧.stands advice lines given) }
-        ensures summary { self.new.summary ≡ self.old.summary }
+        ensures others { self.new ≡ record (self.old) { advice = self.new.advice } }
         ensures stands { (given : List Item) → IsCount counts.now given
             → IfSome self.old.advice (λ advice. (lines : ItemLines) × ⟦<AdviceLines as Report>⟧.stands advice lines given)
             → OnOk result (IfSome self.new.advice (λ advice. (lines : ItemLines) × ⟦<AdviceLines as Report>⟧.stands advice lines (given ++ item.now ∷ []))) }
@@ -138,41 +150,78 @@ impl SummedFile {
         advice.item_lines(alloc, counts, item, &mut pen)
     }
 
-    /// Encodes an item.
+    /// Encodes an item, where a digest is asked for. Once the transmission has ended that is its digest.
     fn encode(&mut self, item: &Item)
-        ensures summary { self.new.summary ≡ self.old.summary }
-        ensures advice { self.new.advice ≡ self.old.advice }
+        ensures digesting { (given : List Item) → IsDigesting self.old.encoder self.old.digest given
+            → IsDigesting self.new.encoder self.new.digest (given ++ item.now ∷ []) }
+        ensures others { self.new ≡ record (self.old) { encoder = self.new.encoder; digest = self.new.digest } }
     {
-        let Some(mut encoder) = self.encoder.take() else {
+        self.digest = None;
+        let Some(encoder) = self.encoder.take() else {
             return;
         };
-        let put = match item {
-            Item::Opened(record) => encoder.open(&record.to_record()),
-            Item::GroupOpened(record) => encoder.group(&record.to_record()),
-            Item::Transaction(transaction) => encoder.transaction(transaction),
-            Item::GroupClosed(record) => encoder.end_group(&record.to_record()),
-            Item::Ended => {
-                if let (text, Ok(_)) = encoder.finish() {
-                    self.digest = Some(text.digest());
-                }
-                return;
-            }
-        };
-        if let Ok(()) = put {
-            self.encoder = Some(encoder);
+        match item {
+            Item::Ended => self.digest = digest_of(encoder),
+            _ => self.encoder = encoder_after(encoder, item),
         }
+    }
+}
+
+/// The HDR that an item is, if it is one.
+fn opened(item: &Item) -> Option<Record>
+    ensures { result ≡ opening_in (item.now ∷ []) }
+{
+    match item {
+        Item::Opened(record) => {
+            let shown = record.view();
+            if is_of(&shown, Kind::Hdr) {
+                Some(record.to_record())
+            } else {
+                None
+            }
+        }
+        _ => None,
+    }
+}
+
+/// The encoder of a transmission with one item more, where that was encoded.
+fn encoder_after(encoder: Encoder<DigestedText>, item: &Item) -> Option<Encoder<DigestedText>>
+    requires { item.now ≢ Item.Ended }
+    ensures { (given : List Item) → HasEncoded encoder given → IfSome result (λ after. HasEncoded after (given ++ item.now ∷ [])) }
+{
+    let mut encoder = encoder;
+    let put = match item {
+        Item::Opened(record) => encoder.open(&record.to_record()),
+        Item::GroupOpened(record) => encoder.group(&record.to_record()),
+        Item::Transaction(transaction) => encoder.transaction(transaction),
+        Item::GroupClosed(record) => encoder.end_group(&record.to_record()),
+        Item::Ended => unreachable!(),
+    };
+    match put {
+        Ok(()) => Some(encoder),
+        Err(_) => None,
+    }
+}
+
+/// The digest of the canonical text of a transmission that was encoded.
+fn digest_of(encoder: Encoder<DigestedText>) -> Option<[u8; 32]>
+    ensures { (given : List Item) → HasEncoded encoder given → IfSome result (λ digest. IsDigestOf digest (given ++ items.Ended ∷ [])) }
+{
+    match encoder.finish() {
+        (text, Ok(_)) => Some(text.digest()),
+        (_, Err(_)) => None,
     }
 }
 
 impl Report for SummedFile {
     ghost use Rattle.std.specs.Prelude.{◌≡◌, IfSome};
-    ghost use Rattle.cwr_summary.specs.Steps.SummedUp.{SumsUp};
     ghost use Rattle.cwr_summaries.specs.Format.Summed.{lines_of_summing};
+    ghost use Rattle.cwr_summaries.specs.Steps.Rows.{StandsAfter};
     ghost use Rattle.cwr_tools.specs.Format.Reports.{ItemLines};
 
     type Works = NothingKept;
 
-    ghost stands = { λ report of given. (of ≡ lines_of_summing) × SumsUp given report.summary × IfSome report.advice (λ advice. (lines : ItemLines) × ⟦<AdviceLines as Report>⟧.stands advice lines given) };
+    ghost stands = { λ report of given. (of ≡ lines_of_summing) × StandsAfter report given × IfSome report.advice (λ advice. (lines : ItemLines) × ⟦<AdviceLines as Report>⟧.stands advice lines given) };
 
     fn works(&self) -> NothingKept {
         NothingKept
@@ -192,7 +241,7 @@ impl Report for SummedFile {
         _: &mut Pen<'_, W>,
     ) -> Result<(), AllocError> {
         self.summary.add_item(alloc, item)?;
-        self.note_header(item)?;
+        self.note_header(item);
         self.advise(alloc, counts, item)?;
         self.encode(item);
         Ok(())
@@ -203,38 +252,47 @@ impl Report for SummedFile {
 
 /// Takes what a reader shows next, and answers how many bytes that are: none at its end.
 fn take_piece<R: Source>(reader: &mut R) -> Result<usize, DeviceFault>
-    ensures { IfOk result (IsPiece (R.remaining reader.old) (R.remaining reader.new)) }
+    ensures piece { IfOk result (IsPiece (R.remaining reader.old) (R.remaining reader.new)) }
+    ensures failures { CountsRead result (R.failures reader.old) (R.failures reader.new) }
 {
     let count = reader.fill()?.len();
     reader.consume(count);
     Ok(count)
 }
 
-/// Reads what a reader has left up to its end, and counts the bytes. They stay at `u64::MAX`; a reader with more pieces than that fails.
-fn read_rest<R: Source>(reader: &mut R) -> Result<u64, DeviceFault>
+/// Reads what a reader has left up to its end, and counts the bytes. They stay at `u64::MAX`; more pieces than that are more than there is
+/// room for.
+fn read_rest<R: Source>(reader: &mut R) -> Result<u64, ToolFault>
     ensures rest { IfOk result (λ bytes. IfSome (R.remaining reader.old) (λ left. bytes ≡ min (length left) (2 ^ 64 - 1))) }
     ensures end { OnOk result (IfSome (R.remaining reader.old) (λ left. IsAtEnd (R.remaining reader.new))) }
+    ensures failures { CountsFault result (R.failures reader.old) (R.failures reader.new) }
 {
     let mut bytes: u64 = 0;
     for _piece in 0..u64::MAX {
-        let count = take_piece(reader)?;
-        if count == 0 {
-            return Ok(bytes);
+        match take_piece(reader) {
+            Ok(0) => return Ok(bytes),
+            Ok(count) => bytes = bytes.saturating_add(count as u64),
+            Err(_) => return Err(ToolFault::Reader),
         }
-        bytes = bytes.saturating_add(count as u64);
     }
-    Err(DeviceFault)
+    Err(ToolFault::Memory)
 }
 
-/// The same where the transmission was judged. Else nothing is read.
+/// The same where the transmission was judged, and what follows it could be read so far. Else nothing is read.
 pub(crate) fn read_on<R: Source>(
     judged: &Result<Judgement, ToolFault>,
     reader: &mut R,
-) -> Result<u64, DeviceFault>
+) -> Result<u64, ToolFault>
+    ensures rest { OnOk judged.now (IfOk result (λ bytes. IfSome (R.remaining reader.old)
+        (λ left. bytes ≡ min (length left) (2 ^ 64 - 1)))) }
     ensures end { OnOk judged.now (OnOk result (IfSome (R.remaining reader.old) (λ left. IsAtEnd (R.remaining reader.new)))) }
+    ensures failures { CountsRest judged.now result (R.failures reader.old) (R.failures reader.new) }
 {
     match judged {
-        Ok(_) => read_rest(reader),
+        Ok(judgement) => match judgement.look {
+            Look::Failed => Err(ToolFault::Reader),
+            Look::Found(_) | Look::Unasked => read_rest(reader),
+        },
         Err(_) => Ok(0),
     }
 }
@@ -250,9 +308,11 @@ pub(crate) fn judge<L: Report, R: Source, W: Target>(
     ensures judges { IfOk result.1 (λ judgement. IfSome (R.remaining reader.old) (λ text. IsStatusBy (Counts None) summing.now.limits
         (wanted_of summing.now.whole) text judgement.status)) }
     ensures read { IfOk result.1 IsJudged }
-    // Where the text is accepted, the report is as its transmission's items leave it.
-    ensures stands { (of : ItemLines) → L.stands lines.old of [] → OnOk result.1
-        (StandsAccepted (L.stands lines.new of) summing.now.limits (R.remaining reader.old)) }
+    // The report is as the items before the verdict leave it, and what the reader lost behind a good transmission is counted.
+    ensures stands { (of : ItemLines) → L.stands lines.old of [] → IfOk result.1 (λ judgement. IfSome (R.remaining reader.old)
+        (λ text. Judges (L.stands lines.new of) summing.now.limits text (R.remaining reader.new) judgement)) }
+    // A fault of the reader is answered only where it counted one more failure.
+    ensures failures { CountsInput result.1 (R.failures reader.old) (R.failures reader.new) }
 {
     let (nowhere, outcome) = write_report(lines, summing.alloc, summing.limits, reader, nowhere);
     let look = look_after(reader, &outcome);

@@ -111,7 +111,7 @@ module _ {W : Type 0} (contents : W → Option (List ℕ)) (failures : W → ℕ
   work_listed limits whole (Write words) count count_now none h =
       import_listed (is_some words.out) (import_of limits words) (option_map (λ name. name.now) words.file) status h
   work_listed limits whole (Summary words) count count_now none h =
-      tt
+      h
   work_listed limits whole (Split words) count count_now none h =
       tt
   work_listed limits whole (Join words) count count_now none h =
@@ -201,7 +201,7 @@ module _ (limits : Limits) (whole : Bool) (held : Option Texts) (standard : Opti
   work_known (Write words) h =
       import_known (is_some words.out) (import_of limits words) (option_map (λ name. name.now) words.file) status h
   work_known (Summary words) h =
-      inr (λ other. tt)
+      inl (appends_known text now _ h.4)
   work_known (Split words) h =
       inr (λ other. tt)
   work_known (Join words) h =
@@ -269,7 +269,7 @@ module _ (limits : Limits) (whole : Bool) (held : Option Texts) (standard : Opti
   work_handed (Write words) h =
       import_handed (is_some words.out) (import_of limits words) (option_map (λ name. name.now) words.file) status h
   work_handed (Summary words) h =
-      inr (λ other. tt)
+      inl h
   work_handed (Split words) h =
       inr (λ other. tt)
   work_handed (Join words) h =

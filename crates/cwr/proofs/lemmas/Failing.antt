@@ -104,7 +104,7 @@ end_fails (Err (faults.IsTwice of)) old now h = absurd h
 end_fails (Err (faults.IsOther of)) old now h = absurd h
 end_fails (Err (faults.IsLate of)) old now h = absurd h
 
-ends_fail : (pieces : List Piece) (old now : ℕ) → CountsEnds pieces old now → HasKeptCount old now
+pub ends_fail : (pieces : List Piece) (old now : ℕ) → CountsEnds pieces old now → HasKeptCount old now
 ends_fail [] old now h = same_count old now h
 ends_fail (piece ∷ pieces) old now h =
     kept_then_kept old h.0 now (end_fails piece.end old h.0 h.1) (ends_fail pieces h.0 now h.2)
@@ -128,7 +128,7 @@ no_worse statuses.Good statuses.Refused not read = λ e. cc e
 no_worse statuses.Good statuses.Good not read = not
 
 -- a file failed, or one after it
-next_failed : (end : Result Judgement Fault) (status : Status) (old mid now : ℕ) → CountsEnd end old mid → HasKeptCount mid now
+pub next_failed : (end : Result Judgement Fault) (status : Status) (old mid now : ℕ) → CountsEnd end old mid → HasKeptCount mid now
     → status ≢ statuses.Fault → IfOk end IsJudged
     → (worse_status status (status_in end) ≢ statuses.Fault → (fault : Fault) × IsFaultOfOne fault mid now)
     → (fault : Fault) × IsFaultOfOne fault old now

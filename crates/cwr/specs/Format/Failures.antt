@@ -1,7 +1,7 @@
 -- What failed where a run of a work ends as one that did.
 use Rattle.std.specs.Prelude.{◌≡◌, ℕ, List, [], ◌∷◌, map, Option, None, Some, IsSome, Result, Ok, Err}
 use Rattle.cwr_words.specs.declared.words.Work.{Work}
-use Rattle.cwr_words.specs.declared.words.Work.TheVariants.{Check, Show, Explain, Lint, Advise, Json, Csv, Acks, Write, Split, Join, Renumber}
+use Rattle.cwr_words.specs.declared.words.Work.TheVariants.{Check, Show, Explain, Lint, Advise, Json, Csv, Acks, Summary, Write, Split, Join, Renumber}
 use Rattle.cwr_files.specs.declared.faults.Fault.{Fault}
 use Rattle.cwr_files.specs.declared.faults.Fault.TheVariants as faults
 use Rattle.cwr_files.specs.Format.Files.{Texts}
@@ -52,6 +52,7 @@ FailsWork (Csv words) making held after ending old now = FailsOut words.out maki
 FailsWork (Acks words) making held after ending old now =
     OfOne (map (λ name. name.now) words.files.items) (map (λ name. name.now) words.sent.items) (λ name. FailsSo ending old now)
     × FailsOnAnswers ending old now
+FailsWork (Summary words) making held after ending old now = FailsEach ending old now
 FailsWork (Write words) making held after ending old now = FailsOut words.out making held after ending old now
 FailsWork (Split words) making held after ending old now = making ≡ None → IsSome held → FailsToCut ending old now
 FailsWork (Join words) making held after ending old now = FailsToJoin words.out making held after ending old now

@@ -18,6 +18,8 @@ use Rattle.cwr_json.specs.declared.encodings.Encoding.TheVariants.{Latin1, Utf8}
 use Rattle.cwr_acks.specs.declared.forms.Cells.TheVariants.{Bytes, Characters}
 use Rattle.cwr_acks.specs.declared.forms.Form.{Form}
 use Rattle.cwr_acks.specs.declared.forms.Form.TheVariants.{Words, Json}
+use Rattle.cwr_summary_rows.specs.declared.forms.Form.{Form as RowsForm}
+use Rattle.cwr_summary_rows.specs.declared.forms.Form.TheVariants as rows_as
 
 -- the table that has rows of these
 abbrev pub table_of : Rows → Table
@@ -33,6 +35,12 @@ abbrev pub form_of : Bool → Bool → Form
 form_of true utf8 = Json (encoding_of utf8)
 form_of false true = Words (Characters Utf8)
 form_of false false = Words Bytes
+
+-- how the rows of a summary are put: as a table, as JSON, or for people
+abbrev pub rows_form : Bool → Bool → RowsForm
+rows_form true as_json = rows_as.Csv
+rows_form false true = rows_as.Json
+rows_form false false = rows_as.Words
 
 -- the kinds by which transactions are chosen
 abbrev pub kinds_by : Kinds → ByKind

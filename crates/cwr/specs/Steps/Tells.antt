@@ -1,6 +1,6 @@
 -- Which lines a run has written to standard output.
 use denote.Ref.{Bor}
-use Rattle.std.specs.Prelude.{◌≡◌, ◌<◌, ℕ, Bool, true, false, List, [], ◌∷◌, map, Option, Some, None, option_map, Result, Ok, Err, OnOk, codes}
+use Rattle.std.specs.Prelude.{◌≡◌, ◌<◌, ℕ, Bool, true, false, not, List, [], ◌∷◌, map, Option, Some, None, option_map, Result, Ok, Err, OnOk, codes}
 use Rattle.std.specs.Option.{is_some}
 use Rattle.std.specs.Io.KnownBytes.{Appends}
 use Rattle.cwr_devices.specs.Format.Failures.{most_failures}
@@ -26,13 +26,14 @@ use Rattle.cwr_reports.specs.declared.tellings.Telling.TheVariants as tellings
 use Rattle.cwr_reports.specs.Format.Endings.{telling_by}
 use Rattle.cwr_reports.specs.Steps.Marked.{CountsOutput, TellsEach, WritesLines}
 use Rattle.cwr_reports.specs.Steps.Tellings.{TellsLines}
+use Rattle.cwr_summaries.specs.Steps.Rows.{TellsRows}
 use Rattle.cwr_transform.specs.declared.imports.Import.{Import}
 use Rattle.cwr_transform.specs.Format.SelectionsTold.{HandsOnSelection, TellsSelectionAt}
 use Rattle.cwr.specs.declared.terminal.Terminals.{Terminals}
 use Rattle.cwr.specs.Format.Endings.{import_of}
 use Rattle.cwr.specs.Format.Failures.{OfOne}
 use Rattle.cwr.specs.Format.Files.{IsImportAt}
-use Rattle.cwr.specs.Format.Tables.{encoding_of, form_of, selection_of, table_of}
+use Rattle.cwr.specs.Format.Tables.{encoding_of, form_of, rows_form, selection_of, table_of}
 use Rattle.cwr.specs.Steps.Cleared.{plain_on}
 
 -- of what was read under a word, the lines that are asked for were written, where the run came to its end
@@ -174,6 +175,9 @@ TellsWork limits whole (Csv words) held standard contents failures old new count
 TellsWork limits whole (Acks words) held standard contents failures old new count count_now ending =
     OfOne (map (λ name. name.now) words.files.items) (map (λ name. name.now) words.sent.items)
     (λ name. TellsAnswers (form_of words.as_json words.utf8) words.statuses.items limits held standard name contents old new ending)
+TellsWork limits whole (Summary words) held standard contents failures old new count count_now ending =
+    TellsRows (rows_form words.as_csv words.as_json) limits (not words.undigested) whole words.quiet held standard
+    (map (λ name. name.now) words.files.items) contents old new count count_now ending
 TellsWork limits whole (Write words) held standard contents failures old new count count_now ending =
     TellsImport (is_some words.out) (import_of limits words) held standard (option_map (λ name. name.now) words.file) contents old new ending
 TellsWork limits whole (Select words) held standard contents failures old new count count_now ending =
@@ -224,6 +228,7 @@ CountsWork (Advise words) ending out out_now = CountsOutput ending out out_now
 CountsWork (Json words) ending out out_now = CountsData (is_some words.out) ending out out_now
 CountsWork (Csv words) ending out out_now = CountsData (is_some words.out) ending out out_now
 CountsWork (Acks words) ending out out_now = CountsOutput ending out out_now
+CountsWork (Summary words) ending out out_now = CountsOutput ending out out_now
 CountsWork work ending out out_now = Unit {0}
 
 -- ---- what comes back

@@ -139,7 +139,7 @@ stopped_next asked explained held standard name contents old new failures now su
 
 -- ---- one more
 
-zipped_more : {X Y : Type 0} (R : X → Y → Type 0) (xs : List X) (ys : List Y) (x : X) (y : Y) → AllZip R xs ys → R x y
+pub zipped_more : {X Y : Type 0} (R : X → Y → Type 0) (xs : List X) (ys : List Y) (x : X) (y : Y) → AllZip R xs ys → R x y
     → AllZip R (xs ++ x ∷ []) (ys ++ y ∷ [])
 zipped_more R [] [] x y all one = (one, tt)
 zipped_more R [] (b ∷ ys) x y all one = absurd all
@@ -156,17 +156,17 @@ verdicts_more : (pieces : List Piece) (piece : Piece) → map verdict_of (pieces
 verdicts_more [] piece = refl
 verdicts_more (it ∷ pieces) piece = ap (λ (t : List (Option Verdict)). verdict_of it ∷ t) (verdicts_more pieces piece)
 
-ends_more : (pieces : List Piece) (piece : Piece) (old mid new : ℕ) → CountsEnds pieces old mid → CountsEnd piece.end mid new
+pub ends_more : (pieces : List Piece) (piece : Piece) (old mid new : ℕ) → CountsEnds pieces old mid → CountsEnd piece.end mid new
     → CountsEnds (pieces ++ piece ∷ []) old new
 ends_more [] piece old mid new h one = (new, subst (λ (n : ℕ). CountsEnd piece.end n new) h one, refl)
 ends_more (it ∷ pieces) piece old mid new h one = (h.0, h.1, ends_more pieces piece h.0 mid new h.2 one)
 
-worst_more_from : (status : Status) (pieces : List Piece) (piece : Piece)
+pub worst_more_from : (status : Status) (pieces : List Piece) (piece : Piece)
     → worst_from status (pieces ++ piece ∷ []) ≡ worse_status (worst_from status pieces) (status_in piece.end)
 worst_more_from status [] piece = refl
 worst_more_from status (it ∷ pieces) piece = worst_more_from (worse_status status (status_in it.end)) pieces piece
 
-appends_on : (a b c : Option (List ℕ)) (xs ys : List ℕ) → Appends a b xs → Appends b c ys → Appends a c (xs ++ ys)
+pub appends_on : (a b c : Option (List ℕ)) (xs ys : List ℕ) → Appends a b xs → Appends b c ys → Appends a c (xs ++ ys)
 appends_on None b c xs ys h k = tt
 appends_on (Some x) None c xs ys h k = absurd h
 appends_on (Some x) (Some y) None xs ys h k = absurd k

@@ -1,6 +1,6 @@
 -- What was counted of an input, whether its row was written or not.
 use Rattle.std.proofs.Common.{◌≡◌, ℕ, Bool, List, [], ◌∷◌, map, Option, Some, None, Bor, refl, sym, subst, length, arith, ◌≤◌}
-use Rattle.std.specs.Prelude.{IfSome, OnOk, Result, Ok, Err}
+use Rattle.std.specs.Prelude.{IfOk, IfSome, OnOk, Result, Ok, Err}
 use Rattle.cwr_shape.specs.declared.limits.Limits.{Limits}
 use Rattle.cwr_tools.specs.declared.verdicts.Verdict.{Verdict}
 use Rattle.cwr_tools.specs.declared.verdicts.ToolFault.{ToolFault}
@@ -27,20 +27,6 @@ pub untold : {A : Type 0} (told : Result A Stop) → IfErr told (λ stop. stop �
 untold (Ok u) h = tt
 untold (Err stop) h = subst IsUntold (sym h) tt
 
--- what is so where there is a verdict is so where there is a judgement
-judgement_ok : (P : Type 0) (wanted : Wanted) (outcome : Result Verdict ToolFault) (look : Look) (found : Bool) → OnOk outcome P
-    → OnOk (judgement_in wanted outcome look found) P
-judgement_ok P wanted (Err fault) look found h = tt
-judgement_ok P wanted (Ok verdict) look found h = by (status_in wanted verdict look found) where
-  by : (status : Option Status) → OnOk (judged_with verdict look status) P
-  by None = tt
-  by (Some status) = h
-
-pub judged_ok : (P : Type 0) (wanted : Wanted) (outcome : Result Verdict ToolFault) (look : Look) (found : Bool)
-    (judged : Result Judgement ToolFault) → judged ≡ judgement_in wanted outcome look found → OnOk outcome P → OnOk judged P
-judged_ok P wanted outcome look found judged e h =
-    subst (λ (r : Result Judgement ToolFault). OnOk r P) (sym e) (judgement_ok P wanted outcome look found h)
-
 pub at_some : {A : Type 0} (P : A → Type 0) (o : Option A) (x : A) → o ≡ Some x → IfSome o P → P x
 at_some {A = A} P o x e h = subst (λ (p : Option A). IfSome p P) e h
 
@@ -55,3 +41,8 @@ on_ok P Q (Err e) f h = tt
 pub summed_named : (names : List (Bor (List ℕ))) → 1 ≤ length names → map (λ n. n.now) names ≡ summed (map (λ n. n.now) names)
 summed_named [] some = absurd (omega (arith, some))
 summed_named (name ∷ names) some = refl
+
+-- what each has in place of another
+pub ok_map : {A E : Type 0} (P Q : A → Type 0) (r : Result A E) → ((x : A) → P x → Q x) → IfOk r P → IfOk r Q
+ok_map P Q (Ok x) f h = f x h
+ok_map P Q (Err e) f h = tt

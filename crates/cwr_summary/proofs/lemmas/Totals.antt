@@ -40,7 +40,7 @@ numbers_are numbers (p ∷ parts) i within small =
     let all : sum_by (at_place i) (p ∷ parts) ≡ at_place i p + sum_by (at_place i) parts = sum_by-cons (at_place i) p parts in
     omega (arith, one, more, all)
 
-no_number : (n i : ℕ) → slice_index (replicate n 0) i ≡ 0
+pub no_number : (n i : ℕ) → slice_index (replicate n 0) i ≡ 0
 no_number zero i = refl
 no_number (suc n) zero = refl
 no_number (suc n) (suc i) = no_number n i
