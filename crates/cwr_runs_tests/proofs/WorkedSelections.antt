@@ -3,6 +3,7 @@ use Rattle.std.proofs.Common.{◌≡◌, ℕ, true, false, List, [], ◌∷◌, 
 use Rattle.std.specs.Prelude.{codes}
 use Rattle.std.specs.Fmt.{digits as plain_digits}
 use Rattle.std.specs.Str.{bytes_eq}
+use Rattle.cwr_fields.specs.Format.Bytes.{trimmed}
 use Rattle.cwr_transform.specs.Format.Missing.{Placed, lacks_one, places_of, same_place}
 use Rattle.cwr_transform.specs.Format.Told.{firsts_after, missing_place, number_lines, numbers_told, place_lines, places_told, selected_line}
 
@@ -30,6 +31,7 @@ two_have_it = refl
 
 -- a number is told once, where it stands first
 told_once : numbers_told (codes "W2" ∷ codes "W1" ∷ codes "W2" ∷ []) [] ≡ codes "MISSING W2\nMISSING W1\n"
+unfolding trimmed
 told_once = refl
 
 -- so are places that no transaction has
